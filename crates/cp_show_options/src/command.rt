@@ -94,7 +94,7 @@ const LIMITS: [OptionWords; 5] = [
 
 /// The command with all its parts; `clap` adds `--help` and `-h` to each.
 pub fn command<'a>(alloc: Global) -> Result<Command<'a>, AllocError> {
-    let command = with_part(Ok(described(alloc)), trace(alloc));
+    let command = with_part(Ok(top_command(alloc)), trace(alloc));
     let command = with_part(command, lanes(alloc));
     let command = with_part(command, page(alloc));
     let command = with_part(command, outcomes(alloc));
@@ -110,7 +110,7 @@ fn with_part<'a>(
     command?.subcommand(part?)
 }
 
-fn described<'a>(alloc: Global) -> Command<'a> {
+fn top_command<'a>(alloc: Global) -> Command<'a> {
     Command::new(alloc, "cpx_show")
         .about(ABOUT)
         .override_usage(USAGE)
