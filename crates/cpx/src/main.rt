@@ -34,13 +34,13 @@ enum RequestedWork {
 fn main(rt: HostRuntime) -> ExitCode {
     let code = match read_words(&rt) {
         Ok(RequestedWork::Options(options)) => explore_input::<HostRuntime>(&rt, &rt, &options),
-        Ok(RequestedWork::Version) => printed(print!(rt; "cpx {VERSION}\n")),
+        Ok(RequestedWork::Version) => print_status(print!(rt; "cpx {VERSION}\n")),
         Ok(RequestedWork::Refused(why)) => {
             let _ = eprintln!(rt; "options refused");
             let _ = eprintln!(rt; "{why}");
             2
         }
-        Ok(RequestedWork::Help(text)) => printed(print!(rt; "{text}")),
+        Ok(RequestedWork::Help(text)) => print_status(print!(rt; "{text}")),
         Err(_) => 3,
     };
     match code {
@@ -56,7 +56,7 @@ fn main(rt: HostRuntime) -> ExitCode {
 }
 
 // The status of a text that was printed, or not.
-fn printed<T: Drop, E: Drop>(print: Result<T, E>) -> u8 {
+fn print_status<T: Drop, E: Drop>(print: Result<T, E>) -> u8 {
     match print {
         Ok(_) => 0,
         Err(_) => 4,
@@ -103,7 +103,7 @@ fn read<'a>(alloc: Global, words: &'a [&'a str]) -> Result<RequestedWork, AllocE
 fn explore_input<X: Threads + Sync>(threads: &X, rt: &HostRuntime, options: &Options) -> u8 {
     let counted = if options.ends { "ends" } else { "outcomes" };
     let mut line = ProgressLine::new(rt.alloc(), rt, terminal_of(rt.stderr()), counted);
-    explored::<X, ProgressLine<&HostRuntime, Stderr>, Brand, Brand>(
+    exploration_status::<X, ProgressLine<&HostRuntime, Stderr>, Brand, Brand>(
         threads,
         rt.alloc(),
         options,
@@ -116,7 +116,7 @@ fn explore_input<X: Threads + Sync>(threads: &X, rt: &HostRuntime, options: &Opt
 }
 
 /// The status of answering what standard input has; the blanks are for the counts of the streams' calls.
-fn explored<X: Threads + Sync, O: ObserveWork + Send, A: Ledger, B: Ledger>(
+fn exploration_status<X: Threads + Sync, O: ObserveWork + Send, A: Ledger, B: Ledger>(
     rt: &X,
     alloc: Global,
     options: &Options,
