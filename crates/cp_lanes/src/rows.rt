@@ -124,11 +124,29 @@ fn draw_folded(
 // How much room a label has, with that of the lanes beside it in which there is nothing but the line of a life.
 fn room_of_label(plan: &Plan, spans: &Spans, event: &StoryEvent, fold: Fold, y: f64) -> f64 {
     let process = event.plain.process;
-    let moves = matches!(event.happening, Happening::Start(_));
-    if moves || fold != Fold::None || !event.woken.is_empty() || !event.let_in.is_empty() {
+    if fold != Fold::None || points_right(event) {
         return plan.lane(process).width - 36.0;
     }
     room_beside(plan, spans, process, y)
+}
+
+// Whether an arrow of an event lies over the lanes on the right.
+fn points_right(event: &StoryEvent) -> bool {
+    let process = event.plain.process;
+    match event.happening {
+        Happening::Start(started) if started > process => true,
+        _ => is_below_one(process, event.woken.as_slice())
+            || is_below_one(process, event.let_in.as_slice()),
+    }
+}
+
+fn is_below_one(process: u8, others: &[u8]) -> bool {
+    for other in others {
+        if process < *other {
+            return true;
+        }
+    }
+    false
 }
 
 // The room in the lane of a process and in the free ones beside it.
