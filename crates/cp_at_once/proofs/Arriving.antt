@@ -5,7 +5,7 @@ use Rattle.std.proofs.lemmas.List.Elements.{All-contains, All-contains_itself, A
 use Rattle.cp_slots.specs.Tables.{Tables}
 use Rattle.cp_machine.specs.declared.shown.Shown.{Shown}
 use Rattle.cp_machine.specs.System.{Machine}
-use Rattle.cp_ends.specs.Graph.{Goal, Place, ArrivesAt, LeadsToEnd, LeadsToPlace, ShowsLast}
+use Rattle.cp_ends.specs.Graph.{Goal, Place, ArrivesAt, LeadsToEnd, ShowsLast}
 use Rattle.cp_ends.specs.Graph as graph
 use Rattle.cp_ends.specs.Holds.{SlotArrival}
 use Rattle.cp_ends.specs.declared.end.End.{End}

@@ -1,9 +1,8 @@
 -- A choice more and a kept state more was gone on from.
-use Rattle.std.proofs.Common.{◌≡◌, ◌≢◌, ◌∙◌, ◌⊎◌, inl, inr, ⊎_elim, ◌+◌, ◌<◌, ◌≤◌, ◌||◌, ◌==◌, eqb, ℕ, List, [], ◌∷◌, ◌++◌, Bool, true, false, length, take, get_or, None, Some, refl, sym, ap, subst, arith}
+use Rattle.std.proofs.Common.{◌≡◌, ◌∙◌, ◌⊎◌, inl, inr, ◌+◌, ◌<◌, ◌≤◌, ◌==◌, ℕ, List, [], ◌∷◌, ◌++◌, Bool, true, false, length, take, get_or, None, Some, sym, ap, subst, arith}
 use Rattle.std.specs.Prelude.{slice_get}
 use Rattle.std.specs.List.{list_any}
 use Rattle.std.proofs.lemmas.Bool.{cases_order}
-use Rattle.std.proofs.lemmas.Bool.Decides.{eqb_tells}
 use Rattle.std.proofs.lemmas.List.Folds.{list_any_more}
 use Rattle.std.proofs.lemmas.Option.{same_Some, slice_get_cases, slice_get_within}
 use Rattle.cp_slots.specs.Tables.{Tables}
@@ -22,16 +21,8 @@ use Rattle.cp_at_once.specs.declared.origin.OriginAtOnce.{OriginAtOnce}
 use Rattle.cp_at_once.proofs.Following.{States, done_still, gone_still}
 use Rattle.cp_at_once.proofs.Keeping.{word_choice}
 use Rattle.cp_at_once.proofs.Noting.{grows_on, grows_same}
-
-number : (a b : ℕ) → (a == b) ≡ true → a ≡ b
-number a b e = ⊎_elim (λ (t : (eqb a b ≡ true) × (a ≡ b)). t.1) (λ (t : (eqb a b ≡ false) × (a ≢ b)). absurd (differ (sym e ∙ t.0))) (eqb_tells a b)
-  where
-    differ : true ≡ false → ⊥
-    differ e = cc
-
-or_cases : (a b : Bool) → (a || b) ≡ true → (a ≡ true) ⊎ (b ≡ true)
-or_cases true b h = inl refl
-or_cases false b h = inr h
+use Rattle.cp_meaning.proofs.Good.{or_cases}
+use Rattle.cp_ends.proofs.words.Returns.{number}
 
 module _ (r : Tables) (g : SlotGraph) (Leg : Machine → ℕ → Type 0) (most : ℕ) where
   -- these choices of a state were gone on from
@@ -57,10 +48,6 @@ module _ (r : Tables) (g : SlotGraph) (Leg : Machine → ℕ → Type 0) (most :
       by : (p : ℕ) → Grows now x.more after k.0 → (list_any (λ y. y == p) (take i all) ≡ true) ⊎ ((get_or all i 0 == p) ≡ true) → IsGone after (Follows g Leg after k.0 8) (g.on s p)
       by p m (inl was) = gone_still g Leg now x.more after k.0 m 8 (g.on s p) (x.gone p was)
       by p m (inr is) = subst (λ q. IsGone after (Follows g Leg after k.0 8) (g.on s q)) (number (get_or all i 0) p is) k.3
-
-  -- one of them leads to a state too many
-  pub choice_stops : (before : FoundAtOnce) (states : States) (now after : FoundAtOnce) (s : Machine) (a : SlotArrival) (ps : List ℕ) (x : Chosen before states now s ps) → GoesOn r g Leg most 8 now x.more after a false → AllGoOn r g Leg most 8 before states after s false
-  choice_stops before states now after s a ps x k = k
 
   -- all of them are
   pub all_chosen : (before : FoundAtOnce) (states : States) (now : FoundAtOnce) (s : Machine) (ps : List ℕ) → ((p : ℕ) → list_any (λ y. y == p) ps ≡ g.may s p) → Chosen before states now s ps → AllGoOn r g Leg most 8 before states now s true

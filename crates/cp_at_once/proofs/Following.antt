@@ -6,7 +6,7 @@ use Rattle.std.proofs.lemmas.List.Elements.{All-push, All-weaker}
 use Rattle.cp_slots.specs.Tables.{Tables}
 use Rattle.cp_machine.specs.declared.shown.Shown.{Shown}
 use Rattle.cp_machine.specs.System.{Machine}
-use Rattle.cp_ends.specs.Graph.{Goal, Place, Arrival, ArrivesAt, LeadsToPlace, LeadsToEnd, ShowsLast}
+use Rattle.cp_ends.specs.Graph.{Goal, Place, ArrivesAt, LeadsToPlace, LeadsToEnd, ShowsLast}
 use Rattle.cp_ends.specs.Graph as graph
 use Rattle.cp_ends.specs.Holds.{same_key, SlotArrival}
 use Rattle.cp_ends.specs.Searched.{has}

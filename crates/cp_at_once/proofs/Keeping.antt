@@ -15,10 +15,11 @@ use Rattle.cp_machine.specs.System.{Machine}
 use Rattle.cp_ends.specs.Holds.{same_key}
 use Rattle.cp_ends.specs.Searched.{has}
 use Rattle.cp_ends.specs.declared.state_key.ReachedKey.{ReachedKey}
-use Rattle.cp_ends.proofs.Keeping.{get_cases, get_more}
+use Rattle.cp_ends.proofs.Keeping.{get_more}
 use Rattle.cp_ends.proofs.Searching.Lists.{all_at}
 use Rattle.cp_at_once.specs.Holds.{AreStates, IsBefore, IsWordBy, IsWordOf}
 use Rattle.cp_at_once.specs.declared.origin.OriginAtOnce.{OriginAtOnce}
+use Rattle.cp_resolved.proofs.names.Entries.{last_or_before as get_cases}
 
 abbrev pub Keys : Type 0
 Keys = ReachedKey × OriginAtOnce
@@ -78,10 +79,9 @@ tail_same f g x xs y ys e = ap (drop 1) e
 
 -- what stands at one place has one key
 key_here : (es : List Keys) (xs : List Stated) (i : ℕ) (e : Keys) (x : Stated) → map bytes_of es ≡ map key_at xs → slice_get es i ≡ Some e → slice_get xs i ≡ Some x → bytes_of e ≡ key_at x
-key_here [] xs i e x same at to = cc
-key_here (k ∷ es) [] i e x same at to = cc
 key_here (k ∷ es) (y ∷ xs) zero e x same at to = ap bytes_of (sym (same_Some k e at)) ∙ head_same bytes_of key_at k es y xs same ∙ ap key_at (same_Some y x to)
 key_here (k ∷ es) (y ∷ xs) (suc i) e x same at to = key_here es xs i e x (tail_same bytes_of key_at k es y xs same) at to
+key_here y z i e x same at to = cc
 
 -- a key is that of an entry exactly where its machine has the key of a state
 pub found_same : (es : List Keys) (xs : List Stated) (k : ReachedKey) (m : Machine) → map bytes_of es ≡ map key_at xs → k.bytes.items ≡ key_of m → is_some (lookup (λ j. pointwise nat_eq k.bytes.items j.bytes.items) es) ≡ has same_key xs m
@@ -97,8 +97,7 @@ found_same (e ∷ es) (x ∷ xs) k m same key = by (pointwise nat_eq k.bytes.ite
     by : (b c : Bool) → b ≡ c → is_some (lookup (λ j. pointwise nat_eq k.bytes.items j.bytes.items) es) ≡ has same_key xs m → is_some (cond b (Some e.1) (lookup (λ j. pointwise nat_eq k.bytes.items j.bytes.items) es)) ≡ (if c then true else has same_key xs m)
     by true true t on = refl
     by false false t on = on
-    by true false t on = cc
-    by false true t on = cc
+    by x y t on = cc
 
 insert_new : (eq : ReachedKey → ReachedKey → Bool) (es : List Keys) (k : ReachedKey) (o : OriginAtOnce) → is_some (lookup (eq k) es) ≡ false → insert_entry eq es k o ≡ es ++ (k, o) ∷ []
 insert_new eq [] k o new = refl

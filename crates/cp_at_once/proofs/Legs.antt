@@ -2,7 +2,7 @@
 use Rattle.std.proofs.Common.{◌≡◌, ◌∙◌, ℕ, Bool, [], true, false, refl, sym, ap, subst}
 use Rattle.cp_slots.specs.Tables.{Tables}
 use Rattle.cp_machine.specs.declared.event.Event.{Event}
-use Rattle.cp_machine.specs.declared.event.Event.TheVariants.{Local, Kernel, Ended, Fault, OutputFull}
+use Rattle.cp_machine.specs.declared.event.Event.TheVariants.{Local, Kernel, Ended}
 use Rattle.cp_machine.specs.declared.gates.Gates.{Gates}
 use Rattle.cp_machine.specs.Statements.{Stepped, local}
 use Rattle.cp_machine.specs.Bodies.{KeepBodies}
@@ -18,18 +18,14 @@ use Rattle.cp_at_once_laws.specs.Quiet.{is_quiet}
 use Rattle.cp_at_once.specs.Legs.{EndsQuietly, ends_quietly}
 
 quiet_is : (e : Event) → ends_quietly e ≡ true → is_quiet e ≡ true
-quiet_is Local h = absurd (cc)
 quiet_is (Kernel call) h = h
 quiet_is Ended h = refl
-quiet_is (Fault e) h = absurd (cc)
-quiet_is OutputFull h = absurd (cc)
+quiet_is x h = absurd (cc)
 
 call_is : (e : Event) → ends_quietly e ≡ true → is_call e ≡ true
-call_is Local h = absurd (cc)
 call_is (Kernel call) h = refl
 call_is Ended h = refl
-call_is (Fault e) h = absurd (cc)
-call_is OutputFull h = absurd (cc)
+call_is x h = absurd (cc)
 
 module _ (r : Tables) (gates : Gates) (p : ℕ) where
   -- the last step

@@ -1,7 +1,6 @@
 -- Before the search nothing is found.
-use Rattle.std.proofs.Common.{◌≡◌, ℕ, List, [], Result, Ok, Err, IfOk, sym, subst, arith}
+use Rattle.std.proofs.Common.{◌≡◌, ℕ, List, [], sym, subst, arith}
 use Rattle.std.specs.Prelude.{All}
-use Rattle.std.specs.Result.{IsErrAnd}
 use Rattle.std.proofs.lemmas.List.Elements.{All-nil}
 use Rattle.cp_slots.specs.Tables.{Tables}
 use Rattle.cp_ends.specs.Graph.{LeadsToPlace, LeadsToEnd, ShowsLast}
@@ -24,8 +23,3 @@ nothing_found r g most found kept ends values =
       ends = subst (All (λ e. HasWord [] e.origin (LeadsToEnd g e.end))) (sym ends) (All-nil (λ e. HasWord [] e.origin (LeadsToEnd g e.end)));
       values = subst (All (λ v. HasWord [] v.origin (ShowsLast g v.value))) (sym values) (All-nil (λ v. HasWord [] v.origin (ShowsLast g v.value)));
     }
-
--- what is handed on is an error
-pub none_well : {A E : Type 0} (r : Result A E) (P : E → Type 0) (Q : A → Type 0) → IsErrAnd r P → IfOk r Q
-none_well (Ok a) P Q h = absurd h
-none_well (Err e) P Q h = tt

@@ -27,8 +27,8 @@ use Rattle.cp_at_once.specs.Whole.{HasTooMany, IsAnswer, IsComplete}
 use Rattle.cp_at_once.specs.declared.found.FoundAtOnce.{FoundAtOnce}
 use Rattle.cp_at_once.proofs.Following.{States}
 use Rattle.cp_at_once.proofs.Pending.{never_pending}
-use Rattle.cp_at_once.proofs.Same.{key_same, key_self}
 use Rattle.cp_at_once.proofs.Tied.{searches}
+use Rattle.cp_ends.proofs.named.Keys.{key_same, key_self}
 
 module _ (nothing_out : LeavesNothingOut) (r : Tables) (steps most : ℕ) (found : FoundAtOnce) where
   -- ---- words

@@ -1,16 +1,14 @@
 -- What the code found is what a search at once tells: from the graph of the slot machine to its stretches.
 use Rattle.std.proofs.Common.{◌≡◌, ◌∙◌, ◌⊎◌, inl, inr, ⊎_elim, ◌+◌, ◌<◌, ◌≤◌, ℕ, zero, suc, List, [], ◌∷◌, ◌++◌, Bool, true, false, if◌then◌else◌, length, Option, None, Some, refl, sym, ap, subst, arith}
 use Rattle.std.specs.Prelude.{Contains, slice_get}
-use Rattle.std.specs.List.{AllByRecursion as Each}
 use Rattle.std.proofs.lemmas.Bool.{cases_lt}
-use Rattle.std.proofs.lemmas.List.{append_assoc}
 use Rattle.std.proofs.lemmas.Option.{slice_get_within}
 use Rattle.cp_slots.specs.Tables.{Tables}
 use Rattle.cp_machine.specs.declared.gates.Gates.TheVariants.{First}
 use Rattle.cp_machine.specs.declared.shown.Shown.{Shown}
 use Rattle.cp_machine.specs.System.{Machine, is_pending}
 use Rattle.cp_run.specs.declared.outcome.OutcomeKind.{OutcomeKind}
-use Rattle.cp_run.specs.declared.outcome.OutcomeKind.TheVariants.{Finished, AllWaiting, RunError, ChoiceLimit, StepLimit, OutputLimit}
+use Rattle.cp_run.specs.declared.outcome.OutcomeKind.TheVariants.{StepLimit}
 use Rattle.cp_run.specs.declared.outcome.Turn.{Turn}
 use Rattle.cp_run.specs.declared.outcome.Turn.TheVariants as turn
 use Rattle.cp_run.specs.System.{System}
@@ -23,7 +21,7 @@ use Rattle.cp_endless.specs.Rounds.{IsCut, IsRound, spot_after, spot_by}
 use Rattle.cp_endless.specs.Settled.{IsIn}
 use Rattle.cp_endless.specs.Shown.{shown_at}
 use Rattle.cp_endless.specs.Silent.{silent_slots, without_output}
-use Rattle.cp_endless.proofs.steps.Rounds.{happens_early}
+use Rattle.cp_endless.proofs.steps.Rounds.{happens_early, some_none}
 use Rattle.cp_ends.specs.Answer.{slot_graph}
 use Rattle.cp_ends.specs.Arrivals.{arrival_by, first_arrival, goal_of, has_call, stretch_arrival}
 use Rattle.cp_ends.specs.Graph.{Goal, Place}
@@ -33,7 +31,7 @@ use Rattle.cp_ends.specs.Searched.{has}
 use Rattle.cp_ends.specs.declared.end.End.{End}
 use Rattle.cp_ends.specs.declared.end.End.TheVariants.{Over, Alone, Spins}
 use Rattle.cp_ends.proofs.Arriving.{next_free}
-use Rattle.cp_ends.proofs.Stretches.{distance, moments_there}
+use Rattle.cp_ends.proofs.Stretches.{moments_there}
 use Rattle.cp_ends.proofs.words.Returns.{ComesAgain, ComesToNode, alone_or_spins, cut_there, edge_comes, has_calls, has_no_calls}
 use Rattle.cp_ends.proofs.words.Translated.{any_value}
 use Rattle.cp_ends.proofs.words.Edges.{some_same}
@@ -44,10 +42,10 @@ use Rattle.cp_at_once.specs.Following.{Follows, IsDone, IsGone, IsGoneThrough, I
 use Rattle.cp_at_once.specs.Legs.{HasLeg}
 use Rattle.cp_at_once.specs.declared.found.FoundAtOnce.{FoundAtOnce}
 use Rattle.cp_at_once.proofs.Following.{States}
-use Rattle.cp_at_once.proofs.Same.{key_same, key_self}
-
-some_none : {A : Type 0} (x : A) → Some x ≡ None → ⊥
-some_none x e = cc
+use Rattle.cp_endless.proofs.steps.Repeating.{none_of as each_none}
+use Rattle.cp_endless.proofs.possible.Walks.{each_append}
+use Rattle.cp_endless.proofs.Basics.{distance}
+use Rattle.cp_ends.proofs.named.Keys.{key_same, key_self}
 
 true_false : true ≡ false → ⊥
 true_false e = cc
@@ -64,9 +62,8 @@ module _ {S : Type 0} (sys : System S) where
       plus n = omega arith
 
       by : (t : Turn) → spot_by (sys.step s p) (spot_after sys n (sys.step s p)) t ≡ None → ((r : ℕ) → spot_after sys n (sys.step s p) r ≡ None → spot_after sys (n + m) (sys.step s p) r ≡ None) → spot_by (sys.step s p) (spot_after sys (n + m) (sys.step s p)) t ≡ None
-      by (turn.Over kind) e on = refl
-      by turn.Due e on = refl
       by (turn.Goes r) e on = on r e
+      by _ e on = refl
 
   any_moment : (P : Moment S → Type 0) (n : ℕ) (s : S) (p i : ℕ) (t : S) (q : ℕ) → i < n → spot_after sys i s p ≡ Some (t, q) → P (record { state = t; mover = q }) → AnyOf P (stretch_moments sys n s p)
   unfolding stretch_moments
@@ -86,15 +83,6 @@ module _ {S : Type 0} (sys : System S) where
       by : (o : Option (S × ℕ)) → spot_after sys steps s p ≡ o → IsCut (stretch sys steps s p)
       by None e = let d = distance steps n le in absurd (some_none (t, q) (sym is ∙ ap (λ i. spot_after sys i s p) (sym d.1) ∙ still steps d.0 s p e))
       by (Some x) e = subst IsCut (sym (cut_there sys steps s p x.0 x.1 e)) tt
-
-each_none : {A : Type 0} (P : A → Type 0) (xs : List A) → Each (λ x. P x → ⊥) xs → AnyOf P xs → ⊥
-each_none P [] e a = a
-each_none P (x ∷ xs) e (inl now) = e.0 now
-each_none P (x ∷ xs) e (inr rest) = each_none P xs e.1 rest
-
-each_append : {A B : Type 0} (f : A → List B) (xs ys : List A) → each f (xs ++ ys) ≡ each f xs ++ each f ys
-each_append f [] ys = refl
-each_append f (x ∷ xs) ys = ap (λ l. f x ++ l) (each_append f xs ys) ∙ sym (append_assoc (f x) (each f xs) (each f ys))
 
 -- ---- what the code found
 
@@ -125,12 +113,7 @@ module _ (r : Tables) (steps : ℕ) (found : FoundAtOnce) (states : States) (unc
 
   not_cut : (node : Node Machine) (followed : Machine → Type 0) → IsKnownGoal found followed (goal_of node) → IsCut node → ⊥
   not_cut (Halted StepLimit s) followed k cut = true_false (sym k ∙ uncut)
-  not_cut (Halted Finished s) followed k cut = cut
-  not_cut (Halted AllWaiting s) followed k cut = cut
-  not_cut (Halted (RunError name process line) s) followed k cut = cut
-  not_cut (Halted ChoiceLimit s) followed k cut = cut
-  not_cut (Halted OutputLimit s) followed k cut = cut
-  not_cut (Choosing s) followed k cut = cut
+  not_cut _ followed k cut = cut
 
   goes_in : (node : Node Machine) (followed : Machine → Type 0) → IsKnownGoal found followed (goal_of node) → IsIn followed known node
   goes_in (Halted kind s) followed k = k

@@ -1,6 +1,6 @@
 -- What the search through the graph found is what the words of the machine that shows nothing lead to.
 use Rattle.std.proofs.Common.{◌≡◌, ◌+◌, ◌<◌, ◌≤◌, ℕ, suc, Bool, true, false, if◌then◌else◌, List, [], ◌∷◌, ◌++◌, Some, length, map, refl, length-append, arith}
-use Rattle.std.specs.Prelude.{◌≢◌, ◌&&◌, All, AllPairs, Decides, filter, not, nat_lt, slice_get}
+use Rattle.std.specs.Prelude.{◌≢◌, All, AllPairs, Decides, filter, not, nat_lt, slice_get}
 use Rattle.std.specs.List.{AllByRecursion as Each}
 use Rattle.std.proofs.lemmas.Bool.{ltb-true}
 use Rattle.std.proofs.lemmas.List.{get_or-map, length-map}
@@ -25,6 +25,7 @@ use Rattle.cp_ends.proofs.Searching.Growing.{with_shown}
 use Rattle.cp_ends.proofs.Searching.Stopped.{stopped_states, stopped_ends, stopped_values, stopped_places, stopped_apart, stopped_near}
 use Rattle.cp_ends.proofs.words.Firsts.{SayTheSame, firsts_same, first_ones_same, within_same}
 use Rattle.cp_ends.proofs.words.Translated.{place_there, place_back, end_there, end_back, shows_there, shows_back}
+use Rattle.cp_resolved.proofs.counts.FewCells.{left_of as left}
 
 -- ---- lists
 
@@ -48,11 +49,7 @@ all_both P Q xs p q = All-from_recursion (λ x. P x × Q x) xs (each_both P Q xs
 
 -- ---- the graph
 
-left : (a b : Bool) → (a && b) ≡ true → a ≡ true
-left true b h = refl
-left false b h = absurd (cc)
-
-below : {S : Type 0} (sys : System S) (s : S) (p : ℕ) → may sys s p ≡ true → p < sys.processes
+pub below : {S : Type 0} (sys : System S) (s : S) (p : ℕ) → may sys s p ≡ true → p < sys.processes
 unfolding may
 below sys s p h = ltb-true p sys.processes (left (nat_lt p sys.processes) (if sys.is_pending s then sys.in_line s p else sys.is_ready s p) h)
 

@@ -3,7 +3,7 @@ use Rattle.std.proofs.Common.{◌≡◌, ◌∙◌, ℕ, List, [], ◌∷◌, �
 use Rattle.std.proofs.lemmas.List.{append-nil}
 use Rattle.cp_slots.specs.Tables.{Tables}
 use Rattle.cp_machine.specs.declared.event.Event.{Event}
-use Rattle.cp_machine.specs.declared.event.Event.TheVariants.{Local, Kernel, Ended as ProcessEnded, Fault, OutputFull}
+use Rattle.cp_machine.specs.declared.event.Event.TheVariants.{Local, Fault, OutputFull}
 use Rattle.cp_machine.specs.declared.gates.Gates.{Gates}
 use Rattle.cp_machine.specs.declared.shown.Shown.{Shown}
 use Rattle.cp_machine.specs.System.{Machine, is_pending, is_ready}
@@ -25,9 +25,8 @@ module _ {S : Type 0} (sys : System S) (forget : S → S) where
   -- ---- turns do not ask for what was displayed
 
   among_alike : (s : S) (kernel : Bool) (p : ℕ) (ready : List ℕ) → turn_among sys s kernel p ready ≡ turn_among quiet s kernel p ready
-  among_alike s kernel p [] = refl
   among_alike s kernel p (q ∷ []) = refl
-  among_alike s kernel p (q ∷ r ∷ ready) = refl
+  among_alike s kernel p _ = refl
 
   pub settled_alike : (s : S) (kernel : Bool) (p : ℕ) → settled_turn sys s kernel p ≡ settled_turn quiet s kernel p
   settled_alike s kernel p = among_alike s kernel p (those_below sys.processes (sys.is_ready s))
@@ -66,19 +65,17 @@ told_none told = sym (append-nil told)
 
 module _ (r : Tables) (gates : Gates) (m : Machine) (p : ℕ) where
   among_silent : (kernel : Bool) (ready : List ℕ) → turn_among (slots r gates) m kernel p ready ≡ turn_among (silent_slots r gates) (without_output m) kernel p ready
-  among_silent kernel [] = refl
   among_silent kernel (q ∷ []) = refl
-  among_silent kernel (q ∷ s ∷ ready) = refl
+  among_silent kernel _ = refl
 
   turn_silent : (kernel : Bool) → turn_at (slots r gates) m kernel p ≡ turn_at (silent_slots r gates) (without_output m) kernel p
   turn_silent kernel = ap (λ t. if is_pending m then Due else t) (among_silent kernel (those_below (slots r gates).processes (is_ready m)))
 
   pub after_silent : (event : Event) → turn_after (slots r gates) m p event ≡ turn_after (silent_slots r gates) (without_output m) p event
   after_silent Local = turn_silent false
-  after_silent (Kernel call) = turn_silent true
-  after_silent ProcessEnded = turn_silent true
   after_silent (Fault e) = refl
   after_silent OutputFull = refl
+  after_silent _ = turn_silent true
 
 -- what displayed nothing is the same without the output
 pub silent_already : (m : Machine) → m.output ≡ [] → m ≡ without_output m

@@ -17,18 +17,13 @@ use Rattle.cp_ends.specs.declared.found.FoundEnd.{FoundEnd}
 use Rattle.cp_ends.specs.declared.found.FoundValue.{FoundValue}
 use Rattle.cp_ends.specs.declared.origin.Origin.{Origin}
 use Rattle.cp_ends.proofs.Keeping.{Stated, word_more}
-
-any_map : {X Y : Type 0} (to : X → Y) (test : Y → Bool) (xs : List X) → list_any test (map to xs) ≡ list_any (λ x. test (to x)) xs
-any_map to test [] = refl
-any_map to test (x ∷ xs) = ap (λ b. test (to x) || b) (any_map to test xs)
+use Rattle.cp_machine.proofs.ListLemmas.{list_any_map as any_map}
 
 -- ---- things with origins
 
 module _ {A : Type 0} (states : List Stated) where
   found_has : (eq : A → A → Bool) (es : List (A × Origin)) (fs : List (A × List ℕ)) (a : A) → AreFound states es fs → list_any (λ e. eq e.0 a) es ≡ has eq fs a
   found_has eq [] [] a h = refl
-  found_has eq [] (f ∷ fs) a h = absurd h
-  found_has eq (e ∷ es) [] a h = absurd h
   found_has eq (e ∷ es) (f ∷ fs) a h = by (eq e.0 a) (eq f.0 a) (ap (λ b. eq b a) h.0) (found_has eq es fs a h.2)
     where
       by : (b c : Bool) → b ≡ c → list_any (λ (k : A × Origin). eq k.0 a) es ≡ has eq fs a → (b || list_any (λ (k : A × Origin). eq k.0 a) es) ≡ (if c then true else has eq fs a)
@@ -36,25 +31,23 @@ module _ {A : Type 0} (states : List Stated) where
       by false false t on = on
       by true false t on = cc
       by false true t on = cc
+  found_has eq _ _ a h = absurd h
 
   pub found_length : (es : List (A × Origin)) (fs : List (A × List ℕ)) → AreFound states es fs → length es ≡ length fs
   found_length [] [] h = refl
-  found_length [] (f ∷ fs) h = absurd h
-  found_length (e ∷ es) [] h = absurd h
   found_length (e ∷ es) (f ∷ fs) h = ap suc (found_length es fs h.2)
+  found_length _ _ h = absurd h
 
   found_push : (es : List (A × Origin)) (fs : List (A × List ℕ)) (a : A) (o : Origin) (word : List ℕ) → AreFound states es fs → IsWordOf states o word → AreFound states (es ++ (a, o) ∷ []) (fs ++ (a, word) ∷ [])
   found_push [] [] a o word h is = (refl, is, tt)
-  found_push [] (f ∷ fs) a o word h is = absurd h
-  found_push (e ∷ es) [] a o word h is = absurd h
   found_push (e ∷ es) (f ∷ fs) a o word h is = (h.0, h.1, found_push es fs a o word h.2 is)
+  found_push _ _ a o word h is = absurd h
 
   -- where one state more was found
   pub found_later : (y : Stated) (es : List (A × Origin)) (fs : List (A × List ℕ)) → AreFound states es fs → AreFound (states ++ y ∷ []) es fs
   found_later y [] [] h = tt
-  found_later y [] (f ∷ fs) h = absurd h
-  found_later y (e ∷ es) [] h = absurd h
   found_later y (e ∷ es) (f ∷ fs) h = (h.0, word_more states y e.1 f.1 h.1, found_later y es fs h.2)
+  found_later y _ _ h = absurd h
 
 -- ---- ends
 

@@ -1,5 +1,5 @@
 -- What the code finds when words arrive, and when a state is gone on from.
-use Rattle.std.proofs.Common.{◌≡◌, ◌∙◌, ⊎_elim, ◌<◌, ◌≤◌, ℕ, zero, suc, Bool, true, false, if◌then◌else◌, List, [], ◌∷◌, ◌++◌, length, take, get_or, None, Some, ◌+◌, refl, sym, ap, subst, arith}
+use Rattle.std.proofs.Common.{◌≡◌, ◌∙◌, ⊎_elim, ◌<◌, ◌≤◌, ℕ, zero, suc, Bool, true, false, if◌then◌else◌, List, [], ◌∷◌, ◌++◌, length, take, get_or, Some, ◌+◌, refl, sym, ap, subst, arith}
 use Rattle.std.specs.Prelude.{Result, Ok, Err, IfOk, slice_get}
 use Rattle.std.proofs.lemmas.Bool.{cases_lt}
 use Rattle.std.proofs.Math.ListN.{get_or-append}
@@ -149,8 +149,3 @@ search_done r g most found n h le =
     let fewer = searched_length g ends_tests count n le in
     let same : searched g ends_tests n ≡ searched g ends_tests count = searched_done g ends_tests count n fewer le in
     record { count = count; holds = subst (Holds r found) same h.holds; states = sym (ap (λ (k : SlotFindings). length k.states) same); few = h.few }
-
-pub past_none : {X : Type 0} (xs : List X) (i : ℕ) → slice_get xs i ≡ None → length xs ≤ i
-past_none [] i e = omega arith
-past_none (x ∷ xs) zero e = cc
-past_none (x ∷ xs) (suc i) e = let le = past_none xs i e in omega (arith, le)

@@ -4,7 +4,7 @@ use Rattle.std.specs.Prelude.{nat_eq, slice_get}
 use Rattle.std.specs.Map.{lookup}
 use Rattle.std.specs.Cmp.Lexicographic.{bytes_decides}
 use Rattle.std.proofs.lemmas.Cmp.{nat_list_eq_equiv}
-use Rattle.std.proofs.lemmas.List.Elements.{All-nil, All-push}
+use Rattle.std.proofs.lemmas.List.Elements.{All-push}
 use Rattle.std.proofs.lemmas.Option.{same_Some, slice_get_cases, slice_get_past, slice_get_within}
 use Rattle.indexmap.specs.IndexMap.{insert_entry}
 use lib.Pointwise.{pointwise}
@@ -23,6 +23,8 @@ use Rattle.cp_ends.specs.declared.origin.Origin.TheVariants.{Start, Choice}
 use Rattle.cp_ends.specs.declared.states.States.{States}
 use Rattle.cp_ends.proofs.Searching.Lists.{all_at}
 use Rattle.cp_ends.proofs.named.Keys.{key_same, key_self}
+use Rattle.cp_refine.proofs.expressions.SetRanges.{same_truth as both_true}
+use Rattle.cp_resolved.proofs.names.Entries.{last_or_before as get_cases}
 
 abbrev pub Entry : Type 0
 Entry = StateRow × Origin
@@ -37,21 +39,6 @@ get_more [] y i x at = cc
 get_more (z ∷ xs) y zero x at = at
 get_more (z ∷ xs) y (suc i) x at = get_more xs y i x at
 
-pub get_last : {X : Type 0} (xs : List X) (y : X) → slice_get (xs ++ y ∷ []) (length xs) ≡ Some y
-get_last [] y = refl
-get_last (z ∷ xs) y = get_last xs y
-
--- an element is of the list, or the last
-pub get_cases : {X : Type 0} (xs : List X) (y : X) (i : ℕ) (x : X) → slice_get (xs ++ y ∷ []) i ≡ Some x → (slice_get xs i ≡ Some x) ⊎ ((i ≡ length xs) × (x ≡ y))
-get_cases [] y zero x at = inr (refl, sym (same_Some y x at))
-get_cases [] y (suc i) x at = cc
-get_cases (z ∷ xs) y zero x at = inl at
-get_cases (z ∷ xs) y (suc i) x at = by (get_cases xs y i x at)
-  where
-    by : (slice_get xs i ≡ Some x) ⊎ ((i ≡ length xs) × (x ≡ y)) → (slice_get xs i ≡ Some x) ⊎ ((suc i ≡ suc (length xs)) × (x ≡ y))
-    by (inl e) = inl e
-    by (inr e) = inr (ap suc e.0, e.1)
-
 -- ---- words stay
 
 pub word_more : (states : List Stated) (y : Stated) (o : Origin) (word : List ℕ) → IsWordOf states o word → IsWordOf (states ++ y ∷ []) o word
@@ -59,11 +46,6 @@ word_more states y Start word h = h
 word_more states y (Choice at number) word h = (h.0, get_more states y at h.0 h.1, h.2)
 
 -- ---- rows
-
-both_true : (a b : Bool) → (a ≡ true → b ≡ true) → (b ≡ true → a ≡ true) → a ≡ b
-both_true true b on back = sym (on refl)
-both_true false true on back = back refl
-both_true false false on back = refl
 
 -- in one store, rows are the same exactly where the machines of a program are
 same_rows : (r : Tables) (store : Store) (row other : List ℕ) (m n : Machine) → IsMachineOf r m → IsMachineOf r n → IsRowOf store row m → IsRowOf store other n → pointwise nat_eq row other ≡ same_key n m
@@ -83,9 +65,8 @@ same_rows r store row other m n mine theirs a b = both_true (pointwise nat_eq ro
 
 rows_length : (store : Store) (es : List Entry) (xs : List Stated) → AreRows store es xs → length es ≡ length xs
 rows_length store [] [] h = refl
-rows_length store [] (x ∷ xs) h = absurd h
-rows_length store (e ∷ es) [] h = absurd h
 rows_length store (e ∷ es) (x ∷ xs) h = ap suc (rows_length store es xs h.1)
+rows_length store _ _ h = absurd h
 
 -- what stands at one place is the row of the state there
 row_here : (store : Store) (es : List Entry) (xs : List Stated) (i : ℕ) (e : Entry) (x : Stated) → AreRows store es xs → slice_get es i ≡ Some e → slice_get xs i ≡ Some x → IsRowOf store e.0.numbers x.0
@@ -96,16 +77,14 @@ row_here store (k ∷ es) (y ∷ xs) (suc i) e x h at to = row_here store es xs 
 
 rows_more : (store : Store) (es : List Entry) (xs : List Stated) (e : Entry) (x : Stated) → IsRowOf store e.0.numbers x.0 → AreRows store es xs → AreRows store (es ++ e ∷ []) (xs ++ x ∷ [])
 rows_more store [] [] e x is h = (is, tt)
-rows_more store [] (y ∷ xs) e x is h = absurd h
-rows_more store (k ∷ es) [] e x is h = absurd h
 rows_more store (k ∷ es) (y ∷ xs) e x is h = (h.0, rows_more store es xs e x is h.1)
+rows_more store _ _ e x is h = absurd h
 
 -- rows stay where the store keeps its parts
 rows_on : (s t : Store) (es : List Entry) (xs : List Stated) → KeepParts s t → AreRows s es xs → AreRows t es xs
 rows_on s t [] [] kept h = tt
-rows_on s t [] (x ∷ xs) kept h = absurd h
-rows_on s t (e ∷ es) [] kept h = absurd h
 rows_on s t (e ∷ es) (x ∷ xs) kept h = (row_on s t e.0.numbers x.0 kept h.0, rows_on s t es xs kept h.1)
+rows_on s t _ _ kept h = absurd h
 
 pub states_on : (r : Tables) (old new : States) (xs : List Stated) → new.known ≡ old.known → KeepParts old.store new.store → AreStates r old xs → AreStates r new xs
 states_on r old new xs same kept h =
@@ -118,22 +97,9 @@ states_on r old new xs same kept h =
       before = h.before;
     })
 
--- nothing is kept of no states
-pub states_none : (r : Tables) (kept : States) → kept.known.entries ≡ [] → AreStates r kept []
-states_none r kept none =
-    record {
-      rows = subst (λ es. AreRows kept.store es []) (sym none) tt;
-      own = All-nil (λ (x : Stated). IsMachineOf r x.0);
-      quiet = All-nil (λ (x : Stated). x.0.output ≡ []);
-      words = λ i e x at to. absurd (cc);
-      before = λ i e at. absurd (let empty = sym (ap (λ l. slice_get l i) none) ∙ at in cc);
-    }
-
 -- a row is that of an entry exactly where its machine is a state
 pub found_same : (r : Tables) (store : Store) (es : List Entry) (xs : List Stated) (row : StateRow) (m : Machine) → AreRows store es xs → ((i : ℕ) (x : Stated) → slice_get xs i ≡ Some x → IsMachineOf r x.0) → IsMachineOf r m → IsRowOf store row.numbers m → is_some (lookup (λ j. pointwise nat_eq row.numbers j.numbers) es) ≡ has same_key xs m
 found_same r store [] [] row m h owns own is = refl
-found_same r store [] (x ∷ xs) row m h owns own is = absurd h
-found_same r store (e ∷ es) [] row m h owns own is = absurd h
 found_same r store (e ∷ es) (x ∷ xs) row m h owns own is = by (pointwise nat_eq row.numbers e.0.numbers) (same_key x.0 m) (same_rows r store row.numbers e.0.numbers m x.0 own (owns 0 x refl) is h.0) (found_same r store es xs row m h.1 (λ i y at. owns (suc i) y at) own is)
   where
     by : (b c : Bool) → b ≡ c → is_some (lookup (λ j. pointwise nat_eq row.numbers j.numbers) es) ≡ has same_key xs m → is_some (cond b (Some e.1) (lookup (λ j. pointwise nat_eq row.numbers j.numbers) es)) ≡ (if c then true else has same_key xs m)
@@ -141,6 +107,7 @@ found_same r store (e ∷ es) (x ∷ xs) row m h owns own is = by (pointwise nat
     by false false t on = on
     by true false t on = cc
     by false true t on = cc
+found_same r store _ _ row m h owns own is = absurd h
 
 insert_new : (eq : StateRow → StateRow → Bool) (es : List Entry) (k : StateRow) (o : Origin) → is_some (lookup (eq k) es) ≡ false → insert_entry eq es k o ≡ es ++ (k, o) ∷ []
 insert_new eq [] k o new = refl

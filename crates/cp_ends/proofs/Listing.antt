@@ -18,6 +18,7 @@ use Rattle.cp_ends.specs.declared.origin.Origin.{Origin}
 use Rattle.cp_ends.specs.declared.states.States.{States}
 use Rattle.cp_ends.proofs.Finding.{found_length}
 use Rattle.cp_ends.proofs.Keeping.{Entry, Stated, states_length}
+use Rattle.cp_endless.proofs.possible.Walks.{each_append}
 
 pub each_push : {A B : Type 0} (f : A → List B) (xs : List A) (x : A) → each f (xs ++ x ∷ []) ≡ each f xs ++ f x
 each_push f [] x = append-nil (f x)
@@ -74,10 +75,6 @@ FirstSoFar most depth line fs text count = (text ≡ each (λ x. line x.0 x.1) (
 each_one : {A B : Type 0} (f : A → List B) (x : A) (b : Bool) → each f (if b then x ∷ [] else []) ≡ (if b then f x else [])
 each_one f x true = append-nil (f x)
 each_one f x false = refl
-
-each_append : {A B : Type 0} (f : A → List B) (xs ys : List A) → each f (xs ++ ys) ≡ each f xs ++ each f ys
-each_append f [] ys = refl
-each_append f (x ∷ xs) ys = ap (λ l. f x ++ l) (each_append f xs ys) ∙ sym (append_assoc (f x) (each f xs) (each f ys))
 
 module _ {A : Type 0} (most : ℕ) (depth : Option ℕ) (line : A → List ℕ → List ℕ) (fs more : List (A × List ℕ)) (f : A × List ℕ) (put : more ≡ fs ++ f ∷ []) where
   pub first_left_out : (text : List ℕ) (count : ℕ) → is_told depth f.1 ≡ false → FirstSoFar most depth line fs text count → FirstSoFar most depth line more text count

@@ -31,13 +31,12 @@ long (e ∷ es) = ap suc (long es)
 -- a machine that has no row is no state
 unrowed : (store : Store) (es : List Entry) (xs : List Stated) (m : Machine) → AreRows store es xs → ((row : List ℕ) → IsRowOf store row m → ⊥) → has same_key xs m ≡ false
 unrowed store [] [] m h none = refl
-unrowed store [] (x ∷ xs) m h none = absurd h
-unrowed store (e ∷ es) [] m h none = absurd h
 unrowed store (e ∷ es) (x ∷ xs) m h none = by (same_key x.0 m) refl (unrowed store es xs m h.1 none)
   where
     by : (b : Bool) → same_key x.0 m ≡ b → has same_key xs m ≡ false → (if b then true else has same_key xs m) ≡ false
     by true e' on = absurd (none e.0.numbers (subst (IsRowOf store e.0.numbers) (key_same x.0 m e') h.0))
     by false e' on = on
+unrowed store _ _ m h none = absurd h
 
 module _ (r : Tables) (kept : States) (states : List Stated) (held : AreStates r kept states) (m : Machine) where
   pub no_number : ((row : List ℕ) → IsRowOf kept.store row m → ⊥) → IsNumberOf states m None

@@ -3,7 +3,7 @@ use Rattle.std.proofs.Common.{◌≡◌, ◌∙◌, ◌+◌, ◌<◌, ℕ, zero,
 use Rattle.std.specs.Prelude.{◌==◌, ◌&&◌, ◌||◌}
 use Rattle.cp_machine.specs.declared.shown.Shown.{Shown}
 use Rattle.cp_run.specs.declared.outcome.Turn.{Turn}
-use Rattle.cp_run.specs.declared.outcome.Turn.TheVariants.{Over, Due, Goes}
+use Rattle.cp_run.specs.declared.outcome.Turn.TheVariants.{Goes}
 use Rattle.cp_run.specs.System.{System}
 use Rattle.cp_run.specs.Run.{turn_after}
 use Rattle.cp_run.specs.Table.{each}
@@ -14,7 +14,8 @@ use Rattle.cp_ends.specs.Arrivals.{cut_arrival, first_return, has_call, is_call,
 use Rattle.cp_ends.specs.Graph.{End, Arrival}
 use Rattle.cp_ends.specs.declared.end.End as code
 use Rattle.cp_ends.specs.declared.end.End.TheVariants.{Alone, Spins}
-use Rattle.cp_ends.proofs.Stretches.{distance, moments_next}
+use Rattle.cp_ends.proofs.Stretches.{moments_next}
+use Rattle.cp_endless.proofs.Basics.{distance}
 
 -- a stretch that stands nowhere stands nowhere later
 gone_on : {S : Type 0} (sys : System S) (n m : ℕ) (s : S) (p : ℕ) → spot_after sys n s p ≡ None → spot_after sys (n + m) s p ≡ None
@@ -28,9 +29,8 @@ gone_on sys (suc n) m s p e = ap (λ i. spot_after sys i s p) (plus n) ∙ by (t
     plus n = omega arith
 
     by : (turn : Turn) → spot_by (sys.step s p) (spot_after sys n (sys.step s p)) turn ≡ None → ((r : ℕ) → spot_after sys n (sys.step s p) r ≡ None → spot_after sys (n + m) (sys.step s p) r ≡ None) → spot_by (sys.step s p) (spot_after sys (n + m) (sys.step s p)) turn ≡ None
-    by (Over kind) e on = refl
-    by Due e on = refl
     by (Goes r) e on = on r e
+    by _ e on = refl
 
 -- ---- whether it was in its state again
 

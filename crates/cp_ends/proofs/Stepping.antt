@@ -2,7 +2,7 @@
 use Rattle.std.proofs.Common.{◌≡◌, ◌∙◌, ℕ, List, ◌++◌, Bool, true, false, refl, sym, ap, subst}
 use Rattle.cp_slots.specs.Tables.{Tables}
 use Rattle.cp_machine.specs.declared.event.Event.{Event}
-use Rattle.cp_machine.specs.declared.event.Event.TheVariants.{Local, Kernel, Ended as ProcessEnded, Fault, OutputFull}
+use Rattle.cp_machine.specs.declared.event.Event.TheVariants.{Kernel}
 use Rattle.cp_machine.specs.declared.event.Kernel as kernel
 use Rattle.cp_machine.specs.declared.gates.Gates.{Gates}
 use Rattle.cp_machine.specs.declared.shown.Shown.{Shown}
@@ -23,11 +23,8 @@ if_goes turn q P e h = let F : Turn → Type 0 = λ t. IfGoes t P in subst F e h
 
 -- another event than a kernel call
 pub no_call : (event : Event) → ((call : kernel.Kernel) → event ≡ Kernel call → ⊥) → false ≡ is_call event
-no_call Local h = refl
 no_call (Kernel call) h = absurd (h call refl)
-no_call ProcessEnded h = refl
-no_call (Fault e) h = refl
-no_call OutputFull h = refl
+no_call _ h = refl
 
 module _ (r : Tables) (gates : Gates) (m k n t : Machine) (p : ℕ) (event : Event) (same : k ≡ m) (step : step_at r k p ≡ record { machine = n; event = event }) (forgot : t ≡ without_output n) where
   made : step_at r m p ≡ record { machine = n; event = event }

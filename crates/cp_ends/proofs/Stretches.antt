@@ -1,5 +1,5 @@
 -- Where a stretch of a machine that shows nothing comes to, by where it stands after so many steps.
-use Rattle.std.proofs.Common.{◌≡◌, ◌∙◌, ◌+◌, ◌<◌, ◌≤◌, ℕ, zero, suc, List, [], ◌∷◌, ◌++◌, Bool, Option, None, Some, refl, sym, ap, arith}
+use Rattle.std.proofs.Common.{◌≡◌, ◌∙◌, ◌+◌, ◌<◌, ℕ, zero, suc, List, [], ◌∷◌, ◌++◌, Bool, Option, None, Some, refl, sym, ap, arith}
 use Rattle.std.proofs.lemmas.List.{append-nil, append_assoc}
 use Rattle.cp_machine.specs.declared.shown.Shown.{Shown}
 use Rattle.cp_run.specs.declared.outcome.OutcomeKind.{OutcomeKind}
@@ -17,18 +17,9 @@ use Rattle.cp_ends.specs.Arrivals.{cut_arrival, goal_of, return_within, stretch_
 use Rattle.cp_ends.specs.Graph.{Goal, Place, End, Arrival}
 use Rattle.cp_ends.specs.declared.end.End as code
 use Rattle.cp_ends.specs.declared.end.End.TheVariants as end
-
-some_same : {A : Type 0} (x y : A) → Some x ≡ Some y → x ≡ y
-some_same x y e = cc
-
--- how far it is from one number to another
-pub distance : (a b : ℕ) → a ≤ b → (d : ℕ) × (a + d ≡ b)
-distance zero b le = (b, omega arith)
-distance (suc a) zero le = absurd (omega (arith, le))
-distance (suc a) (suc b) le = let x = distance a b (omega (arith, le)) in (x.0, (let e = x.1 in omega (arith, e)))
-
-distance_less_one : (a b : ℕ) → a < b → (d : ℕ) × (a + suc d ≡ b)
-distance_less_one a b less = let x = distance (suc a) b (omega (arith, less)) in (x.0, (let e = x.1 in omega (arith, e)))
+use Rattle.cp_resolved.proofs.names.Alike.{same_inside as some_same}
+use Rattle.cp_endless.proofs.Basics.{distance_less_one}
+use Rattle.cp_ends.proofs.Listing.{each_push as each_next}
 
 -- nobody goes on
 abbrev pub Stops : Turn → Type 0
@@ -36,9 +27,8 @@ Stops (Goes q) = ⊥
 Stops _ = Unit {0}
 
 pub stops : (turn : Turn) → ((q : ℕ) → turn ≡ Goes q → ⊥) → Stops turn
-stops (Over kind) h = tt
-stops Due h = tt
 stops (Goes q) h = h q refl
+stops _ h = tt
 
 module _ {S : Type 0} (sys : System S) where
   -- ---- what follows from where it stands after some steps
@@ -55,9 +45,8 @@ module _ {S : Type 0} (sys : System S) where
       plus n = omega arith
 
       by : (turn : Turn) → spot_by (sys.step s p) (spot_after sys n (sys.step s p)) turn ≡ Some (t, q) → ((r : ℕ) → spot_after sys n (sys.step s p) r ≡ Some (t, q) → stretch sys (n + m) (sys.step s p) r ≡ stretch sys m t q) → node_at (sys.step s p) (stretch sys (n + m) (sys.step s p)) turn ≡ stretch sys m t q
-      by (Over kind) e on = absurd (cc)
-      by Due e on = absurd (cc)
       by (Goes r) e on = on r e
+      by x e on = absurd (cc)
 
   pub moments_there : (n m : ℕ) (s : S) (p : ℕ) (t : S) (q : ℕ) → spot_after sys n s p ≡ Some (t, q) → stretch_moments sys (n + m) s p ≡ stretch_moments sys n s p ++ stretch_moments sys m t q
   unfolding stretch_moments
@@ -73,9 +62,8 @@ module _ {S : Type 0} (sys : System S) where
       by : (turn : Turn) → spot_by (sys.step s p) (spot_after sys n (sys.step s p)) turn ≡ Some (t, q) →
           ((r : ℕ) → spot_after sys n (sys.step s p) r ≡ Some (t, q) → stretch_moments sys (n + m) (sys.step s p) r ≡ stretch_moments sys n (sys.step s p) r ++ stretch_moments sys m t q) →
           moments_by (stretch_moments sys (n + m) (sys.step s p)) turn ≡ moments_by (stretch_moments sys n (sys.step s p)) turn ++ stretch_moments sys m t q
-      by (Over kind) e on = absurd (cc)
-      by Due e on = absurd (cc)
       by (Goes r) e on = on r e
+      by x e on = absurd (cc)
 
   -- ---- one step
 
@@ -90,8 +78,7 @@ module _ {S : Type 0} (sys : System S) where
   no_more : (t : S) (turn : Turn) → moments_by (stretch_moments sys 0 t) turn ≡ []
   unfolding stretch_moments
   no_more t (Over kind) = refl
-  no_more t Due = refl
-  no_more t (Goes q) = refl
+  no_more t _ = refl
 
   -- one more moment
   pub moments_next : (n : ℕ) (s : S) (p : ℕ) (t : S) (q : ℕ) → spot_after sys n s p ≡ Some (t, q) → stretch_moments sys (n + 1) s p ≡ stretch_moments sys n s p ++ record { state = t; mover = q } ∷ []
@@ -110,14 +97,12 @@ module _ {S : Type 0} (sys : System S) where
   -- ---- the next step is the last
 
   no_spot : (t : S) (on : ℕ → Option (S × ℕ)) (turn : Turn) → Stops turn → spot_by t on turn ≡ None
-  no_spot t on (Over kind) h = refl
-  no_spot t on Due h = refl
   no_spot t on (Goes q) h = absurd h
+  no_spot t on _ h = refl
 
   no_moments : (on : ℕ → List (Moment S)) (turn : Turn) → Stops turn → moments_by on turn ≡ []
-  no_moments on (Over kind) h = refl
-  no_moments on Due h = refl
   no_moments on (Goes q) h = absurd h
+  no_moments on _ h = refl
 
   module _ (s : S) (p n : ℕ) (t u : S) (q : ℕ) (turn : Turn) (spot : spot_after sys n s p ≡ Some (t, q)) (e : u ≡ sys.step t q) (h : turn ≡ turn_after sys u q (sys.event t q)) (halts : Stops turn) where
     none_on : (left : ℕ) → spot_after sys (n + suc left) s p ≡ None
@@ -161,10 +146,6 @@ spot_before sys s p = refl
 pub told_before : {S : Type 0} (sys quiet : System S) (s : S) (p : ℕ) (told : List Shown) → told ≡ told ++ each (shown_at sys) (stretch_moments quiet 0 s p)
 unfolding stretch_moments
 told_before sys quiet s p told = sym (append-nil told)
-
-each_next : {A B : Type 0} (f : A → List B) (xs : List A) (x : A) → each f (xs ++ x ∷ []) ≡ each f xs ++ f x
-each_next f [] x = append-nil (f x)
-each_next f (y ∷ ys) x = ap (λ l. f y ++ l) (each_next f ys x) ∙ sym (append_assoc (f y) (each f ys) (f x))
 
 -- one step more is told
 pub told_next : {S : Type 0} (sys quiet : System S) (n : ℕ) (s : S) (p : ℕ) (t : S) (q : ℕ) (old told new : List Shown) → spot_after quiet n s p ≡ Some (t, q) → told ≡ old ++ each (shown_at sys) (stretch_moments quiet n s p) → new ≡ told ++ shown_at sys (record { state = t; mover = q }) → new ≡ old ++ each (shown_at sys) (stretch_moments quiet (n + 1) s p)

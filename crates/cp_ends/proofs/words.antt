@@ -1,4 +1,3 @@
-pub mod Alike
 pub mod Edges
 pub mod Firsts
 pub mod Returns

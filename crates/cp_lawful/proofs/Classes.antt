@@ -6,7 +6,7 @@ use Rattle.std.proofs.lemmas.Slice.Eq.{bytes_eq-Decides}
 use Rattle.cp_tree.specs.declared.constant.Identifier.{Identifier}
 use Rattle.cp_tree.specs.declared.declaration.SystemKind.{SystemKind}
 use Rattle.cp_tree.specs.declared.declaration.SystemKind.TheVariants as system_kind
-use Rattle.cp_tree.specs.Syntax.{Simple, type_name, enumeration, subrange, TypeTerm, simple, array_of, set_type, record_of, FieldGroups, no_fields, more_fields, FieldGroup, fields, ConstantDefinition, VariableGroup, Group, System, Definition, type_definition, system_definition, SystemDefinition, ProgramPart, program_constants, program_types, program_variables, Program, Tree}
+use Rattle.cp_tree.specs.Syntax.{Simple, type_name, enumeration, TypeTerm, simple, array_of, set_type, record_of, FieldGroups, no_fields, more_fields, FieldGroup, fields, ConstantDefinition, VariableGroup, Group, System, Definition, type_definition, system_definition, SystemDefinition, ProgramPart, program_constants, program_types, program_variables, Program, Tree}
 use Rattle.cp_scope.specs.declared.types.Meaning.{Meaning}
 use Rattle.cp_scope.specs.declared.types.Meaning.TheVariants.{Kind}
 use Rattle.cp_scope.specs.declared.types.Meaning.TheVariants as stands
@@ -20,7 +20,7 @@ use Rattle.cp_scope.specs.Scopes.{Names, Scope, Scopes, find, is_among, is_decla
 use Rattle.cp_check.specs.declared.types.Spot.TheVariants as spot
 use Rattle.cp_check.specs.Names as names
 use Rattle.cp_check.specs.Types as typing
-use Rattle.cp_check.specs.Types.{Step, nothing, Typed, typed}
+use Rattle.cp_check.specs.Types.{Step, nothing, typed}
 use Rattle.cp_check.specs.Declarations.{as_declared, to_kind, reserve_name, reserve_names, add_names, add_all, add_one, constant_steps, variable_steps}
 use Rattle.cp_check.specs.Systems as systems
 use Rattle.cp_check.specs.Faults.{faults_of}
@@ -37,10 +37,6 @@ use Rattle.cp_lawful.proofs.Loud.{Loud}
 use Rattle.cp_lawful.proofs.Told.{Told, heard, add_told, enter_told, names_reserved_told, system_parameter_loud, system_loud, system_names, name_reserved_told, constants_told, variables_told, definition_told, start_told}
 
 -- ---- system types by their places
-
-abbrev some_or : SystemMeaning → Option SystemMeaning → SystemMeaning
-some_or m None = m
-some_or m (Some x) = x
 
 get_before : (ss : List SystemMeaning) (y : SystemMeaning) (k : ℕ) (m : SystemMeaning) → slice_get ss k ≡ Some m → slice_get (ss ++ y ∷ []) k ≡ Some m
 get_before [] y k m h = absurd (let bad : None ≡ Some m = h in cc)
@@ -82,9 +78,8 @@ enumerated_tell ss s b n [] m tell = tell
 enumerated_tell ss s b n (x ∷ xs) m tell = enumerated_tell ss s b (suc n) xs _ ((λ k e. absurd cc), tell)
 
 simple_tell : (ss : List SystemMeaning) (s : Scopes) (m : meant.Scope) (t : Simple) → AllTell ss s m → AllTell ss s (simple_in m t).1
-simple_tell ss s m (type_name at x) tell = tell
 simple_tell ss s m (enumeration at is) tell = enumerated_tell ss s _ 0 (names_of is) m tell
-simple_tell ss s m (subrange at c d) tell = tell
+simple_tell ss s m _ tell = tell
 
 mutual
   type_tell : (ss : List SystemMeaning) (s : Scopes) (m : meant.Scope) (t : TypeTerm) → AllTell ss s m → AllTell ss s (type_in m t).1
@@ -161,11 +156,7 @@ named_component ss s m at k x tell h e =
 no_component : (ss : List SystemMeaning) (s : Scopes) (m : meant.Scope) (t : TypeTerm) (k : ℕ) → AllTell ss s m → faults (typed s spot.Definition t).type ≡ [] → (type_in m t).0 ≡ component_of k → ⊥
 unfolding typed typing.simple_typed
 no_component ss s m (simple at (type_name n_at x)) k tell h e = named_component ss s m n_at k x tell h e
-no_component ss s m (simple at (enumeration n_at is)) k tell h e = cc
-no_component ss s m (simple at (subrange n_at c d)) k tell h e = cc
-no_component ss s m (array_of at i t) k tell h e = cc
-no_component ss s m (set_type at t) k tell h e = cc
-no_component ss s m (record_of at gs b) k tell h e = cc
+no_component ss s m x k tell h e = cc
 
 -- ---- the name of a system type
 
@@ -341,12 +332,7 @@ pub type_there : (o : Option (Option Meaning)) (at : ℕ) (f : ValueType → Jud
 type_there None at f loud e = absurd (let bad : check_fault.Rule at C1 ∷ [] ≡ [] = e in cc)
 type_there (Some None) at f loud e = absurd loud
 type_there (Some (Some (Kind t))) at f loud e = (t, refl)
-type_there (Some (Some (stands.Constant b v))) at f loud e = absurd (let bad : check_fault.Rule at C4 ∷ [] ≡ [] = e in cc)
-type_there (Some (Some (stands.Variable t))) at f loud e = absurd (let bad : check_fault.Rule at C4 ∷ [] ≡ [] = e in cc)
-type_there (Some (Some (stands.Parameter t))) at f loud e = absurd (let bad : check_fault.Rule at C4 ∷ [] ≡ [] = e in cc)
-type_there (Some (Some (stands.Reference t))) at f loud e = absurd (let bad : check_fault.Rule at C4 ∷ [] ≡ [] = e in cc)
-type_there (Some (Some (stands.Routine r))) at f loud e = absurd (let bad : check_fault.Rule at C4 ∷ [] ≡ [] = e in cc)
-type_there (Some (Some (stands.Predeclared p))) at f loud e = absurd (let bad : check_fault.Rule at C4 ∷ [] ≡ [] = e in cc)
+type_there x at f loud e = absurd (let bad : check_fault.Rule at C4 ∷ [] ≡ [] = e in cc)
 
 -- a component parameter of a type that is no class is of no class
 abbrev Admits : List SystemMeaning → SystemKind → Parameter → Type 0
@@ -368,8 +354,7 @@ no_shared_class : (at : ℕ) (o k : SystemKind) (t : ValueType) → faults (syst
 no_shared_class at o system_kind.Monitor t h other e = cc
 no_shared_class at o system_kind.Process t h other e = cc
 no_shared_class at system_kind.Class system_kind.Class t h other e = other refl
-no_shared_class at system_kind.Monitor system_kind.Class t h other e = absurd (let bad : check_fault.Rule at C14 ∷ [] ≡ [] = h in cc)
-no_shared_class at system_kind.Process system_kind.Class t h other e = absurd (let bad : check_fault.Rule at C14 ∷ [] ≡ [] = h in cc)
+no_shared_class at x system_kind.Class t h other e = absurd (let bad : check_fault.Rule at C14 ∷ [] ≡ [] = h in cc)
 
 group_admits : (ss : List SystemMeaning) (o : SystemKind) (s : Scopes) (g : Group) (m : meant.Scope) → faults (systems.parameter_type o s g) ≡ [] → Knows ss m s → (k : ℕ) → type_named m g.type_name.name ≡ component_of k → (y : SystemMeaning) × ((slice_get ss k ≡ Some y) × ((o ≡ system_kind.Class → ⊥) → y.kind ≡ system_kind.Class → ⊥))
 unfolding systems.parameter_type typing.type_named names.visible

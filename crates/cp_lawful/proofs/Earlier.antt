@@ -32,20 +32,13 @@ ScopeBelow k [] = Unit {0}
 ScopeBelow k (d ∷ ds) = MeaningBelow k d.1 × ScopeBelow k ds
 
 more_ty : (k : ℕ) (t : Ty) → TyBelow k t → TyBelow (suc k) t
-more_ty k (ordinal r) h = tt
-more_ty k queue_type h = tt
-more_ty k (set_over r) h = tt
 more_ty k (array_over r t) h = more_ty k t h
-more_ty k (record_with ts) h = tt
 more_ty k (component_of j) h = omega arith
+more_ty k _ h = tt
 
 more_meaning : (k : ℕ) (m : Meaning) → MeaningBelow k m → MeaningBelow (suc k) m
-more_meaning k (constant_meaning b z) h = tt
 more_meaning k (type_meaning t) h = more_ty k t h
-more_meaning k (local_variable t) h = tt
-more_meaning k (permanent_variable t) h = tt
-more_meaning k (routine_meaning r) h = tt
-more_meaning k (standard_meaning s) h = tt
+more_meaning k _ h = tt
 
 more_scope : (k : ℕ) (s : Scope) → ScopeBelow k s → ScopeBelow (suc k) s
 more_scope k [] h = tt

@@ -3,7 +3,7 @@ use Rattle.std.proofs.Common.{◌≡◌, ℕ, ◌+◌, ◌∙◌, Bool, true, fa
 use Rattle.std.specs.Str.{bytes_eq}
 use Rattle.cp_tree.specs.declared.constant.Identifier.{Identifier}
 use Rattle.cp_tree.specs.declared.declaration.SystemKind.{SystemKind}
-use Rattle.cp_tree.specs.Syntax.{Simple, type_name, enumeration, subrange, TypeTerm, simple, array_of, set_type, record_of, FieldGroups, no_fields, more_fields, FieldGroup, fields, ConstantDefinition, TypeDefinition, VariableGroup, Part, constants, types, variables, Group, ParameterGroup, RoutineKind, procedure, function, Routine, System, Definition, type_definition, system_definition, SystemDefinition, ProgramPart, program_constants, program_types, program_variables}
+use Rattle.cp_tree.specs.Syntax.{Simple, enumeration, TypeTerm, simple, array_of, set_type, record_of, FieldGroups, no_fields, more_fields, FieldGroup, fields, ConstantDefinition, TypeDefinition, VariableGroup, Part, constants, types, variables, Group, ParameterGroup, RoutineKind, procedure, function, Routine, System, Definition, type_definition, system_definition, SystemDefinition, ProgramPart, program_constants, program_types, program_variables}
 use Rattle.cp_scope.specs.declared.fault.CheckFault.TheVariants as check_fault
 use Rattle.cp_scope.specs.declared.fault.Rule.TheVariants.{C2}
 use Rattle.cp_scope.specs.declared.types.Meaning.{Meaning}
@@ -16,7 +16,7 @@ use Rattle.cp_scope.specs.Judged.{Judged}
 use Rattle.cp_scope.specs.Scopes.{Names, Scope, Scopes, Shape, find, is_among, is_declared, with_name, with_pending, sealed, add, reserve, settle, enter, Around, around, last_of, leave, add_around, keep}
 use Rattle.cp_check.specs.declared.types.Spot.{Spot}
 use Rattle.cp_check.specs.declared.types.Spot.TheVariants as spot
-use Rattle.cp_check.specs.Types.{Step, then_step, nothing, member, members, simple_typed, keep_array, keep_record, typed, groups_typed, group_typed}
+use Rattle.cp_check.specs.Types.{Step, nothing, member, members, simple_typed, keep_array, keep_record, typed, groups_typed, group_typed}
 use Rattle.cp_check.specs.Declarations.{reserve_name, reserve_names, add_names, add_all, add_one, constant_step, constant_steps, type_step, type_steps, variable_step, variable_steps, part_step, part_steps}
 use Rattle.cp_check.specs.Headings as headings
 use Rattle.cp_check.specs.Routines as routines
@@ -72,9 +72,6 @@ pub kept : (s : Scopes) (n : ℕ) (d : Shape) → Keeps s (keep s n d)
 unfolding keep
 kept s n d = record { outer = refl; names = λ x m h. h }
 
-pub then_kept : (s : Scopes) (a : Step) (f : Scopes → Step) → Keeps s a.scopes → ((t : Scopes) → Keeps t (f t).scopes) → Keeps s (then_step a f).scopes
-then_kept s a f h g = after s a.scopes (f a.scopes).scopes h (g a.scopes)
-
 pub name_reserved : (s : Scopes) (n : Identifier) → Keeps s (reserve_name s n).scopes
 unfolding reserve_name
 name_reserved s n = go (is_declared s n.name)
@@ -125,11 +122,10 @@ unfolding members
 members_kept s b k [] = same s
 members_kept s b k (i ∷ is) = after s (member s b k i).scopes _ (member_kept s b k i) (members_kept (member s b k i).scopes b (k + 1) is)
 
-simple_kept : (s : Scopes) (p : Spot) (t : Simple) → Keeps s (simple_typed s p t).scopes
+pub simple_kept : (s : Scopes) (p : Spot) (t : Simple) → Keeps s (simple_typed s p t).scopes
 unfolding simple_typed
-simple_kept s p (type_name at n) = same s
 simple_kept s p (enumeration at is) = members_kept s _ 0 is
-simple_kept s p (subrange at a b) = same s
+simple_kept s p _ = same s
 
 array_kept : (s : Scopes) (at : ℕ) (j : Judged ArrayShape) → Keeps s (keep_array s at j)
 array_kept s at (Ok a) = kept s at _
@@ -245,8 +241,7 @@ announced_outer r (Err fs) s cs t e = ap (λ (a : Around). a.outer) (last_is (la
 closed_outer : (r : Routine) (j : Judged (Option ValueType)) (u : Judged Use) (s : Scopes) → (routines.closed_of r j u s).outer ≡ (last_of s.outer).outer
 unfolding routines.closed settle keep leave
 closed_outer r (Ok v) (Ok u) s = refl
-closed_outer r (Ok v) (Err fs) s = refl
-closed_outer r (Err fs) u s = refl
+closed_outer r _ _ s = refl
 
 routine_outer : (k : Option SystemKind) (s : Scopes) (r : Routine) → (routines.routine_step k s r).scopes.outer ≡ s.outer
 unfolding routines.routine_step routines.opened headings.heading enter

@@ -6,7 +6,7 @@ use Rattle.cp_tree.specs.declared.constant.Constant.{Constant}
 use Rattle.cp_tree.specs.declared.constant.ConstantKind.{ConstantKind}
 use Rattle.cp_tree.specs.declared.constant.ConstantKind.TheVariants as kinds
 use Rattle.cp_tree.specs.declared.expression.Relation.{Relation}
-use Rattle.cp_tree.specs.Syntax.{Expression, alone, related, Sum, sum, Terms, no_terms, more_terms as terms_more, Term, term, Factors, no_factors, more_factors as factors_more, Factor, number, character, named, group, negated, set_of, Expressions, no_expressions, more_expressions, Designator, designator as name_with, Selectors, no_selectors, more_selectors, Selector, field, index, Start, Statement, empty, assign, invoke, block, if_then, if_else, case_of, while_do, repeat_until, for_do, cycle, init, Statements, no_statements, more_statements, Arms, no_arms, more_arms, Arm, arm}
+use Rattle.cp_tree.specs.Syntax.{Expression, alone, related, Sum, sum, Terms, no_terms, more_terms as terms_more, Term, term, Factors, no_factors, more_factors as factors_more, Factor, named, group, negated, set_of, Expressions, no_expressions, more_expressions, Designator, designator as name_with, Selectors, no_selectors, more_selectors, Selector, field, index, Start, Statement, empty, assign, invoke, block, if_then, if_else, case_of, while_do, repeat_until, for_do, cycle, init, Statements, no_statements, more_statements, Arms, no_arms, more_arms, Arm, arm}
 use Rattle.cp_scope.specs.declared.fault.CheckFault.{CheckFault}
 use Rattle.cp_scope.specs.declared.types.ValueType.{ValueType}
 use Rattle.cp_scope.specs.declared.types.ValueType.TheVariants as value_type
@@ -43,12 +43,10 @@ Loud (Err []) = ⊥
 Loud (Err (f ∷ fs)) = Unit {0}
 
 pub loud_both : {A B : Type 0} (a : Judged A) (b : Judged B) → Loud a → Loud b → Loud (both a b)
-loud_both (Ok a) (Ok b) h g = tt
 loud_both (Ok a) (Err []) h g = g
-loud_both (Ok a) (Err (f ∷ fs)) h g = tt
 loud_both (Err []) b h g = absurd h
 loud_both (Err (f ∷ fs)) (Ok b) h g = tt
-loud_both (Err (f ∷ fs)) (Err gs) h g = tt
+loud_both _ _ h g = tt
 
 pub loud_then : {A B : Type 0} (j : Judged A) (f : A → Judged B) → Loud j → ((a : A) → Loud (f a)) → Loud (j >>= f)
 loud_then (Ok a) f h g = g a
@@ -74,45 +72,21 @@ unfolding names.begun
 begun_loud s i h = loud_then _ _ (h i.at i.name) (λ m. tt)
 
 field_loud : (at : ℕ) (d : DesignatedName) (o : Option (Option Meaning)) → Loud (names.with_field at d o)
-field_loud at d None = tt
-field_loud at d (Some None) = tt
 field_loud at d (Some (Some (meaning.Constant b v))) = tt
-field_loud at d (Some (Some (meaning.Kind t))) = tt
-field_loud at d (Some (Some (meaning.Variable t))) = tt
-field_loud at d (Some (Some (meaning.Parameter t))) = tt
-field_loud at d (Some (Some (meaning.Reference t))) = tt
-field_loud at d (Some (Some (meaning.Routine n))) = tt
-field_loud at d (Some (Some (meaning.Predeclared p))) = tt
+field_loud at d _ = tt
 
 entry_loud : (at : ℕ) (d : DesignatedName) (o : Option (Option Meaning)) → Loud (names.with_entry at d o)
-entry_loud at d None = tt
-entry_loud at d (Some None) = tt
 entry_loud at d (Some (Some (meaning.Constant b v))) = tt
-entry_loud at d (Some (Some (meaning.Kind t))) = tt
-entry_loud at d (Some (Some (meaning.Variable t))) = tt
-entry_loud at d (Some (Some (meaning.Parameter t))) = tt
-entry_loud at d (Some (Some (meaning.Reference t))) = tt
-entry_loud at d (Some (Some (meaning.Routine n))) = tt
-entry_loud at d (Some (Some (meaning.Predeclared p))) = tt
+entry_loud at d _ = tt
 
 selected_loud : (s : Scopes) (i : Identifier) (d : DesignatedName) (o : Option ValueType) → Loud (names.selected_of s i d o)
-selected_loud s i d None = tt
-selected_loud s i d (Some (value_type.Ordinal r)) = tt
-selected_loud s i d (Some value_type.Queue) = tt
-selected_loud s i d (Some (value_type.Set r)) = tt
-selected_loud s i d (Some (value_type.Array n)) = tt
 selected_loud s i d (Some (value_type.Record n)) = field_loud i.at d (field_at n i.name s)
 selected_loud s i d (Some (value_type.Component k n)) = entry_loud i.at d (member_at n i.name s)
+selected_loud s i d _ = tt
 
 known_loud : (at : ℕ) (d : DesignatedName) (n : Named) → Loud (names.known_named at d n)
 known_loud at d name.Nothing = tt
-known_loud at d (name.Constant b) = tt
-known_loud at d (name.Variable t) = tt
-known_loud at d (name.Parameter t) = tt
-known_loud at d name.Kind = tt
-known_loud at d (name.Routine n) = tt
-known_loud at d (name.Entry n) = tt
-known_loud at d (name.Predeclared p) = tt
+known_loud at d _ = tt
 
 -- ---- constants and labels
 
@@ -122,12 +96,7 @@ sign_loud at (Some s) n = search loud_if
 
 constant_meant_loud : (at : ℕ) (m : Meaning) → Loud (constants.to_constant at m)
 constant_meant_loud at (meaning.Constant b v) = tt
-constant_meant_loud at (meaning.Kind t) = tt
-constant_meant_loud at (meaning.Variable t) = tt
-constant_meant_loud at (meaning.Parameter t) = tt
-constant_meant_loud at (meaning.Reference t) = tt
-constant_meant_loud at (meaning.Routine n) = tt
-constant_meant_loud at (meaning.Predeclared p) = tt
+constant_meant_loud at _ = tt
 
 named_loud : (s : Scopes) (i : Identifier) → Heard s → Loud (constants.named s i)
 unfolding constants.named
@@ -165,35 +134,24 @@ negated_loud at o = search loud_if
 
 stepped_loud : (at : ℕ) (t : ValueType) (u : Use) → Loud (operations.stepped at t u)
 stepped_loud at (value_type.Ordinal r) u = tt
-stepped_loud at value_type.Queue u = tt
-stepped_loud at (value_type.Set r) u = tt
-stepped_loud at (value_type.Array n) u = tt
-stepped_loud at (value_type.Record n) u = tt
-stepped_loud at (value_type.Component k n) u = tt
+stepped_loud at _ u = tt
 
 numbered_loud : (at : ℕ) (t : ValueType) (u : Use) → Loud (operations.numbered at t u)
 numbered_loud at (value_type.Ordinal r) u = tt
-numbered_loud at value_type.Queue u = tt
-numbered_loud at (value_type.Set r) u = tt
-numbered_loud at (value_type.Array n) u = tt
-numbered_loud at (value_type.Record n) u = tt
-numbered_loud at (value_type.Component k n) u = tt
+numbered_loud at _ u = tt
 
 applied_to_loud : (at : ℕ) (p : Predeclared) (o : Operand) (u : Use) → Loud (operations.applied_to at p o u)
 applied_to_loud at predeclared.Succ o u = stepped_loud at o.value_type u
 applied_to_loud at predeclared.Pred o u = stepped_loud at o.value_type u
 applied_to_loud at predeclared.Ord o u = numbered_loud at o.value_type u
-applied_to_loud at predeclared.Chr o u = search loud_if
-applied_to_loud at predeclared.Abs o u = search loud_if
-applied_to_loud at predeclared.Empty o u = search loud_if
 applied_to_loud at predeclared.Delay o u = tt
 applied_to_loud at predeclared.Continue o u = tt
 applied_to_loud at predeclared.Display o u = tt
+applied_to_loud at x o u = search loud_if
 
 applied_all_loud : (at : ℕ) (p : Predeclared) (os : List Operand) (u : Use) → Loud (operations.applied_all at p os u)
-applied_all_loud at p [] u = tt
 applied_all_loud at p (o ∷ []) u = applied_to_loud at p o u
-applied_all_loud at p (o ∷ q ∷ os) u = tt
+applied_all_loud at p _ u = tt
 
 applied_loud : (at : ℕ) (p : Predeclared) (os : List Operand) (u : Use) → Loud (operations.applied at p os u)
 applied_loud at p os u = search (loud_if, applied_all_loud)
@@ -218,13 +176,11 @@ alone_loud o (p ∷ ps) = tt
 
 value_named_loud : (s : Scopes) (w : Context) (at : ℕ) (d : DesignatedName) (os : List Operand) (n : Named) → Loud (calls.value_named s w at d os n)
 value_named_loud s w at d os name.Nothing = tt
-value_named_loud s w at d os (name.Constant b) = alone_loud _ os
-value_named_loud s w at d os (name.Variable t) = alone_loud _ os
-value_named_loud s w at d os (name.Parameter t) = alone_loud _ os
 value_named_loud s w at d os name.Kind = tt
 value_named_loud s w at d os (name.Routine n) = function_value_loud s w at d.name_at true n os d.uses
 value_named_loud s w at d os (name.Entry n) = function_value_loud s w at d.name_at false n os d.uses
 value_named_loud s w at d os (name.Predeclared p) = applied_loud at p os _
+value_named_loud s w at d os _ = alone_loud _ os
 
 value_loud : (s : Scopes) (w : Context) (at : ℕ) (p : DesignatedName × List Operand) → Loud (calls.value_of s w at p)
 unfolding calls.value_of
@@ -237,11 +193,7 @@ variable_loud s w at d = search (loud_if, value_loud)
 
 set_like_loud : (at : ℕ) (os : List Operand) (t : ValueType) → Loud (expressions.set_like at os t)
 set_like_loud at os (value_type.Ordinal r) = search loud_if
-set_like_loud at os value_type.Queue = tt
-set_like_loud at os (value_type.Set r) = tt
-set_like_loud at os (value_type.Array n) = tt
-set_like_loud at os (value_type.Record n) = tt
-set_like_loud at os (value_type.Component k n) = tt
+set_like_loud at os _ = tt
 
 constructed_loud : (at : ℕ) (os : List Operand) → Loud (expressions.constructed at os)
 constructed_loud at [] = tt
@@ -272,12 +224,11 @@ mutual
   factors_loud s w h at (factors_more m f fs) j g = factors_loud s w h at fs _ (loud_then _ _ (loud_both j _ g (factor_loud s w h false f)) (λ p. tt))
 
   factor_loud : (s : Scopes) (w : Context) → Heard s → (v : Bool) (f : Factor) → Loud (expressions.factor s w v f)
-  factor_loud s w h v (number at n) = tt
-  factor_loud s w h v (character at c) = tt
   factor_loud s w h v (named at d es) = named_value_loud s w _ at _ _ (designator_loud s w h d) (arguments_loud s w h [] 0 es)
   factor_loud s w h v (group at e) = loud_then _ _ (expression_loud s w h false e) (λ o. tt)
   factor_loud s w h v (negated at f) = loud_then _ _ (factor_loud s w h false f) (negated_loud at)
   factor_loud s w h v (set_of at es) = loud_then _ _ (arguments_loud s w h [] 0 es) (constructed_loud at)
+  factor_loud s w h v _ = tt
 
   pub designator_loud : (s : Scopes) (w : Context) → Heard s → (d : Designator) → Loud (expressions.designator s w d)
   designator_loud s w h (name_with n ss) = loud_then _ _ (selectors_loud s w h ss _ (begun_loud s n h)) (λ d. known_loud n.at d d.named)
@@ -298,14 +249,12 @@ mutual
 
 aimed_loud : (at : ℕ) (t : Target) → Loud (statements.aimed at t)
 aimed_loud at target.Kind = tt
-aimed_loud at (target.Assignable t) = tt
-aimed_loud at (target.Fixed o) = tt
+aimed_loud at _ = tt
 
 assigned_loud : (at : ℕ) (t : Target) (o : Operand) (u : Use) → Loud (statements.assigned at t o u)
-assigned_loud at (target.Assignable t) o u = search loud_if
-assigned_loud at (target.Fixed (Some t)) o u = search loud_if
 assigned_loud at (target.Fixed None) o u = tt
 assigned_loud at target.Kind o u = tt
+assigned_loud at x o u = search loud_if
 
 target_loud : (s : Scopes) (w : Context) (at : ℕ) (d : DesignatedName) → Loud (statements.with_target s w at d)
 target_loud s w at d = loud_then (statements.aimed at (statements.target_of s w d.named)) (λ t. Ok (t, d.uses)) (aimed_loud at (statements.target_of s w d.named)) (λ t. tt)
@@ -319,15 +268,10 @@ assignment_loud s w at d e h =
     loud_then _ _ (loud_both _ _ (loud_then _ _ (designator_loud s w h d) (target_loud s w (statements.name_at d))) (expression_loud s w h false e)) (finish_loud at)
 
 performed_loud : (s : Scopes) (w : Context) (at : ℕ) (p : Predeclared) (os : List Operand) (u : Use) → Loud (statements.performed s w at p os u)
-performed_loud s w at predeclared.Succ os u = tt
-performed_loud s w at predeclared.Pred os u = tt
-performed_loud s w at predeclared.Ord os u = tt
-performed_loud s w at predeclared.Chr os u = tt
-performed_loud s w at predeclared.Abs os u = tt
-performed_loud s w at predeclared.Empty os u = tt
 performed_loud s w at predeclared.Delay os u = loud_unless _ _
 performed_loud s w at predeclared.Continue os u = loud_unless _ _
 performed_loud s w at predeclared.Display os u = loud_unless _ _
+performed_loud s w at _ os u = tt
 
 procedure_loud : (s : Scopes) (w : Context) (at n_at : ℕ) (b : Bool) (n : ℕ) (os : List Operand) (u : Use) (o : Option ValueType) → Loud (statements.procedure_of s w at n_at b n os u o)
 procedure_loud s w at n_at b n os u (Some t) = tt
@@ -338,14 +282,10 @@ unfolding statements.procedure_called
 procedure_called_loud s w at n_at b n os u = procedure_loud s w at n_at b n os u (heading_at n s).result
 
 invoked_named_loud : (s : Scopes) (w : Context) (at : ℕ) (d : DesignatedName) (os : List Operand) (n : Named) → Loud (statements.invoked_named s w at d os n)
-invoked_named_loud s w at d os name.Nothing = tt
-invoked_named_loud s w at d os (name.Constant b) = tt
-invoked_named_loud s w at d os (name.Variable t) = tt
-invoked_named_loud s w at d os (name.Parameter t) = tt
-invoked_named_loud s w at d os name.Kind = tt
 invoked_named_loud s w at d os (name.Routine n) = procedure_called_loud s w at d.name_at true n os d.uses
 invoked_named_loud s w at d os (name.Entry n) = procedure_called_loud s w at d.name_at false n os d.uses
 invoked_named_loud s w at d os (name.Predeclared p) = performed_loud s w at p os _
+invoked_named_loud s w at d os _ = tt
 
 call_loud : (s : Scopes) (w : Context) (at : ℕ) (d : Designator) (es : Expressions) → Heard s → Loud (statements.call s w at d es)
 unfolding statements.call statements.invoked
@@ -365,27 +305,15 @@ chosen_loud at p = loud_unless (cases.case_faults at p.0 p.1.0) (both_uses p.0.u
 
 counted_loud : (at n : ℕ) (t : Target) (a b : Operand) (u : Use) → Loud (statements.counted at n t a b u)
 counted_loud at n target.Kind a b u = tt
-counted_loud at n (target.Assignable t) a b u = search loud_if
 counted_loud at n (target.Fixed (Some t)) a b u = search loud_if
-counted_loud at n (target.Fixed None) a b u = search loud_if
+counted_loud at n x a b u = search loud_if
 
 count_over_loud : (s : Scopes) (w : Context) (at n : ℕ) (p : ((DesignatedName × Operand) × Operand) × Use) → Loud (statements.count_over s w at n p)
 count_over_loud s w at n p = counted_loud at n (statements.target_of s w p.0.0.0.named) p.0.0.1 p.0.1 (both_uses (both_uses p.0.0.1.uses p.0.1.uses) p.1)
 
 started_loud : (s : Scopes) (at : ℕ) (d : DesignatedName) (os : List Operand) (n : Named) → Loud (statements.started_named s at d os n)
-started_loud s at d os name.Nothing = tt
-started_loud s at d os (name.Constant b) = tt
-started_loud s at d os (name.Variable (value_type.Ordinal r)) = tt
-started_loud s at d os (name.Variable value_type.Queue) = tt
-started_loud s at d os (name.Variable (value_type.Set r)) = tt
-started_loud s at d os (name.Variable (value_type.Array n)) = tt
-started_loud s at d os (name.Variable (value_type.Record n)) = tt
 started_loud s at d os (name.Variable (value_type.Component k n)) = loud_unless _ _
-started_loud s at d os (name.Parameter t) = tt
-started_loud s at d os name.Kind = tt
-started_loud s at d os (name.Routine n) = tt
-started_loud s at d os (name.Entry n) = tt
-started_loud s at d os (name.Predeclared p) = tt
+started_loud s at d os _ = tt
 
 pub start_loud : (s : Scopes) (w : Context) (i : Start) → Heard s → Loud (statements.start s w i)
 unfolding statements.start statements.started

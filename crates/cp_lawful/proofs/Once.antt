@@ -51,14 +51,14 @@ none_before (f ∷ fs) j h = absurd (let bad : f ∷ (fs ++ faults j) ≡ [] = h
 abbrev IsKnown : List ℕ → Names → Type 0
 IsKnown x ds = is_some (find x ds) ≡ true
 
-some_is : {A : Type 0} (o : Option A) → is_some o ≡ true → (a : A) × (o ≡ Some a)
+pub some_is : {A : Type 0} (o : Option A) → is_some o ≡ true → (a : A) × (o ≡ Some a)
 some_is None h = absurd (let bad : false ≡ true = h in cc)
 some_is (Some a) h = (a, refl)
 
 known_kept : (s t : Scopes) → Keeps s t → (x : List ℕ) → IsKnown x s.inner.names → IsKnown x t.inner.names
 known_kept s t h x e = let there = some_is (find x s.inner.names) e in ap is_some (h.names x there.0 there.1)
 
-itself : (x : List ℕ) → bytes_eq x x ≡ true
+pub itself : (x : List ℕ) → bytes_eq x x ≡ true
 itself x = (bytes_eq-Decides x x).1 refl
 
 last_found : (x : List ℕ) (ds : Names) (m : Option checker.Meaning) → is_some (find x (ds ++ (x, m) ∷ [])) ≡ true
@@ -298,7 +298,7 @@ program_parts_once s d (q ∷ qs) h once = program_parts_once (systems.program_p
 
 -- ---- accepted programs
 
-uses_sound : (at : ℕ) (s : Scopes) (j : Judged Use) → limit_faults at s j ≡ [] → faults j ≡ []
+pub uses_sound : (at : ℕ) (s : Scopes) (j : Judged Use) → limit_faults at s j ≡ [] → faults j ≡ []
 uses_sound at s (Ok u) k = refl
 uses_sound at s (Err fs) k = k
 

@@ -2,7 +2,7 @@
 use Rattle.std.proofs.Common.{◌≡◌, ℕ, zero, suc, ◌<◌, ◌≤◌, ◌∙◌, ◌⊎◌, inl, inr, List, [], ◌∷◌, ◌++◌, map, length, Option, Some, None, ap, sym, refl, subst, arith}
 use Rattle.cp_tree.specs.Syntax.{Program}
 use Rattle.cp_meaning.specs.Names.{Name}
-use Rattle.cp_meaning.specs.Types.{Ty, ordinal, queue_type, set_over, array_over, record_with, component_of, length_of_range}
+use Rattle.cp_meaning.specs.Types.{Ty, array_over, component_of, length_of_range}
 use Rattle.cp_meaning.specs.Declarations.{Variable}
 use Rattle.cp_meaning.specs.Systems.{system_of, program_system}
 use Rattle.cp_meaning.specs.Components.{PathStep, Path, Listed, step_down, listed_elements, listed_variable, listed_variables, listed, components_of}
@@ -172,17 +172,9 @@ abbrev StepNamed : Name → PathStep → Type 0
 StepNamed x s = s.name ≡ x
 
 variable : (above : Path) (k : ℕ) (inner : ℕ → Path → List Listed) → ((j : ℕ) (q : Path) → Inner q j (inner j q)) → (x : Name) (t : Ty) → TyBelow k t → Outer above k (StepNamed x) (listed_variable inner above x t)
-variable above k inner h x (ordinal r) lt = no_outer above k (StepNamed x)
-variable above k inner h x queue_type lt = no_outer above k (StepNamed x)
-variable above k inner h x (set_over r) lt = no_outer above k (StepNamed x)
-variable above k inner h x (record_with ts) lt = no_outer above k (StepNamed x)
 variable above k inner h x (component_of j) lt = weaker above k (StepIs x None) (StepNamed x) (inner j (step_down above x None)) (λ s is. ap (λ (t : PathStep). t.name) is) (lifted above k j x None (inner j (step_down above x None)) lt (h j (step_down above x None)))
-variable above k inner h x (array_over r (ordinal q)) lt = no_outer above k (StepNamed x)
-variable above k inner h x (array_over r queue_type) lt = no_outer above k (StepNamed x)
-variable above k inner h x (array_over r (set_over q)) lt = no_outer above k (StepNamed x)
-variable above k inner h x (array_over r (array_over q t)) lt = no_outer above k (StepNamed x)
-variable above k inner h x (array_over r (record_with ts)) lt = no_outer above k (StepNamed x)
 variable above k inner h x (array_over r (component_of j)) lt = weaker above k (StepFrom x 0) (StepNamed x) (listed_elements (inner j) above x (length_of_range r) 0) (λ s from. from.0) (elements above k j x (inner j) lt (h j) (length_of_range r) 0)
+variable above k inner h x _ lt = no_outer above k (StepNamed x)
 
 abbrev StepAmong : List Variable → PathStep → Type 0
 StepAmong vs s = IsNamed s.name vs

@@ -28,7 +28,7 @@ use Rattle.cp_check.specs.declared.types.Holding.TheVariants as holds
 use Rattle.cp_check.specs.Names as names
 use Rattle.cp_check.specs.Constants.{constant}
 use Rattle.cp_check.specs.Types as typing
-use Rattle.cp_check.specs.Types.{Step, then_step, nothing, Typed, typed}
+use Rattle.cp_check.specs.Types.{Step, nothing, Typed, typed}
 use Rattle.cp_check.specs.Records.{Fields, sound_of}
 use Rattle.cp_check.specs.Statements.{statements}
 use Rattle.cp_check.specs.Declarations.{as_declared, to_constant, to_kind, to_variable, reserve_name, reserve_names, add_names, add_all, add_one, constant_step, constant_steps, type_step, type_steps, variable_step, variable_steps, part_step, part_steps}
@@ -99,9 +99,8 @@ outer_said n [] h = tt
 outer_said n (c ∷ cs) h = or_said (look_outer n cs) (look_in n c) (outer_said n cs h.1) (look_in_said n c h.0)
 
 found_loud : (at : ℕ) (o : Option (Option Meaning)) → Said o → Loud (names.found at o)
-found_loud at None h = tt
 found_loud at (Some None) h = h
-found_loud at (Some (Some m)) h = tt
+found_loud at _ h = tt
 
 pub heard : (s : Scopes) → Told s → Heard s
 unfolding names.visible
@@ -171,12 +170,7 @@ one_told n j s h loud e = settle_told (add s n.name (as_declared j)) (add_told s
 
 to_type_loud : (at : ℕ) (m : Meaning) → Loud (typing.to_type at m)
 to_type_loud at (meaning.Constant b v) = tt
-to_type_loud at (meaning.Kind t) = tt
-to_type_loud at (meaning.Variable t) = tt
-to_type_loud at (meaning.Parameter t) = tt
-to_type_loud at (meaning.Reference t) = tt
-to_type_loud at (meaning.Routine n) = tt
-to_type_loud at (meaning.Predeclared p) = tt
+to_type_loud at _ = tt
 
 pub type_named_loud : (s : Scopes) (at : ℕ) (n : List ℕ) → Told s → Loud (typing.type_named s at n)
 unfolding typing.type_named
@@ -184,10 +178,7 @@ type_named_loud s at n h = loud_then (names.visible s at n) (typing.to_type at) 
 
 held_loud : (at : ℕ) (p : Spot) (h : Holding) (t : ValueType) → Loud (typing.held_at at p h t)
 held_loud at p holds.Plain t = tt
-held_loud at p holds.Queue t = search loud_if
-held_loud at p holds.Queues t = search loud_if
-held_loud at p (holds.Component k) t = search loud_if
-held_loud at p (holds.Components k) t = search loud_if
+held_loud at p x t = search loud_if
 
 spotted_loud : (at : ℕ) (p : Spot) (h : Holding) (t : ValueType) → Loud (typing.spotted at p h t)
 spotted_loud at (spot.Permanent o) h t = held_loud at (spot.Permanent o) h t
@@ -234,11 +225,7 @@ with_shape r e n u = Ok (record { index = r; element = e; cells = n })
 
 array_loud : (s : Scopes) (p : Spot) (at : ℕ) (i e : ValueType) → Loud (typing.array_of_range s p at i e)
 array_loud s p at (value_type.Ordinal r) e = loud_then (typing.spotted at p (typing.holding_array e) (value_type.Array at)) _ (spotted_loud at p (typing.holding_array e) (value_type.Array at)) (λ t. loud_then (typing.limited at (times (count_of r) (cells_of e s.shapes))) (with_shape r e (times (count_of r) (cells_of e s.shapes))) (limited_loud at (times (count_of r) (cells_of e s.shapes))) (λ u. tt))
-array_loud s p at value_type.Queue e = tt
-array_loud s p at (value_type.Set r) e = tt
-array_loud s p at (value_type.Array n) e = tt
-array_loud s p at (value_type.Record n) e = tt
-array_loud s p at (value_type.Component k n) e = tt
+array_loud s p at _ e = tt
 
 arrayed_loud : (s : Scopes) (p : Spot) (at : ℕ) (q : ValueType × ValueType) → Loud (typing.arrayed s p at q)
 unfolding typing.arrayed
@@ -255,11 +242,7 @@ array_typed_told p at i e loud told element =
 
 set_of_loud : (at base_at : ℕ) (t : ValueType) → Loud (typing.set_of at base_at t)
 set_of_loud at base_at (value_type.Ordinal r) = search loud_if
-set_of_loud at base_at value_type.Queue = tt
-set_of_loud at base_at (value_type.Set r) = tt
-set_of_loud at base_at (value_type.Array n) = tt
-set_of_loud at base_at (value_type.Record n) = tt
-set_of_loud at base_at (value_type.Component k n) = tt
+set_of_loud at base_at _ = tt
 
 sound_loud : (fs : List CheckFault) (f : Scope) → Loud (sound_of fs f)
 sound_loud [] f = tt
@@ -354,13 +337,8 @@ parts_told p s (d ∷ ds) e h = parts_told p (part_step p s d).scopes ds (no_rig
 -- ---- headings of routines
 
 admitted_loud : (at : ℕ) (h : Holding) (t : ValueType) → Loud (headings.admitted at h t)
-admitted_loud at holds.Plain t = tt
-admitted_loud at holds.Queue t = tt
-admitted_loud at holds.Queues t = tt
 admitted_loud at (holds.Component system_kind.Class) t = tt
-admitted_loud at (holds.Component system_kind.Monitor) t = tt
-admitted_loud at (holds.Component system_kind.Process) t = tt
-admitted_loud at (holds.Components k) t = tt
+admitted_loud at _ t = tt
 
 parameter_type_loud : (s : Scopes) (g : Group) → Told s → Loud (headings.parameter_type s g)
 unfolding headings.parameter_type
@@ -386,10 +364,7 @@ parameters_told s (g ∷ gs) e h = parameters_told (headings.parameter_step s g)
 
 returned_loud : (at : ℕ) (h : Holding) (t : ValueType) → Loud (headings.returned at h t)
 returned_loud at holds.Plain t = tt
-returned_loud at holds.Queue t = tt
-returned_loud at holds.Queues t = tt
-returned_loud at (holds.Component k) t = tt
-returned_loud at (holds.Components k) t = tt
+returned_loud at _ t = tt
 
 result_loud : (s : Scopes) (i : Identifier) → Told s → Loud (headings.result_type s i)
 unfolding headings.result_type
@@ -499,21 +474,13 @@ routines_told k s (r ∷ rs) e h = routines_told k (routines.routine_step k s r)
 
 component_admitted_loud : (at : ℕ) (o k : SystemKind) (t : ValueType) → Loud (systems.component_admitted at o k t)
 component_admitted_loud at system_kind.Class system_kind.Class t = tt
-component_admitted_loud at system_kind.Class system_kind.Monitor t = tt
-component_admitted_loud at system_kind.Class system_kind.Process t = tt
 component_admitted_loud at system_kind.Monitor system_kind.Class t = tt
-component_admitted_loud at system_kind.Monitor system_kind.Monitor t = tt
-component_admitted_loud at system_kind.Monitor system_kind.Process t = tt
 component_admitted_loud at system_kind.Process system_kind.Class t = tt
-component_admitted_loud at system_kind.Process system_kind.Monitor t = tt
-component_admitted_loud at system_kind.Process system_kind.Process t = tt
+component_admitted_loud at _ _ t = tt
 
 system_admitted_loud : (at : ℕ) (o : SystemKind) (h : Holding) (t : ValueType) → Loud (systems.admitted at o h t)
-system_admitted_loud at o holds.Plain t = tt
-system_admitted_loud at o holds.Queue t = tt
-system_admitted_loud at o holds.Queues t = tt
 system_admitted_loud at o (holds.Component k) t = component_admitted_loud at o k t
-system_admitted_loud at o (holds.Components k) t = tt
+system_admitted_loud at o _ t = tt
 
 pub system_parameter_loud : (o : SystemKind) (s : Scopes) (g : Group) → Told s → Loud (systems.parameter_type o s g)
 unfolding systems.parameter_type

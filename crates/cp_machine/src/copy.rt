@@ -86,8 +86,12 @@ fn take_list<T: Copy>(to: &mut Vec<T>, from: &[T])
     ensures items { to.new.items ≡ from.now }
     ensures room { vec_capacity to.old ≤ vec_capacity to.new }
 {
-    to.clear();
-    if !from.is_empty() {
+    if from.is_empty() {
+        to.clear();
+    } else if to.len() == from.len() {
+        to.copy_from_slice(from);
+    } else {
+        to.clear();
         let _ = to.extend_from_slice(from);
     }
 }
@@ -264,6 +268,18 @@ fn take_guards(mine: &mut [Gate], theirs: &[Gate])
     ensures { map monitor_of mine.new ≡ map monitor_of theirs.now }
 {
     for at in 0..mine.len() {
-        mine[at] = copy_of_guard(&theirs[at]);
+        take_guard(&mut mine[at], &theirs[at]);
+    }
+}
+
+// Becomes the same as another monitor. At most gates nobody waits.
+#[inline(always)]
+fn take_guard(to: &mut Gate, from: &Gate)
+    ensures { monitor_of to.new ≡ monitor_of from.now }
+{
+    if to.line.is_empty() && from.line.is_empty() {
+        to.holder = from.holder;
+    } else {
+        *to = copy_of_guard(from);
     }
 }

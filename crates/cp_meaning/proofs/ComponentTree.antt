@@ -58,8 +58,7 @@ owner_same cs ds n t = ap (λ q. owner_from (length q) ds n) (t.path n) ∙ owne
 own_from : (cs : List Component) (depth n : ℕ) (k : SystemKind) → kind_at cs n ≡ k → (k ≡ system_kind.Class → ⊥) → owner_from depth cs n ≡ n
 own_from cs zero n k e h = refl
 own_from cs (suc depth) n system_kind.Class e h = absurd (h refl)
-own_from cs (suc depth) n system_kind.Monitor e h = rw e refl
-own_from cs (suc depth) n system_kind.Process e h = rw e refl
+own_from cs (suc depth) n x e h = rw e refl
 
 -- a monitor and a process own themselves
 pub own_owner : (cs : List Component) (n : ℕ) (k : SystemKind) → kind_at cs n ≡ k → (k ≡ system_kind.Class → ⊥) → owner_of cs n ≡ n
@@ -69,27 +68,23 @@ own_owner cs n k e h = own_from cs (length (path_at cs n)) n k e h
 
 element_told : (o q : Option ℕ) → same_element o q ≡ true → o ≡ q
 element_told None None h = refl
-element_told None (Some m) h = cc
-element_told (Some n) None h = cc
 element_told (Some n) (Some m) h = ap Some (eqb-true n m h)
+element_told x y h = cc
 
 three : (a b c : Bool) → (a && b && c) ≡ true → (a ≡ true) × (b ≡ true) × (c ≡ true)
 three true true true h = (refl, refl, refl)
-three true true false h = cc
-three true false c h = cc
-three false b c h = cc
+three x y z h = cc
 
 three_true : (a b c : Bool) → a ≡ true → b ≡ true → c ≡ true → (a && b && c) ≡ true
 three_true a b c h k l = rw (h, k, l) refl
 
 path_told : (a b : Path) → same_path a b ≡ true → a ≡ b
 path_told [] [] h = refl
-path_told [] (t ∷ b) h = cc
-path_told (s ∷ a) [] h = cc
 path_told (s ∷ a) (t ∷ b) h =
     let parts = three (same_name s.name t.name) (same_element s.element t.element) (same_path a b) h in
     let same : s ≡ t = ap₂ (λ x o. (let r : PathStep = record { name = x; element = o } in r)) ((bytes_eq-Decides s.name t.name).0 parts.0) (element_told s.element t.element parts.1) in
     ap₂ (λ u us. u ∷ us) same (path_told a b parts.2)
+path_told x y h = cc
 
 element_same : (o : Option ℕ) → same_element o o ≡ true
 element_same None = refl
@@ -125,9 +120,8 @@ with_own_path : (cs : List Component) (n : ℕ) → Distinct cs → n < length c
 with_own_path cs n distinct lt = distinct _ n (first_within cs n lt) lt (found (path_at cs n) cs (first_within cs n lt))
 
 pub around_step : (q : Path) (s : PathStep) → around (q ++ s ∷ []) ≡ q
-around_step [] s = refl
-around_step (a ∷ []) s = refl
 around_step (a ∷ b ∷ q) s = ap (λ r. a ∷ r) (around_step (b ∷ q) s)
+around_step _ s = refl
 
 one_longer : (q : Path) (s : PathStep) → length (q ++ s ∷ []) ≡ suc (length q)
 one_longer [] s = refl

@@ -63,8 +63,7 @@ new_more cs p ps h k (suc q) lt = k q (omega arith)
 
 new_first : (cs : List Component) (k : SystemKind) (n : ℕ) (ps : List Process) → AllNew cs ps → AllNew cs (process_first k n ps)
 new_first cs system_kind.Process n ps h = new_more cs (unstarted_process n) ps (unstarted_new cs n) h
-new_first cs system_kind.Class n ps h = h
-new_first cs system_kind.Monitor n ps h = h
+new_first cs _ n ps h = h
 
 new_from : (cs ds : List Component) (n : ℕ) → AllNew cs (processes_from n ds)
 unfolding AllNew
@@ -76,9 +75,8 @@ unfolding AllNew
 new_tail cs p ps h = λ q lt. h (suc q) (omega arith)
 
 new_begun : (p : Program) (cs ds : List Component) (ps : List Process) → (component_at cs 0).kind ≡ system_kind.Process → AllNew cs ps → AllNew cs (own_begun p ds ps)
-new_begun p cs [] ps kind h = h
-new_begun p cs (d ∷ ds) [] kind h = h
 new_begun p cs (d ∷ ds) (q ∷ ps) kind h = new_more cs (begun 0 (system_of p d.system)) ps (begun_new cs (system_of p d.system) kind) (new_tail cs q ps h)
+new_begun p cs _ _ kind h = h
 
 get_past : {A : Type 0} (xs : List A) → slice_get xs (length xs) ≡ None
 get_past [] = refl
@@ -88,9 +86,8 @@ pub program_kind : (p : Program) → (system_of p (program_system p)).kind ≡ s
 program_kind p = ap (λ o. (or_own (own_meaning (declared p) p) o).kind) (get_past (declared p).systems)
 
 no_line : (p : Program) (ls : List Listed) (m : ℕ) → line_at (map (first_component p) ls) m ≡ []
-no_line p [] m = refl
-no_line p (l ∷ ls) zero = refl
 no_line p (l ∷ ls) (suc m) = no_line p ls m
+no_line p _ _ = refl
 
 pub opening_orderly : (p : Program) (g : Gates) → OrderlyState (opening p g)
 unfolding AllNew

@@ -80,22 +80,16 @@ ItemsFit fs (successor at i z d b s ∷ items) = ItemsFit fs items
 -- what is initialised is told by the open calls and by the items alike
 pub fit-initial : (m : ℕ) (fs : List Frame) (items : List Item) → ItemsFit fs items → has_init_end m items ≡ initial_in m fs
 fit-initial m fs [] h = sym (h m)
-fit-initial m [] (return o ∷ items) h = absurd h.0
 fit-initial m ((local_routine, n) ∷ fs) (return o ∷ items) h = fit-initial m fs items h.1
 fit-initial m ((entry_routine, n) ∷ fs) (return o ∷ items) h = fit-initial m fs items h.1
-fit-initial m ((own_statement, n) ∷ fs) (return o ∷ items) h = absurd h.0
-fit-initial m ((initial_statement, n) ∷ fs) (return o ∷ items) h = absurd h.0
-fit-initial m [] (init_end k ∷ items) h = absurd h.0
 fit-initial m ((initial_statement, n) ∷ fs) (init_end k ∷ items) h = let rest = fit-initial m fs items h.1 in rw (h.0, rest) refl
-fit-initial m ((local_routine, n) ∷ fs) (init_end k ∷ items) h = absurd h.0
-fit-initial m ((entry_routine, n) ∷ fs) (init_end k ∷ items) h = absurd h.0
-fit-initial m ((own_statement, n) ∷ fs) (init_end k ∷ items) h = absurd h.0
 fit-initial m fs (end ∷ items) h = fit-initial m fs items h
 fit-initial m fs (statement_item s ∷ items) h = fit-initial m fs items h
 fit-initial m fs (function_call at d es ∷ items) h = fit-initial m fs items h
 fit-initial m fs (start_item t ∷ items) h = fit-initial m fs items h
 fit-initial m fs (until ss e ∷ items) h = fit-initial m fs items h
 fit-initial m fs (successor at i z d b s ∷ items) h = fit-initial m fs items h
+fit-initial m _ _ h = absurd h.0
 
 -- items that open and end no call
 abbrev pub IsPlain : Item → Type 0
@@ -118,14 +112,13 @@ plain-append (x ∷ xs) ys h k = (h.0, plain-append xs ys h.1 k)
 
 pub plain-fit : (fs : List Frame) (xs items : List Item) → ArePlain xs → ItemsFit fs items → ItemsFit fs (xs ++ items)
 plain-fit fs [] items h f = f
-plain-fit fs (return o ∷ xs) items h f = absurd h.0
-plain-fit fs (init_end m ∷ xs) items h f = absurd h.0
 plain-fit fs (end ∷ xs) items h f = plain-fit fs xs items h.1 f
 plain-fit fs (statement_item s ∷ xs) items h f = plain-fit fs xs items h.1 f
 plain-fit fs (function_call at d es ∷ xs) items h f = plain-fit fs xs items h.1 f
 plain-fit fs (start_item t ∷ xs) items h f = plain-fit fs xs items h.1 f
 plain-fit fs (until ss e ∷ xs) items h f = plain-fit fs xs items h.1 f
 plain-fit fs (successor at i z d b s ∷ xs) items h f = plain-fit fs xs items h.1 f
+plain-fit fs _ items h f = absurd h.0
 
 -- ---- the order of the open calls
 
@@ -159,9 +152,7 @@ not_itself cs n m lt e = let same = eqb-true n m e in let bad : system_at cs m <
 -- no open call of a component of an earlier type
 pub no_entry_below : (cs : List Component) (m : ℕ) (f : Frame) (fs : List Frame) → Descends cs (f ∷ fs) → system_at cs m < system_at cs f.1 → entry_in m (f ∷ fs) ≡ false
 no_entry_below cs m (own_statement, n) [] h lt = refl
-no_entry_below cs m (local_routine, n) [] h lt = absurd h
-no_entry_below cs m (entry_routine, n) [] h lt = absurd h
-no_entry_below cs m (initial_statement, n) [] h lt = absurd h
+no_entry_below cs m _ [] h lt = absurd h
 no_entry_below cs m (own_statement, n) (g ∷ fs) h lt = absurd h.0
 no_entry_below cs m (local_routine, n) (g ∷ fs) h lt = no_entry_below cs m g fs h.1 (subst (λ k. system_at cs m < system_at cs k) h.0 lt)
 no_entry_below cs m (entry_routine, n) (g ∷ fs) h lt = or_false (n == m) _ (not_itself cs n m lt) (no_entry_below cs m g fs h.1 (let a = h.0 in omega arith))
@@ -169,25 +160,16 @@ no_entry_below cs m (initial_statement, n) (g ∷ fs) h lt = no_entry_below cs m
 
 pub no_initial_below : (cs : List Component) (m : ℕ) (f : Frame) (fs : List Frame) → Descends cs (f ∷ fs) → system_at cs m < system_at cs f.1 → initial_in m (f ∷ fs) ≡ false
 no_initial_below cs m (own_statement, n) [] h lt = refl
-no_initial_below cs m (local_routine, n) [] h lt = absurd h
-no_initial_below cs m (entry_routine, n) [] h lt = absurd h
-no_initial_below cs m (initial_statement, n) [] h lt = absurd h
+no_initial_below cs m _ [] h lt = absurd h
 no_initial_below cs m (own_statement, n) (g ∷ fs) h lt = absurd h.0
 no_initial_below cs m (local_routine, n) (g ∷ fs) h lt = no_initial_below cs m g fs h.1 (subst (λ k. system_at cs m < system_at cs k) h.0 lt)
 no_initial_below cs m (entry_routine, n) (g ∷ fs) h lt = no_initial_below cs m g fs h.1 (let a = h.0 in omega arith)
 no_initial_below cs m (initial_statement, n) (g ∷ fs) h lt = or_false (n == m) _ (not_itself cs n m lt) (no_initial_below cs m g fs h.1 (let a = h.0 in omega arith))
 
-pub descends_below : (cs : List Component) (fs : List Frame) → Descends cs fs → Descends cs (below fs)
-descends_below cs [] h = tt
-descends_below cs (f ∷ []) h = tt
-descends_below cs (f ∷ g ∷ fs) h = h.1
-
 -- what runs in a monitor is below an open entry call of it, or initialises it
 pub entry_or_initial : (cs : List Component) (f : Frame) (fs : List Frame) → Descends cs (f ∷ fs) → (component_at cs f.1).kind ≡ system_kind.Monitor → (entry_in f.1 (f ∷ fs) ≡ true) ⊎ (initial_in f.1 (f ∷ fs) ≡ true)
 entry_or_initial cs (own_statement, n) [] h mon = absurd (let bad : system_kind.Process ≡ system_kind.Monitor = sym h ∙ mon in cc)
-entry_or_initial cs (local_routine, n) [] h mon = absurd h
-entry_or_initial cs (entry_routine, n) [] h mon = absurd h
-entry_or_initial cs (initial_statement, n) [] h mon = absurd h
+entry_or_initial cs _ [] h mon = absurd h
 entry_or_initial cs (own_statement, n) (g ∷ fs) h mon = absurd h.0
 entry_or_initial cs (local_routine, n) (g ∷ fs) h mon = subst (λ k. (entry_in k (g ∷ fs) ≡ true) ⊎ (initial_in k (g ∷ fs) ≡ true)) (sym h.0) (entry_or_initial cs g fs h.1 (subst (λ k. (component_at cs k).kind ≡ system_kind.Monitor) h.0 mon))
 entry_or_initial cs (entry_routine, n) (g ∷ fs) h mon = inl (rw (eq-eqb n n refl) refl)
@@ -196,10 +178,8 @@ entry_or_initial cs (initial_statement, n) (g ∷ fs) h mon = inr (rw (eq-eqb n 
 pub descends_same : (cs ds : List Component) (fs : List Frame) → ((n : ℕ) → system_at ds n ≡ system_at cs n) → ((n : ℕ) → (component_at ds n).kind ≡ (component_at cs n).kind) → Descends cs fs → Descends ds fs
 descends_same cs ds [] s k h = tt
 descends_same cs ds ((own_statement, n) ∷ []) s k h = k n ∙ h
-descends_same cs ds ((local_routine, n) ∷ []) s k h = absurd h
-descends_same cs ds ((entry_routine, n) ∷ []) s k h = absurd h
-descends_same cs ds ((initial_statement, n) ∷ []) s k h = absurd h
 descends_same cs ds ((own_statement, n) ∷ g ∷ fs) s k h = absurd h.0
 descends_same cs ds ((local_routine, n) ∷ g ∷ fs) s k h = (h.0, descends_same cs ds (g ∷ fs) s k h.1)
 descends_same cs ds ((entry_routine, n) ∷ g ∷ fs) s k h = (rw (s n, s g.1) h.0, descends_same cs ds (g ∷ fs) s k h.1)
 descends_same cs ds ((initial_statement, n) ∷ g ∷ fs) s k h = (rw (s n, s g.1) h.0, descends_same cs ds (g ∷ fs) s k h.1)
+descends_same cs ds _ s k h = absurd h

@@ -70,10 +70,6 @@ pub outcome_if : (cs : List Component) (fs : List Frame) (b : Bool) (x y : Outco
 outcome_if cs fs true x y h k = h refl
 outcome_if cs fs false x y h k = k refl
 
-pub doing_if : (cs : List Component) (fs : List Frame) (b : Bool) (x y : Doing) → (b ≡ true → GoodDoing cs fs x) → GoodDoing cs fs y → GoodDoing cs fs (if b then x else y)
-doing_if cs fs true x y h k = h refl
-doing_if cs fs false x y h k = k
-
 pub fits_if : (fs : List Frame) (b : Bool) (xs ys : List Item) → ItemsFit fs xs → ItemsFit fs ys → ItemsFit fs (if b then xs else ys)
 fits_if fs true xs ys h k = h
 fits_if fs false xs ys h k = k

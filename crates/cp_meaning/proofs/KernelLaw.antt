@@ -31,11 +31,8 @@ begun_process (p ∷ ps) zero h = omega arith
 begun_process (p ∷ ps) (suc r) h = let lt = begun_process ps r h in omega arith
 
 pub delayed_told : (m : ℕ) (status : Status) → is_delayed_in m status ≡ true → status ≡ delayed m
-delayed_told m unstarted h = cc
-delayed_told m ready h = cc
-delayed_told m (at_gate n) h = cc
 delayed_told m (delayed n) h = ap delayed (eqb-true n m h)
-delayed_told m ended h = cc
+delayed_told m x h = cc
 
 module _ (p : Program) (s : State) (pid : ℕ) (old : Orderly s.components s.processes) (none : s.pending ≡ None) (lt : pid < length s.processes) (is_ready : (process_at s.processes pid).status ≡ ready) (d : Doing) where
   abbrev pub cs : List Component
@@ -189,10 +186,7 @@ module _ (p : Program) (s : State) (pid : ℕ) (old : Orderly s.components s.pro
 
   starting_as_law : (c r : ℕ) (e : Environment) (status : Status) → Orderly ds (after ready) → (component_at ds c).kind ≡ system_kind.Process → (process_at (after ready) r).status ≡ status → OrderlyState (starting_as p s pid d r status c e).state
   starting_as_law c r e unstarted now its_kind idle = record { orderly = begun_law c r (e ++ (component_at ds c).environment) now its_kind idle; pending = λ m h. not_pending m h }
-  starting_as_law c r e ready now its_kind idle = record { orderly = old; pending = λ m h. not_pending m h }
-  starting_as_law c r e (at_gate n) now its_kind idle = record { orderly = old; pending = λ m h. not_pending m h }
-  starting_as_law c r e (delayed n) now its_kind idle = record { orderly = old; pending = λ m h. not_pending m h }
-  starting_as_law c r e ended now its_kind idle = record { orderly = old; pending = λ m h. not_pending m h }
+  starting_as_law c r e _ now its_kind idle = record { orderly = old; pending = λ m h. not_pending m h }
 
   starting_law : (c : ℕ) (o : Option ℕ) (e : Environment) → Orderly ds (after ready) → (component_at ds c).kind ≡ system_kind.Process → OrderlyState (starting p s pid d o c e).state
   starting_law c None e now its_kind = record { orderly = now; pending = λ m h. not_pending m h }

@@ -4,7 +4,7 @@ use Rattle.cp_tree.specs.declared.constant.Identifier.{Identifier}
 use Rattle.cp_tree.specs.declared.statement.Direction.{Direction}
 use Rattle.cp_tree.specs.declared.declaration.SystemKind.{SystemKind}
 use Rattle.cp_tree.specs.declared.declaration.SystemKind.TheVariants as system_kind
-use Rattle.cp_tree.specs.Syntax.{Expressions, Designator, Start, Statement, empty, assign, invoke, block, if_then, if_else, case_of, while_do, repeat_until, for_do, cycle, init, Program}
+use Rattle.cp_tree.specs.Syntax.{Expressions, Designator, Start, Statement, assign, invoke, block, if_then, if_else, case_of, while_do, repeat_until, for_do, cycle, Program}
 use Rattle.cp_meaning.specs.Names.{result_name}
 use Rattle.cp_meaning.specs.Outcome.{Outcome, ◌>>=◌}
 use Rattle.cp_meaning.specs.Values.{Value, number_value, queue_value, number_of, waiting_in}
@@ -26,13 +26,11 @@ use Rattle.cp_meaning.proofs.Good.{IsMonitor, status_at, NonEmpty, StatusMoves, 
 
 initialised_told : (s : ComponentStatus) → is_initialised s ≡ true → s ≡ initialised
 initialised_told initialised h = refl
-initialised_told initialising h = cc
-initialised_told uninitialised h = cc
+initialised_told x h = cc
 
 uninitialised_told : (s : ComponentStatus) → is_uninitialised s ≡ true → s ≡ uninitialised
 uninitialised_told uninitialised h = refl
-uninitialised_told initialising h = cc
-uninitialised_told initialised h = cc
+uninitialised_told x h = cc
 
 -- what is no process is one of the components
 pub within : (cs : List Component) (n : ℕ) → ((component_at cs n).kind ≡ system_kind.Process → ⊥) → n < length cs
@@ -243,9 +241,7 @@ module _ (p : Program) (c : Call) (calls : List Call) (cs : List Component) (pid
   -- the open calls below one that is not the process's own
   some_below : (k : CallKind) (n : ℕ) (gs : List Frame) → (k ≡ own_statement → ⊥) → Descends cs ((k, n) ∷ gs) → NonEmpty gs
   some_below own_statement n [] h d = absurd (h refl)
-  some_below local_routine n [] h d = absurd d
-  some_below entry_routine n [] h d = absurd d
-  some_below initial_statement n [] h d = absurd d
+  some_below _ n [] h d = absurd d
   some_below k n (g ∷ gs) h d = tt
 
   descends_rest : (f : Frame) (gs : List Frame) → Descends cs (f ∷ gs) → Descends cs gs
@@ -277,23 +273,19 @@ module _ (p : Program) (c : Call) (calls : List Call) (cs : List Component) (pid
 
   leaving_fits : (k : SystemKind) (n : ℕ) → Left cs fs (frames calls) n → MoveFits cs fs (frames calls) (leaving_move k n)
   leaving_fits system_kind.Monitor n left = (fewer_entries, left)
-  leaving_fits system_kind.Class n left = fewer_entries
-  leaving_fits system_kind.Process n left = fewer_entries
+  leaving_fits _ n left = fewer_entries
 
   return_fits : (k : CallKind) → c.kind ≡ k → MoveFits cs fs (frames calls) (if is_entry_kind k then leaving_move (component_at cs c.component).kind c.component else stays)
-  return_fits own_statement e = fewer_entries
-  return_fits initial_statement e = fewer_entries
-  return_fits local_routine e = fewer_entries
   return_fits entry_routine e =
       leaving_fits (component_at cs c.component).kind c.component (λ mon.
       subst (λ k. (entry_in c.component ((k, c.component) ∷ frames calls) ≡ true) × (entry_in c.component (frames calls) ≡ false)) (sym e)
       (left_entry c.component (frames calls) (subst (λ k. Descends cs ((k, c.component) ∷ frames calls)) e order)))
+  return_fits _ e = fewer_entries
 
   top_returns : (k : CallKind) → c.kind ≡ k → TopReturns ((k, c.component) ∷ frames calls) → k ≡ own_statement → ⊥
-  top_returns own_statement e h b = absurd h
-  top_returns initial_statement e h b = absurd h
   top_returns local_routine e h b = (let bad : local_routine ≡ own_statement = b in cc)
   top_returns entry_routine e h b = (let bad : entry_routine ≡ own_statement = b in cc)
+  top_returns _ e h b = absurd h
 
   result_frames : (o : Option _) → (frames (with_result v o).calls ≡ frames calls) × SameComponents cs (with_result v o).components
   result_frames None = (refl, same_components cs)
@@ -320,9 +312,6 @@ module _ (p : Program) (c : Call) (calls : List Call) (cs : List Component) (pid
   after_fits n (successor at i z d b s ∷ items) h = after_fits n items h
 
   continued_good : (k : CallKind) (items : List Item) (q : Place) → c.kind ≡ k → ItemsFit fs items → GoodDoing cs fs (continued_from v k items q)
-  continued_good own_statement items q e f = items_good v items stays alike f same_entries
-  continued_good initial_statement items q e f = items_good v items stays alike f same_entries
-  continued_good local_routine items q e f = items_good v items stays alike f same_entries
   continued_good entry_routine items q e f =
       let u = stored v q (queue_value None) in
       let w : View = record { program = p; calls = callers u.calls; components = u.components } in
@@ -333,6 +322,7 @@ module _ (p : Program) (c : Call) (calls : List Call) (cs : List Component) (pid
         λ mon. subst (λ k. (entry_in c.component ((k, c.component) ∷ frames calls) ≡ true) × (entry_in c.component (frames calls) ≡ false)) (sym e)
             (left_entry c.component (frames calls) (subst (λ k. Descends cs ((k, c.component) ∷ frames calls)) e order)),
       )
+  continued_good _ items q e f = items_good v items stays alike f same_entries
 
   -- ---- the end of an initial statement
 
@@ -389,10 +379,8 @@ module _ (p : Program) (c : Call) (calls : List Call) (cs : List Component) (pid
         }
 
   top_starts : (m : ℕ) (k : CallKind) → c.kind ≡ k → TopStarts m ((k, c.component) ∷ frames calls) → (k ≡ initial_statement) × (c.component ≡ m)
-  top_starts m own_statement e h = absurd h
-  top_starts m local_routine e h = absurd h
-  top_starts m entry_routine e h = absurd h
   top_starts m initial_statement e h = (refl, h)
+  top_starts m _ e h = absurd h
 
   finished_good : (m : ℕ) (items : List Item) → TopStarts m fs → ItemsFit (frames calls) items → GoodDoing cs fs (finished v m items)
   finished_good m items top f = let t = top_starts m c.kind refl top in finished_at m _ t.0 t.1 items f
@@ -423,7 +411,6 @@ module _ (p : Program) (c : Call) (calls : List Call) (cs : List Component) (pid
   invoked_good m d es items f = call_good d es None items f
 
   does_good : (s : Statement) (items : List Item) → ItemsFit fs items → GoodOutcome cs fs (does v pid s items)
-  does_good (empty at) items f = becomes_good v items alike f
   does_good (assign at d e) items f = bind_good cs fs (value v e) _ (λ x. bind_good cs fs (target_value v d) _ (λ t. assigned_good t x.value _ (λ u a. becomes_good u items a f)))
   does_good (invoke at d es) items f = invoked_good (meaning_here v d) d es items f
   does_good (block at ss) items f = becomes_good v _ alike (plain-fit fs (items_of_all (scope_here v) ss) items (plain_all (scope_here v) ss) f)
@@ -439,7 +426,7 @@ module _ (p : Program) (c : Call) (calls : List Call) (cs : List Component) (pid
       bind_good cs fs (value v e) _ (λ x. bind_good cs fs (value v b) _ (λ y.
       outcome_if cs fs (is_beyond d (number_of x.value) (number_of y.value)) _ _ (λ h. becomes_good v items alike f) (λ h. next_good at i _ d _ s items f)))
   does_good (cycle at ss) items f = becomes_good v _ alike (twice_fit (items_of_all (scope_here v) ss) (items_of (scope_here v) (cycle at ss)) items (plain_all (scope_here v) ss) (plain_items (scope_here v) (cycle at ss)) f)
-  does_good (init at ts) items f = becomes_good v items alike f
+  does_good _ items f = becomes_good v items alike f
 
   -- ---- items
 

@@ -9,14 +9,12 @@ use Rattle.cp_meaning.proofs.Stored.{field_kept}
 -- ---- inside
 
 inside_and : (a b : Bool) → (a && not b) ≡ true → (a ≡ true) × (b ≡ false)
-inside_and true true h = cc
 inside_and true false h = (refl, refl)
-inside_and false b h = cc
+inside_and x y h = cc
 
 and_inside : (a b : Bool) → a ≡ true → b ≡ false → (a && not b) ≡ true
-and_inside true true h k = cc
 and_inside true false h k = refl
-and_inside false b h k = cc
+and_inside x y h k = cc
 
 pub inside_parts : (m : ℕ) (p : Process) → is_inside m p ≡ true → (entry_in m (frames p.calls) ≡ true) × (waits_at m p.status ≡ false)
 inside_parts m p h = let parts = inside_and (has_entry m p.calls) (waits_at m p.status) h in (sym (entry-frames m p.calls) ∙ parts.0, parts.1)

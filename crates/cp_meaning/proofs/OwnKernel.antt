@@ -279,10 +279,7 @@ module _ (p : Program) (s : State) (pid : ℕ) (base : List Component) (old : Ow
   starting_as_steps : (c r : ℕ) (e : Environment) (status : Status) → Owned p base me.component fs cs d.calls ds (starts c e) → kind_at ds c ≡ system_kind.Process → r < length (moved_to ready s pid d).processes →
       (process_at (moved_to ready s pid d).processes r).component ≡ c → (process_at (moved_to ready s pid d).processes r).status ≡ status → Steps (starting_as p s pid d r status c e).state
   starting_as_steps c r e unstarted h its_kind there its idle = begun_steps c r e h its_kind there its idle
-  starting_as_steps c r e ready h its_kind there its idle = no_step
-  starting_as_steps c r e (at_gate n) h its_kind there its idle = no_step
-  starting_as_steps c r e (delayed n) h its_kind there its idle = no_step
-  starting_as_steps c r e ended h its_kind there its idle = no_step
+  starting_as_steps c r e _ h its_kind there its idle = no_step
 
   starting_steps : (c : ℕ) (o : Option ℕ) (e : Environment) → Owned p base me.component fs cs d.calls ds (starts c e) → kind_at ds c ≡ system_kind.Process → process_of c (moved_to ready s pid d).processes ≡ o → Steps (starting p s pid d o c e).state
   starting_steps c None e h its_kind is = steps_moved (starts c e) h ready

@@ -4,7 +4,7 @@ use Rattle.cp_tree.specs.declared.constant.Identifier.{Identifier}
 use Rattle.cp_tree.specs.declared.statement.Direction.{Direction}
 use Rattle.cp_tree.specs.declared.declaration.SystemKind.{SystemKind}
 use Rattle.cp_tree.specs.declared.declaration.SystemKind.TheVariants as system_kind
-use Rattle.cp_tree.specs.Syntax.{Expression, Expressions, no_expressions, more_expressions, Designator, designator, Selectors, no_selectors, more_selectors, Selector, field, index, Start, Statement, empty, assign, invoke, block, if_then, if_else, case_of, while_do, repeat_until, for_do, cycle, init, Program}
+use Rattle.cp_tree.specs.Syntax.{Expression, Expressions, more_expressions, Designator, designator, Selectors, no_selectors, more_selectors, Selector, field, index, Start, Statement, empty, assign, invoke, if_then, if_else, case_of, while_do, for_do, init, Program}
 use Rattle.cp_meaning.specs.Names.{Name, same_name, temporary, result_name}
 use Rattle.cp_meaning.specs.Outcome.{ErrorName, Outcome, ◌>>=◌}
 use Rattle.cp_meaning.specs.Types.{Ty, ordinal, queue_type, set_over, array_over, record_with, component_of, is_within}
@@ -13,13 +13,13 @@ use Rattle.cp_meaning.specs.Scopes.{Meaning, constant_meaning, type_meaning, loc
 use Rattle.cp_meaning.specs.Declarations.{Parameter, RoutineMeaning}
 use Rattle.cp_meaning.specs.Systems.{SystemMeaning, system_of}
 use Rattle.cp_meaning.specs.Components.{step_down}
-use Rattle.cp_meaning.specs.State.{Holder, in_call, in_component, Place, Content, holds, refers, knows, Environment, ComponentStatus, uninitialised, initialising, initialised, Component, component_at, CallKind, own_statement, initial_statement, local_routine, entry_routine, Call, current, callers, Item, statement_item, function_call, start_item, until, successor, return, init_end, end}
+use Rattle.cp_meaning.specs.State.{Holder, in_call, in_component, Place, Content, holds, refers, knows, Environment, ComponentStatus, uninitialised, initialising, initialised, Component, component_at, CallKind, initial_statement, local_routine, entry_routine, Call, callers, Item, statement_item, function_call, start_item, until, successor, return, init_end, end}
 use Rattle.cp_meaning.specs.Places.{View, Target, content_of, call_above, environment_of, this_call, plain_place, referred, target_meant, target_named, value_at, stored, component_with, element_chosen, around_of, component_known, component_by, component_there}
 use Rattle.cp_meaning.specs.Operations.{same_integer, checked}
 use Rattle.cp_meaning.specs.Expressions.{value, target_value, selected, chosen, with_element_of, first_value, meaning_here, routine_called, variable_in}
 use Rattle.cp_meaning.specs.Move.{Move, stays, enters, leaves, delays, continues, starts, shows, ends, Doing}
 use Rattle.cp_meaning.specs.Calls.{refers_to, of_system, knows_of, bound_variable, bound_value, bound_argument, bound, least_of, least_result, opened, is_initialised, is_uninitialised, entered_as, with_move, with_items, entered, called_as, called, with_status, initial, initialised_in, started_as, started_at, started}
-use Rattle.cp_meaning.specs.LocalRules.{scope_here, becomes, assigned, arm_for, is_beyond, next_value, goes_on_with, queue_free, delayed_in, after_return, continued_from, in_place_of, argument_of, invoked, does, outer, with_result, return_move, returned, finished, takes}
+use Rattle.cp_meaning.specs.LocalRules.{scope_here, becomes, assigned, arm_for, is_beyond, next_value, goes_on_with, queue_free, delayed_in, continued_from, in_place_of, argument_of, invoked, does, outer, return_move, returned, finished, takes}
 use Rattle.cp_meaning.specs.Ownership.{owner_of, is_parameter, IsParameterOf}
 use Rattle.cp_meaning.specs.WellFormed.{HasNoClass, HasEarlier}
 use Rattle.cp_meaning.proofs.Frames.{Frame, frames, frames-callers, below, system_at}
@@ -75,8 +75,7 @@ nothing_append x (c ∷ a) b h = go (same_name x c.0) h (nothing_append x a b)
 
 uninitialised_told : (s : ComponentStatus) → is_uninitialised s ≡ true → s ≡ uninitialised
 uninitialised_told uninitialised h = refl
-uninitialised_told initialising h = cc
-uninitialised_told initialised h = cc
+uninitialised_told x h = cc
 
 module _ (p : Program) (c : Call) (calls : List Call) (cs : List Component) (pid me : ℕ) (base : List Component) (tree : SameTree base cs) (distinct : Distinct base)
     (kinds : (n : ℕ) → n < length base → kind_at base n ≡ (system_of p (component_at base n).system).kind)
@@ -102,10 +101,6 @@ module _ (p : Program) (c : Call) (calls : List Call) (cs : List Component) (pid
   outcome_if : (b : Bool) (x y : Outcome Doing) → (b ≡ true → OwnedOutcome x) → OwnedOutcome y → OwnedOutcome (if b then x else y)
   outcome_if true x y h k = h refl
   outcome_if false x y h k = k
-
-  doing_if : (b : Bool) (x y : Doing) → (b ≡ true → OwnedDoing x) → OwnedDoing y → OwnedDoing (if b then x else y)
-  doing_if true x y h k = h refl
-  doing_if false x y h k = k
 
   -- ---- views with other values
 
@@ -147,19 +142,13 @@ module _ (p : Program) (c : Call) (calls : List Call) (cs : List Component) (pid
   this_is = rw (eq-eqb (length calls) (length (c ∷ calls) - 1) (omega arith)) refl
 
   referred_held : (o : Option Content) (x : Name) → content_of x c.environment ≡ o → HeldPlace base me fs (referred o (plain_place (this_call v) x)).holder
-  referred_held None x e = in_this_call
-  referred_held (Some (holds w)) x e = in_this_call
   referred_held (Some (refers q)) x e = place_more base me (c.kind, c.component) (frames calls) q.holder (held.2 x q e)
-  referred_held (Some (knows n)) x e = in_this_call
+  referred_held _ x e = in_this_call
 
   target_meant_held : (x : Name) (m : Option Meaning) → HeldPlace base me fs (target_meant v x m).place.holder
-  target_meant_held x None = in_this_call
   target_meant_held x (Some (permanent_variable t)) = held.0
   target_meant_held x (Some (local_variable t)) = referred_held (content_of x (environment_of v (this_call v))) x (ap (λ k. content_of x k.environment) (sym this_is))
-  target_meant_held x (Some (routine_meaning r)) = in_this_call
-  target_meant_held x (Some (constant_meaning b z)) = in_this_call
-  target_meant_held x (Some (type_meaning t)) = in_this_call
-  target_meant_held x (Some (standard_meaning s)) = in_this_call
+  target_meant_held x _ = in_this_call
 
   named_held : (x : Name) → HeldPlace base me fs (target_named v x).place.holder
   named_held x = target_meant_held x (find x c.scope)
@@ -173,12 +162,8 @@ module _ (p : Program) (c : Call) (calls : List Call) (cs : List Component) (pid
   target_if false t e h = tt
 
   element_held : (u : Ty) (t : Target) (z : ℤ) → HeldPlace base me fs t.place.holder → HeldTarget (with_element_of u t z)
-  element_held (ordinal r) t z h = h
-  element_held queue_type t z h = h
-  element_held (set_over r) t z h = h
-  element_held (record_with ts) t z h = h
-  element_held (component_of k) t z h = h
   element_held (array_over r u) t z h = target_if (is_within r z) _ _ h
+  element_held _ t z h = h
 
   bind_target : {A : Type 0} (o : Outcome A) (f : A → Outcome Target) → ((a : A) → HeldTarget (f a)) → HeldTarget (o >>= f)
   bind_target (Ok a) f h = h a
@@ -218,9 +203,7 @@ module _ (p : Program) (c : Call) (calls : List Call) (cs : List Component) (pid
 
   known_here : (n : ℕ) (q : Place) (o : Option Content) → q.holder ≡ in_component n → n ≡ c.component → content_of q.name (permanents_at cs n) ≡ o → kind_at base (component_known v q o) ≡ system_kind.Class → owner_of base (component_known v q o) ≡ owner_of base c.component
   known_here n q (Some (knows d)) h e is class = classes n d q.name is class ∙ ap (owner_of base) e
-  known_here n q (Some (holds w)) h e is class = contained_here n q (element_chosen q.choices) _ e (ap (λ k. component_with (step_down (around_of v k) q.name (element_chosen q.choices)) cs) h) class
-  known_here n q (Some (refers r)) h e is class = contained_here n q (element_chosen q.choices) _ e (ap (λ k. component_with (step_down (around_of v k) q.name (element_chosen q.choices)) cs) h) class
-  known_here n q None h e is class = contained_here n q (element_chosen q.choices) _ e (ap (λ k. component_with (step_down (around_of v k) q.name (element_chosen q.choices)) cs) h) class
+  known_here n q _ h e is class = contained_here n q (element_chosen q.choices) _ e (ap (λ k. component_with (step_down (around_of v k) q.name (element_chosen q.choices)) cs) h) class
 
   by_holder : (q : Place) (h : Holder) → q.holder ≡ h → kind_at base (component_by v q h) ≡ system_kind.Class → owner_of base (component_by v q h) ≡ owner_of base c.component
   by_holder q (in_call b) e class = none_past (length cs) refl class
@@ -242,9 +225,7 @@ module _ (p : Program) (c : Call) (calls : List Call) (cs : List Component) (pid
 
   known_there : (n : ℕ) (q : Place) (o : Option Content) → q.holder ≡ in_component n → n ≡ c.component → content_of q.name (permanents_at cs n) ≡ o → (kind_at base (component_known v q o) ≡ system_kind.Process → ⊥) → system_at base (component_known v q o) < system_at base c.component
   known_there n q (Some (knows d)) h e is never = subst (λ j. system_at base d < system_at base j) e (earlier n d q.name is never)
-  known_there n q (Some (holds w)) h e is never = contained_there n q (element_chosen q.choices) _ e (ap (λ k. component_with (step_down (around_of v k) q.name (element_chosen q.choices)) cs) h) never
-  known_there n q (Some (refers r)) h e is never = contained_there n q (element_chosen q.choices) _ e (ap (λ k. component_with (step_down (around_of v k) q.name (element_chosen q.choices)) cs) h) never
-  known_there n q None h e is never = contained_there n q (element_chosen q.choices) _ e (ap (λ k. component_with (step_down (around_of v k) q.name (element_chosen q.choices)) cs) h) never
+  known_there n q _ h e is never = contained_there n q (element_chosen q.choices) _ e (ap (λ k. component_with (step_down (around_of v k) q.name (element_chosen q.choices)) cs) h) never
 
   past_process : kind_at base (length cs) ≡ system_kind.Process
   past_process = kind_past base (length cs) (let size = tree.size in omega arith)
@@ -345,13 +326,11 @@ module _ (p : Program) (c : Call) (calls : List Call) (cs : List Component) (pid
 
   bound_cons : (y : Name) (o : Outcome Content) (r : Outcome Environment) → OutcomeHeld o → BoundHeld r → BoundHeld (o >>= λ k. r >>= λ rest. Ok ((y, k) ∷ rest))
   bound_cons y (Ok k) (Ok e) h g = (refers_cons y k e h g.0, knows_cons y k e h g.1)
-  bound_cons y (Ok k) (Err e) h g = tt
-  bound_cons y (Err e) r h g = tt
+  bound_cons y _ _ h g = tt
 
   bound_held : (qs : List Parameter) (es : Expressions) → BoundHeld (bound v qs es)
-  bound_held [] es = nothing_bound
-  bound_held (q ∷ qs) no_expressions = nothing_bound
   bound_held (q ∷ qs) (more_expressions e es) = bound_cons q.name (bound_argument v q e) (bound v qs es) (argument_held q e) (bound_held qs es)
+  bound_held _ _ = nothing_bound
 
   abbrev BoundNamed : List Parameter → Outcome Environment → Type 0
   BoundNamed qs (Ok e) = NamedBy qs e
@@ -363,13 +342,11 @@ module _ (p : Program) (c : Call) (calls : List Call) (cs : List Component) (pid
       go : (x : Name) (b : Bool) → (b || is_parameter x qs) ≡ false → (if b then Some k else content_of x e) ≡ None
       go x true h = absurd (let bad : true ≡ false = h in cc)
       go x false h = g x h
-  named_cons q qs (Ok k) (Err e) g = tt
-  named_cons q qs (Err e) r g = tt
+  named_cons q qs _ _ g = tt
 
   bound_named : (qs : List Parameter) (es : Expressions) → BoundNamed qs (bound v qs es)
-  bound_named [] es = λ x h. refl
-  bound_named (q ∷ qs) no_expressions = λ x h. refl
   bound_named (q ∷ qs) (more_expressions e es) = named_cons q qs (bound_argument v q e) (bound v qs es) (bound_named qs es)
+  bound_named _ _ = λ x h. refl
 
   with_bound : (o : Outcome Environment) (f : Environment → Outcome Doing) → BoundHeld o → ((e : Environment) → RefersHeld base me fs e → KnowsOwned e → OwnedOutcome (f e)) → OwnedOutcome (o >>= f)
   with_bound (Ok e) f h k = k e h.0 h.1
@@ -431,13 +408,11 @@ module _ (p : Program) (c : Call) (calls : List Call) (cs : List Component) (pid
         go : (x : Name) (d : ℕ) → ((same_name x y ≡ true) × (k ≡ knows d)) ⊎ ((same_name x y ≡ false) × (content_of x e ≡ Some (knows d))) → Q d
         go x d (inl t) = subst Fits t.1 h
         go x d (inr t) = g d x t.1
-    fits_cons y (Ok k) (Err e) h g = tt
-    fits_cons y (Err e) r h g = tt
+    fits_cons y _ _ h g = tt
 
     pub bound_fits : (qs : List Parameter) (es : Expressions) → ParametersFit qs → BoundFits (bound v qs es)
-    bound_fits [] es h = λ d x s. no_content x (knows d) s
-    bound_fits (q ∷ qs) no_expressions h = λ d x s. no_content x (knows d) s
     bound_fits (q ∷ qs) (more_expressions e es) h = fits_cons q.name (bound_argument v q e) (bound v qs es) (argument_fits q e h.0) (bound_fits qs es h.1)
+    bound_fits _ _ h = λ d x s. no_content x (knows d) s
 
   abbrev NoClass : ℕ → Type 0
   NoClass d = kind_at base d ≡ system_kind.Class → ⊥
@@ -633,8 +608,7 @@ module _ (p : Program) (c : Call) (calls : List Call) (cs : List Component) (pid
 
   leaving_owned : (k : SystemKind) (m : ℕ) → MoveOwned p base (Rattle.cp_meaning.specs.LocalRules.leaving_move k m)
   leaving_owned system_kind.Monitor m = tt
-  leaving_owned system_kind.Class m = tt
-  leaving_owned system_kind.Process m = tt
+  leaving_owned _ m = tt
 
   back_owned : MoveOwned p base (return_move cs c)
   back_owned = go (Rattle.cp_meaning.specs.State.is_entry_kind c.kind)
@@ -651,9 +625,6 @@ module _ (p : Program) (c : Call) (calls : List Call) (cs : List Component) (pid
       record { tree = tree; held = stored_held base me (outer v) q w held.3; bottom = subst (Bottom me) (sym (stored_frames (outer v) q w)) rest_bottom; classes = classes; earlier = earlier; changed = unchanged; starting = back_owned }
 
   continued_owned : (k : CallKind) (items : List Item) (q : Place) → HeldPlace base me fs q.holder → OwnedDoing (continued_from v k items q)
-  continued_owned own_statement items q h = items_owned v items stays alike tt
-  continued_owned initial_statement items q h = items_owned v items stays alike tt
-  continued_owned local_routine items q h = items_owned v items stays alike tt
   continued_owned entry_routine items q h =
       let u = stored v q (queue_value None) in
       let a = alike_stored q (queue_value None) h in
@@ -666,6 +637,7 @@ module _ (p : Program) (c : Call) (calls : List Call) (cs : List Component) (pid
         changed = λ n x ne. inl (a.only n x ne);
         starting = tt;
       }
+  continued_owned _ items q h = items_owned v items stays alike tt
 
   finished_owned : (m : ℕ) (items : List Item) → OwnedDoing (finished v m items)
   finished_owned m items =
@@ -718,17 +690,15 @@ module _ (p : Program) (c : Call) (calls : List Call) (cs : List Component) (pid
   does_owned (empty at) items = becomes_owned v items alike
   does_owned (assign at d e) items = bind_owned (value v e) _ (λ x. with_target (target_value v d) _ (target_held d) (λ t h. assigned_owned t x.value _ h (λ u a. becomes_owned u items a)))
   does_owned (invoke at d es) items = invoked_owned (meaning_here v d) d es items
-  does_owned (block at ss) items = becomes_owned v [] alike
   does_owned (if_then at e s) items = bind_owned (value v e) _ (λ x. becomes_owned v [] alike)
   does_owned (if_else at e s t) items = bind_owned (value v e) _ (λ x. becomes_owned v [] alike)
   does_owned (case_of at e as' b) items = bind_owned (value v e) _ (λ x. bind_owned (arm_for (scope_here v) (number_of x.value) as') _ (λ s. becomes_owned v [] alike))
   does_owned (while_do at e s) items = bind_owned (value v e) _ (λ x. becomes_owned v [] alike)
-  does_owned (repeat_until at ss e) items = becomes_owned v [] alike
   does_owned (for_do at i e d b s) items =
       bind_owned (value v e) _ (λ x. bind_owned (value v b) _ (λ y.
       outcome_if (is_beyond d (number_of x.value) (number_of y.value)) _ _ (λ h. becomes_owned v items alike) (next_owned at i (number_of x.value) d (number_of y.value) s items)))
-  does_owned (cycle at ss) items = becomes_owned v [] alike
   does_owned (init at ts) items = becomes_owned v items alike
+  does_owned _ items = becomes_owned v [] alike
 
   pub takes_owned : (items : List Item) → OwnedOutcome (takes v pid items)
   takes_owned [] = becomes_owned v [] alike

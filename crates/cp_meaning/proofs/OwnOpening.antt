@@ -46,8 +46,7 @@ owned_more base x ps h k (suc q) lt = k q (omega arith)
 
 owned_first : (base : List Component) (k : SystemKind) (n : ℕ) (ps : List Process) → n < length base → AllOwned base ps → AllOwned base (process_first k n ps)
 owned_first base system_kind.Process n ps lt h = owned_more base (unstarted_process n) ps (unstarted_owned base n lt) h
-owned_first base system_kind.Class n ps lt h = h
-owned_first base system_kind.Monitor n ps lt h = h
+owned_first base _ n ps lt h = h
 
 owned_from : (base ds : List Component) (n : ℕ) → n + length ds ≤ length base → AllOwned base (processes_from n ds)
 owned_from base [] n le = λ q lt. absurd (omega arith)
@@ -57,9 +56,8 @@ begun_owned : (p : Program) (base : List Component) (k : ℕ) → 0 < length bas
 begun_owned p base k lt kind = record { held = (inl (own_owner base 0 system_kind.Process kind (λ b. cc)), lt, (λ x q t. absurd (let bad : None ≡ Some (refers q) = t in cc)), tt); bottom = refl; component = lt }
 
 owned_begun : (p : Program) (base ds : List Component) (ps : List Process) → 0 < length base → kind_at base 0 ≡ system_kind.Process → AllOwned base ps → AllOwned base (own_begun p ds ps)
-owned_begun p base [] ps lt kind h = h
-owned_begun p base (d ∷ ds) [] lt kind h = h
 owned_begun p base (d ∷ ds) (q ∷ ps) lt kind h = owned_more base (begun 0 (system_of p d.system)) ps (begun_owned p base d.system lt kind) (λ k l. h (suc k) (omega arith))
+owned_begun p base _ _ lt kind h = h
 
 first_within : (base : List Component) → (base ≡ [] → ⊥) → 0 < length base
 first_within [] h = absurd (h refl)

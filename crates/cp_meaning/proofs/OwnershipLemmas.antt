@@ -4,9 +4,9 @@ use Rattle.cp_tree.specs.declared.declaration.SystemKind.TheVariants as system_k
 use Rattle.cp_tree.specs.Syntax.{Program}
 use Rattle.cp_meaning.specs.Names.{Name}
 use Rattle.cp_meaning.specs.Outcome.{Outcome}
-use Rattle.cp_meaning.specs.State.{Holder, in_call, in_component, Component, component_at, CallKind, own_statement, initial_statement, local_routine, entry_routine, Call, Item, ready, unstarted, Process, process_at, Gates, State, has_entry, initialises}
+use Rattle.cp_meaning.specs.State.{Holder, in_call, in_component, Component, component_at, CallKind, own_statement, local_routine, Call, Item, ready, unstarted, Process, process_at, Gates, State, has_entry, initialises}
 use Rattle.cp_meaning.specs.Places.{content_of}
-use Rattle.cp_meaning.specs.Move.{Move, stays, enters, leaves, delays, continues, starts, shows, ends, Doing}
+use Rattle.cp_meaning.specs.Move.{Move, starts, Doing}
 use Rattle.cp_meaning.specs.LocalRules.{takes}
 use Rattle.cp_meaning.specs.Kernel.{line_of}
 use Rattle.cp_meaning.specs.Steps.{first_components, opening, settled, step_of, without, admitted_to, admitted, IsReached, at_first, by_step, by_admission, by_forgetting}
@@ -15,7 +15,7 @@ use Rattle.cp_meaning.specs.Systems.{system_of}
 use Rattle.cp_meaning.specs.Exclusive.{IsExclusive}
 use Rattle.cp_meaning.specs.OwnershipLaw.{Ownership}
 use Rattle.cp_meaning.specs.WellFormed.{IsWellFormed}
-use Rattle.cp_meaning.proofs.Frames.{Frame, frames, entry_in, initial_in, entry-frames, fit-initial, ItemsFit, Above, Descends}
+use Rattle.cp_meaning.proofs.Frames.{Frame, frames, entry_in, initial_in, entry-frames, fit-initial, Above, Descends}
 use Rattle.cp_meaning.proofs.Good.{NonEmpty, Good, GoodOutcome, or_cases}
 use Rattle.cp_meaning.proofs.Orderly.{ProcessFits}
 use Rattle.cp_meaning.proofs.LineLaw.{OrderlyState}
@@ -69,8 +69,7 @@ module _ (base : List Component) (s : State) (owned : OwnedState base s) (x : Pr
   above_or_same : (k : CallKind) (n outer : ℕ) → Above s.components k n outer → below_or_same s.components n outer
   above_or_same own_statement n outer h = absurd h
   above_or_same local_routine n outer h = inl h
-  above_or_same entry_routine n outer h = inr h
-  above_or_same initial_statement n outer h = inr h
+  above_or_same _ n outer h = inr h
 
   descend_from : (calls : List Call) → Descends s.components (frames calls) → Bottom x.component (frames calls) → CallsDescend s.components x.component calls
   descend_from [] h b = tt
@@ -125,13 +124,7 @@ module _ (p : Program) (ok : IsWellFormed p) where
 
     pub starts_process : (d : Doing) (move : Move) → Good s.components (frames x.calls) (frames d.calls) d.components d.items move → StartsProcess p s pid base owned lt is_ready d move
     starts_process d (starts c e) good = good.layout.kind c ∙ good.moves.1
-    starts_process d stays good = tt
-    starts_process d (enters n) good = tt
-    starts_process d (leaves n) good = tt
-    starts_process d (delays n) good = tt
-    starts_process d (continues n o) good = tt
-    starts_process d (shows y) good = tt
-    starts_process d ends good = tt
+    starts_process d _ good = tt
 
     module _ (none : s.pending ≡ None) where
       settled_result : (o : Outcome Doing) → GoodOutcome s.components (frames x.calls) o × OwnedBy p base x.component (frames x.calls) s.components o → Result (settled p s pid o).state

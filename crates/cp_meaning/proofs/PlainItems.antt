@@ -1,6 +1,6 @@
 -- Lifted calls and statements are items that open and end no call.
 use Rattle.std.proofs.Common.{ℕ, Bool, true, false, List, [], ◌∷◌}
-use Rattle.cp_tree.specs.Syntax.{Expression, alone, related, Sum, sum, Terms, no_terms, more_terms, Term, term, Factors, no_factors, more_factors, Factor, number, character, named, group, negated, set_of, Expressions, no_expressions, more_expressions, Designator, designator, Selectors, no_selectors, more_selectors, Selector, field, index, Start, Statement, empty, assign, invoke, block, if_then, if_else, case_of, while_do, repeat_until, for_do, cycle, init, Statements, no_statements, more_statements}
+use Rattle.cp_tree.specs.Syntax.{Expression, alone, related, Sum, sum, Terms, no_terms, more_terms, Term, term, Factors, no_factors, more_factors, Factor, named, group, negated, set_of, Expressions, no_expressions, more_expressions, Designator, designator, Selectors, no_selectors, more_selectors, Selector, field, index, Start, Statement, assign, invoke, if_then, if_else, case_of, while_do, for_do, init, Statements, no_statements, more_statements}
 use Rattle.cp_meaning.specs.Scopes.{Scope}
 use Rattle.cp_meaning.specs.Lifting.{own_call, is_call, expression_calls, sum_calls, terms_calls, term_calls, factors_calls, factor_calls, expressions_calls, designator_calls, selectors_calls, selector_calls, start_items, items_of, items_of_all, until_items}
 use Rattle.cp_meaning.proofs.Frames.{ArePlain, plain-append}
@@ -29,12 +29,11 @@ mutual
   plain_factors s (more_factors op f fs) = plain-append _ _ (plain_factor s f) (plain_factors s fs)
 
   plain_factor : (s : Scope) (f : Factor) → ArePlain (factor_calls s f)
-  plain_factor s (number at n) = tt
-  plain_factor s (character at c) = tt
   plain_factor s (named at d es) = plain-append _ _ (plain-append _ _ (plain_designator s d) (plain_expressions s es)) (plain_call (is_call s d) at d es)
   plain_factor s (group at e) = plain_expression s e
   plain_factor s (negated at f) = plain_factor s f
   plain_factor s (set_of at es) = plain_expressions s es
+  plain_factor s _ = tt
 
   plain_expressions : (s : Scope) (es : Expressions) → ArePlain (expressions_calls s es)
   plain_expressions s no_expressions = tt
@@ -64,10 +63,7 @@ plain_items s (if_else at e t u) = plain-append _ _ (plain_expression s e) (tt, 
 plain_items s (case_of at e as' b) = plain-append _ _ (plain_expression s e) (tt, tt)
 plain_items s (while_do at e t) = plain-append _ _ (plain_expression s e) (tt, tt)
 plain_items s (for_do at i e d f t) = plain-append _ _ (plain-append _ _ (plain_expression s e) (plain_expression s f)) (tt, tt)
-plain_items s (empty at) = (tt, tt)
-plain_items s (block at ts) = (tt, tt)
-plain_items s (repeat_until at ts e) = (tt, tt)
-plain_items s (cycle at ts) = (tt, tt)
+plain_items s _ = (tt, tt)
 
 pub plain_all : (s : Scope) (ts : Statements) → ArePlain (items_of_all s ts)
 plain_all s no_statements = tt

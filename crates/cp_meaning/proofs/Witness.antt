@@ -15,27 +15,16 @@ abbrev five : List Component
 five = first_components admits_third
 
 own_path : (n : ℕ) → n < length five → component_with (path_at five n) five ≡ n
-own_path zero lt = refl
-own_path (suc zero) lt = refl
-own_path (suc (suc zero)) lt = refl
-own_path (suc (suc (suc zero))) lt = refl
-own_path (suc (suc (suc (suc zero)))) lt = refl
 own_path (suc (suc (suc (suc (suc n))))) lt = absurd (omega arith)
+own_path _ lt = refl
 
 short : (m : ℕ) → length (path_at five m) ≤ 1
-short zero = omega arith
-short (suc zero) = omega arith
-short (suc (suc zero)) = omega arith
-short (suc (suc (suc zero))) = omega arith
 short (suc (suc (suc (suc zero)))) = omega arith
-short (suc (suc (suc (suc (suc n))))) = omega arith
+short x = omega arith
 
 inner_length : (n : ℕ) → suc n < length five → length (path_at five (suc n)) ≡ 1
-inner_length zero lt = refl
-inner_length (suc zero) lt = refl
-inner_length (suc (suc zero)) lt = refl
-inner_length (suc (suc (suc zero))) lt = refl
 inner_length (suc (suc (suc (suc n)))) lt = absurd (omega arith)
+inner_length _ lt = refl
 
 longer : (q : Path) (s : PathStep) → length (q ++ s ∷ []) ≡ suc (length q)
 longer [] s = refl
@@ -43,11 +32,8 @@ longer (t ∷ q) s = ap suc (longer q s)
 
 types_below : (m : ℕ) → length (path_at five m) ≡ 1 → (component_at five m).system < 2
 types_below zero e = absurd (omega arith)
-types_below (suc zero) e = omega arith
-types_below (suc (suc zero)) e = omega arith
-types_below (suc (suc (suc zero))) e = omega arith
-types_below (suc (suc (suc (suc zero)))) e = omega arith
 types_below (suc (suc (suc (suc (suc n))))) e = absurd (omega arith)
+types_below x e = omega arith
 
 contained : (n m : ℕ) (s : PathStep) → n < length five → m < length five → path_at five m ≡ path_at five n ++ s ∷ [] → (component_at five m).system < (component_at five n).system
 contained zero m s ln lm e = types_below m (ap length e)
@@ -76,9 +62,8 @@ no_class (suc (suc k)) h = tt
 
 earlier : (k : ℕ) → HasEarlier k (system_of admits_third k).parameters
 unfolding place_of_type is_component
-earlier zero = tt
 earlier (suc zero) = ((λ j e. (let same : 0 ≡ j = ap place_of_type e in omega arith)), ((λ j e. (let bad : 0 ≡ 1 = ap is_component e in absurd (omega arith))), tt))
-earlier (suc (suc k)) = tt
+earlier _ = tt
 
 pub three_callers_well_formed : IsWellFormed admits_third
 three_callers_well_formed =

@@ -18,7 +18,7 @@ use Rattle.cp_run.specs.Slots.{slots}
 use Rattle.cp_refine.specs.States.{states_on, stretch_states, opened_states, chosen_states, states_from, run_states}
 use Rattle.cp_run.specs.System.{System}
 use Rattle.cp_run.specs.declared.outcome.Turn.{Turn}
-use Rattle.cp_run.specs.declared.outcome.Turn.TheVariants.{Over, Due, Goes}
+use Rattle.cp_run.specs.declared.outcome.Turn.TheVariants.{Goes}
 use Rattle.cp_resolved.specs.TreeLayouts.{layouts_of}
 use Rattle.cp_refine.specs.Excluding.{RunsExclude}
 use Rattle.cp_refine.specs.InStep.{CanGo, GoInStep}
@@ -31,9 +31,8 @@ use Rattle.cp_refine.proofs.Meaning.{goes_in_step}
 
 module _ {S T : Type 0} (a : System S) (b : System T) (R : S → T → Type 0) (go : GoInStep a b R) (P : S → Type 0) (holds : (s : S) (t : T) → R s t → P s) where
   on_so : (s : S) (on : ℕ → List S) (turn : Turn) → IfGoes turn (CanGo a s) → ((q : ℕ) → CanGo a s q → All P (on q)) → All P (states_on on turn)
-  on_so s on (Over kind) h k = All-nil P
-  on_so s on Due h k = All-nil P
   on_so s on (Goes q) h k = k q h
+  on_so s on _ h k = All-nil P
 
   stretch_so : (left : ℕ) (s : S) (t : T) (p : ℕ) → R s t → CanGo a s p → All P (stretch_states a left s p)
   unfolding stretch_states
@@ -67,14 +66,13 @@ module _ {S T : Type 0} (a : System S) (b : System T) (R : S → T → Type 0) (
   from_so : (steps choices : ℕ) (word : List ℕ) (x : Node S) (y : Node T) → NodesAlike R x y → All P (states_from a steps choices word x)
   unfolding states_from
   from_so steps choices word (Halted k s) y h = All-nil P
-  from_so steps zero word (Choosing s) y h = All-nil P
-  from_so steps (suc choices) [] (Choosing s) y h = All-nil P
   from_so steps (suc choices) (p ∷ word) (Choosing s) (Choosing t) h = by_choice (may a s p) refl (λ e. from_so steps choices word (chosen a steps s p) (chosen b steps t p) (choices_alike a b R go steps s t p h e))
     where
       by_choice : (c : Bool) → may a s p ≡ c → (may a s p ≡ true → All P (states_from a steps choices word (chosen a steps s p))) → All P (if c then chosen_states a steps s p ++ states_from a steps choices word (chosen a steps s p) else [])
       by_choice false e next = All-nil P
       by_choice true e next = All-append P (chosen_states a steps s p) (states_from a steps choices word (chosen a steps s p)) (chosen_so steps s t p h e) (next e)
   from_so steps (suc choices) (p ∷ word) (Choosing s) (Halted k t) h = absurd h
+  from_so steps _ _ (Choosing s) y h = All-nil P
 
   pub run_so : (choices steps : ℕ) (word : List ℕ) → All P (run_states a choices steps word)
   run_so choices steps word = All-append P (opened_states a steps) (states_from a steps choices word (opened a steps)) (opened_so steps) (from_so steps choices word (opened a steps) (opened b steps) (openings a b R go steps))

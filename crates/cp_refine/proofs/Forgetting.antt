@@ -9,7 +9,7 @@ use Rattle.cp_machine.specs.declared.process.Entry.TheVariants.{Rest, Successor,
 use Rattle.cp_machine.specs.Fits.{MachineFits, LinesFit}
 use Rattle.cp_machine.specs.Machine.{Machine, thread_at}
 use Rattle.cp_machine.specs.Reach.{Reaches, HasBegunAs, ExecutesAs, StackExecutes, EndsBegun}
-use Rattle.cp_meaning.specs.State.{ComponentStatus, uninitialised, initialising, initialised, State}
+use Rattle.cp_meaning.specs.State.{ComponentStatus, uninitialised, State}
 use Rattle.cp_meaning.specs.Steps.{by_forgetting}
 use Rattle.cp_resolved.specs.Layouts.{Layouts}
 use Rattle.cp_resolved.specs.Stands.{Ground}
@@ -29,8 +29,7 @@ named_without_output s = record s { output = [] }
 
 executes_as : (m : Machine) (pid component : ℕ) (k : ComponentKind) → ExecutesAs m pid component k → ExecutesAs (without_output m) pid component k
 executes_as m pid component (kind.Process number) h = h
-executes_as m pid component kind.Class h = h
-executes_as m pid component (kind.Monitor number) h = h
+executes_as m pid component _ h = h
 
 stack_executes : (r : Tables) (m : Machine) (pid : ℕ) (f : Frame) (es : List Entry) → StackExecutes r m pid f es → StackExecutes r (without_output m) pid f es
 stack_executes r m pid f [] h = executes_as m pid f.component (component_at r f.component).kind h
@@ -48,8 +47,7 @@ ends_begun m (InitEnd caller component ∷ es) h = (h.0, ends_begun m es h.1)
 
 begun_before : (m : Machine) (component : ℕ) (k : ComponentKind) → HasBegunAs (without_output m) component k → HasBegunAs m component k
 begun_before m component (kind.Process number) h = h
-begun_before m component kind.Class h = h
-begun_before m component (kind.Monitor number) h = h
+begun_before m component _ h = h
 
 reaches : (r : Tables) (m : Machine) → Reaches r m → Reaches r (without_output m)
 reaches r m h =
@@ -69,13 +67,9 @@ lines m h = record { gate = h.gate; once = h.once; pending = h.pending }
 -- ---- what it stands for
 
 begun_of : (s : State) (k : ComponentKind) (u : ComponentStatus) → represents.HasBegun (named_without_output s) k u → represents.HasBegun s k u
-begun_of s (kind.Process q) u h = h
 begun_of s kind.Class uninitialised h = h
-begun_of s kind.Class initialising h = h
-begun_of s kind.Class initialised h = h
 begun_of s (kind.Monitor n) uninitialised h = h
-begun_of s (kind.Monitor n) initialising h = h
-begun_of s (kind.Monitor n) initialised h = h
+begun_of s _ _ h = h
 
 component_is : (g : Ground) (p : Program) (l : Layouts) (s : State) (m : Machine) (n : ℕ) → ComponentIs g p l s m n → ComponentIs g p l (named_without_output s) (without_output m) n
 component_is g p l s m n h =
@@ -88,8 +82,7 @@ component_is g p l s m n h =
 
 monitor_is : (s : State) (m : Machine) (n : ℕ) (k : ComponentKind) → MonitorIs s m n k → MonitorIs (named_without_output s) (without_output m) n k
 monitor_is s m n (kind.Monitor k) h = h
-monitor_is s m n kind.Class h = tt
-monitor_is s m n (kind.Process q) h = tt
+monitor_is s m n _ h = tt
 
 represented : (g : Ground) (p : Program) (l : Layouts) (s : State) (m : Machine) → Represents g p l s m → Represents g p l (named_without_output s) (without_output m)
 represented g p l s m h =

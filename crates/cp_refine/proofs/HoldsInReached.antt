@@ -21,7 +21,8 @@ use Rattle.cp_meaning.proofs.OwnershipLemmas.{reached, lawful as lawful_when_rea
 use Rattle.cp_refine.proofs.reached.ReachedCalls.{IsOuterKind, lies_lower, one_entry, none_open, entered_or_initial}
 use Rattle.cp_refine.proofs.reached.ReachedInside.{some_call, executes_alone, pending_free}
 use Rattle.cp_refine.proofs.reached.ReachedLines.{WaitsAtGate, in_line_waits, first_waits_so}
-use Rattle.cp_refine.proofs.reached.ReachedNames.{not_process_within, named_earlier}
+use Rattle.cp_refine.proofs.reached.ReachedNames.{named_earlier}
+use Rattle.cp_meaning.proofs.LocalLaw.{within as not_process_within}
 
 -- the component is of kind process
 abbrev pub IsProcess : State → ℕ → Type 0

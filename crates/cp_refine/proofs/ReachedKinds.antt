@@ -85,14 +85,9 @@ module _ (t : Tree) (r : Tables) (l : Layouts) (stands : Stands (ground_of t r) 
 
   same_kind : (n : ℕ) (a : SystemKind) (k : ComponentKind) → KindIs r p n a k → SameKind a k
   same_kind n system_kind.Process (kind.Process q) h = tt
-  same_kind n system_kind.Process (kind.Monitor q) h = absurd h
-  same_kind n system_kind.Process kind.Class h = absurd h
   same_kind n system_kind.Monitor (kind.Monitor q) h = tt
-  same_kind n system_kind.Monitor (kind.Process q) h = absurd h
-  same_kind n system_kind.Monitor kind.Class h = absurd h
   same_kind n system_kind.Class kind.Class h = tt
-  same_kind n system_kind.Class (kind.Process q) h = absurd h
-  same_kind n system_kind.Class (kind.Monitor q) h = absurd h
+  same_kind n _ _ h = absurd h
 
   -- where the kinds are those of the opening state
   pub kinds_agree : (s : State) → ((n : ℕ) → (named.component_at s.components n).kind ≡ (named.component_at (first_components p) n).kind) → KindsAgree r s

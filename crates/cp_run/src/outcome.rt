@@ -98,7 +98,7 @@ impl Output {
     }
 
     /// Copies of these values and then of more.
-    pub fn joined(alloc: Global, values: &[Shown], more: &[Shown]) -> Result<Output, AllocError>
+    pub fn join(alloc: Global, values: &[Shown], more: &[Shown]) -> Result<Output, AllocError>
         ensures { IfOk result (λ o. o ≡ values.now ++ more.now) }
     {
         if more.len() > MOST_DIGITS || values.len() > MOST_DIGITS - more.len() {

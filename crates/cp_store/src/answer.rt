@@ -26,12 +26,12 @@ impl Evaluation {
     {
         match outcome {
             Ok(value) => Evaluation::Value(value),
-            Err(name) => Evaluation::failed(name),
+            Err(name) => Evaluation::of_error(name),
         }
     }
 
     /// The answer that stands for a run error.
-    pub fn failed(name: ErrorName) -> Evaluation
+    pub fn of_error(name: ErrorName) -> Evaluation
         ensures { spec.answered result ≡ Err name }
     {
         match name {

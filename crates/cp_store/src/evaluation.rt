@@ -55,7 +55,7 @@ pub fn address(
     ensures value { result ≡ spec.address_at (memory_of permanents.now room.now) frame.now place.now }
     ensures cells { (cells : ℕ) → CanReach (memory_of permanents.now room.now) frame.now place.now cells → IfOk result (λ at. HasCells (memory_of permanents.now room.now) at cells) }
 {
-    let start = origin_address(place.origin, room, frame).moved(place.offset);
+    let start = origin_address(place.origin, room, frame).plus(place.offset);
     match place.indices.as_slice() {
         [] => Ok(start),
         indices => element_address(start, indices, permanents, room, frame),
@@ -95,7 +95,7 @@ fn through(
     let mut at = start;
     for index in indices {
         let value = evaluate(&index.at, permanents, room, frame)?;
-        at = at.moved(element_offset(value, index.low, index.high, index.size)?);
+        at = at.plus(element_offset(value, index.low, index.high, index.size)?);
     }
     Ok(at)
 }
@@ -339,7 +339,7 @@ fn load_value(
 {
     match place.indices.as_slice() {
         [] => {
-            let at = origin_address(place.origin, room, frame).moved(place.offset);
+            let at = origin_address(place.origin, room, frame).plus(place.offset);
             Ok(cell(permanents, room, at))
         }
         _ => element(place, permanents, room, frame).result(),
@@ -354,10 +354,10 @@ fn element(place: &Place, permanents: &[i16], room: &Room, frame: &Frame) -> Eva
     requires { CanReach (memory_of permanents.now room.now) frame.now place.now 1 }
     ensures { answered result ≡ spec.loaded (memory_of permanents.now room.now) (spec.address_at (memory_of permanents.now room.now) frame.now place.now) }
 {
-    let start = origin_address(place.origin, room, frame).moved(place.offset);
+    let start = origin_address(place.origin, room, frame).plus(place.offset);
     match through(start, place.indices.as_slice(), permanents, room, frame) {
         Ok(at) => Evaluation::Value(cell(permanents, room, at)),
-        Err(name) => Evaluation::failed(name),
+        Err(name) => Evaluation::of_error(name),
     }
 }
 

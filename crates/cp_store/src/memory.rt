@@ -37,7 +37,7 @@ pub struct Room {
 impl Address {
     /// The address this many cells further on.
     #[tactic(auto, using(crate::proofs::Reaches::onward_exact))]
-    pub fn moved(self, cells: usize) -> Address
+    pub fn plus(self, cells: usize) -> Address
         requires { MovesBy self cells }
         ensures { result ≡ moved self cells }
     {

@@ -109,7 +109,7 @@ fn pair(permanents: &[i16], room: &Room, at: Address) -> u32
     ensures { result ≡ spec.pair_at (memory_of permanents.now room.now) at }
 {
     let low = word(permanents, room, at);
-    let high = word(permanents, room, at.moved(1));
+    let high = word(permanents, room, at.plus(1));
     low as u32 + high as u32 * 65536
 }
 
@@ -119,7 +119,7 @@ fn quad(permanents: &[i16], room: &Room, at: Address) -> u64
     ensures { result ≡ spec.quad_at (memory_of permanents.now room.now) at }
 {
     let low = pair(permanents, room, at);
-    let high = pair(permanents, room, at.moved(2));
+    let high = pair(permanents, room, at.plus(2));
     low as u64 + high as u64 * 4_294_967_296
 }
 
@@ -129,7 +129,7 @@ pub fn load_set(permanents: &[i16], room: &Room, at: Address) -> SetValue
     ensures { result ≡ spec.stored_at (memory_of permanents.now room.now) at }
 {
     let low = quad(permanents, room, at);
-    let high = quad(permanents, room, at.moved(4));
+    let high = quad(permanents, room, at.plus(4));
     SetValue {
         members: low as u128 + high as u128 * 18_446_744_073_709_551_616,
     }

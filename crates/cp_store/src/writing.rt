@@ -37,7 +37,7 @@ fn write_pair(permanents: &mut [i16], room: &mut Room, at: Address, members: u32
     ensures room { KeepsRoom room.old room.new }
 {
     write_word(permanents, room, at, (members % 65536) as u16);
-    write_word(permanents, room, at.moved(1), (members / 65536) as u16);
+    write_word(permanents, room, at.plus(1), (members / 65536) as u16);
 }
 
 // Sixty-four members.
@@ -50,7 +50,7 @@ fn write_quad(permanents: &mut [i16], room: &mut Room, at: Address, members: u64
     write_pair(
         permanents,
         room,
-        at.moved(2),
+        at.plus(2),
         (members / 4_294_967_296) as u32,
     );
 }
@@ -64,7 +64,7 @@ pub fn write_set(permanents: &mut [i16], room: &mut Room, at: Address, value: Se
     let low = (value.members % 18_446_744_073_709_551_616) as u64;
     let high = (value.members / 18_446_744_073_709_551_616) as u64;
     write_quad(permanents, room, at, low);
-    write_quad(permanents, room, at.moved(4), high);
+    write_quad(permanents, room, at.plus(4), high);
 }
 
 /// Copies cells, one after the other.
@@ -76,7 +76,7 @@ pub fn copy_cells(permanents: &mut [i16], room: &mut Room, to: Address, from: Ad
     ensures room { KeepsRoom room.old room.new }
 {
     for cells in 0..size {
-        let value = cell(permanents, room, from.moved(cells));
-        write(permanents, room, to.moved(cells), value);
+        let value = cell(permanents, room, from.plus(cells));
+        write(permanents, room, to.plus(cells), value);
     }
 }

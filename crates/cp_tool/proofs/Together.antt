@@ -1,5 +1,5 @@
 -- What is taken together.
-use Rattle.std.proofs.Common.{◌≡◌, ◌≤◌, Bool, true, false, refl, arith}
+use Rattle.std.proofs.Common.{◌≤◌, Bool, true, false, arith}
 use Rattle.std.specs.Prelude.{◌||◌}
 use Rattle.cp_tool.specs.Words.{default_choices, most_choices}
 
@@ -8,7 +8,3 @@ default_fits true true = omega arith
 default_fits true false = omega arith
 default_fits false true = omega arith
 default_fits false false = omega arith
-
-pub ends_merged : (merge ends : Bool) → ends ≡ true → (merge || ends) ≡ true
-ends_merged true ends h = refl
-ends_merged false ends h = h

@@ -43,7 +43,7 @@ impl<'a> Cursor<'a> {
         self.at
     }
 
-    pub fn left(&self) -> usize
+    pub fn tokens_left(&self) -> usize
         ensures { result ≡ length self.now.rest }
     {
         self.tokens.count() - self.at
@@ -114,11 +114,11 @@ impl<'a> Cursor<'a> {
             self.advance();
             Ok(())
         } else {
-            Err(self.unexpected())
+            Err(self.unexpected_token())
         }
     }
 
-    pub fn unexpected(&self) -> ParseFault
+    pub fn unexpected_token(&self) -> ParseFault
         ensures { result ≡ ParseFault.Unexpected self.now.at }
     {
         ParseFault::Unexpected(self.at)

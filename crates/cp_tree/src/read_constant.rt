@@ -21,7 +21,7 @@ pub fn identifier(alloc: Global, cursor: &mut Cursor<'_>) -> Result<Identifier, 
             cursor.advance();
             Ok(Identifier { at, name })
         }
-        _ => Err(cursor.unexpected()),
+        _ => Err(cursor.unexpected_token()),
     }
 }
 
@@ -32,7 +32,7 @@ pub fn identifiers(alloc: Global, cursor: &mut Cursor<'_>) -> Result<Vec<Identif
 {
     let mut found = Vec::new(alloc);
     found.push(identifier(alloc, cursor)?)?;
-    for _turn in 0..cursor.left() {
+    for _turn in 0..cursor.tokens_left() {
         if !cursor.eat(Mark::Comma) {
             return Ok(found);
         }
@@ -91,6 +91,6 @@ pub fn constant(alloc: Global, cursor: &mut Cursor<'_>) -> Result<Constant, Pars
                 kind: ConstantKind::Character(*code),
             })
         }
-        _ => Err(cursor.unexpected()),
+        _ => Err(cursor.unexpected_token()),
     }
 }

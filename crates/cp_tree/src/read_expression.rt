@@ -160,7 +160,7 @@ fn added_terms(
     ensures { Reads (λ v. terms_view v.items) (lists.many (spec.next_term (spec.factor_at budget)) cursor.old) result cursor.new }
 {
     let mut found = Vec::new(alloc);
-    for _turn in 0..cursor.left() {
+    for _turn in 0..cursor.tokens_left() {
         match addition(cursor) {
             Some(operator) => found.push((operator, term(alloc, cursor, budget)?))?,
             None => return Ok(found),
@@ -190,7 +190,7 @@ fn multiplied_factors(
     ensures { Reads (λ v. factors_view v.items) (lists.many (spec.next_factor (spec.factor_at budget)) cursor.old) result cursor.new }
 {
     let mut found = Vec::new(alloc);
-    for _turn in 0..cursor.left() {
+    for _turn in 0..cursor.tokens_left() {
         match multiplication(cursor) {
             Some(operator) => found.push((operator, factor(alloc, cursor, budget)?))?,
             None => return Ok(found),
@@ -231,7 +231,7 @@ fn factor(alloc: Global, cursor: &mut Cursor<'_>, budget: usize) -> Result<Facto
             cursor.advance();
             FactorKind::Not(factor_after_not(alloc, cursor, budget)?)
         }
-        _ => return Err(cursor.unexpected()),
+        _ => return Err(cursor.unexpected_token()),
     };
     Ok(Factor { at, kind })
 }
@@ -326,7 +326,7 @@ fn expressions(
 {
     let mut found = Vec::new(alloc);
     found.push(expression(alloc, cursor, budget)?)?;
-    for _turn in 0..cursor.left() {
+    for _turn in 0..cursor.tokens_left() {
         if !cursor.eat(Mark::Comma) {
             return Ok(found);
         }
@@ -359,7 +359,7 @@ fn selectors(
     ensures { Reads (λ v. selectors_view v.items) (lists.many (spec.selector_with (spec.expression budget)) cursor.old) result cursor.new }
 {
     let mut found = Vec::new(alloc);
-    for _turn in 0..cursor.left() {
+    for _turn in 0..cursor.tokens_left() {
         match selector(alloc, cursor, budget)? {
             Some(selector) => found.push(selector)?,
             None => return Ok(found),

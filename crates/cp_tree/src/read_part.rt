@@ -64,7 +64,7 @@ pub fn constant_definitions(
 {
     let mut found = Vec::new(alloc);
     found.push(constant_definition(alloc, cursor)?)?;
-    for _turn in 0..cursor.left() {
+    for _turn in 0..cursor.tokens_left() {
         if !cursor.sees_name() {
             return Ok(found);
         }
@@ -82,7 +82,7 @@ fn type_definitions(
 {
     let mut found = Vec::new(alloc);
     found.push(type_definition(alloc, cursor)?)?;
-    for _turn in 0..cursor.left() {
+    for _turn in 0..cursor.tokens_left() {
         if !cursor.sees_name() {
             return Ok(found);
         }
@@ -101,7 +101,7 @@ pub fn variable_groups(
 {
     let mut found = Vec::new(alloc);
     found.push(variable_group(alloc, cursor)?)?;
-    for _turn in 0..cursor.left() {
+    for _turn in 0..cursor.tokens_left() {
         if !cursor.sees_name() {
             return Ok(found);
         }
@@ -139,7 +139,7 @@ pub fn parts(alloc: Global, cursor: &mut Cursor<'_>) -> Result<Vec<Part>, ParseF
     ensures { Reads (λ v. map part_view v.items) (spec.parts cursor.old) result cursor.new }
 {
     let mut found = Vec::new(alloc);
-    for _turn in 0..cursor.left() {
+    for _turn in 0..cursor.tokens_left() {
         match part(alloc, cursor)? {
             Some(part) => found.push(part)?,
             None => return Ok(found),

@@ -89,7 +89,7 @@ fn system_definitions(
 {
     let mut found = Vec::new(alloc);
     found.push(system_definition(alloc, cursor)?)?;
-    for _turn in 0..cursor.left() {
+    for _turn in 0..cursor.tokens_left() {
         if !cursor.sees_name() {
             return Ok(found);
         }
@@ -125,7 +125,7 @@ fn program_parts(alloc: Global, cursor: &mut Cursor<'_>) -> Result<Vec<ProgramPa
     ensures { Reads (λ v. map program_part_view v.items) (lists.many spec.program_part_item cursor.old) result cursor.new }
 {
     let mut found = Vec::new(alloc);
-    for _turn in 0..cursor.left() {
+    for _turn in 0..cursor.tokens_left() {
         match program_part(alloc, cursor)? {
             Some(part) => found.push(part)?,
             None => return Ok(found),
@@ -149,8 +149,8 @@ pub fn program(alloc: Global, cursor: &mut Cursor<'_>) -> Result<Program, ParseF
         period: cursor.at(),
     };
     let program = value_before(cursor, program, Mark::Period)?;
-    if cursor.left() > 0 {
-        return Err(cursor.unexpected());
+    if cursor.tokens_left() > 0 {
+        return Err(cursor.unexpected_token());
     }
     Ok(program)
 }

@@ -44,7 +44,7 @@ fn group_list(alloc: Global, cursor: &mut Cursor<'_>) -> Result<Vec<Group>, Pars
 {
     let mut found = Vec::new(alloc);
     found.push(group(alloc, cursor)?)?;
-    for _turn in 0..cursor.left() {
+    for _turn in 0..cursor.tokens_left() {
         if !cursor.eat(Mark::Semicolon) {
             return Ok(found);
         }
@@ -81,7 +81,7 @@ fn parameter_list(alloc: Global, cursor: &mut Cursor<'_>) -> Result<Vec<Paramete
 {
     let mut found = Vec::new(alloc);
     found.push(parameter_group(alloc, cursor)?)?;
-    for _turn in 0..cursor.left() {
+    for _turn in 0..cursor.tokens_left() {
         if !cursor.eat(Mark::Semicolon) {
             return Ok(found);
         }
@@ -186,7 +186,7 @@ pub fn routines(alloc: Global, cursor: &mut Cursor<'_>) -> Result<Vec<Routine>, 
     ensures { Reads (λ v. map routine_view v.items) (spec.routines cursor.old) result cursor.new }
 {
     let mut found = Vec::new(alloc);
-    for _turn in 0..cursor.left() {
+    for _turn in 0..cursor.tokens_left() {
         match routine(alloc, cursor)? {
             Some(routine) => found.push(routine)?,
             None => return Ok(found),

@@ -97,7 +97,7 @@ pub fn statements(
 {
     let mut found = Vec::new(alloc);
     found.push(statement(alloc, cursor, budget)?)?;
-    for _turn in 0..cursor.left() {
+    for _turn in 0..cursor.tokens_left() {
         if !cursor.eat(Mark::Semicolon) {
             return Ok(found);
         }
@@ -256,7 +256,7 @@ fn direction(cursor: &mut Cursor<'_>) -> Result<Direction, ParseFault>
             cursor.advance();
             Ok(Direction::Downto)
         }
-        _ => Err(cursor.unexpected()),
+        _ => Err(cursor.unexpected_token()),
     }
 }
 
@@ -291,7 +291,7 @@ fn arms(
 {
     let mut found = Vec::new(alloc);
     found.push(arm(alloc, cursor, budget)?)?;
-    for _turn in 0..cursor.left() {
+    for _turn in 0..cursor.tokens_left() {
         if !cursor.eat(Mark::Semicolon) {
             return Ok((found, false));
         }
@@ -320,7 +320,7 @@ fn labels(alloc: Global, cursor: &mut Cursor<'_>) -> Result<Vec<Constant>, Parse
 {
     let mut found = Vec::new(alloc);
     found.push(constant(alloc, cursor)?)?;
-    for _turn in 0..cursor.left() {
+    for _turn in 0..cursor.tokens_left() {
         if !cursor.eat(Mark::Comma) {
             return Ok(found);
         }
@@ -349,7 +349,7 @@ fn starts(alloc: Global, cursor: &mut Cursor<'_>, budget: usize) -> Result<Vec<S
 {
     let mut found = Vec::new(alloc);
     found.push(start(alloc, cursor, budget)?)?;
-    for _turn in 0..cursor.left() {
+    for _turn in 0..cursor.tokens_left() {
         if !cursor.eat(Mark::Comma) {
             return Ok(found);
         }

@@ -54,7 +54,7 @@ fn simple_from(
             at,
             kind: SimpleKind::Name(identifier.name),
         }),
-        _ => Err(cursor.unexpected()),
+        _ => Err(cursor.unexpected_token()),
     }
 }
 
@@ -164,7 +164,7 @@ fn field_groups(
 {
     let mut found = Vec::new(alloc);
     found.push(field_group(alloc, cursor, budget)?)?;
-    for _turn in 0..cursor.left() {
+    for _turn in 0..cursor.tokens_left() {
         if !cursor.eat(Mark::Semicolon) {
             return Ok((found, false));
         }

@@ -4,13 +4,11 @@ use Rattle.std.specs.List.{list_any}
 use Rattle.cp_slots.specs.Tables.{Tables}
 use Rattle.cp_machine.specs.Alike.{AreAlike}
 use Rattle.cp_machine.specs.System.{Machine}
-use Rattle.cp_machine.specs.declared.event.Event.{Event}
 use Rattle.cp_machine.specs.declared.gates.Gates.{Gates}
 use Rattle.cp_machine.specs.declared.shown.Shown.{Shown}
 use Rattle.cp_machine.proofs.Alike.{step_alike, admitted_alike}
-use Rattle.cp_run.specs.declared.outcome.OutcomeKind.TheVariants.{StepLimit}
 use Rattle.cp_run.specs.declared.outcome.Turn.{Turn}
-use Rattle.cp_run.specs.declared.outcome.Turn.TheVariants.{Over, Due, Goes}
+use Rattle.cp_run.specs.declared.outcome.Turn.TheVariants.{Goes}
 use Rattle.cp_run.specs.Run.{Node, Halted, Choosing, node_at, stretch, chosen, turn_after, settled_turn}
 use Rattle.cp_run.specs.Slots.{slots}
 use Rattle.cp_run.specs.System.{System}
@@ -42,9 +40,8 @@ same_as xs = ([], sym (append-nil xs))
 
 module _ {S : Type 0} (sys : System S) (keeps : KeepsOutput sys) where
   by_turn : (left : ℕ) (before : List Shown) (t : S) (turn : Turn) → GoesOn before (sys.output t) → ((q : ℕ) → GoesOn (sys.output t) (output_at sys (stretch sys left t q))) → GoesOn before (output_at sys (node_at t (stretch sys left t) turn))
-  by_turn left before t (Over kind) g on = g
-  by_turn left before t Due g on = g
   by_turn left before t (Goes q) g on = after before (sys.output t) (output_at sys (stretch sys left t q)) g (on q)
+  by_turn left before t _ g on = g
 
   stretch_keeps : (left : ℕ) (s : S) (p : ℕ) → GoesOn (sys.output s) (output_at sys (stretch sys left s p))
   unfolding stretch

@@ -28,12 +28,7 @@ error_of (suc (suc (suc (suc (suc (suc n)))))) = InitTwice
 error_back : (e : ErrorName) → error_of (number_of e) ≡ e
 unfolding error_of
 error_back Overflow = refl
-error_back ZeroDivisor = refl
-error_back Range = refl
-error_back NoCase = refl
-error_back QueueInUse = refl
-error_back NotInit = refl
-error_back InitTwice = refl
+error_back _ = refl
 
 shown_of : ℕ → ℕ → Shown
 shown_of zero n = Integer (pos n)
@@ -43,9 +38,8 @@ shown_of (suc (suc (suc zero))) n = Truth (n == 1)
 shown_of (suc (suc (suc (suc m)))) n = Constant n
 
 all_of : List ℕ → List Shown
-all_of [] = []
-all_of (m ∷ []) = []
 all_of (m ∷ n ∷ ns) = shown_of m n ∷ all_of ns
+all_of _ = []
 
 not_negative : (n : ℕ) → is_negative (pos n) ≡ false
 not_negative n = le-ltb n 0 (omega arith)
@@ -64,10 +58,8 @@ abbrev made : OutcomeKind → List ℕ → Outcome
 made kind ns = record { kind = kind; output = all_of ns }
 
 of_error : List ℕ → Outcome
-of_error [] = made Finished []
-of_error (name ∷ []) = made Finished []
-of_error (name ∷ process ∷ []) = made Finished []
 of_error (name ∷ process ∷ line ∷ ns) = made (RunError (error_of name) process line) ns
+of_error _ = made Finished []
 
 outcome_of : List ℕ → Outcome
 outcome_of [] = made Finished []
@@ -100,9 +92,8 @@ both_second false b h = absurd (cc)
 
 pub one_list : (xs ys : List ℕ) → pointwise nat_eq xs ys ≡ true → xs ≡ ys
 one_list [] [] h = refl
-one_list [] (y ∷ ys) h = absurd (cc)
-one_list (x ∷ xs) [] h = absurd (cc)
 one_list (x ∷ xs) (y ∷ ys) h = ap (λ z. z ∷ xs) (eqb-true x y (both_first (nat_eq x y) (pointwise nat_eq xs ys) h)) ∙ ap (λ l. y ∷ l) (one_list xs ys (both_second (nat_eq x y) (pointwise nat_eq xs ys) h))
+one_list x y h = absurd (cc)
 
 pub exact : (a b : Outcome) → same_outcome a b ≡ true → a ≡ b
 exact a b h = sym (outcome_back a) ∙ ap outcome_of (one_list (outcome_numbers a) (outcome_numbers b) h) ∙ outcome_back b

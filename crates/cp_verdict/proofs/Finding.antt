@@ -51,14 +51,6 @@ found_in q lines = found_among q [] lines
 
 -- ---- tests of lists by what is found in them
 
-all_unless : (q : Outcome → Bool) (ls : List Line) → list_all (λ l. not (q l.outcome)) ls ≡ is_none (by q ls)
-all_unless q [] = refl
-all_unless q (l ∷ ls) = split (q l.outcome) (all_unless q ls)
-  where
-    split : (b : Bool) → list_all (λ l. not (q l.outcome)) ls ≡ is_none (by q ls) → (not b && list_all (λ l. not (q l.outcome)) ls) ≡ is_none (cond b (Some l) (by q ls))
-    split true e = refl
-    split false e = e
-
 any_where : (q : Outcome → Bool) (ls : List Line) → list_any (λ l. q l.outcome) ls ≡ is_some (by q ls)
 any_where q [] = refl
 any_where q (l ∷ ls) = split (q l.outcome) (any_where q ls)
@@ -89,9 +81,8 @@ only_not named (l ∷ ls) h = split (named l.outcome) (is_limit l.outcome.kind) 
     split false c h on = refl
 
 is_sometimes : Claim → Bool
-is_sometimes Never = false
 is_sometimes Sometimes = true
-is_sometimes Only = false
+is_sometimes _ = false
 
 pub never_apart : Never ≢ Sometimes
 unfolding is_sometimes
@@ -107,10 +98,9 @@ judged_by Never named lines None false f w = (ap not (any_where named lines ∙ 
 judged_by Never named lines None true f w = (f, w)
 judged_by Never named lines (Some r) left f w = (never_apart, ap not (any_where named lines ∙ ap is_some f), f)
 judged_by Sometimes named lines None false f w = (refl, any_where named lines ∙ ap is_some f, w)
-judged_by Sometimes named lines None true f w = (f, w)
 judged_by Sometimes named lines (Some r) left f w = (refl, any_where named lines ∙ ap is_some f, f)
 judged_by Only named lines None false f w = (only_all named lines (ap is_none f) w, w)
-judged_by Only named lines None true f w = (f, w)
+judged_by _ named lines None true f w = (f, w)
 judged_by Only named lines (Some r) left f w = (only_apart, only_not named lines (ap is_some f), f)
 
 pub judged : (claim : Claim) (named : Outcome → Bool) (seen : List Seen) (found : Option SeenRow) (left : Bool) (j : Judgement) → option_map row_line found ≡ first_settling claim named (map line_of seen) → left ≡ has_open claim named (map line_of seen) → j ≡ judgement_of claim found left → (lines : List Line) → map line_of seen ≡ outcomes_of lines → IsJudgedBy claim named lines j

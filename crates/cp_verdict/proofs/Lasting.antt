@@ -8,7 +8,7 @@ use Rattle.cp_walk.specs.Text.{Spellings}
 use Rattle.cp_machine.specs.declared.shown.Shown.{Shown}
 use Rattle.cp_run.specs.declared.outcome.Outcome.{Outcome}
 use Rattle.cp_run.specs.declared.outcome.OutcomeKind.{OutcomeKind}
-use Rattle.cp_run.specs.declared.outcome.OutcomeKind.TheVariants.{Finished, AllWaiting, RunError, ChoiceLimit, StepLimit, OutputLimit}
+use Rattle.cp_run.specs.declared.outcome.OutcomeKind.TheVariants.{Finished, ChoiceLimit, StepLimit, OutputLimit}
 use Rattle.cp_run.specs.System.{System}
 use Rattle.cp_run.specs.Run.{joined_below, Node, Halted, Choosing, may, chosen, opened}
 use Rattle.cp_run.specs.Table.{Line, table}
@@ -36,12 +36,10 @@ use Rattle.cp_verdict.proofs.Finding.{never_apart, only_apart}
 -- ---- a whole table is complete
 
 over : (kind : OutcomeKind) (rest : Bool) → (is_limit kind || rest) ≡ false → IsOver kind × (rest ≡ false)
-over Finished rest h = (tt, h)
-over AllWaiting rest h = (tt, h)
-over (RunError name process line) rest h = (tt, h)
 over ChoiceLimit rest h = absurd (cc)
 over StepLimit rest h = absurd (cc)
 over OutputLimit rest h = absurd (cc)
+over _ rest h = (tt, h)
 
 all_over : (q : Outcome → Bool) (ls : List Line) → has_open Never q ls ≡ false → Each (λ l. IsOver l.outcome.kind) ls
 all_over q [] h = tt
@@ -190,9 +188,7 @@ module _ {S : Type 0} (sys : System S) (steps : ℕ) (q : Outcome → Bool) (sta
 
 no_kind : (p : KindPattern) (rest : Bool) → (is_of_kind p ChoiceLimit && rest) ≡ false
 no_kind pattern.Finished rest = refl
-no_kind pattern.AllWaiting rest = refl
-no_kind pattern.AnyError rest = refl
-no_kind (pattern.Error name) rest = refl
+no_kind _ rest = refl
 
 no_limit : (names : Spellings) (ps : List OutcomePattern) → list_any is_of_values ps ≡ false → Skips (is_one_of names ps)
 no_limit names [] none output = refl

@@ -1,7 +1,7 @@
 -- Marks say whether values are an expected output.
-use Rattle.std.proofs.Common.{◌≡◌, ◌∙◌, ℕ, zero, suc, Bool, true, false, ◌&&◌, ◌||◌, List, [], ◌∷◌, ◌++◌, length, refl, sym, ap, subst}
+use Rattle.std.proofs.Common.{◌≡◌, ◌∙◌, ℕ, Bool, true, false, ◌&&◌, ◌||◌, List, [], ◌∷◌, length, refl}
 use Rattle.cp_verdict.specs.Outputs.{is_printed, begins, from_some, is_over}
-use Rattle.cp_verdict.specs.Marks.{is_marked, some_rest, after_value, first_mark, other_marks, after_rest}
+use Rattle.cp_verdict.specs.Marks.{is_marked, some_rest, after_value, after_rest}
 
 -- none but the rest itself, from no value on
 pub some_first : (rest : List (List ℕ) → Bool) (printed : List (List ℕ)) → some_rest (true ∷ []) rest printed ≡ rest printed
@@ -14,11 +14,9 @@ some_first rest (x ∷ xs) = split (rest (x ∷ xs))
 
 -- at the end the number of all values has to be marked
 pub marked_last : (bs : List Bool) (printed : List (List ℕ)) → some_rest bs is_over printed ≡ is_marked bs (length printed)
-marked_last [] printed = refl
-marked_last (true ∷ bs) [] = refl
-marked_last (false ∷ bs) [] = refl
 marked_last (true ∷ bs) (x ∷ xs) = marked_last bs xs
 marked_last (false ∷ bs) (x ∷ xs) = marked_last bs xs
+marked_last _ _ = refl
 
 with_first : (c : Bool) (bs : List Bool) (rest : List (List ℕ) → Bool) (xs : List (List ℕ)) → some_rest (c ∷ bs) rest xs ≡ ((c && rest xs) || some_rest (false ∷ bs) rest xs)
 with_first true bs rest [] = split (rest [])
@@ -31,9 +29,7 @@ with_first c bs rest (x ∷ xs) = refl
 
 pub value_more : (text : List ℕ) (bs : List Bool) (rest : List (List ℕ) → Bool) (printed : List (List ℕ)) → some_rest (false ∷ after_value text bs printed) rest printed ≡ some_rest bs (begins text rest) printed
 value_more text [] rest [] = refl
-value_more text [] rest (x ∷ xs) = refl
 value_more text (true ∷ bs) rest [] = refl
-value_more text (false ∷ bs) rest [] = refl
 value_more text (b ∷ bs) rest (x ∷ xs) =
     with_first (b && is_printed text x) (after_value text bs xs) rest xs ∙ split b (is_printed text x) (rest xs) (value_more text bs rest xs)
   where
@@ -42,6 +38,7 @@ value_more text (b ∷ bs) rest (x ∷ xs) =
     split true true false h = h
     split true false r h = h
     split false c r h = h
+value_more text _ rest _ = refl
 
 pub rest_more : (before : Bool) (bs : List Bool) (rest : List (List ℕ) → Bool) (printed : List (List ℕ)) → some_rest (after_rest before bs printed) rest printed ≡ ((before && from_some rest printed) || some_rest bs (from_some rest) printed)
 rest_more before [] rest [] = split before (rest [])

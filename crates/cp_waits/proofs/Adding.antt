@@ -1,7 +1,6 @@
 -- What is added to a graph, choice by choice and state by state, makes it the graph of the states.
-use Rattle.std.proofs.Common.{◌≡◌, ◌⊎◌, inl, inr, ⊎_elim, ◌<◌, ◌≤◌, ◌+◌, ◌∙◌, ℕ, zero, suc, Bool, true, List, [], ◌∷◌, ◌++◌, Option, None, Some, Result, Ok, Err, IfOk, map, length, get_or, refl, sym, ap, subst, arith, length-append, append_assoc}
+use Rattle.std.proofs.Common.{◌≡◌, ◌⊎◌, inl, inr, ⊎_elim, ◌<◌, ◌≤◌, ◌+◌, ◌∙◌, ℕ, zero, suc, Bool, true, List, [], ◌∷◌, ◌++◌, Option, Some, map, length, get_or, refl, sym, ap, subst, arith, length-append, append_assoc}
 use Rattle.std.specs.Prelude.{Contains, slice_get}
-use Rattle.std.specs.List.{AllByRecursion as Each}
 use Rattle.std.proofs.Math.ListN.{get_or-append}
 use Rattle.std.proofs.Math.Seq.{get_or-append_seam}
 use Rattle.std.proofs.lemmas.Bool.{cases_lt}
@@ -22,19 +21,15 @@ use Rattle.cp_waits.specs.declared.graph.Graph.{Graph}
 use Rattle.cp_waits.specs.declared.graph.Standstill.{Standstill}
 use Rattle.cp_waits.specs.declared.passing.PassingSets.{PassingSets}
 use Rattle.cp_waits.specs.declared.watching.Came.{Came}
-use Rattle.cp_waits.proofs.Graphs.{may_below, may_be_those}
-
-each_append : {X : Type 0} (P : X → Type 0) (xs ys : List X) → Each P xs → Each P ys → Each P (xs ++ ys)
-each_append P [] ys e f = f
-each_append P (x ∷ xs) ys e f = (e.0, each_append P xs ys e.1 f)
+use Rattle.cp_waits.proofs.Graphs.{may_be_those}
+use Rattle.cp_endless.proofs.Basics.{each_append}
+use Rattle.cp_endless.proofs.waiting.Example.{none_in as no_element}
+use Rattle.cp_ends.proofs.Answering.{below as may_below}
 
 -- ---- standstills stay
 
 still_stays : (a b : Graph) (o : Origin) (q : ℕ) → ((s : Standstill) → Contains a.standstills.items s → Contains b.standstills.items s) → HasStill a o q → HasStill b o q
 still_stays a b o q keeps h = record { still = h.still; known = keeps h.still h.known; from = h.from; waits = h.waits }
-
-no_element : {X : Type 0} (x : X) → Contains [] x → ⊥
-no_element x h = let lt = h.1 in omega (arith, lt)
 
 -- ---- where edges end
 
@@ -223,8 +218,3 @@ module _ {S : Type 0} (sys : System S) (inside waiting : S → ℕ → Bool) (st
             round = new.round;
             fair = new.fair;
           }
-
--- what holds of what comes out well
-pub ok_then : {A E : Type 0} (r : Result A E) (P Q : A → Type 0) → IfOk r P → ((a : A) → P a → Q a) → IfOk r Q
-ok_then (Ok a) P Q h f = f a h
-ok_then (Err e) P Q h f = h

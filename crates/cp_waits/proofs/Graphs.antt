@@ -1,19 +1,21 @@
 -- The edges of a graph are the choices of its states.
-use Rattle.std.proofs.Common.{◌≡◌, ◌⊎◌, inl, inr, ⊎_elim, ◌<◌, ◌≤◌, ◌+◌, ◌-◌, ◌∙◌, ℕ, zero, suc, Bool, true, false, if◌then◌else◌, List, [], ◌∷◌, ◌++◌, Option, None, Some, map, length, get_or, refl, sym, ap, subst, arith, length-append}
-use Rattle.std.specs.Prelude.{Contains, slice_get, ◌&&◌, nat_lt}
+use Rattle.std.proofs.Common.{◌≡◌, ◌⊎◌, inl, inr, ⊎_elim, ◌<◌, ◌≤◌, ◌+◌, ◌-◌, ◌∙◌, ℕ, zero, suc, Bool, true, false, if◌then◌else◌, List, [], ◌∷◌, ◌++◌, None, Some, length, get_or, refl, sym, ap, subst, arith}
+use Rattle.std.specs.Prelude.{Contains, slice_get}
 use Rattle.std.specs.List.{AllByRecursion as Each}
-use Rattle.std.proofs.lemmas.Bool.{cases_lt, le-ltb}
-use Rattle.std.proofs.lemmas.List.{length-map}
-use Rattle.std.proofs.lemmas.List.Elements.{Contains-append_left, Contains-append_right, Contains-append_cases, Contains-push}
+use Rattle.std.proofs.lemmas.Bool.{cases_lt}
+use Rattle.std.proofs.lemmas.List.Elements.{Contains-append_left, Contains-append_right, Contains-append_cases}
 use Rattle.std.proofs.lemmas.Option.{slice_get_cases, slice_get_within}
 use Rattle.cp_run.specs.System.{System}
 use Rattle.cp_run.specs.Run.{may, those_below}
 use Rattle.cp_ends.proofs.Searching.Lists.{contains_at, contains_first, contains_cases, contains_later, place_of}
 use Rattle.cp_waits.proofs.Edges.{edge_within}
-use Rattle.cp_waits.specs.Graphs.{AreEdges, AreChoices, IsChoice, IsGraphOf}
-use Rattle.cp_waits.specs.Walks.{IsEdge, first_edge, end_edge}
+use Rattle.cp_waits.specs.Graphs.{IsChoice, IsGraphOf}
+use Rattle.cp_waits.specs.Walks.{IsEdge}
 use Rattle.cp_waits.specs.declared.graph.Edge.{Edge}
 use Rattle.cp_waits.specs.declared.graph.Graph.{Graph}
+use Rattle.cp_resolved.proofs.names.Entries.{still_there as get_front}
+use Rattle.cp_ends.proofs.Answering.{below as may_below}
+use Rattle.cp_ends.proofs.named.Kinds.{contains_map as map_contains, contains_unmap as contains_map}
 
 -- ---- numbers
 
@@ -48,19 +50,6 @@ may_be_those f (suc n) p lt h = by (λ l. may_be_those f n p l h) (cases_lt p n)
         let same : p ≡ n = omega (arith, lt, le) in
         Contains-append_right (those_below n f) (if f n then n ∷ [] else []) p (subst (λ k. Contains (if f n then k ∷ [] else []) p) same (last (f n) (ap f (sym same) ∙ h)))
 
--- who may be chosen is a process
-pub may_below : {S : Type 0} (sys : System S) (s : S) (p : ℕ) → may sys s p ≡ true → p < sys.processes
-unfolding may
-may_below sys s p m = by (cases_lt p sys.processes)
-  where
-    none : (b c : Bool) → b ≡ false → (b && c) ≡ true → ⊥
-    none true c e h = cc
-    none false c e h = cc
-
-    by : (p < sys.processes) ⊎ (sys.processes ≤ p) → p < sys.processes
-    by (inl lt) = lt
-    by (inr le) = absurd (none (nat_lt p sys.processes) (if sys.is_pending s then sys.in_line s p else sys.is_ready s p) (le-ltb p sys.processes le) m)
-
 -- ---- lists in the middle
 
 middle_get : {X : Type 0} (before xs after : List X) (k : ℕ) (x : X) → length before ≤ k → k < length before + length xs → slice_get (before ++ xs ++ after) k ≡ Some x → Contains xs x
@@ -69,11 +58,6 @@ middle_get [] (y ∷ xs) after zero x le lt at = contains_at (y ∷ xs) zero x a
 middle_get [] (y ∷ xs) after (suc k) x le lt at = contains_later y x xs (middle_get [] xs after k x (omega arith) (omega (arith, lt)) at)
 middle_get (b ∷ before) xs after zero x le lt at = absurd (omega (arith, le))
 middle_get (b ∷ before) xs after (suc k) x le lt at = middle_get before xs after k x (omega (arith, le)) (omega (arith, lt)) at
-
-get_front : {X : Type 0} (xs after : List X) (k : ℕ) (x : X) → slice_get xs k ≡ Some x → slice_get (xs ++ after) k ≡ Some x
-get_front [] after k x at = absurd (cc)
-get_front (y ∷ xs) after zero x at = at
-get_front (y ∷ xs) after (suc k) x at = get_front xs after k x at
 
 get_middle : {X : Type 0} (before xs after : List X) (k : ℕ) (x : X) → slice_get xs k ≡ Some x → slice_get (before ++ xs ++ after) (length before + k) ≡ Some x
 get_middle {X} [] xs after k x at = subst (λ (n : ℕ). slice_get (xs ++ after) n ≡ Some x) (omega arith) (get_front xs after k x at)
@@ -85,19 +69,6 @@ get_middle {X} (b ∷ before) xs after k x at = subst (λ (n : ℕ). slice_get (
 pub each_of : {X : Type 0} (P : X → Type 0) (xs : List X) (x : X) → Each P xs → Contains xs x → P x
 each_of P [] x h c = let lt = c.1 in absurd (omega (arith, lt))
 each_of P (y ∷ xs) x h c = ⊎_elim (λ (e : y ≡ x). subst P e h.0) (λ (on : Contains xs x). each_of P xs x h.1 on) (contains_cases y x xs c)
-
-map_contains : {X Y : Type 0} (f : X → Y) (xs : List X) (x : X) → Contains xs x → Contains (map f xs) (f x)
-map_contains f [] x c = let lt = c.1 in absurd (omega (arith, lt))
-map_contains f (y ∷ xs) x c =
-    ⊎_elim (λ (e : y ≡ x). subst (λ z. Contains (map f (y ∷ xs)) (f z)) e (contains_first (f y) (map f xs))) (λ (on : Contains xs x). contains_later (f y) (f x) (map f xs) (map_contains f xs x on)) (contains_cases y x xs c)
-
-contains_map : {X Y : Type 0} (f : X → Y) (xs : List X) (y : Y) → Contains (map f xs) y → (x : X) × Contains xs x × (f x ≡ y)
-contains_map f [] y c = let lt = c.1 in absurd (omega (arith, lt))
-contains_map {X} {Y} f (z ∷ xs) y c = by (contains_map f xs y) (contains_cases (f z) y (map f xs) c)
-  where
-    by : (Contains (map f xs) y → (x : X) × Contains xs x × (f x ≡ y)) → (f z ≡ y) ⊎ Contains (map f xs) y → (x : X) × Contains (z ∷ xs) x × (f x ≡ y)
-    by on (inl e) = (z, contains_first z xs, e)
-    by on (inr c) = let x = on c in (x.0, contains_later z x.0 xs x.1, x.2)
 
 -- ---- edges and choices
 

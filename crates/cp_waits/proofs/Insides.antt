@@ -1,5 +1,5 @@
 -- Whether a process is in its call, by the entries of its stack.
-use Rattle.std.proofs.Common.{◌≡◌, ◌∙◌, ◌⊎◌, ⊎_elim, ◌<◌, ◌≤◌, ◌+◌, ℕ, Bool, true, false, List, [], ◌∷◌, ◌++◌, length, map, reverse, None, Some, refl, sym, ap, arith}
+use Rattle.std.proofs.Common.{◌≡◌, ◌∙◌, ◌⊎◌, ⊎_elim, ◌<◌, ◌≤◌, ◌+◌, ℕ, Bool, true, false, List, [], ◌∷◌, length, map, reverse, None, refl, sym, ap, arith}
 use Rattle.std.specs.Prelude.{◌&&◌, ◌||◌, nat_eq, nat_lt, slice_index_or}
 use Rattle.std.specs.List.{list_any}
 use Rattle.std.proofs.lemmas.Bool.{cases_order, eq-eqb, le-ltb, lt-ltb, ne_eqb}
@@ -17,17 +17,17 @@ use Rattle.cp_waits.specs.Sets.{has}
 use Rattle.cp_waits.specs.declared.set.Set.{Set}
 use Rattle.cp_machine.proofs.ThreadLemmas.{thread_read}
 use Rattle.cp_endless.specs.Silent.{has_monitor_return}
+use Rattle.cp_refine.proofs.gates.Gates.{and_false as both_none}
 
 abbrev pub leaves : Entry → Bool
 leaves e = has_monitor_return (e ∷ [])
 
 inside_any : (es : List Entry) → has_monitor_return es ≡ list_any leaves es
-inside_any [] = refl
 inside_any (Rest at ∷ es) = inside_any es
 inside_any (Successor at value last ∷ es) = inside_any es
 inside_any (Return caller result None ∷ es) = inside_any es
-inside_any (Return caller result (Some monitor) ∷ es) = refl
 inside_any (InitEnd caller component ∷ es) = inside_any es
+inside_any _ = refl
 
 backwards : (xs : List Entry) → list_any leaves (reverse xs) ≡ list_any leaves xs
 backwards [] = refl
@@ -62,10 +62,6 @@ those_more old new g i j b next here before more q lt = more q lt ∙ ap (λ x. 
 pub with_all : (a : Bool) → (a && true) ≡ a
 with_all true = refl
 with_all false = refl
-
-pub both_none : (a : Bool) → (a && false) ≡ false
-both_none true = refl
-both_none false = refl
 
 pub with_none : (a b : Bool) → (a || (b && false)) ≡ a
 with_none true b = refl

@@ -1,19 +1,18 @@
 -- Where legs come to, by the steps that are made of their stretches.
-use Rattle.std.proofs.Common.{◌≡◌, ◌≢◌, ◌⊎◌, inl, inr, ⊎_elim, ◌∙◌, ◌+◌, ◌<◌, ◌≤◌, ℕ, zero, suc, Bool, true, false, if◌then◌else◌, List, [], ◌∷◌, ◌++◌, Option, None, Some, refl, sym, ap, subst, arith}
-use Rattle.std.specs.Prelude.{Result, Ok, Err, IfOk}
+use Rattle.std.proofs.Common.{◌≡◌, ◌⊎◌, ⊎_elim, ◌∙◌, ◌+◌, ◌<◌, ◌≤◌, ℕ, suc, Bool, true, false, if◌then◌else◌, List, [], ◌∷◌, ◌++◌, None, Some, refl, sym, ap, subst, arith}
 use Rattle.std.proofs.lemmas.Bool.{cases_lt}
 use Rattle.cp_run.specs.declared.outcome.Turn.{Turn}
-use Rattle.cp_run.specs.declared.outcome.Turn.TheVariants.{Over, Due, Goes}
+use Rattle.cp_run.specs.declared.outcome.Turn.TheVariants.{Over, Due}
 use Rattle.cp_run.specs.declared.outcome.OutcomeKind.{OutcomeKind}
 use Rattle.cp_run.specs.System.{System}
-use Rattle.cp_run.specs.Run.{Node, Halted, Choosing, node_at, turn_after, settled_turn, turn_at, stretch, opened, chosen}
-use Rattle.cp_endless.specs.Moments.{Moment, moments_by, stretch_moments, moments}
-use Rattle.cp_endless.specs.Repeats.{Repeats, repeated_part}
-use Rattle.cp_endless.specs.Rounds.{spot_after, spot_by, chosen_spot}
-use Rattle.cp_ends.proofs.Stretches.{Stops, moments_later, moments_next, moments_there, node_later, spot_later, spot_none}
+use Rattle.cp_run.specs.Run.{Halted, Choosing, node_at, turn_after, settled_turn, turn_at, stretch, opened, chosen}
+use Rattle.cp_endless.specs.Moments.{moments_by, stretch_moments, moments}
+use Rattle.cp_endless.specs.Repeats.{Repeats}
+use Rattle.cp_endless.specs.Rounds.{spot_after, spot_by}
+use Rattle.cp_ends.proofs.Stretches.{Stops, moments_later, moments_next, moments_there, node_later, spot_later}
 use Rattle.cp_ends.proofs.words.Returns.{cut_there}
 use Rattle.cp_ends.proofs.words.Edges.{some_same}
-use Rattle.cp_waits.specs.Legs.{Leg, stretch_leg, first_leg, choice_leg, IsHalted, Ends, GoesRound, ComesTo}
+use Rattle.cp_waits.specs.Legs.{Leg, stretch_leg, first_leg, choice_leg, IsHalted, ComesTo}
 use Rattle.cp_waits.specs.Passings.{Seen}
 use Rattle.cp_waits.specs.declared.passing.PassingSets.{PassingSets}
 use Rattle.cp_waits.specs.declared.watching.Came.{Came}
@@ -21,10 +20,6 @@ use Rattle.cp_waits.specs.declared.watching.Came.TheVariants as came
 
 pub not_true : true ≡ false → ⊥
 not_true e = cc
-
-pub ok_to : {A E : Type 0} (r : Result A E) (P Q : A → Type 0) → IfOk r P → ((a : A) → P a → Q a) → IfOk r Q
-ok_to (Ok a) P Q h f = f a h
-ok_to (Err e) P Q h f = h
 
 none_some : {A : Type 0} (x : A) → None ≡ Some x → ⊥
 none_some x e = cc

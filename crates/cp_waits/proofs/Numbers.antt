@@ -1,6 +1,6 @@
 -- The numbers of states.
-use Rattle.std.proofs.Common.{◌≡◌, ◌⊎◌, inl, inr, ⊎_elim, ◌<◌, ◌≤◌, ◌∙◌, ℕ, zero, suc, Bool, true, false, if◌then◌else◌, List, [], ◌∷◌, ◌++◌, Option, None, Some, is_some, map, length, get_or, refl, sym, ap, subst, arith}
-use Rattle.std.specs.Prelude.{Contains, slice_get, ◌^◌}
+use Rattle.std.proofs.Common.{◌≡◌, ◌⊎◌, inl, inr, ◌<◌, ◌≤◌, ◌∙◌, ℕ, Bool, true, false, if◌then◌else◌, List, [], ◌∷◌, ◌++◌, Option, None, Some, length, refl, sym, ap, subst, arith}
+use Rattle.std.specs.Prelude.{Contains, ◌^◌}
 use Rattle.std.proofs.lemmas.List.{length-map}
 use Rattle.std.proofs.lemmas.List.Elements.{All-contains}
 use Rattle.cp_slots.specs.Tables.{Tables}
@@ -27,7 +27,6 @@ use Rattle.cp_ends.proofs.Searching.Lists.{contains_cases}
 use Rattle.cp_ends.proofs.named.Keys.{key_self}
 use Rattle.cp_waits.specs.Building.{AreAll}
 use Rattle.cp_waits.specs.Graphs.{IsNumber}
-use Rattle.cp_waits.specs.Legs.{IsHalted}
 
 -- ---- a state is found
 
@@ -56,11 +55,6 @@ number_some states m j x = (j, x.0.1, refl, x.1 ∙ ap (λ (n : Machine). Some (
 
 pub owned_with_word : (r : Tables) (kept : States) (states : List (Machine × List ℕ)) → AreStates r kept states → (m : Machine) → HasWord states m → IsMachineOf r m
 owned_with_word r kept states held m h = All-contains (λ (x : Machine × List ℕ). IsMachineOf r x.0) states (m, h.0) held.own h.1
-
--- where the run is over there is none
-pub halted_none : {S : Type 0} (states : List (S × List ℕ)) (node : Node S) → IsHalted node → IsNumber states node None
-halted_none states (Halted kind s) h = refl
-halted_none states (Choosing s) h = absurd h
 
 pub choosing_number : {S : Type 0} (states : List (S × List ℕ)) (node : Node S) (s : S) (to : Option ℕ) → node ≡ Choosing s → IsNumber states (Choosing s) to → IsNumber states node to
 choosing_number states node s to e h = subst (λ n. IsNumber states n to) (sym e) h

@@ -22,7 +22,7 @@ use Rattle.cp_waits.specs.MayWait.{AreLasso, AreLingeringLasso}
 use Rattle.cp_waits.specs.Passings.{Seen}
 use Rattle.cp_waits.specs.Sets.{has}
 use Rattle.cp_waits.specs.Walks.{IsEdge, IsWay, IsRound}
-use Rattle.cp_waits.proofs.Joined.{any_left, any_right, each_joined}
+use Rattle.cp_endless.proofs.Basics.{any_left, any_right, each_append as each_joined}
 
 -- an edge that leads to the state of this number
 pub record Goes {S : Type 0} (sys : System S) (inside waiting : S → ℕ → Bool) (steps : ℕ) (states : List (S × List ℕ)) (s : S) (e : Edge) (j : ℕ) : Type 0 where

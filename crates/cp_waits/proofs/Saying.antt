@@ -25,11 +25,9 @@ use Rattle.cp_waits.specs.MayWait.{AreLasso, AreLingeringLasso, AreStandstill, A
 use Rattle.cp_waits.specs.Sets.{has}
 use Rattle.cp_waits.specs.Traps.{HasTraps}
 use Rattle.cp_waits.specs.Walks.{IsRound}
+use Rattle.cp_endless.proofs.waiting.Example.{none_in as none_there}
 
 -- ---- lists of lines
-
-none_there : {A : Type 0} (x : A) → Contains [] x → ⊥
-none_there x c = let less = c.1 in omega (arith, less)
 
 module _ (g : Graph) (st : States) where
   -- each line is of a process below n

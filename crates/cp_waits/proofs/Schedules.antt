@@ -12,7 +12,7 @@ use Rattle.cp_ends.proofs.words.Edges.{some_same}
 use Rattle.cp_endless.proofs.possible.Words.{after_first, after_choosing}
 use Rattle.cp_waits.specs.MayWait.{AreLasso, AreLingeringLasso}
 use Rattle.cp_waits.specs.Named.{LingersBy, WaitsBy, followed_by}
-use Rattle.cp_waits.proofs.Joined.{any_split, each_left, each_right}
+use Rattle.cp_endless.proofs.Basics.{any_split, each_left, each_right}
 
 state_in : {S : Type 0} → S → Node S → S
 state_in s (Halted kind t) = s

@@ -1,5 +1,5 @@
 -- What a passing says of what was seen, and of what is seen next.
-use Rattle.std.proofs.Common.{◌≡◌, ◌∙◌, ◌⊎◌, inl, inr, ⊎_elim, ◌<◌, ℕ, Bool, true, false, List, [], ◌∷◌, ◌++◌, refl, sym, ap, subst, arith}
+use Rattle.std.proofs.Common.{◌≡◌, ◌∙◌, ◌⊎◌, inl, inr, ⊎_elim, ◌<◌, ℕ, Bool, true, false, List, [], ◌∷◌, ◌++◌, refl, sym, subst}
 use Rattle.std.specs.Prelude.{⊤, ◌↔◌, ◌&&◌, ◌||◌, not, nat_eq}
 use Rattle.std.specs.List.{AllByRecursion as Each}
 use Rattle.std.proofs.lemmas.Bool.{eqb-true, eq-eqb}
@@ -9,15 +9,12 @@ use Rattle.cp_waits.specs.Passings.{AreThose, Seen}
 use Rattle.cp_waits.specs.Sets.{has}
 use Rattle.cp_waits.specs.declared.passing.PassingSets.{PassingSets}
 use Rattle.cp_waits.specs.declared.set.Set.{Set}
+use Rattle.cp_endless.proofs.Basics.{any_split as any_apart, each_append as each_both}
 
 differ : false ≡ true → ⊥
 differ e = cc
 
 -- ---- lists that end with others
-
-each_both : {A : Type 0} (P : A → Type 0) (xs ys : List A) → Each P xs → Each P ys → Each P (xs ++ ys)
-each_both P [] ys e f = f
-each_both P (x ∷ xs) ys e f = (e.0, each_both P xs ys e.1 f)
 
 each_apart : {A : Type 0} (P : A → Type 0) (xs ys : List A) → Each P (xs ++ ys) → Each P xs × Each P ys
 each_apart P [] ys e = (tt, e)
@@ -29,11 +26,6 @@ any_both P [] ys (inr a) = a
 any_both P (x ∷ xs) ys (inl (inl p)) = inl p
 any_both P (x ∷ xs) ys (inl (inr a)) = inr (any_both P xs ys (inl a))
 any_both P (x ∷ xs) ys (inr a) = inr (any_both P xs ys (inr a))
-
-any_apart : {A : Type 0} (P : A → Type 0) (xs ys : List A) → AnyOf P (xs ++ ys) → AnyOf P xs ⊎ AnyOf P ys
-any_apart P [] ys a = inr a
-any_apart P (x ∷ xs) ys (inl p) = inl (inl p)
-any_apart P (x ∷ xs) ys (inr a) = ⊎_elim (λ (l : AnyOf P xs). inl (inr l)) (λ (r : AnyOf P ys). inr r) (any_apart P xs ys a)
 
 -- ---- tests
 

@@ -7,28 +7,19 @@ use Rattle.std.proofs.lemmas.Nat.{pow_pos, and_le_r}
 use Rattle.std.proofs.lemmas.Nat.Bits.{bit_at_or, bit_at_and, bit_at_xor, bit_at-lt, bit_at-zero, bit_at-pow_same, bit_at-pow_other, bit_at_above, and_pow, same_from_bits}
 
 one_of_both : (x y : ℕ) → x < 2 → y < 2 → nat_eq (max x y) 1 ≡ (nat_eq x 1 || nat_eq y 1)
-one_of_both zero zero h k = refl
-one_of_both zero (suc zero) h k = refl
-one_of_both (suc zero) zero h k = refl
-one_of_both (suc zero) (suc zero) h k = refl
 one_of_both (suc (suc x)) y h k = absurd (omega arith)
 one_of_both x (suc (suc y)) h k = absurd (omega arith)
+one_of_both _ _ h k = refl
 
 both_one : (x y : ℕ) → x < 2 → y < 2 → nat_eq (min x y) 1 ≡ (nat_eq x 1 && nat_eq y 1)
-both_one zero zero h k = refl
-both_one zero (suc zero) h k = refl
-both_one (suc zero) zero h k = refl
-both_one (suc zero) (suc zero) h k = refl
 both_one (suc (suc x)) y h k = absurd (omega arith)
 both_one x (suc (suc y)) h k = absurd (omega arith)
+both_one _ _ h k = refl
 
 one_alone : (x y : ℕ) → x < 2 → y < 2 → nat_eq ((x + min x y) % 2) 1 ≡ (nat_eq x 1 && not (nat_eq y 1))
-one_alone zero zero h k = refl
-one_alone zero (suc zero) h k = refl
-one_alone (suc zero) zero h k = refl
-one_alone (suc zero) (suc zero) h k = refl
 one_alone (suc (suc x)) y h k = absurd (omega arith)
 one_alone x (suc (suc y)) h k = absurd (omega arith)
+one_alone _ _ h k = refl
 
 -- a process is in the union, in the intersection, in the difference
 pub or_has : (a b q : ℕ) → nat_eq (bit_at (bit_or a b) q) 1 ≡ (nat_eq (bit_at a q) 1 || nat_eq (bit_at b q) 1)
@@ -63,8 +54,7 @@ alone_below p q false e h = apart p q (nat_eq q p) refl (ltb-false q 16 e) h
 
 none_from : (p q : ℕ) (b c : Bool) → nat_lt q 16 ≡ b → nat_eq q p ≡ c → 16 ≤ p → false ≡ (b && c)
 none_from p q true true e f h = let same : q ≡ p = eqb-true q p f in let less : q < 16 = ltb-true q 16 e in absurd (omega arith)
-none_from p q true false e f h = refl
-none_from p q false c e f h = refl
+none_from p q _ _ e f h = refl
 
 alone_by : (p q : ℕ) (b : Bool) → nat_lt p 16 ≡ b → nat_eq (bit_at (if b then 2 ^ p else 0) q) 1 ≡ (nat_lt q 16 && nat_eq q p)
 alone_by p q true e = pow_has p q (nat_eq q p) refl ∙ alone_below p q (nat_lt q 16) refl (ltb-true p 16 e)

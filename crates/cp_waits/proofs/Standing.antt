@@ -1,23 +1,23 @@
 -- Stretches that let a process wait for ever, and what was seen of them.
-use Rattle.std.proofs.Common.{◌≡◌, ◌⊎◌, inl, inr, ◌<◌, ◌≤◌, ◌∙◌, ℕ, zero, suc, Bool, true, false, List, [], ◌∷◌, ◌++◌, Option, None, Some, if◌then◌else◌, refl, sym, ap, subst, arith}
-use Rattle.std.specs.Prelude.{Contains, IsTrue, ◌↔◌, ◌&&◌, not, nat_lt, slice_get}
+use Rattle.std.proofs.Common.{◌≡◌, ◌⊎◌, inl, inr, ◌<◌, ◌≤◌, ◌∙◌, ℕ, suc, Bool, true, false, List, [], ◌∷◌, ◌++◌, Some, if◌then◌else◌, refl, sym, ap, subst, arith}
+use Rattle.std.specs.Prelude.{Contains, ◌&&◌, not, nat_lt}
 use Rattle.std.proofs.lemmas.Bool.{cases_lt, le-ltb, lt-ltb}
 use Rattle.std.proofs.lemmas.List.Elements.{Contains-append_left, Contains-push, Contains-push_cases}
 use Rattle.cp_run.specs.declared.outcome.OutcomeKind.TheVariants.{StepLimit}
 use Rattle.cp_run.specs.declared.outcome.Turn.{Turn}
-use Rattle.cp_run.specs.declared.outcome.Turn.TheVariants.{Over, Due, Goes}
+use Rattle.cp_run.specs.declared.outcome.Turn.TheVariants.{Goes}
 use Rattle.cp_run.specs.System.{System}
 use Rattle.cp_run.specs.Run.{Node, Halted, Choosing, node_at, settled_turn, turn_at, stretch, opened, chosen}
 use Rattle.cp_endless.specs.Repeats.{Repeats}
-use Rattle.cp_endless.specs.Rounds.{IsRound, spot_by, opening_spot, chosen_spot}
+use Rattle.cp_endless.specs.Rounds.{IsRound, spot_by}
 use Rattle.cp_endless.specs.Standstill.{StandsStill, IsStandstill}
 use Rattle.cp_endless.proofs.steps.Rounds.{standstills, standstills_found}
 use Rattle.cp_ends.specs.declared.origin.Origin.{Origin}
 use Rattle.cp_ends.proofs.words.Edges.{some_same}
 use Rattle.cp_ends.proofs.words.Returns.{cut_there}
 use Rattle.cp_waits.specs.Building.{IsOfStretch, IsStillOf, AddsStill}
-use Rattle.cp_waits.specs.Graphs.{HasStill, LetsWait}
-use Rattle.cp_waits.specs.Legs.{Leg, first_leg, choice_leg, IsHalted, Ends, GoesRound, ComesTo}
+use Rattle.cp_waits.specs.Graphs.{LetsWait}
+use Rattle.cp_waits.specs.Legs.{Leg, first_leg, choice_leg, GoesRound, ComesTo}
 use Rattle.cp_waits.specs.Sets.{has}
 use Rattle.cp_waits.specs.declared.graph.Graph.{Graph}
 use Rattle.cp_waits.specs.declared.graph.Standstill.{Standstill}
@@ -25,14 +25,14 @@ use Rattle.cp_waits.specs.declared.passing.PassingSets.{PassingSets}
 use Rattle.cp_waits.specs.declared.set.Set.{Set}
 use Rattle.cp_waits.specs.declared.watching.Came.{Came}
 use Rattle.cp_waits.specs.declared.watching.Came.TheVariants.{Choice, End, Repeats as GoesOn}
+use Rattle.cp_refine.proofs.gates.Gates.{and_false as and_none}
 
 -- ---- where legs lead
 
 module _ {S : Type 0} (sys : System S) (steps : ℕ) where
   by_turn : (t : S) (turn : Turn) (s : S) (p : ℕ) → spot_by t (λ q. Some (t, q)) turn ≡ Some (s, p) → node_at t (stretch sys steps t) turn ≡ stretch sys steps s p
-  by_turn t (Over kind) s p e = absurd (cc)
-  by_turn t Due s p e = absurd (cc)
   by_turn t (Goes q) s p e = ap (λ (x : S × ℕ). stretch sys steps x.0 x.1) (some_same (t, q) (s, p) e)
+  by_turn t x s p e = absurd (cc)
 
   pub first_of_stretch : IsOfStretch sys steps (first_leg sys steps)
   unfolding opened
@@ -119,14 +119,9 @@ module _ {S : Type 0} (sys : System S) (inside waiting : S → ℕ → Bool) (st
 
 -- ---- whether all are served, by sets
 
-and_none : (a : Bool) → (a && false) ≡ false
-and_none true = refl
-and_none false = refl
-
 not_false : (a b : Bool) → a ≡ true → (a && not b) ≡ false → b ≡ true
 not_false true true e h = refl
-not_false true false e h = absurd (cc)
-not_false false b e h = absurd (cc)
+not_false x y e h = absurd (cc)
 
 pub all_served : (all left served : Set) (n : ℕ) → n ≤ 16 → ((q : ℕ) → has all q ≡ (nat_lt q 16 && nat_lt q n)) → ((q : ℕ) → has left q ≡ (has all q && not (has served q))) → ((q : ℕ) → has left q ≡ false) → (q : ℕ) → q < n → has served q ≡ true
 all_served all left served n few is but none q lt =

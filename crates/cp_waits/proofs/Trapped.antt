@@ -5,7 +5,7 @@ use Rattle.std.specs.List.{AllByRecursion as Each}
 use Rattle.std.proofs.lemmas.Bool.{cases_order}
 use Rattle.std.proofs.lemmas.Option.{slice_get_within}
 use Rattle.cp_run.specs.declared.outcome.Turn.{Turn}
-use Rattle.cp_run.specs.declared.outcome.Turn.TheVariants.{Over, Due, Goes}
+use Rattle.cp_run.specs.declared.outcome.Turn.TheVariants.{Goes}
 use Rattle.cp_run.specs.System.{System}
 use Rattle.cp_run.specs.Run.{Node, Halted, Choosing, may, chosen, settled_turn, turn_after}
 use Rattle.cp_endless.specs.Fair.{IsEndless, IsFair, IsServed}
@@ -28,7 +28,6 @@ use Rattle.cp_waits.specs.Legs.{ComesTo, choice_leg}
 use Rattle.cp_waits.specs.MayWait.{WaitsForGood}
 use Rattle.cp_waits.specs.Passings.{Seen}
 use Rattle.cp_waits.specs.Ranks.{IsPassedOver, IsRanked}
-use Rattle.cp_waits.specs.Sets.{has}
 use Rattle.cp_waits.specs.Traps.{HasTraps, IsStateLed, LeadsToTrap}
 use Rattle.cp_waits.specs.Walks.{IsEdge}
 use Rattle.cp_waits.proofs.Falling.{AreApart, along, at_of, index_here, index_in, keeps_on, who, who_below, who_is}
@@ -38,9 +37,8 @@ use Rattle.cp_waits.proofs.Runs.{edge_at}
 
 module _ {S : Type 0} (sys : System S) (P : Moment S → Type 0) where
   fewer_by : (n m : ℕ) (s : S) (u : Turn) → ((q : ℕ) → Each P (stretch_moments sys m s q) → Each P (stretch_moments sys n s q)) → Each P (moments_by (stretch_moments sys m s) u) → Each P (moments_by (stretch_moments sys n s) u)
-  fewer_by n m s (Over kind) on e = e
-  fewer_by n m s Due on e = e
   fewer_by n m s (Goes q) on e = on q e
+  fewer_by n m s _ on e = e
 
   fewer : (n m : ℕ) → n ≤ m → (s : S) (p : ℕ) → Each P (stretch_moments sys m s p) → Each P (stretch_moments sys n s p)
   unfolding stretch_moments

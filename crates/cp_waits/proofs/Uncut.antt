@@ -17,7 +17,7 @@ use Rattle.cp_ends.specs.Ends.{EndsSo}
 use Rattle.cp_ends.specs.Firsts.{AreFirsts}
 use Rattle.cp_ends.specs.Named.{HasNoCut, kind_of}
 use Rattle.cp_ends.specs.declared.end.End as code
-use Rattle.cp_ends.specs.declared.end.End.TheVariants.{Over, Alone, Spins}
+use Rattle.cp_ends.specs.declared.end.End.TheVariants.{Over}
 use Rattle.cp_ends.proofs.named.Kinds.{over_so}
 use Rattle.cp_ends.proofs.words.Edges.{choosing_same, last_same, not_empty, some_same}
 use Rattle.cp_waits.specs.MayWait.{StandsStillAfter}
@@ -76,5 +76,4 @@ module _ {S : Type 0} (sys : System S) (forget : S → S) (eq : S → S → Bool
 
       by : (end : code.End) → kind_of end ≡ StepLimit → EndsSo quiet steps end word → StandsStillAfter quiet waiting q steps word
       by (Over kind) is so = let h = all_ends.all (Over StepLimit) word (subst (λ (k : OutcomeKind). EndsSo quiet steps (Over k) word) is so) in absurd (no_cut h.0 h.1)
-      by (Alone p) is so = at_repeats quiet steps waiting q word x so.begin so.first so.sets_out so.repeats
-      by (Spins p) is so = at_repeats quiet steps waiting q word x so.begin so.first so.sets_out so.repeats
+      by _ is so = at_repeats quiet steps waiting q word x so.begin so.first so.sets_out so.repeats

@@ -1,5 +1,5 @@
 -- Ways that go on by an edge.
-use Rattle.std.proofs.Common.{◌≡◌, ◌<◌, ◌⊎◌, inl, inr, ℕ, List, [], ◌∷◌, ◌++◌, map, length, Some, Bool, true, ap, refl, ◌∙◌, subst, sym, ◌||◌, false, arith}
+use Rattle.std.proofs.Common.{◌≡◌, inl, inr, ℕ, List, [], ◌∷◌, ◌++◌, map, Some, true, ap, refl, ◌∙◌, subst, sym, ◌||◌}
 use Rattle.std.specs.List.{AllByRecursion as Each}
 use Rattle.cp_endless.specs.Moments.{AnyOf}
 use Rattle.cp_waits.specs.declared.graph.Edge.{Edge}
@@ -7,6 +7,7 @@ use Rattle.cp_waits.specs.declared.graph.Graph.{Graph}
 use Rattle.cp_waits.specs.declared.set.Set.{Set}
 use Rattle.cp_waits.specs.Sets.{has}
 use Rattle.cp_waits.specs.Walks.{IsEdge, IsWay}
+use Rattle.cp_meaning.proofs.Good.{or_cases as either}
 
 pub way_on : (g : Graph) (i j k : ℕ) (way : List Edge) (e : Edge) → IsWay g i way j → IsEdge g j e → e.to ≡ Some k → IsWay g i (way ++ e ∷ []) k
 way_on g i j k [] e w edge to = (k, subst (λ n. IsEdge g n e) (sym w) edge, to, refl)
@@ -29,10 +30,6 @@ pub map_on : {A B : Type 0} (f : A → B) (xs : List A) (x : A) → map f (xs ++
 map_on f [] x = refl
 map_on f (y ∷ xs) x = ap (λ l. f y ∷ l) (map_on f xs x)
 
-pub either : (a b : Bool) → (a || b) ≡ true → (a ≡ true) ⊎ (b ≡ true)
-either true b h = inl refl
-either false b h = inr h
-
 -- what holds of a set on some edge of the way, or of a set on the next edge, does so on some edge of the longer way
 pub any_on : (f : Edge → Set) (way : List Edge) (e : Edge) (before after : Set) (q : ℕ) → has after q ≡ (has before q || has (f e) q) →
     (has before q ≡ true → AnyOf (λ x. has (f x) q ≡ true) way) → has after q ≡ true → AnyOf (λ x. has (f x) q ≡ true) (way ++ e ∷ [])
@@ -41,8 +38,3 @@ any_on f way e before after q both known h =
       | inl a ↦ any_before (λ x. has (f x) q ≡ true) way e (known a)
       | inr b ↦ any_last (λ x. has (f x) q ≡ true) way e b
     ]
-
-pub some_numbers : (way : List Edge) (word : List ℕ) → map (λ e. e.number) way ≡ word → 0 < length word → 0 < length way
-some_numbers [] [] e h = h
-some_numbers [] (n ∷ word) e h = absurd (cc)
-some_numbers (x ∷ way) word e h = omega arith

@@ -50,7 +50,7 @@ fn row_with_prefix(
         word: word_with_prefix(word, row.word.as_slice()),
         outcome: Outcome {
             kind: row.outcome.kind,
-            output: Output::joined(alloc, output, theirs)?,
+            output: Output::join(alloc, output, theirs)?,
         },
     })
 }

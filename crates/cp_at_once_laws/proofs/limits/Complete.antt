@@ -1,14 +1,13 @@
 -- Nothing is left out: each end to which a word leads is found, and what a process meets in a stretch it meets in one that is gone through.
 use Rattle.std.proofs.Common.{◌≡◌, ◌≢◌, ◌⊎◌, inl, inr, ◌∙◌, ◌+◌, ℕ, Bool, true, false, if◌then◌else◌, List, [], Some, ap, sym, refl, subst}
 use Rattle.cp_machine.specs.declared.event.Event.{Event}
-use Rattle.cp_machine.specs.declared.event.Event.TheVariants.{Local, Kernel, Ended, Fault, OutputFull}
+use Rattle.cp_machine.specs.declared.event.Event.TheVariants.{Local, Fault, OutputFull}
 use Rattle.cp_run.specs.declared.outcome.OutcomeKind.{OutcomeKind}
 use Rattle.cp_run.specs.declared.outcome.OutcomeKind.TheVariants.{Finished, AllWaiting, RunError, ChoiceLimit, StepLimit, OutputLimit}
 use Rattle.cp_run.specs.declared.outcome.Turn.TheVariants.{Over}
 use Rattle.cp_run.specs.System.{System}
 use Rattle.cp_endless.specs.Reachable.{EndsAfter}
 use Rattle.cp_endless.specs.Rounds.{SetsOut, spot_after}
-use Rattle.cp_at_once_laws.proofs.limits.Basics.{some_same}
 use Rattle.cp_at_once_laws.specs.AtOnce.{is_call, Comes, Fails, fails, later_fails, Commutes, NobodyReady, GoalStays, OwnGoal}
 use Rattle.cp_at_once_laws.specs.Through.{IsTurnKnown, HasQuietLeg, GoesThrough, IsPlain}
 use Rattle.cp_at_once_laws.proofs.search.Goals.{errors_stay, own_errors}
@@ -16,6 +15,7 @@ use Rattle.cp_at_once_laws.proofs.limits.Turns.{ready_in, none_ready}
 use Rattle.cp_at_once_laws.proofs.limits.Closed.{IsHit, hits}
 use Rattle.cp_at_once_laws.proofs.limits.Landing.{Stands, R, Taken, closed, first_gone, local_goes, one_more}
 use Rattle.cp_at_once_laws.proofs.limits.Words.{stop_of, stop_turn, ends, meets_in}
+use Rattle.cp_resolved.proofs.names.Alike.{same_inside as some_same}
 
 module _ {S : Type 0} (sys : System S) (Met : S → Type 0) (Quiet : S → ℕ → Type 0) (law : Commutes sys Met Quiet) (plain : IsPlain sys Met)
     (among : ℕ → S → Type 0) (begun : ℕ → S → ℕ → Type 0) (known : OutcomeKind → Type 0) (through : GoesThrough sys (HasQuietLeg sys Quiet) among begun known) where
@@ -120,11 +120,9 @@ module _ {S : Type 0} (sys : System S) (Met : S → Type 0) (Quiet : S → ℕ �
       go (inr f) = inr (f.0, (g.0, f.1, g.2))
 
   stop_no_call : (e : Event) (kind : OutcomeKind) → stop_of e ≡ Some kind → (is_call e ≡ false) × (e ≢ Local)
-  stop_no_call Local kind h = absurd cc
-  stop_no_call (Kernel call) kind h = absurd cc
-  stop_no_call Ended kind h = absurd cc
   stop_no_call (Fault e) kind h = (refl, λ x. cc)
   stop_no_call OutputFull kind h = (refl, λ x. cc)
+  stop_no_call x kind h = absurd cc
 
   known_there : (kind : OutcomeKind) (error : Event) (s : S) (q : ℕ) → Fails sys error s q → stop_of error ≡ Some kind → Met s → sys.is_ready s q ≡ true → (c : ℕ) (b : S) (f n : ℕ) → begun c b f → spot_after sys n b f ≡ Some (s, q) → known kind
   known_there kind error _ _ (fails s q e no_call no_local) stop met ready c b f n g at =
@@ -148,10 +146,7 @@ module _ {S : Type 0} (sys : System S) (Met : S → Type 0) (Quiet : S → ℕ �
   is_over : OutcomeKind → Bool
   is_over Finished = true
   is_over AllWaiting = true
-  is_over (RunError name process line) = false
-  is_over ChoiceLimit = false
-  is_over StepLimit = false
-  is_over OutputLimit = false
+  is_over _ = false
 
   over_is : (kind : OutcomeKind) → (kind ≡ Finished) ⊎ (kind ≡ AllWaiting) → is_over kind ≡ true
   unfolding is_over
@@ -160,11 +155,9 @@ module _ {S : Type 0} (sys : System S) (Met : S → Type 0) (Quiet : S → ℕ �
 
   stops_not_over : (e : Event) (kind : OutcomeKind) → stop_of e ≡ Some kind → is_over kind ≡ false
   unfolding is_over
-  stops_not_over Local kind h = absurd cc
-  stops_not_over (Kernel call) kind h = absurd cc
-  stops_not_over Ended kind h = absurd cc
   stops_not_over (Fault e) kind h = ap is_over (sym (some_same (RunError e.name e.process e.line) kind h))
   stops_not_over OutputFull kind h = ap is_over (sym (some_same OutputLimit kind h))
+  stops_not_over x kind h = absurd cc
 
   never_over : (e : Event) (kind : OutcomeKind) → (kind ≡ Finished) ⊎ (kind ≡ AllWaiting) → stop_of e ≡ Some kind → ⊥
   never_over e kind k h = (let bad : true ≡ false = sym (over_is kind k) ∙ stops_not_over e kind h in cc)

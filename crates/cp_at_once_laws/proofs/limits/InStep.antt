@@ -10,8 +10,8 @@ use Rattle.cp_refine.specs.InStep.{CanGo, GoInStep}
 use Rattle.cp_refine.proofs.Alike.{goes_on, goes_same, may_go, may_same, opening_goes}
 use Rattle.cp_refine.proofs.Turns.{turn_same}
 use Rattle.cp_endless.specs.Rounds.{spot_after, spot_by}
-use Rattle.cp_at_once_laws.proofs.limits.Basics.{some_same}
 use Rattle.cp_at_once_laws.specs.Through.{IsTurnKnown, IsOpeningKnown, FollowsEach, HasQuietLeg, FollowsOne, GoesThrough}
+use Rattle.cp_resolved.proofs.names.Alike.{same_inside as some_same}
 
 module _ {S T : Type 0} (a : System S) (b : System T) (R : S → T → Type 0) (go : GoInStep a b R) (free : (s : S) (t : T) → R s t → a.is_pending s ≡ false) where
   -- where the one stands, the other does

@@ -6,16 +6,16 @@ use Rattle.cp_run.specs.declared.outcome.Turn.{Turn}
 use Rattle.cp_run.specs.declared.outcome.Turn.TheVariants.{Goes}
 use Rattle.cp_run.specs.System.{System}
 use Rattle.cp_run.specs.Run.{those_below, settled_turn, turn_after}
-use Rattle.cp_refine.proofs.Turns.{Every, those_may}
+use Rattle.cp_refine.proofs.Turns.{Every, those_may, every_more as every_less}
 use Rattle.cp_endless.specs.Repeats.{IsKernelCall}
 use Rattle.cp_endless.specs.Rounds.{SetsOut, spot_after}
 use Rattle.cp_at_once_laws.specs.AtOnce.{is_call, QuietLeg, calls_quietly, after_quiet, after_steps, Spins, Marks, marks, later_marks, Commutes, GoalStays, OwnGoal}
 use Rattle.cp_at_once_laws.specs.Through.{HasQuietLeg, GoesThrough, IsPlain}
-use Rattle.cp_at_once_laws.proofs.search.Front.{same_or_not}
 use Rattle.cp_at_once_laws.proofs.search.Goals.{loops_stay, own_loops, marks_stay, own_marks}
 use Rattle.cp_at_once_laws.proofs.limits.Turns.{CallTurn, nobody, alone, choice, call_turn, which_turn, none_ready, head_ready}
 use Rattle.cp_at_once_laws.proofs.limits.Landing.{Stands, local_goes, one_more}
 use Rattle.cp_at_once_laws.proofs.limits.Complete.{GoalBack, MeetsThere, met_somewhere}
+use Rattle.cp_refine.proofs.control.Moving.{same_or_other as same_or_not}
 
 -- ---- the numbers below a count are several
 
@@ -26,23 +26,13 @@ FirstTwo (q ∷ r ∷ xs) = q ≢ r
 
 two_more : (n : ℕ) (xs : List ℕ) (b : Bool) → Every (λ p. p < n) xs → FirstTwo xs → FirstTwo (xs ++ (if b then n ∷ [] else []))
 two_more n [] true e h = tt
-two_more n [] false e h = tt
 two_more n (q ∷ []) true e h = λ same. (let less = e.0 in omega (arith, less, same))
-two_more n (q ∷ []) false e h = tt
 two_more n (q ∷ r ∷ xs) b e h = h
-
-every_less : (P Q : ℕ → Type 0) (xs : List ℕ) → ((p : ℕ) → P p → Q p) → Every P xs → Every Q xs
-every_less P Q [] f h = tt
-every_less P Q (x ∷ xs) f h = (f x h.0, every_less P Q xs f h.1)
+two_more n _ false e h = tt
 
 two_apart : (n : ℕ) (f : ℕ → Bool) → FirstTwo (those_below n f)
 two_apart zero f = tt
 two_apart (suc n) f = two_more n (those_below n f) (f n) (every_less (λ p. (p < n) × (f p ≡ true)) (λ p. p < n) (those_below n f) (λ p h. h.0) (those_may n f)) (two_apart n f)
-
-abbrev Both : List ℕ → (ℕ → Type 0) → Type 0
-Both [] P = Unit {0}
-Both (q ∷ []) P = Unit {0}
-Both (q ∷ r ∷ xs) P = P q × P r
 
 -- ---- who is alone for ever, and makes calls again and again
 

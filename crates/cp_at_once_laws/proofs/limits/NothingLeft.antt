@@ -6,7 +6,6 @@ use Rattle.cp_run.specs.System.{System}
 use Rattle.cp_refine.specs.InStep.{CanGo, GoInStep}
 use Rattle.cp_endless.specs.Repeats.{IsKernelCall}
 use Rattle.cp_endless.specs.Rounds.{SetsOut, spot_after}
-use Rattle.cp_at_once_laws.proofs.limits.Basics.{some_same}
 use Rattle.cp_at_once_laws.specs.AtOnce.{after_steps, Commutes}
 use Rattle.cp_at_once_laws.specs.Search.{SearchesAtOnce}
 use Rattle.cp_at_once_laws.specs.Through.{HasQuietLeg, IsPlain}
@@ -14,6 +13,7 @@ use Rattle.cp_at_once_laws.specs.Whole.{GoesOnBy, LeavesNoEndOut}
 use Rattle.cp_at_once_laws.proofs.limits.Lonely.{EachStep, goes_alone, each_step}
 use Rattle.cp_at_once_laws.proofs.limits.Whole.{ends_told, loops_told, lonely_told}
 use Rattle.cp_at_once_laws.proofs.limits.Words.{Arrived, begins, walks}
+use Rattle.cp_resolved.proofs.names.Alike.{same_inside as some_same}
 
 module _ {S : Type 0} (sys : System S) (Met : S → Type 0) (Quiet : S → ℕ → Type 0) (law : Commutes sys Met Quiet) (plain : IsPlain sys Met) where
   -- ---- where it goes on, the state is met

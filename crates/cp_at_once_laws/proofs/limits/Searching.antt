@@ -9,10 +9,11 @@ use Rattle.cp_endless.specs.Moments.{AnyOf, Moment, moments_by, stretch_moments}
 use Rattle.cp_endless.specs.Repeats.{Repeats, repeated_part}
 use Rattle.cp_endless.specs.Rounds.{IsCut, IsRound, spot_after, spot_by}
 use Rattle.cp_endless.specs.Settled.{IsIn}
-use Rattle.cp_at_once_laws.proofs.limits.Basics.{some_same, distance}
 use Rattle.cp_endless.proofs.steps.Rounds.{from_there, rounds, happens_early}
 use Rattle.cp_at_once_laws.specs.Through.{IsTurnKnown, FollowsEach, FollowsOne, GoesThrough}
 use Rattle.cp_at_once_laws.specs.Search.{ComesOut, GoesRound, IsTaken, IsFollowed, SearchesAtOnce}
+use Rattle.cp_resolved.proofs.names.Alike.{same_inside as some_same}
+use Rattle.cp_endless.proofs.Basics.{distance}
 
 module _ {S : Type 0} (sys : System S) where
   -- a stretch that is not cut comes to the node of the turn at which it stands still
@@ -27,9 +28,8 @@ module _ {S : Type 0} (sys : System S) where
       same = some_same (b, f) (s, q) at
 
       go : (turn : Turn) → turn_after sys (sys.step b f) f (sys.event b f) ≡ turn → ((r : ℕ) → turn ≡ Goes r → ⊥) → node_at (sys.step b f) (stretch sys steps (sys.step b f)) (turn_after sys (sys.step b f) f (sys.event b f)) ≡ node_at (sys.step b f) on turn
-      go (Over kind) e still = ap (node_at (sys.step b f) (stretch sys steps (sys.step b f))) e
-      go Due e still = ap (node_at (sys.step b f) (stretch sys steps (sys.step b f))) e
       go (Goes r) e still = absurd (still r refl)
+      go _ e still = ap (node_at (sys.step b f) (stretch sys steps (sys.step b f))) e
   stands_still (suc steps) (suc n) b f s q on turn uncut at is still =
       go (turn_after sys (sys.step b f) f (sys.event b f)) uncut at (λ r u e. stands_still steps n (sys.step b f) r s q on turn u e is still)
     where

@@ -1,7 +1,7 @@
 -- What comes before the next step, where no monitor is pending.
 use Rattle.std.proofs.Common.{◌≡◌, ◌⊎◌, inl, inr, ◌∙◌, ℕ, zero, suc, ◌<◌, Bool, true, false, if◌then◌else◌, List, [], ◌∷◌, ◌++◌, ap, sym, refl, subst, arith}
 use Rattle.cp_machine.specs.declared.event.Event.{Event}
-use Rattle.cp_machine.specs.declared.event.Event.TheVariants.{Local, Kernel, Ended, Fault, OutputFull}
+use Rattle.cp_machine.specs.declared.event.Event.TheVariants.{Local, Kernel, Ended}
 use Rattle.cp_run.specs.declared.outcome.Turn.{Turn}
 use Rattle.cp_run.specs.declared.outcome.Turn.TheVariants.{Over, Due, Goes}
 use Rattle.cp_run.specs.declared.outcome.OutcomeKind.TheVariants.{Finished, AllWaiting}
@@ -67,11 +67,9 @@ module _ {S : Type 0} (sys : System S) where
       go (x ∷ y ∷ xs) h = refl
 
   pub call_turn : (s : S) (p : ℕ) (e : Event) → sys.is_pending s ≡ false → is_call e ≡ true → turn_after sys s p e ≡ settled_turn sys s true p
-  call_turn s p Local free h = absurd cc
   call_turn s p (Kernel call) free h = free_turn s true p free
   call_turn s p Ended free h = free_turn s true p free
-  call_turn s p (Fault e) free h = absurd cc
-  call_turn s p OutputFull free h = absurd cc
+  call_turn s p x free h = absurd cc
 
   -- after a call: nobody is ready, one alone, or a choice is due
   pub data CallTurn (s : S) (p : ℕ) : Turn → Type 0 where

@@ -5,7 +5,7 @@ use Rattle.cp_machine.specs.declared.event.Event.TheVariants.{Local}
 use Rattle.cp_run.specs.declared.outcome.OutcomeKind.{OutcomeKind}
 use Rattle.cp_run.specs.declared.outcome.OutcomeKind.TheVariants.{StepLimit}
 use Rattle.cp_run.specs.declared.outcome.Turn.{Turn}
-use Rattle.cp_run.specs.declared.outcome.Turn.TheVariants.{Over, Due, Goes}
+use Rattle.cp_run.specs.declared.outcome.Turn.TheVariants.{Goes}
 use Rattle.cp_run.specs.System.{System}
 use Rattle.cp_run.specs.Run.{turn_after}
 use Rattle.cp_refine.specs.InStep.{CanGo, GoInStep}
@@ -13,7 +13,6 @@ use Rattle.cp_endless.specs.Moments.{AnyOf}
 use Rattle.cp_endless.specs.Reachable.{EndsAfter}
 use Rattle.cp_endless.specs.Repeats.{CallsAt, IsKernelCall, Repeats, repeated_part}
 use Rattle.cp_endless.specs.Rounds.{SetsOut, spot_after, spot_by}
-use Rattle.cp_at_once_laws.proofs.limits.Basics.{some_same, distance}
 use Rattle.cp_endless.proofs.steps.Rounds.{cut_if_on}
 use Rattle.cp_at_once_laws.specs.AtOnce.{is_call, after_steps, Spins, Commutes}
 use Rattle.cp_at_once_laws.specs.Search.{ComesOut, GoesRound, SearchesAtOnce}
@@ -22,6 +21,8 @@ use Rattle.cp_at_once_laws.proofs.limits.Complete.{end_known}
 use Rattle.cp_at_once_laws.proofs.limits.InStep.{StandsAlike, stands_alike, Among, Begun, goes_through_too}
 use Rattle.cp_at_once_laws.proofs.limits.Meeting.{GoesAlone, MovesOn, loops_there, alone_there, MarkThere, marks_there}
 use Rattle.cp_at_once_laws.proofs.limits.Searching.{Followed, Taken, goes_through, same_mover, calls_in, calls_again}
+use Rattle.cp_resolved.proofs.names.Alike.{same_inside as some_same}
+use Rattle.cp_endless.proofs.Basics.{distance}
 
 -- what stands after some steps stood before
 stood : {S : Type 0} (sys : System S) (k d : ℕ) (s : S) (p : ℕ) (x : S × ℕ) → spot_after sys (k + d) s p ≡ Some x → spot_after sys k s p ≡ None → ⊥
@@ -33,9 +34,8 @@ stood {S} sys (suc k) d s p x e none = by (turn_after sys (sys.step s p) p (sys.
 
     by : (turn : Turn) → spot_by (sys.step s p) (spot_after sys (k + d) (sys.step s p)) turn ≡ Some x → spot_by (sys.step s p) (spot_after sys k (sys.step s p)) turn ≡ None →
         ((r : ℕ) → spot_after sys (k + d) (sys.step s p) r ≡ Some x → spot_after sys k (sys.step s p) r ≡ None → ⊥) → ⊥
-    by (Over kind) e none on = cc
-    by Due e none on = cc
     by (Goes r) e none on = on r e none
+    by x e none on = cc
 
 no_local_call : (e : Event) → e ≡ Local → IsKernelCall e → ⊥
 no_local_call e is call = subst IsKernelCall is call

@@ -12,21 +12,18 @@ use Rattle.cp_refine.proofs.Alike.{may_go}
 use Rattle.cp_endless.specs.Reachable.{EndsAfter}
 use Rattle.cp_endless.specs.Rounds.{SetsOut, spot_after, spot_by}
 use Rattle.cp_endless.specs.Settled.{IsClosed, IsIn}
-use Rattle.cp_at_once_laws.proofs.limits.Basics.{some_same}
 use Rattle.cp_endless.proofs.possible.Settled.{leads_in}
 use Rattle.cp_at_once_laws.specs.AtOnce.{is_call, Leg, calls, after_local, Comes, done, meets, goes, Commutes}
 use Rattle.cp_at_once_laws.specs.Through.{IsPlain}
 use Rattle.cp_at_once_laws.proofs.limits.Landing.{local_goes}
 use Rattle.cp_at_once_laws.proofs.limits.Turns.{CallTurn, nobody, alone, choice, ready_in, call_turn, local_turn, which_turn, head_ready}
+use Rattle.cp_resolved.proofs.names.Alike.{same_inside as some_same}
 
 abbrev pub SameSpot : {S : Type 0} → Option (S × ℕ) → Option (S × ℕ) → Type 0
 SameSpot x y = x ≡ y
 
 pub spot_same : {S : Type 0} (s t : S) (p q : ℕ) → SameSpot (Some (s, p)) (Some (t, q)) → (s ≡ t) × (p ≡ q)
 spot_same {S} s t p q e = let same = some_same (s, p) (t, q) e in (ap (λ (x : S × ℕ). x.0) same, ap (λ (x : S × ℕ). x.1) same)
-
-goes_same : (q r : ℕ) → Goes q ≡ Goes r → q ≡ r
-goes_same q r e = cc
 
 -- the end of a step that no process goes on from
 abbrev pub stop_of : Event → Option OutcomeKind
@@ -50,11 +47,9 @@ which_event (Fault e) = is_stop (Fault e) (RunError e.name e.process e.line) ref
 which_event OutputFull = is_stop OutputFull OutputLimit refl
 
 pub stop_turn : {S : Type 0} (sys : System S) (t : S) (p : ℕ) (e : Event) (kind : OutcomeKind) → stop_of e ≡ Some kind → turn_after sys t p e ≡ Over kind
-stop_turn sys t p Local kind h = absurd cc
-stop_turn sys t p (Kernel call) kind h = absurd cc
-stop_turn sys t p Ended kind h = absurd cc
 stop_turn sys t p (Fault e) kind h = cc
 stop_turn sys t p OutputFull kind h = cc
+stop_turn sys t p x kind h = absurd cc
 
 module _ {S : Type 0} (sys : System S) (Met : S → Type 0) (Quiet : S → ℕ → Type 0) (law : Commutes sys Met Quiet) (plain : IsPlain sys Met) (Done : S → Type 0) (Goal : S → ℕ → Type 0)
     (back : (s : S) (q : ℕ) → Met s → sys.is_ready s q ≡ true → sys.event s q ≡ Local → Goal (sys.step s q) q → Goal s q) where

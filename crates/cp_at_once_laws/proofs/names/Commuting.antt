@@ -5,9 +5,9 @@ use Rattle.cp_tree.specs.Syntax.{Program, Tree}
 use Rattle.cp_machine.specs.declared.event.Event.TheVariants as event
 use Rattle.cp_machine.specs.declared.shown.Shown as slot_shown
 use Rattle.cp_meaning.specs.Outcome.{Outcome}
-use Rattle.cp_meaning.specs.Move.{Move, stays, enters, leaves, delays, continues, starts, shows, ends, Doing}
-use Rattle.cp_meaning.specs.Kernel.{Event, local_event, enter_event, leave_event, delay_event, continue_event, start_event, display_event, ended_event, fault_event, output_full, output_room, moved_to, process_of, starting_as, starting, displaying, kernel_step}
-use Rattle.cp_meaning.specs.State.{Environment, Status, unstarted, ready, at_gate, delayed, ended, Process, process_at, Shown, State}
+use Rattle.cp_meaning.specs.Move.{Move, stays, starts, shows, Doing}
+use Rattle.cp_meaning.specs.Kernel.{Event, local_event, enter_event, fault_event, output_full, output_room, moved_to, process_of, starting_as, starting, displaying, kernel_step}
+use Rattle.cp_meaning.specs.State.{Environment, Status, unstarted, ready, Process, process_at, Shown, State}
 use Rattle.cp_meaning.specs.Readings.{is_ready}
 use Rattle.cp_meaning.specs.Steps.{settled, step_of, view_of, at_items, line_at}
 use Rattle.cp_meaning.specs.LocalRules.{takes}
@@ -35,58 +35,31 @@ within_of (x ∷ ps) (suc q) e = let h = within_of ps q e in omega (arith, h)
 -- ---- events
 
 event_line : (q line : ℕ) (e : Event) → (is_call (event_of q line e) ≡ true) ⊎ (event_of q line e ≡ event.Local) → is_failure e ≡ false
-event_line q line local_event h = refl
-event_line q line enter_event h = refl
-event_line q line leave_event h = refl
-event_line q line delay_event h = refl
-event_line q line continue_event h = refl
-event_line q line start_event h = refl
-event_line q line display_event h = refl
-event_line q line ended_event h = refl
 event_line q line (fault_event e) (inl h) = cc
 event_line q line (fault_event e) (inr h) = cc
 event_line q line output_full (inl h) = cc
 event_line q line output_full (inr h) = cc
+event_line q line _ h = refl
 
 no_failure : (q line : ℕ) (e : Event) → (event_of q line e ≡ event.Local) ⊎ (is_call (event_of q line e) ≡ true) → is_failure e ≡ false
 no_failure q line e (inl h) = event_line q line e (inr h)
 no_failure q line e (inr h) = event_line q line e (inl h)
 
 quiet_event : (q line : ℕ) (e : Event) → is_failure e ≡ false → (e ≡ enter_event → ⊥) → is_quiet (event_of q line e) ≡ true
-quiet_event q line local_event h k = refl
 quiet_event q line enter_event h k = absurd (k refl)
-quiet_event q line leave_event h k = refl
-quiet_event q line delay_event h k = refl
-quiet_event q line continue_event h k = refl
-quiet_event q line start_event h k = refl
-quiet_event q line display_event h k = refl
-quiet_event q line ended_event h k = refl
 quiet_event q line (fault_event e) h k = cc
 quiet_event q line output_full h k = cc
+quiet_event q line _ h k = refl
 
 event_quiet : (q line : ℕ) (e : Event) → is_quiet (event_of q line e) ≡ true → (is_failure e ≡ false) × (e ≡ enter_event → ⊥)
-event_quiet q line local_event h = (refl, λ k. cc)
 event_quiet q line enter_event h = absurd cc
-event_quiet q line leave_event h = (refl, λ k. cc)
-event_quiet q line delay_event h = (refl, λ k. cc)
-event_quiet q line continue_event h = (refl, λ k. cc)
-event_quiet q line start_event h = (refl, λ k. cc)
-event_quiet q line display_event h = (refl, λ k. cc)
-event_quiet q line ended_event h = (refl, λ k. cc)
 event_quiet q line (fault_event e) h = absurd cc
 event_quiet q line output_full h = absurd cc
+event_quiet q line x h = (refl, λ k. cc)
 
 local_told : (q line : ℕ) (e : Event) → event_of q line e ≡ event.Local → e ≡ local_event
 local_told q line local_event h = refl
-local_told q line enter_event h = cc
-local_told q line leave_event h = cc
-local_told q line delay_event h = cc
-local_told q line continue_event h = cc
-local_told q line start_event h = cc
-local_told q line display_event h = cc
-local_told q line ended_event h = cc
-local_told q line (fault_event e) h = cc
-local_told q line output_full h = cc
+local_told q line x h = cc
 
 -- ---- who made a local step is ready
 
@@ -101,10 +74,7 @@ module _ (p : Program) (s : State) (pid : ℕ) (less : pid < length s.processes)
 
   as_not_local : (r c : ℕ) (e : Environment) (status : Status) → (starting_as p s pid d r status c e).event ≡ local_event → ⊥
   as_not_local r c e unstarted h = cc
-  as_not_local r c e ready h = cc
-  as_not_local r c e (at_gate m) h = cc
-  as_not_local r c e (delayed m) h = cc
-  as_not_local r c e ended h = cc
+  as_not_local r c e x h = cc
 
   start_not_local : (o : Option ℕ) (c : ℕ) (e : Environment) → (starting p s pid d o c e).event ≡ local_event → ⊥
   start_not_local None c e h = cc
@@ -116,13 +86,9 @@ module _ (p : Program) (s : State) (pid : ℕ) (less : pid < length s.processes)
 
   local_ready : (move : Move) → (kernel_step p s pid d move).event ≡ local_event → (process_at (kernel_step p s pid d move).state.processes pid).status ≡ ready
   local_ready stays h = moved_status ready
-  local_ready (enters m) h = absurd cc
-  local_ready (leaves m) h = absurd cc
-  local_ready (delays m) h = absurd cc
-  local_ready (continues m o) h = absurd cc
   local_ready (starts c e) h = absurd (start_not_local (process_of c (moved_to ready s pid d).processes) c e h)
   local_ready (shows x) h = absurd (show_not_local (length s.output == output_room) x h)
-  local_ready ends h = absurd cc
+  local_ready x h = absurd cc
 
 settled_ready : (p : Program) (s : State) (pid : ℕ) → pid < length s.processes → (o : Outcome Doing) → (settled p s pid o).event ≡ local_event → (process_at (settled p s pid o).state.processes pid).status ≡ ready
 settled_ready p s pid less (Ok d) h = local_ready p s pid less d d.move h

@@ -23,10 +23,11 @@ use Rattle.cp_at_once_laws.proofs.limits.Turns.{local_turn}
 use Rattle.cp_at_once_laws.proofs.limits.Words.{EventKind, is_local, is_kernel, is_stop, which_event, stop_turn}
 use Rattle.cp_at_once_laws.proofs.names.Commuting.{plain as is_plain, within_of}
 use Rattle.cp_at_once_laws.proofs.names.Laws.{kept, beside_law}
-use Rattle.cp_at_once_laws.proofs.names.States.{Known, known, status_told}
+use Rattle.cp_at_once_laws.proofs.names.States.{Known, known}
 use Rattle.cp_at_once_laws.proofs.names.Waking.{only_ready, IsStuck, IsAtGate, Woken, unchanged, own, both_ready, let_go, begun_now, woken_by, own_status, own_what, goes_call, end_stuck}
 use Rattle.cp_at_once_laws.proofs.pairs.Changes.{GoesFrom, Becomes}
 use Rattle.cp_at_once_laws.proofs.pairs.Facts.{Facts, AllFacts, done, facts}
+use Rattle.cp_refine.proofs.steps.Going.{ready_is as status_told}
 
 goes_same : (q r : ℕ) → Goes q ≡ Goes r → q ≡ r
 goes_same q r e = cc

@@ -42,8 +42,8 @@ use Rattle.cp_at_once_laws.proofs.rules.StartsKnown.{StartsKnown}
 use Rattle.cp_at_once_laws.specs.Through.{HasQuietLeg}
 use Rattle.cp_at_once_laws.proofs.names.Commuting.{within_of}
 use Rattle.cp_at_once_laws.proofs.names.Reached.{unpending}
-use Rattle.cp_at_once_laws.proofs.names.States.{status_told}
 use Rattle.cp_at_once_laws.proofs.pairs.Onwards.{rank, rank_same, Onwards, onwards_then, step_onwards}
+use Rattle.cp_refine.proofs.steps.Going.{ready_is as status_told}
 
 -- the machine stands for the state on names
 abbrev pub OnSlots : Tree → Tables → State → Machine → Type 0
@@ -59,41 +59,27 @@ status_of Initialised = initialised
 class_phase : (u : ComponentStatus) (f : Phase) → PhaseIs kind.Class u f → u ≡ status_of f
 unfolding status_of
 class_phase uninitialised Uninitialised h = refl
-class_phase uninitialised Initialising h = absurd h
-class_phase uninitialised Initialised h = absurd h
-class_phase initialising Uninitialised h = absurd h
 class_phase initialising Initialising h = refl
-class_phase initialising Initialised h = absurd h
-class_phase initialised Uninitialised h = absurd h
-class_phase initialised Initialising h = absurd h
 class_phase initialised Initialised h = refl
+class_phase _ _ h = absurd h
 
 monitor_phase : (q : ℕ) (u : ComponentStatus) (f : Phase) → PhaseIs (kind.Monitor q) u f → u ≡ status_of f
 unfolding status_of
 monitor_phase q uninitialised Uninitialised h = refl
-monitor_phase q uninitialised Initialising h = absurd h
-monitor_phase q uninitialised Initialised h = absurd h
-monitor_phase q initialising Uninitialised h = absurd h
 monitor_phase q initialising Initialising h = refl
-monitor_phase q initialising Initialised h = absurd h
-monitor_phase q initialised Uninitialised h = absurd h
-monitor_phase q initialised Initialising h = absurd h
 monitor_phase q initialised Initialised h = refl
+monitor_phase q _ _ h = absurd h
 
 -- of a component that is no process
 phase_told : (r : Tables) (p : Program) (n : ℕ) (a : SystemKind) (k : ComponentKind) → KindIs r p n a k → (a ≡ system_kind.Process → ⊥) → (u : ComponentStatus) (f : Phase) → PhaseIs k u f → u ≡ status_of f
 phase_told r p n system_kind.Class kind.Class h other u f i = class_phase u f i
 phase_told r p n system_kind.Monitor (kind.Monitor q) h other u f i = monitor_phase q u f i
 phase_told r p n system_kind.Process k h other u f i = absurd (other refl)
-phase_told r p n system_kind.Class (kind.Monitor q) h other u f i = absurd h
-phase_told r p n system_kind.Class (kind.Process q) h other u f i = absurd h
-phase_told r p n system_kind.Monitor kind.Class h other u f i = absurd h
-phase_told r p n system_kind.Monitor (kind.Process q) h other u f i = absurd h
+phase_told r p n _ _ h other u f i = absurd h
 
 is_process : (a : SystemKind) → (a ≡ system_kind.Process) ⊎ (a ≡ system_kind.Process → ⊥)
 is_process system_kind.Process = inl refl
-is_process system_kind.Class = inr (λ e. cc)
-is_process system_kind.Monitor = inr (λ e. cc)
+is_process x = inr (λ e. cc)
 
 module _ (t : Tree) (r : Tables) (read : IsRead t.program) (ok : IsAccepted t) (rules : StartsKnown t.program) (same : plain r ≡ laid t) where
   pub in_step : GoInStep (names t) (silent_slots r First) (OnSlots t r)

@@ -1,6 +1,5 @@
 -- A stretch that is seen to repeat on slots goes on for ever on names, and one process makes each of its steps.
-use Rattle.std.proofs.Common.{◌≡◌, inl, inr, ◌∙◌, ◌+◌, ◌≤◌, ℕ, zero, suc, true, List, [], ◌∷◌, Option, None, Some, ap, sym, refl, subst, arith}
-use Rattle.std.specs.List.{AllByRecursion as Each}
+use Rattle.std.proofs.Common.{◌≡◌, inl, inr, ◌∙◌, ◌+◌, ◌≤◌, ℕ, zero, suc, true, List, Option, None, Some, ap, sym, refl, subst, arith}
 use Rattle.cp_tree.specs.Read.{IsRead}
 use Rattle.cp_tree.specs.Syntax.{Tree}
 use Rattle.cp_layout.specs.Laid.{plain, laid}
@@ -23,7 +22,7 @@ use Rattle.cp_endless.specs.Repeats.{Repeats, repeated_part, CallsAt, IsKernelCa
 use Rattle.cp_endless.specs.Rounds.{IsRound, SetsOut, chosen_spot, opening_spot, spot_after, spot_by}
 use Rattle.cp_endless.specs.Silent.{silent_slots}
 use Rattle.cp_endless.proofs.names.Going.{in_choices}
-use Rattle.cp_endless.proofs.names.Together.{ChoicesAlike, SpotsAlike, after_there, choosing_alike, turned}
+use Rattle.cp_endless.proofs.names.Together.{ChoicesAlike, after_there, choosing_alike, turned}
 use Rattle.cp_endless.proofs.steps.Rounds.{from_there, rounds, happens_early}
 use Rattle.cp_at_once_laws.specs.AtOnce.{Commutes}
 use Rattle.cp_at_once_laws.specs.OnSlots.{RepeatsByOneLaw}
@@ -31,7 +30,6 @@ use Rattle.cp_at_once_laws.specs.Quiet.{names, IsSomewhere, IsQuietStep}
 use Rattle.cp_at_once_laws.proofs.rules.StartsKnown.{StartsKnown}
 use Rattle.cp_at_once_laws.specs.Through.{IsPlain}
 use Rattle.cp_at_once_laws.specs.Whole.{GoesOnBy, IsAloneBy, SpinsBy}
-use Rattle.cp_at_once_laws.proofs.limits.Basics.{some_same, distance}
 use Rattle.cp_at_once_laws.proofs.limits.NothingLeft.{met_there}
 use Rattle.cp_at_once_laws.proofs.limits.Searching.{any_moment, calls_again}
 use Rattle.cp_at_once_laws.proofs.names.Commuting.{plain as is_plain}
@@ -39,15 +37,12 @@ use Rattle.cp_at_once_laws.proofs.names.Laws.{kept, beside_law, all_commute}
 use Rattle.cp_at_once_laws.proofs.names.OneMover.{Endless, one_mover, no_end}
 use Rattle.cp_at_once_laws.proofs.names.QuietLegs.{OnSlots, in_step}
 use Rattle.cp_at_once_laws.proofs.rules.Started.{starts_known}
+use Rattle.cp_resolved.proofs.names.Alike.{same_inside as some_same}
+use Rattle.cp_endless.proofs.steps.Repeating.{none_of as each_none}
+use Rattle.cp_endless.proofs.Basics.{distance}
+use Rattle.cp_endless.proofs.names.WaitTogether.{plus as one_more_step, spot_there}
 
 -- ---- spots of two systems that are alike
-
-spot_there : {S T : Type 0} (V : S → T → ℕ → Type 0) (s : S) (p : ℕ) (x : Option (S × ℕ)) (y : Option (T × ℕ)) → x ≡ Some (s, p) → SpotsAlike V x y → (t : T) × (y ≡ Some (t, p)) × V s t p
-spot_there V s p None y e h = absurd (cc)
-spot_there V s p (Some x) None e h = absurd h
-spot_there {S} {T} V s p (Some x) (Some y) e h =
-    let same = some_same x (s, p) e in
-    (y.0, ap (λ (n : ℕ). Some (y.0, n)) (sym h.0 ∙ ap (λ (z : S × ℕ). z.1) same), subst (λ (z : S × ℕ). V z.0 y.0 z.1) same h.1)
 
 sets_out_there : {S T : Type 0} (a : System S) (b : System T) (steps : ℕ) (R : S → T → Type 0) (V : S → T → ℕ → Type 0) → ChoicesAlike a b steps R V → (word : List ℕ) (s : S) (p : ℕ) → SetsOut a steps word s p → (t : T) × SetsOut b steps word t p × V s t p
 sets_out_there a b steps R V h word s p (inl x) = let y = spot_there V s p (opening_spot a) (opening_spot b) x.1 h.spots_first in (y.0, inl (x.0, y.1), y.2)
@@ -58,9 +53,6 @@ sets_out_there a b steps R V h word s p (inr x) =
     (y.0, inr (x.0, x.1, c.0, x.3, l.1 ∙ ap Some c.1, sym (h.same x.2 c.0 x.1 c.2) ∙ x.5, y.1), y.2)
 
 -- ---- spots one after the other
-
-one_more_step : (n : ℕ) → n + 1 ≡ suc n
-one_more_step n = omega arith
 
 a_spot : {A : Type 0} (o : Option A) → (o ≡ None → ⊥) → (x : A) × (o ≡ Some x)
 a_spot None never = absurd (never refl)
@@ -77,11 +69,6 @@ step_told {S} sys x y e = go (turn_after sys (sys.step x.0 x.1) x.1 (sys.event x
     go (Over kind) e = absurd (cc)
     go Due e = absurd (cc)
     go (Goes r) e = let same = some_same (sys.step x.0 x.1, r) y e in (ap (λ (z : S × ℕ). Goes z.1) same, sym (ap (λ (z : S × ℕ). z.0) same))
-
-each_none : {A : Type 0} (P : A → Type 0) (xs : List A) → Each (λ x. P x → ⊥) xs → AnyOf P xs → ⊥
-each_none P [] h a = a
-each_none P (x ∷ xs) h (inl a) = h.0 a
-each_none P (x ∷ xs) h (inr a) = each_none P xs h.1 a
 
 -- ---- a stretch that repeats
 

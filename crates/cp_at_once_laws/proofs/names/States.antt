@@ -4,7 +4,7 @@ use Rattle.std.proofs.lemmas.Bool.{cases_order}
 use Rattle.cp_tree.specs.declared.declaration.SystemKind.{SystemKind}
 use Rattle.cp_tree.specs.declared.declaration.SystemKind.TheVariants as system_kind
 use Rattle.cp_tree.specs.Syntax.{Program, Tree}
-use Rattle.cp_meaning.specs.State.{Component, Status, unstarted, ready, at_gate, delayed, ended, Process, process_at, Gates, first_gates, State}
+use Rattle.cp_meaning.specs.State.{Component, ready, Process, process_at, Gates, first_gates, State}
 use Rattle.cp_meaning.specs.Readings.{is_ready}
 use Rattle.cp_meaning.specs.Steps.{first_components, process_first, processes_from, own_begun, opening, step_of, IsReached, at_first, by_step, by_forgetting}
 use Rattle.cp_meaning.specs.WellFormed.{IsWellFormed}
@@ -19,6 +19,7 @@ use Rattle.cp_at_once_laws.specs.Quiet.{names, IsSomewhere}
 use Rattle.cp_at_once_laws.proofs.pairs.Fit.{StartsKnown, Waiting, ProcessesUnknown, Fits}
 use Rattle.cp_at_once_laws.proofs.pairs.Facts.{facts}
 use Rattle.cp_at_once_laws.proofs.pairs.Shape.{step_stands}
+use Rattle.cp_refine.proofs.steps.Going.{ready_is as status_told}
 
 -- ---- the owners of the first processes
 
@@ -33,17 +34,15 @@ rising_less m n (q ∷ ps) le h = ((let a = h.0 in omega (arith, le, a)), h.1)
 
 rising_first : (k : SystemKind) (n : ℕ) (ps : List Process) → RisingFrom (suc n) ps → RisingFrom n (process_first k n ps)
 rising_first system_kind.Process n ps h = (omega arith, h)
-rising_first system_kind.Class n ps h = rising_less n (suc n) ps (omega arith) h
-rising_first system_kind.Monitor n ps h = rising_less n (suc n) ps (omega arith) h
+rising_first x n ps h = rising_less n (suc n) ps (omega arith) h
 
 rising_from : (n : ℕ) (cs : List Component) → RisingFrom n (processes_from n cs)
 rising_from n [] = tt
 rising_from n (c ∷ cs) = rising_first c.kind n (processes_from (suc n) cs) (rising_from (suc n) cs)
 
 rising_begun : (p : Program) (cs : List Component) (ps : List Process) → RisingFrom 0 ps → RisingFrom 0 (own_begun p cs ps)
-rising_begun p [] ps h = h
-rising_begun p (c ∷ cs) [] h = h
 rising_begun p (c ∷ cs) (q ∷ ps) h = (omega arith, rising_less 1 (suc q.component) ps (omega arith) h.1)
+rising_begun p _ _ h = h
 
 later_greater : (n : ℕ) (ps : List Process) (r : ℕ) → RisingFrom n ps → r < length ps → n ≤ (process_at ps r).component
 later_greater n [] r h less = absurd (omega (arith, less))
@@ -72,8 +71,7 @@ AreProcesses base (q ∷ ps) = (kind_at base q.component ≡ system_kind.Process
 
 kinds_first : (base : List Component) (k : SystemKind) (n : ℕ) (ps : List Process) → kind_at base n ≡ k → AreProcesses base ps → AreProcesses base (process_first k n ps)
 kinds_first base system_kind.Process n ps e h = (e, h)
-kinds_first base system_kind.Class n ps e h = h
-kinds_first base system_kind.Monitor n ps e h = h
+kinds_first base _ n ps e h = h
 
 kinds_from : (base : List Component) (n : ℕ) (cs : List Component) → ((k : ℕ) → kind_at base (n + k) ≡ kind_at cs k) → AreProcesses base (processes_from n cs)
 kinds_from base n [] same = tt
@@ -87,9 +85,8 @@ kinds_from base n (c ∷ cs) same =
     plus k = omega arith
 
 kinds_begun : (p : Program) (base cs : List Component) (ps : List Process) → kind_at base 0 ≡ system_kind.Process → AreProcesses base ps → AreProcesses base (own_begun p cs ps)
-kinds_begun p base [] ps e h = h
-kinds_begun p base (c ∷ cs) [] e h = h
 kinds_begun p base (c ∷ cs) (q ∷ ps) e h = (e, h.1)
+kinds_begun p base _ _ e h = h
 
 kind_first : (base : List Component) (ps : List Process) → AreProcesses base ps → (q : ℕ) → q < length ps → kind_at base (process_at ps q).component ≡ system_kind.Process
 kind_first base [] h q less = absurd (omega (arith, less))
@@ -97,13 +94,6 @@ kind_first base (x ∷ ps) h zero less = h.0
 kind_first base (x ∷ ps) h (suc q) less = kind_first base ps h.1 q (omega (arith, less))
 
 -- ---- states that are met
-
-pub status_told : (status : Status) → is_ready status ≡ true → status ≡ ready
-status_told unstarted e = cc
-status_told ready e = refl
-status_told (at_gate m) e = cc
-status_told (delayed m) e = cc
-status_told ended e = cc
 
 -- what two more invariants keep
 pub record Kept (p : Program) : Type 0 where

@@ -6,8 +6,8 @@ use Rattle.cp_tree.specs.Syntax.{Program, Tree}
 use Rattle.cp_machine.specs.declared.shown.Shown.{Shown}
 use Rattle.cp_meaning.specs.Outcome.{Outcome}
 use Rattle.cp_meaning.specs.State as meaning
-use Rattle.cp_meaning.specs.State.{Environment, Status, unstarted, ready, at_gate, delayed, ended, process_at, Gates, first_gates, any_gates, State}
-use Rattle.cp_meaning.specs.Move.{Move, stays, enters, leaves, delays, continues, starts, shows, ends, Doing}
+use Rattle.cp_meaning.specs.State.{Environment, Status, unstarted, ready, delayed, process_at, Gates, first_gates, any_gates, State}
+use Rattle.cp_meaning.specs.Move.{Move, enters, leaves, delays, continues, starts, shows, Doing}
 use Rattle.cp_meaning.specs.Kernel.{Event, display_event, Stepped, output_room, line_of, moved_to, first_in, one_in, let_in, is_anybody_inside, entering, is_delayed_in, continuing, process_of, starting_as, starting, displaying, kernel_step}
 use Rattle.cp_meaning.specs.LocalRules.{takes}
 use Rattle.cp_meaning.specs.Steps.{settled, step_of, view_of, line_at}
@@ -106,9 +106,8 @@ module _ (p : Program) (s : State) (pid : ℕ) (d : Doing) where
   first_kept (q ∷ line) t m h = h
 
   one_kept : (line : List ℕ) (t : State) (m : ℕ) → Kept t → Kept (one_in line t m)
-  one_kept [] t m h = h
   one_kept (q ∷ []) t m h = h
-  one_kept (q ∷ r ∷ line) t m h = h
+  one_kept _ t m h = h
 
   in_kept : (g : Gates) (t : State) (m : ℕ) → Kept t → Kept (let_in g t m)
   in_kept first_gates t m h = first_kept (line_of t m) t m h
@@ -128,10 +127,7 @@ module _ (p : Program) (s : State) (pid : ℕ) (d : Doing) where
 
   as_kept : (r c : ℕ) (e : Environment) (status : Status) → Kept (starting_as p s pid d r status c e).state
   as_kept r c e unstarted = refl
-  as_kept r c e ready = refl
-  as_kept r c e (at_gate m) = refl
-  as_kept r c e (delayed m) = refl
-  as_kept r c e ended = refl
+  as_kept r c e _ = refl
 
   start_kept : (o : Option ℕ) (c : ℕ) (e : Environment) → Kept (starting p s pid d o c e).state
   start_kept None c e = refl
@@ -146,14 +142,13 @@ module _ (p : Program) (s : State) (pid : ℕ) (d : Doing) where
   show_kept false y = inr refl
 
   kernel_kept : (move : Move) → KeptOrShown (kernel_step p s pid d move)
-  kernel_kept stays = inl refl
   kernel_kept (enters m) = inl (enter_kept (is_anybody_inside m s.processes) m)
   kernel_kept (leaves m) = inl (in_kept s.gates (moved_to ready s pid d) m refl)
   kernel_kept (delays m) = inl (in_kept s.gates (moved_to (delayed m) s pid d) m refl)
   kernel_kept (continues m o) = inl (continue_kept (moved_to ready s pid d) m o refl)
   kernel_kept (starts c e) = inl (start_kept (process_of c (moved_to ready s pid d).processes) c e)
   kernel_kept (shows y) = show_kept (length s.output == output_room) y
-  kernel_kept ends = inl refl
+  kernel_kept _ = inl refl
 
 settled_kept : (p : Program) (s : State) (pid : ℕ) (o : Outcome Doing) → ((settled p s pid o).state.output ≡ s.output) ⊎ ((settled p s pid o).event ≡ display_event)
 settled_kept p s pid (Ok d) = kernel_kept p s pid d d.move

@@ -83,11 +83,7 @@ module _ (p : Program) (s : State) (pid : ℕ) (d : Doing) (is_ready : (process_
   by_move (leaves k) m z g ne e = both_ready k ne e refl (λ status b. b)
   by_move (continues k o) m z g ne e = both_ready k ne e refl (λ status b. b)
   by_move (delays k) m z g ne e = let_go k e refl (in_wakes k s.gates first z ne e)
-  by_move stays m z g ne e = absurd g
-  by_move (enters k) m z g ne e = absurd g
-  by_move (starts c x) m z g ne e = absurd g
-  by_move (shows x) m z g ne e = absurd g
-  by_move ends m z g ne e = absurd g
+  by_move _ m z g ne e = absurd g
 
   pub woken_by : (move : Move) (z : ℕ) → Woken move z (process_at (kernel_step p s pid d move).state.processes z)
   woken_by move z = go (kernel_changes p s pid d is_ready lines kept move first z)
@@ -104,11 +100,7 @@ module _ (p : Program) (s : State) (pid : ℕ) (d : Doing) (is_ready : (process_
   becomes_what (enters m) status (inr e) = inr (inl (subst IsAtGate (sym e) tt))
   becomes_what (delays m) status e = inr (inr (subst IsStuck (sym e) tt))
   becomes_what ends status e = inr (inr (subst IsStuck (sym e) tt))
-  becomes_what (leaves m) status e = inl e
-  becomes_what (continues m o) status e = inl e
-  becomes_what stays status e = inl e
-  becomes_what (starts c x) status e = inl e
-  becomes_what (shows x) status e = inl e
+  becomes_what _ status e = inl e
 
   -- its status afterwards; where nothing happened it is ready as before
   pub own_status : (move : Move) → (((process_at (kernel_step p s pid d move).state.processes pid).status ≡ ready) ⊎ Becomes move (process_at (kernel_step p s pid d move).state.processes pid).status)
@@ -132,11 +124,7 @@ module _ (p : Program) (s : State) (pid : ℕ) (d : Doing) (is_ready : (process_
   goes_call q line (leaves k) m g = refl
   goes_call q line (continues k o) m g = refl
   goes_call q line (delays k) m g = refl
-  goes_call q line stays m g = absurd g
-  goes_call q line (enters k) m g = absurd g
-  goes_call q line (starts c x) m g = absurd g
-  goes_call q line (shows x) m g = absurd g
-  goes_call q line ends m g = absurd g
+  goes_call q line _ m g = absurd g
 
   -- who ends is not ready afterwards
   end_move : (q line : ℕ) (move : Move) → event_of q line (kernel_step p s pid d move).event ≡ event.Ended → move ≡ ends

@@ -2,7 +2,7 @@
 use Rattle.std.proofs.Common.{◌≡◌, ℕ, ◌<◌, ◌≤◌, ◌∙◌, ◌⊎◌, inl, inr, Bool, true, false, List, [], ◌∷◌, length, Ok, Err, ap, sym, refl, subst, length-set}
 use Rattle.cp_tree.specs.Syntax.{Program}
 use Rattle.cp_meaning.specs.Outcome.{Outcome}
-use Rattle.cp_meaning.specs.State.{initialised, own_statement, initial_statement, local_routine, entry_routine, CallKind, Call, Item, statement_item, function_call, start_item, until, successor, return, init_end, end, ready, Process, process_at, first_gates, State}
+use Rattle.cp_meaning.specs.State.{initialised, initial_statement, CallKind, Call, Item, init_end, ready, Process, process_at, first_gates, State}
 use Rattle.cp_meaning.specs.Places.{View}
 use Rattle.cp_meaning.specs.Move.{Doing}
 use Rattle.cp_meaning.specs.LocalRules.{takes}
@@ -21,10 +21,8 @@ use Rattle.cp_at_once_laws.proofs.pairs.Holding.{calls_own}
 use Rattle.cp_at_once_laws.proofs.pairs.Merging.{SameOwners, MoveOwn, Fitting, DoneOwn, IsApart, IsTaken}
 
 started_top : (m n : ℕ) (k : CallKind) (fs : List Frame) → TopStarts m ((k, n) ∷ fs) → n ≡ m
-started_top m n own_statement fs h = absurd h
 started_top m n initial_statement fs h = h
-started_top m n local_routine fs h = absurd h
-started_top m n entry_routine fs h = absurd h
+started_top m n _ fs h = absurd h
 
 -- ---- the state of the other, and what is flagged
 
@@ -64,15 +62,8 @@ module _ (procs own ln : ℕ → Bool) (x : State) (p : Program) (s : State) (pi
     told n h = other.told n
 
     ends_of : (items : List Item) → ItemsFit (frames (o.call ∷ o.calls)) items → own o.call.component ≡ true → EndsOwn own ln x.components p o.call o.calls s.components pid other.size held_calls told items
-    ends_of [] f h = tt
     ends_of (init_end k ∷ items) f h = subst (λ j. own j ≡ true) (started_top k o.call.component o.call.kind (frames o.calls) f.0) h
-    ends_of (statement_item t ∷ items) f h = tt
-    ends_of (function_call at d es ∷ items) f h = tt
-    ends_of (start_item t ∷ items) f h = tt
-    ends_of (until ss e ∷ items) f h = tt
-    ends_of (successor at i z d b t ∷ items) f h = tt
-    ends_of (return r ∷ items) f h = tt
-    ends_of (end ∷ items) f h = tt
+    ends_of _ f h = tt
 
     top_held : (calls : List Call) → calls ≡ o.call ∷ o.calls → HeldCalls (first_components p) me.component calls → HeldBy (first_components p) me.component (frames calls) o.call.component
     top_held [] e h = absurd (let bad : [] ≡ o.call ∷ o.calls = e in cc)

@@ -1,5 +1,5 @@
 -- A quiet step of process a beside a step of another ready process b.
-use Rattle.std.proofs.Common.{◌≡◌, ◌≢◌, ℕ, ◌∙◌, ◌⊎◌, inl, inr, Bool, true, false, if◌then◌else◌, suc, List, [], ◌∷◌, length, Ok, Err, ap, sym, refl, subst}
+use Rattle.std.proofs.Common.{◌≡◌, ◌≢◌, ℕ, ◌∙◌, ◌⊎◌, inl, inr, Bool, true, false, if◌then◌else◌, suc, List, ◌∷◌, length, Ok, Err, ap, sym, refl, subst}
 use Rattle.cp_tree.specs.Syntax.{Program}
 use Rattle.cp_meaning.specs.Outcome.{Outcome}
 use Rattle.cp_meaning.specs.State.{component_at, is_inside, ready, Process, process_at, State}
@@ -14,12 +14,13 @@ use Rattle.cp_at_once_laws.proofs.pairs.Apart.{Other, itself, Leaves, Moves, apa
 use Rattle.cp_at_once_laws.proofs.pairs.Changes.{GoesFrom, Changes, kernel_changes, none_delayed, ready_same, moved_status}
 use Rattle.cp_at_once_laws.proofs.pairs.Facts.{done, Facts, AllFacts}
 use Rattle.cp_at_once_laws.proofs.pairs.Fit.{StartsKnown, Fits}
-use Rattle.cp_at_once_laws.proofs.pairs.Flags.{not_false, QuietDone, in_range, facts_of, open_of, facts_at, StillNot, moves_a, flagged_a, flagged_b, statuses_b, monitors_two}
+use Rattle.cp_at_once_laws.proofs.pairs.Flags.{QuietDone, in_range, facts_of, open_of, facts_at, StillNot, moves_a, flagged_a, flagged_b, statuses_b, monitors_two}
 use Rattle.cp_at_once_laws.proofs.pairs.Inside.{anybody_same}
 use Rattle.cp_at_once_laws.proofs.pairs.Merging.{mixed_processes, process_mixed, merged_step, IsApart}
 use Rattle.cp_at_once_laws.proofs.pairs.Shape.{is_failure, Stands, step_stands, kernel_shape, kernel_exact}
 use Rattle.cp_at_once_laws.proofs.pairs.Two.{flipped, silent, processes_self, Commute, after_other, after_flipped, two_steps}
 use Rattle.cp_at_once_laws.proofs.pairs.Unflagged.{Begun, begun_stays, inside_same, mine, ours, lines, moves_b}
+use Rattle.cp_machine.proofs.CallOutcomes.{not_false}
 
 -- a's step is no failure, enters no monitor, and changes no status
 pub record QuietHere (p : Program) (s : State) (a : ℕ) : Type 0 where
@@ -147,9 +148,8 @@ module _ (p : Program) (ok : IsWellFormed p) (rules : StartsKnown p) (s : State)
           mon = (subst (λ k. MoveFits s.components (frames (process_at s.processes b).calls) (frames db.calls) k) enter (facts_at p ok rules s f b db rb is).good.moves).0
 
           mixed_length : (g : ℕ → Bool) (ps xs : List Process) → length (mixed_processes g ps xs) ≡ length ps
-          mixed_length g [] xs = refl
-          mixed_length g (z ∷ ps) [] = refl
           mixed_length g (z ∷ ps) (w ∷ xs) = ap suc (mixed_length (λ n. g (suc n)) ps xs)
+          mixed_length g _ _ = refl
 
           each : (n : ℕ) (v : Bool) → is_inside m (if v then process_at s.processes n else process_at t.processes n) ≡ is_inside m (process_at s.processes n)
           each n true = refl

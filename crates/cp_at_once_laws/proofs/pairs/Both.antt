@@ -5,7 +5,7 @@ use Rattle.cp_tree.specs.Syntax.{Program}
 use Rattle.cp_meaning.specs.Outcome.{Outcome}
 use Rattle.cp_meaning.specs.State.{ready, process_at, State}
 use Rattle.cp_meaning.specs.Kernel.{kernel_step}
-use Rattle.cp_meaning.specs.Move.{Move, stays, enters, leaves, delays, continues, starts, shows, ends, Doing}
+use Rattle.cp_meaning.specs.Move.{Move, enters, leaves, delays, continues, Doing}
 use Rattle.cp_meaning.specs.Steps.{settled, step_of}
 use Rattle.cp_meaning.specs.WellFormed.{IsWellFormed}
 use Rattle.cp_meaning.proofs.Good.{status_at}
@@ -22,32 +22,16 @@ goes_decided : (move : Move) (m : ℕ) → GoesFrom move m ⊎ (GoesFrom move m 
 goes_decided (leaves k) m = cases_eq k m
 goes_decided (delays k) m = cases_eq k m
 goes_decided (continues k o) m = cases_eq k m
-goes_decided stays m = inr (λ h. h)
-goes_decided (enters k) m = inr (λ h. h)
-goes_decided (starts c e) m = inr (λ h. h)
-goes_decided (shows y) m = inr (λ h. h)
-goes_decided ends m = inr (λ h. h)
+goes_decided _ m = inr (λ h. h)
 
 entered_at : Move → Option ℕ
 entered_at (enters m) = Some m
-entered_at (leaves m) = None
-entered_at (delays m) = None
-entered_at (continues m o) = None
-entered_at stays = None
-entered_at (starts c e) = None
-entered_at (shows y) = None
-entered_at ends = None
+entered_at _ = None
 
 entered_told : (move : Move) (m : ℕ) → entered_at move ≡ Some m → move ≡ enters m
 unfolding entered_at
 entered_told (enters k) m h = ap enters (some_is k m h)
-entered_told (leaves k) m h = absurd (let bad : None ≡ Some m = h in cc)
-entered_told (delays k) m h = absurd (let bad : None ≡ Some m = h in cc)
-entered_told (continues k o) m h = absurd (let bad : None ≡ Some m = h in cc)
-entered_told stays m h = absurd (let bad : None ≡ Some m = h in cc)
-entered_told (starts c e) m h = absurd (let bad : None ≡ Some m = h in cc)
-entered_told (shows y) m h = absurd (let bad : None ≡ Some m = h in cc)
-entered_told ends m h = absurd (let bad : None ≡ Some m = h in cc)
+entered_told x m h = absurd (let bad : None ≡ Some m = h in cc)
 
 entered_is : (move : Move) (m : ℕ) → move ≡ enters m → entered_at move ≡ Some m
 unfolding entered_at

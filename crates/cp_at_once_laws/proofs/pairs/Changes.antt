@@ -1,5 +1,5 @@
 -- What a step changes: which processes, and how.
-use Rattle.std.proofs.Common.{◌≡◌, ◌≢◌, ℕ, ◌<◌, ◌≤◌, ◌==◌, ◌∙◌, ◌⊎◌, inl, inr, Bool, true, false, if◌then◌else◌, List, [], ◌∷◌, length, slice_set, Option, Some, None, ap, sym, refl, subst, eqb-true}
+use Rattle.std.proofs.Common.{◌≡◌, ◌≢◌, ℕ, ◌<◌, ◌≤◌, ◌==◌, ◌∙◌, ◌⊎◌, inl, inr, Bool, true, false, if◌then◌else◌, List, [], ◌∷◌, length, slice_set, Option, Some, None, ap, sym, refl, subst}
 use Rattle.cp_tree.specs.Syntax.{Program}
 use Rattle.cp_meaning.specs.Systems.{system_of}
 use Rattle.cp_meaning.specs.State.{Environment, component_at, Status, unstarted, ready, at_gate, delayed, ended, Process, process_at, no_process, Gates, first_gates, any_gates, Shown, State}
@@ -9,6 +9,7 @@ use Rattle.cp_meaning.proofs.Frames.{at_set}
 use Rattle.cp_meaning.proofs.KernelLaw.{delayed_told}
 use Rattle.cp_meaning.proofs.Orderly.{LineFits, line_at}
 use Rattle.cp_meaning.proofs.OwnKernel.{process_found}
+use Rattle.cp_refine.proofs.expressions.Members.{not_equal as different}
 
 -- ---- one process replaced
 
@@ -147,10 +148,7 @@ module _ (p : Program) (s : State) (pid : ℕ) (d : Doing) (is_ready : (process_
 
   as_here : (r c : ℕ) (e : Environment) (status : Status) → (process_at (moved_to ready s pid d).processes r).status ≡ status → (process_at (moved_to ready s pid d).processes r).component ≡ c → Here (starts c e) (starting_as p s pid d r status c e).state
   as_here r c e unstarted is owner = begun_here r c e is owner
-  as_here r c e ready is owner = nothing_here (starts c e)
-  as_here r c e (at_gate m) is owner = nothing_here (starts c e)
-  as_here r c e (delayed m) is owner = nothing_here (starts c e)
-  as_here r c e ended is owner = nothing_here (starts c e)
+  as_here r c e _ is owner = nothing_here (starts c e)
 
   start_here : (o : Option ℕ) (c : ℕ) (e : Environment) → process_of c (moved_to ready s pid d).processes ≡ o → Here (starts c e) (starting p s pid d o c e).state
   start_here None c e found = moved_at (starts c e) ready refl
@@ -172,23 +170,11 @@ module _ (p : Program) (s : State) (pid : ℕ) (d : Doing) (is_ready : (process_
 
 -- ---- what stays so
 
-different : (i j : ℕ) → (i ≡ j → ⊥) → (i == j) ≡ false
-different i j ne = go (i == j) refl
-  where
-    go : (b : Bool) → (i == j) ≡ b → (i == j) ≡ false
-    go true e = absurd (ne (eqb-true i j e))
-    go false e = e
-
 delayed_itself : (k : ℕ) (move : Move) (status : Status) → Becomes move status → ((m : ℕ) → GoesFrom move m → m ≢ k) → is_delayed_in k status ≡ false
 delayed_itself k (enters m) status (inl e) ne = ap (is_delayed_in k) e
 delayed_itself k (enters m) status (inr e) ne = ap (is_delayed_in k) e
 delayed_itself k (delays m) status e ne = ap (is_delayed_in k) e ∙ different m k (ne m refl)
-delayed_itself k ends status e ne = ap (is_delayed_in k) e
-delayed_itself k (leaves m) status e ne = ap (is_delayed_in k) e
-delayed_itself k (continues m o) status e ne = ap (is_delayed_in k) e
-delayed_itself k stays status e ne = ap (is_delayed_in k) e
-delayed_itself k (starts c x) status e ne = ap (is_delayed_in k) e
-delayed_itself k (shows y) status e ne = ap (is_delayed_in k) e
+delayed_itself k _ status e ne = ap (is_delayed_in k) e
 
 module _ (p : Program) (pid : ℕ) (d : Doing) (move : Move) (n : ℕ) where
   -- who is not delayed in another monitor is not so afterwards

@@ -1,5 +1,5 @@
 -- What is known of what an item of a ready process does.
-use Rattle.std.proofs.Common.{◌≡◌, ℕ, ◌<◌, ◌==◌, ◌∙◌, ◌⊎◌, inl, inr, Bool, true, false, if◌then◌else◌, List, [], ◌∷◌, ◌++◌, length, Option, Some, None, Ok, Err, ap, sym, refl, subst, arith, eqb-true}
+use Rattle.std.proofs.Common.{◌≡◌, ℕ, ◌<◌, ◌==◌, ◌∙◌, ◌⊎◌, inl, inr, Bool, true, false, if◌then◌else◌, List, [], ◌∷◌, ◌++◌, length, Option, Some, Ok, Err, ap, sym, refl, subst, arith, eqb-true}
 use Rattle.cp_tree.specs.declared.declaration.SystemKind.TheVariants as system_kind
 use Rattle.cp_tree.specs.Syntax.{Expressions, Program}
 use Rattle.cp_meaning.specs.Names.{Name}
@@ -7,7 +7,7 @@ use Rattle.cp_meaning.specs.Outcome.{Outcome}
 use Rattle.cp_meaning.specs.Declarations.{Parameter}
 use Rattle.cp_meaning.specs.Systems.{system_of}
 use Rattle.cp_meaning.specs.Components.{PathStep, step_down}
-use Rattle.cp_meaning.specs.State.{Holder, in_call, in_component, Place, Content, holds, refers, knows, Environment, initial_statement, initialised, Component, component_at, Call, ready, unstarted, Process, process_at, State}
+use Rattle.cp_meaning.specs.State.{Holder, in_call, in_component, Place, Content, knows, Environment, initial_statement, initialised, component_at, Call, ready, unstarted, Process, process_at, State}
 use Rattle.cp_meaning.specs.Places.{View, content_of, component_with, element_chosen, around_of, component_known, component_by}
 use Rattle.cp_meaning.specs.Calls.{of_system, bound}
 use Rattle.cp_meaning.specs.Move.{Move, Doing, stays, enters, leaves, delays, continues, starts, shows, ends}
@@ -87,9 +87,6 @@ module _ (p : Program) (s : State) (pid : ℕ) where
     pub open_calls : Open
     open_calls = open_of me.calls refl nonempty
 
-    base : List Component
-    base = first_components p
-
     -- ---- what is started
 
     module _ (c : Call) (calls : List Call) (e : me.calls ≡ c ∷ calls) where
@@ -114,9 +111,7 @@ module _ (p : Program) (s : State) (pid : ℕ) where
 
       known_near : (n : ℕ) (q : Place) (o : Option Content) → q.holder ≡ in_component n → n ≡ c.component → content_of q.name (permanents_at s.components n) ≡ o → (d : ℕ) → d ≡ component_known view q o → d < length (first_components p) → kind_at (first_components p) d ≡ system_kind.Process → Near d
       known_near n q (Some (knows k)) h here is d same l process = absurd (unknown n k q.name is (subst (λ j. j < length (first_components p)) same l) (sym (ap (kind_at (first_components p)) same) ∙ process))
-      known_near n q (Some (holds w)) h here is d same l process = contained_near n q.name (element_chosen q.choices) d here (same ∙ ap (λ k. component_with (step_down (around_of view k) q.name (element_chosen q.choices)) s.components) h) l
-      known_near n q (Some (refers r)) h here is d same l process = contained_near n q.name (element_chosen q.choices) d here (same ∙ ap (λ k. component_with (step_down (around_of view k) q.name (element_chosen q.choices)) s.components) h) l
-      known_near n q None h here is d same l process = contained_near n q.name (element_chosen q.choices) d here (same ∙ ap (λ k. component_with (step_down (around_of view k) q.name (element_chosen q.choices)) s.components) h) l
+      known_near n q _ h here is d same l process = contained_near n q.name (element_chosen q.choices) d here (same ∙ ap (λ k. component_with (step_down (around_of view k) q.name (element_chosen q.choices)) s.components) h) l
 
       by_near : (q : Place) (h : Holder) → q.holder ≡ h → (d : ℕ) → d ≡ component_by view q h → d < length (first_components p) → kind_at (first_components p) d ≡ system_kind.Process → Near d
       by_near q (in_call b) e d same l process = past d same l
@@ -167,23 +162,13 @@ module _ (p : Program) (s : State) (pid : ℕ) where
 
       gives_none : (gs : List Frame) (m : Move) → FromHere p c calls s.components pid NoProcess gs m → GivesNone m
       gives_none gs (starts d x) h = h.1
-      gives_none gs (leaves m) h = tt
-      gives_none gs (delays m) h = tt
-      gives_none gs (continues m o) h = tt
-      gives_none gs stays h = tt
-      gives_none gs (enters m) h = tt
-      gives_none gs (shows x) h = tt
-      gives_none gs ends h = tt
+      gives_none gs _ h = tt
 
       from_held : (gs : List Frame) (m : Move) → FromHere p c calls s.components pid NoProcess gs m → (n : ℕ) → GoesFrom m n → HeldBy (first_components p) me.component (frames (c ∷ calls)) n
       from_held gs (leaves m) h n g = subst (HeldBy (first_components p) me.component (frames (c ∷ calls))) (h ∙ g) held.0
       from_held gs (delays m) h n g = subst (HeldBy (first_components p) me.component (frames (c ∷ calls))) (h.0 ∙ g) held.0
       from_held gs (continues m o) h n g = subst (HeldBy (first_components p) me.component (frames (c ∷ calls))) (h ∙ g) held.0
-      from_held gs (starts d x) h n g = absurd g
-      from_held gs stays h n g = absurd g
-      from_held gs (enters m) h n g = absurd g
-      from_held gs (shows x) h n g = absurd g
-      from_held gs ends h n g = absurd g
+      from_held gs _ h n g = absurd g
 
       starting_of : (gs : List Frame) (m : Move) → FromHere p c calls s.components pid NoProcess gs m → (d : ℕ) (x : Environment) → m ≡ starts d x → d < length (first_components p) → kind_at (first_components p) d ≡ system_kind.Process →
           (t : PathStep) × (path_at (first_components p) d ≡ path_at (first_components p) me.component ++ t ∷ [])

@@ -1,5 +1,5 @@
 -- What of a state is process a's, for its next step: what it holds; who waits at the monitor that its call goes out of, and the line of this monitor; whom it starts. And that none of this is another ready process's.
-use Rattle.std.proofs.Common.{◌≡◌, ◌≢◌, ℕ, ◌<◌, ◌==◌, ◌∙◌, ◌⊎◌, inl, inr, Bool, true, false, ◌||◌, not, if◌then◌else◌, zero, suc, List, [], ◌∷◌, ◌++◌, length, Option, Some, None, Ok, Err, ap, sym, refl, subst, arith, eqb-true, eq-eqb}
+use Rattle.std.proofs.Common.{◌≡◌, ◌≢◌, ℕ, ◌<◌, ◌==◌, ◌∙◌, ◌⊎◌, inl, inr, Bool, true, false, ◌||◌, not, if◌then◌else◌, zero, suc, List, [], ◌∷◌, length, Option, Some, None, Ok, ap, sym, refl, subst, arith, eqb-true, eq-eqb}
 use Rattle.cp_tree.specs.declared.declaration.SystemKind.TheVariants as system_kind
 use Rattle.cp_tree.specs.Syntax.{Program}
 use Rattle.cp_meaning.specs.Components.{around}
@@ -20,10 +20,12 @@ use Rattle.cp_at_once_laws.proofs.pairs.Apart.{Flagged}
 use Rattle.cp_at_once_laws.proofs.pairs.Changes.{GoesFrom, moved_status, moved_component}
 use Rattle.cp_at_once_laws.proofs.pairs.Facts.{done, Facts, AllFacts, Open, open_calls, facts}
 use Rattle.cp_at_once_laws.proofs.pairs.Fit.{StartsKnown, Fits}
-use Rattle.cp_at_once_laws.proofs.pairs.Holding.{or_left, held_true, held_told, of_a, never_both, statuses_left, initial_held}
+use Rattle.cp_at_once_laws.proofs.pairs.Holding.{held_true, held_told, of_a, never_both, statuses_left, initial_held}
 use Rattle.cp_at_once_laws.proofs.pairs.Merging.{HeadOwn, MoveOwn, WokenOwn, StartedOwn}
 use Rattle.cp_at_once_laws.proofs.pairs.Two.{flipped}
 use Rattle.cp_at_once_laws.proofs.pairs.Shape.{is_failure, starts_fresh}
+use Rattle.cp_resolved.proofs.names.PermanentNames.{left_true as or_left}
+use Rattle.cp_refine.proofs.expressions.Members.{not_equal as different}
 
 -- ---- flags
 
@@ -60,62 +62,34 @@ goes_from (enters m) n = false
 goes_from (shows y) n = false
 goes_from ends n = false
 
-pub different : (i j : ℕ) → (i ≡ j → ⊥) → (i == j) ≡ false
-different i j ne = go (i == j) refl
-  where
-    go : (b : Bool) → (i == j) ≡ b → (i == j) ≡ false
-    go true e = absurd (ne (eqb-true i j e))
-    go false e = e
-
 touched_waits : (move : Move) (z : Process) (m : ℕ) → GoesFrom move m → waits_at m z.status ≡ true → touched move z ≡ true
 touched_waits (leaves k) z m g h = ap (λ j. waits_at j z.status) g ∙ h
 touched_waits (delays k) z m g h = ap (λ j. waits_at j z.status) g ∙ h
 touched_waits (continues k o) z m g h = ap (λ j. waits_at j z.status) g ∙ h
-touched_waits (starts c e) z m g h = absurd g
-touched_waits stays z m g h = absurd g
-touched_waits (enters k) z m g h = absurd g
-touched_waits (shows y) z m g h = absurd g
-touched_waits ends z m g h = absurd g
+touched_waits _ z m g h = absurd g
 
 pub untouched : (move : Move) (z : Process) → ((m : ℕ) → GoesFrom move m → waits_at m z.status ≡ false) → ((c : ℕ) (e : Environment) → move ≡ starts c e → z.component ≡ c → ⊥) → touched move z ≡ false
 untouched (leaves k) z h g = h k refl
 untouched (delays k) z h g = h k refl
 untouched (continues k o) z h g = h k refl
 untouched (starts c e) z h g = different z.component c (g c e refl)
-untouched stays z h g = refl
-untouched (enters k) z h g = refl
-untouched (shows y) z h g = refl
-untouched ends z h g = refl
+untouched _ z h g = refl
 
 pub goes_told : (move : Move) (m : ℕ) → GoesFrom move m → goes_from move m ≡ true
 goes_told (leaves k) m g = eq-eqb k m g
 goes_told (delays k) m g = eq-eqb k m g
 goes_told (continues k o) m g = eq-eqb k m g
-goes_told (starts c e) m g = absurd g
-goes_told stays m g = absurd g
-goes_told (enters k) m g = absurd g
-goes_told (shows y) m g = absurd g
-goes_told ends m g = absurd g
+goes_told _ m g = absurd g
 
 pub goes_not : (move : Move) (k : ℕ) → ((m : ℕ) → GoesFrom move m → m ≢ k) → goes_from move k ≡ false
 goes_not (leaves m) k h = different m k (h m refl)
 goes_not (delays m) k h = different m k (h m refl)
 goes_not (continues m o) k h = different m k (h m refl)
-goes_not (starts c e) k h = refl
-goes_not stays k h = refl
-goes_not (enters m) k h = refl
-goes_not (shows y) k h = refl
-goes_not ends k h = refl
+goes_not _ k h = refl
 
 pub starts_not : (move : Move) (n : ℕ) → ((c : ℕ) (e : Environment) → move ≡ starts c e → n ≡ c → ⊥) → starts_at move n ≡ false
 starts_not (starts c e) n h = different n c (h c e refl)
-starts_not (leaves m) n h = refl
-starts_not (delays m) n h = refl
-starts_not (continues m o) n h = refl
-starts_not stays n h = refl
-starts_not (enters m) n h = refl
-starts_not (shows y) n h = refl
-starts_not ends n h = refl
+starts_not _ n h = refl
 
 -- what a flag for a started component says
 abbrev StartedAt : Move → ℕ → Type 0
@@ -123,20 +97,10 @@ StartedAt move n = (c : ℕ) × ((e : Environment) × ((move ≡ starts c e) × 
 
 pub starts_told : (move : Move) (n : ℕ) → starts_at move n ≡ true → StartedAt move n
 starts_told (starts c e) n h = (c, (e, (refl, eqb-true n c h)))
-starts_told (leaves m) n h = absurd (let bad : false ≡ true = h in cc)
-starts_told (delays m) n h = absurd (let bad : false ≡ true = h in cc)
-starts_told (continues m o) n h = absurd (let bad : false ≡ true = h in cc)
-starts_told stays n h = absurd (let bad : false ≡ true = h in cc)
-starts_told (enters m) n h = absurd (let bad : false ≡ true = h in cc)
-starts_told (shows y) n h = absurd (let bad : false ≡ true = h in cc)
-starts_told ends n h = absurd (let bad : false ≡ true = h in cc)
+starts_told x n h = absurd (let bad : false ≡ true = h in cc)
 
 pub both_false : (x y : Bool) → x ≡ false → y ≡ false → not (x || y) ≡ true
 both_false x y h k = ap (λ z. not (z || y)) h ∙ ap not k
-
-pub not_false : (x : Bool) → not x ≡ false → x ≡ true
-not_false true h = refl
-not_false false h = absurd (let bad : true ≡ false = h in cc)
 
 some_is_not_none : (n : ℕ) → Some n ≡ None → ⊥
 some_is_not_none n h = cc
@@ -291,21 +255,16 @@ module _ (p : Program) (ok : IsWellFormed p) (rules : StartsKnown p) (s : State)
               let there = process_found c (moved_to ready s a da).processes r found in
               inl (or_right (r == a) _ (ap (λ m. touched m (process_at s.processes r)) is ∙ eq-eqb _ c (sym (moved_component s a da r) ∙ there.1)), or_right (of c) _ (ap (λ m. starts_at m c) is ∙ eq-eqb c c refl))
 
-      abbrev Out : Move → ℕ → Type 0
-      Out move m = (da.move ≡ move) × GoesFrom move m
-
       out_here : (move : Move) (m : ℕ) → da.move ≡ move → GoesFrom move m → GoesFrom da.move m
       out_here move m is g = subst (λ k. GoesFrom k m) (sym is) g
 
       pub moves_a : (X : State) → StillNot X da a → (move : Move) → da.move ≡ move → MoveOwn procs own ln X s a da move
-      moves_a X still stays is = tt
-      moves_a X still (shows v) is = tt
-      moves_a X still ends is = tt
       moves_a X still (enters m) is = absurd (quiet.no_enter m is)
       moves_a X still (leaves m) is = let g = out_here (leaves m) m is refl in (goes_told da.move m g, line_flagged X m g)
       moves_a X still (delays m) is = let g = out_here (delays m) m is refl in (goes_told da.move m g, line_flagged X m g)
       moves_a X still (continues m o) is = let g = out_here (continues m o) m is refl in (goes_told da.move m g, line_flagged X m g, woken_flagged X m o still g)
       moves_a X still (starts c e) is = started_flagged X c e is
+      moves_a X still _ is = tt
 
       -- ---- what b needs is not flagged
 

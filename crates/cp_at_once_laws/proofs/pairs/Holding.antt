@@ -1,5 +1,5 @@
 -- What a process holds can be told, and of two that are ready neither holds what the other one does.
-use Rattle.std.proofs.Common.{◌≡◌, ◌≢◌, ℕ, ◌<◌, ◌==◌, ◌∙◌, ◌⊎◌, inl, inr, Bool, true, false, ◌||◌, ◌&&◌, not, List, [], ◌∷◌, length, ap, sym, refl, subst, eqb-true, eq-eqb}
+use Rattle.std.proofs.Common.{◌≡◌, ◌≢◌, ℕ, ◌<◌, ◌==◌, ◌∙◌, ◌⊎◌, inl, inr, Bool, true, false, ◌||◌, ◌&&◌, List, [], ◌∷◌, length, ap, sym, refl, subst, eqb-true, eq-eqb}
 use Rattle.cp_tree.specs.declared.declaration.SystemKind.{SystemKind}
 use Rattle.cp_tree.specs.declared.declaration.SystemKind.TheVariants as system_kind
 use Rattle.cp_tree.specs.Syntax.{Program}
@@ -13,6 +13,9 @@ use Rattle.cp_meaning.proofs.Orderly.{inside_from, Orderly}
 use Rattle.cp_meaning.proofs.ComponentTree.{kind_at, SameTree}
 use Rattle.cp_meaning.proofs.Held.{HeldBy, HeldPlace, HeldCalls, held_more}
 use Rattle.cp_at_once_laws.proofs.reading.Reading.{OwnPlace, OwnCalls}
+use Rattle.cp_resolved.proofs.names.PermanentNames.{left_true as or_left}
+use Rattle.cp_resolved.proofs.components.ComponentImages.{both as and_parts}
+use Rattle.cp_resolved.proofs.declarations.StandingParts.{both_of as and_both}
 
 abbrev is_monitor : SystemKind → Bool
 is_monitor system_kind.Monitor = true
@@ -21,24 +24,11 @@ is_monitor system_kind.Process = false
 
 monitor_told : (k : SystemKind) → is_monitor k ≡ true → k ≡ system_kind.Monitor
 monitor_told system_kind.Monitor h = refl
-monitor_told system_kind.Class h = absurd (let bad : false ≡ true = h in cc)
-monitor_told system_kind.Process h = absurd (let bad : false ≡ true = h in cc)
+monitor_told x h = absurd (let bad : false ≡ true = h in cc)
 
 -- as HeldBy says it
 abbrev pub is_held : List Component → ℕ → List Frame → ℕ → Bool
 is_held base me fs n = (owner_of base n == me) || (is_monitor (kind_at base (owner_of base n)) && (entry_in (owner_of base n) fs || initial_in (owner_of base n) fs))
-
-pub or_left : (a b : Bool) → a ≡ true → (a || b) ≡ true
-or_left true b h = refl
-or_left false b h = absurd (let bad : false ≡ true = h in cc)
-
-and_both : (a b : Bool) → a ≡ true → b ≡ true → (a && b) ≡ true
-and_both true b h k = k
-and_both false b h k = absurd (let bad : false ≡ true = h in cc)
-
-and_parts : (a b : Bool) → (a && b) ≡ true → (a ≡ true) × (b ≡ true)
-and_parts true b h = (refl, h)
-and_parts false b h = absurd (let bad : false ≡ true = h in cc)
 
 pub held_true : (base : List Component) (me : ℕ) (fs : List Frame) (n : ℕ) → HeldBy base me fs n → is_held base me fs n ≡ true
 held_true base me fs n (inl e) = or_left (owner_of base n == me) _ (eq-eqb (owner_of base n) me e)
@@ -96,16 +86,6 @@ module _ (base : List Component) (s : State) (tree : SameTree base s.components)
   -- the flags: what a holds
   abbrev pub of_a : ℕ → Bool
   of_a n = is_held base x.component (frames x.calls) n
-
-  none_of_b : (n : ℕ) → HeldBy base y.component (frames y.calls) n → (t : Bool) → of_a n ≡ t → not t ≡ true
-  none_of_b n h true e = absurd (never_both n (held_told base x.component (frames x.calls) n e) h)
-  none_of_b n h false e = refl
-
-  pub calls_of_a : HeldCalls base x.component x.calls → OwnCalls of_a x.calls
-  calls_of_a h = calls_own of_a base x.component x.calls (λ n k. held_true base x.component (frames x.calls) n k) h
-
-  pub calls_of_b : HeldCalls base y.component y.calls → OwnCalls (λ n. not (of_a n)) y.calls
-  calls_of_b h = calls_own (λ n. not (of_a n)) base y.component y.calls (λ n k. none_of_b n k (of_a n) refl) h
 
   -- ---- b's item leaves the statuses of what a holds
 

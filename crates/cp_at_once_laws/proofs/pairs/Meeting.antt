@@ -5,7 +5,7 @@ use Rattle.cp_tree.specs.declared.declaration.SystemKind.TheVariants as system_k
 use Rattle.cp_tree.specs.Syntax.{Program}
 use Rattle.cp_meaning.specs.State.{component_at, initialising, initialised, is_inside, waits_at, Status, unstarted, ready, at_gate, delayed, Process, process_at, Gates, first_gates, any_gates, State}
 use Rattle.cp_meaning.specs.Kernel.{enter_event, Stepped, line_of, with_line_of, moved_to, with_process_status, made_ready, first_in, one_in, let_in, is_anybody_inside, entering, is_delayed_in, continuing, kernel_step}
-use Rattle.cp_meaning.specs.Move.{Move, stays, enters, leaves, delays, continues, starts, shows, ends, Doing}
+use Rattle.cp_meaning.specs.Move.{Move, enters, leaves, delays, continues, starts, Doing}
 use Rattle.cp_meaning.specs.Steps.{settled, step_of}
 use Rattle.cp_meaning.specs.WellFormed.{IsWellFormed}
 use Rattle.cp_meaning.proofs.Frames.{frames, entry_in, initial_in}
@@ -27,19 +27,14 @@ use Rattle.cp_at_once_laws.proofs.pairs.Merging.{merged, MoveOwn, IsApart, taken
 use Rattle.cp_at_once_laws.proofs.pairs.Shape.{is_failure, kernel_exact, static_of}
 use Rattle.cp_at_once_laws.proofs.pairs.Two.{AllStatic, flipped, silent, processes_self, others_state, others_flipped}
 
-every : ℕ → Bool
-every n = true
-
 -- the same with every line flagged
 every_line : (procs own ln : ℕ → Bool) (X s : State) (a : ℕ) (d : Doing) (move : Move) → MoveOwn procs own ln X s a d move → MoveOwn procs own (λ n. true) X s a d move
-every_line procs own ln X s a d stays h = tt
-every_line procs own ln X s a d (shows v) h = tt
-every_line procs own ln X s a d ends h = tt
 every_line procs own ln X s a d (enters k) h = (h.0, refl)
 every_line procs own ln X s a d (leaves k) h = (refl, h.1)
 every_line procs own ln X s a d (delays k) h = (refl, h.1)
 every_line procs own ln X s a d (continues k o) h = (refl, h.1, h.2)
 every_line procs own ln X s a d (starts c e) h = h
+every_line procs own ln X s a d _ h = tt
 
 module _ (p : Program) (ok : IsWellFormed p) (rules : StartsKnown p) (s : State) (f : Fits p s) (a b : ℕ) (ne : a ≢ b) (ra : (process_at s.processes a).status ≡ ready) (rb : (process_at s.processes b).status ≡ ready) (da : Doing) (quiet : QuietDone p s a da)
     (db : Doing) (is_b : done p s b ≡ Ok db) (m : ℕ) (ga : GoesFrom da.move m) (eb : db.move ≡ enters m) where
@@ -92,11 +87,7 @@ module _ (p : Program) (ok : IsWellFormed p) (rules : StartsKnown p) (s : State)
       go : (entry_in m (frames (process_at s.processes a).calls) ≡ true) ⊎ (initial_in m (frames (process_at s.processes a).calls) ≡ true) → entry_in m (frames (process_at s.processes a).calls) ≡ true
       go (inl e) = e
       go (inr e) = absurd (not_initial a la e)
-  entered_now stays g h = absurd g
-  entered_now (enters k) g h = absurd g
-  entered_now (starts c e) g h = absurd g
-  entered_now (shows v) g h = absurd g
-  entered_now ends g h = absurd g
+  entered_now _ g h = absurd g
 
   occupied : is_anybody_inside m s.processes ≡ true
   occupied = anybody_true m s.processes a la (inside_from m (process_at s.processes a) (entered_now da.move ga fact_a.good.moves) (ap (waits_at m) ra))
@@ -145,9 +136,6 @@ module _ (p : Program) (ok : IsWellFormed p) (rules : StartsKnown p) (s : State)
 
   s_mixed : silent S ≡ merged (flipped P) (flipped O) nothing S s
   s_mixed = others_flipped P O (λ n. true) p s a f.shown (stands p ok rules s f a ra).shape apart_a
-
-  b_after : State → Doing
-  b_after v = also_mixed (flipped O) nothing v.components db
 
   then_b_does : step_of p (silent S) b ≡ kernel_step p (silent S) b (also_mixed (flipped O) nothing S.components db) (enters m)
   then_b_does =
@@ -265,11 +253,7 @@ module _ (p : Program) (ok : IsWellFormed p) (rules : StartsKnown p) (s : State)
   same_orders (continues k o) e g =
       let fits = subst (MoveFits s.components (frames (process_at s.processes a).calls) (frames da.calls)) (e ∙ ap (λ j. continues j o) g) fact_a.good.moves in
       subst (λ j. enters_after (continuing (moved ready) j o) ≡ silent (continuing (both ready) j o)) (sym g) (continue_case o (orderly_now ready fits.0) (nobody_left p s a f.orderly.orderly f.free la ra da da.move fact_a.good m fits.1 at_monitor))
-  same_orders stays e g = absurd g
-  same_orders (enters k) e g = absurd g
-  same_orders (starts c v) e g = absurd g
-  same_orders (shows v) e g = absurd g
-  same_orders ends e g = absurd g
+  same_orders _ e g = absurd g
 
   -- ---- and so all of it
 
@@ -281,11 +265,7 @@ module _ (p : Program) (ok : IsWellFormed p) (rules : StartsKnown p) (s : State)
   same_event (leaves k) g v d = refl
   same_event (delays k) g v d = refl
   same_event (continues k o) g v d = refl
-  same_event stays g v d = absurd g
-  same_event (enters k) g v d = absurd g
-  same_event (starts c e) g v d = absurd g
-  same_event (shows y) g v d = absurd g
-  same_event ends g v d = absurd g
+  same_event _ g v d = absurd g
 
   in_output : (g : Gates) (v : State) (k : ℕ) → (let_in g v k).output ≡ v.output
   in_output g v k = go g
@@ -295,9 +275,8 @@ module _ (p : Program) (ok : IsWellFormed p) (rules : StartsKnown p) (s : State)
       first (h ∷ line) = refl
 
       one : (line : List ℕ) → (one_in line v k).output ≡ v.output
-      one [] = refl
       one (h ∷ []) = refl
-      one (h ∷ r ∷ line) = refl
+      one _ = refl
 
       go : (g : Gates) → (let_in g v k).output ≡ v.output
       go first_gates = first (line_of v k)
@@ -315,11 +294,7 @@ module _ (p : Program) (ok : IsWellFormed p) (rules : StartsKnown p) (s : State)
   out_output (leaves k) g v d = in_output v.gates (moved_to ready v a d) k
   out_output (delays k) g v d = in_output v.gates (moved_to (delayed k) v a d) k
   out_output (continues k o) g v d = continue_output (moved_to ready v a d) k o
-  out_output stays g v d = absurd g
-  out_output (enters k) g v d = absurd g
-  out_output (starts c e) g v d = absurd g
-  out_output (shows y) g v d = absurd g
-  out_output ends g v d = absurd g
+  out_output _ g v d = absurd g
 
   enter_output : (w : Bool) (v : State) (d : Doing) → (entering w v b m d).output ≡ v.output
   enter_output true v d = refl

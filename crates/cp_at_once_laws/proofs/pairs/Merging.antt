@@ -7,7 +7,7 @@ use Rattle.cp_meaning.specs.State.{Environment, initialised, Component, componen
 use Rattle.cp_meaning.specs.Places.{View, with_permanents}
 use Rattle.cp_meaning.specs.Move.{Move, stays, enters, leaves, delays, continues, starts, shows, ends, Doing}
 use Rattle.cp_meaning.specs.LocalRules.{takes}
-use Rattle.cp_meaning.specs.Kernel.{Event, fault_event, start_event, display_event, Stepped, output_room, with_line, with_line_of, line_of, moved_to, with_process_status, made_ready, first_in, let_in, is_anybody_inside, entering, is_delayed_in, continuing, after, process_of, begun, with_begun, starting_as, starting, displaying, kernel_step}
+use Rattle.cp_meaning.specs.Kernel.{fault_event, start_event, display_event, Stepped, output_room, with_line, with_line_of, line_of, moved_to, with_process_status, made_ready, first_in, let_in, is_anybody_inside, entering, is_delayed_in, continuing, after, process_of, begun, with_begun, starting_as, starting, displaying, kernel_step}
 use Rattle.cp_meaning.specs.Steps.{view_of, settled, step_of}
 use Rattle.cp_meaning.proofs.Good.{status_at}
 use Rattle.cp_at_once_laws.proofs.reading.Mixed.{one_of, mix, mix_at, mix_set, mix_system}
@@ -27,20 +27,18 @@ none_either false = refl
 
 pub process_mixed : (own : ℕ → Bool) (ps xs : List Process) (n : ℕ) → length ps ≡ length xs → process_at (mixed_processes own ps xs) n ≡ (if own n then process_at ps n else process_at xs n)
 process_mixed own [] [] n e = none_either (own n)
-process_mixed own [] (x ∷ xs) n e = absurd (omega arith)
-process_mixed own (p ∷ ps) [] n e = absurd (omega arith)
 process_mixed own (p ∷ ps) (x ∷ xs) zero e = refl
 process_mixed own (p ∷ ps) (x ∷ xs) (suc n) e = process_mixed (λ n. own (suc n)) ps xs n (omega arith)
+process_mixed own x y n e = absurd (omega arith)
 
 pub process_own : (own : ℕ → Bool) (ps xs : List Process) (n : ℕ) → length ps ≡ length xs → own n ≡ true → process_at (mixed_processes own ps xs) n ≡ process_at ps n
 process_own own ps xs n e h = process_mixed own ps xs n e ∙ ap (λ b. if b then process_at ps n else process_at xs n) h
 
 pub set_process : (own : ℕ → Bool) (ps xs : List Process) (k : ℕ) (z : Process) → own k ≡ true → slice_set (mixed_processes own ps xs) k z ≡ mixed_processes own (slice_set ps k z) xs
-set_process own [] xs k z h = refl
 set_process own (p ∷ ps) [] zero z h = refl
-set_process own (p ∷ ps) [] (suc k) z h = refl
 set_process own (p ∷ ps) (x ∷ xs) zero z h = ap (λ b. (if b then z else x) ∷ mixed_processes (λ n. own (suc n)) ps xs) (sym h)
 set_process own (p ∷ ps) (x ∷ xs) (suc k) z h = ap (λ l. (if own 0 then p else x) ∷ l) (set_process (λ n. own (suc n)) ps xs k z h)
+set_process own _ _ _ z h = refl
 
 same_component : (b : Bool) (p x : Process) → x.component ≡ p.component → (if b then p else x).component ≡ p.component
 same_component true p x e = refl
@@ -51,11 +49,10 @@ abbrev pub SameOwners : List Process → List Process → Type 0
 SameOwners ps xs = (n : ℕ) → (process_at xs n).component ≡ (process_at ps n).component
 
 process_of_mixed : (own : ℕ → Bool) (d : ℕ) (ps xs : List Process) → SameOwners ps xs → process_of d (mixed_processes own ps xs) ≡ process_of d ps
-process_of_mixed own d [] xs same = refl
-process_of_mixed own d (p ∷ ps) [] same = refl
 process_of_mixed own d (p ∷ ps) (x ∷ xs) same =
     ap (λ c. if c == d then Some 0 else after (process_of d (mixed_processes (λ n. own (suc n)) ps xs))) (same_component (own 0) p x (same 0)) ∙
     ap (λ o. if p.component == d then Some 0 else after o) (process_of_mixed (λ n. own (suc n)) d ps xs (λ n. same (suc n)))
+process_of_mixed own d _ _ same = refl
 
 -- ---- lines
 
@@ -83,9 +80,6 @@ module _ (procs own ln : ℕ → Bool) (x : State) where
 
   abbrev doing : Doing → Doing
   doing d = also_mixed own ln x.components d
-
-  with_two : State → List Process → List Component → State
-  with_two s ps cs = record { processes = ps; components = cs; output = s.output; gates = s.gates; pending = s.pending }
 
   moved_merged : (status : Status) (s : State) (pid : ℕ) (d : Doing) → length s.processes ≡ length x.processes → procs pid ≡ true → moved_to status (merged s) pid (doing d) ≡ merged (moved_to status s pid d)
   moved_merged status s pid d e h =
@@ -158,10 +152,7 @@ module _ (procs own ln : ℕ → Bool) (x : State) where
 
   start_as_merged : (p : Program) (s : State) (pid : ℕ) (d : Doing) (r c : ℕ) (e : Environment) (status : Status) → length s.processes ≡ length x.processes → length d.components ≡ length x.components → procs pid ≡ true → procs r ≡ true → own c ≡ true → starting_as p (merged s) pid (doing d) r status c e ≡ merged_step (starting_as p s pid d r status c e)
   start_as_merged p s pid d r c e unstarted n size h g k = ap (λ t. let y : Stepped = record { state = t; event = start_event } in y) (ap (λ t. with_begun p t r c e) (moved_merged ready s pid d n h) ∙ begun_merged p (moved_to ready s pid d) r c e size g k)
-  start_as_merged p s pid d r c e ready n size h g k = refl
-  start_as_merged p s pid d r c e (at_gate j) n size h g k = refl
-  start_as_merged p s pid d r c e (delayed j) n size h g k = refl
-  start_as_merged p s pid d r c e ended n size h g k = refl
+  start_as_merged p s pid d r c e _ n size h g k = refl
 
   -- a process that has begun is not started
   abbrev pub HasBegun : Status → Type 0
@@ -178,10 +169,7 @@ module _ (procs own ln : ℕ → Bool) (x : State) where
 
   begun_twice : (p : Program) (s : State) (pid : ℕ) (d : Doing) (r c : ℕ) (e : Environment) (status : Status) → HasBegun status → starting_as p s pid d r status c e ≡ (let y : Stepped = record { state = s; event = fault_event init_twice } in y)
   begun_twice p s pid d r c e unstarted h = absurd h
-  begun_twice p s pid d r c e ready h = refl
-  begun_twice p s pid d r c e (at_gate j) h = refl
-  begun_twice p s pid d r c e (delayed j) h = refl
-  begun_twice p s pid d r c e ended h = refl
+  begun_twice p s pid d r c e _ h = refl
 
   either_begun : (b : Bool) (y z : Process) → HasBegun y.status → HasBegun z.status → HasBegun (if b then y else z).status
   either_begun true y z h g = h

@@ -18,6 +18,7 @@ use Rattle.cp_meaning.proofs.OwnKernel.{OwnedState}
 use Rattle.cp_at_once_laws.proofs.pairs.Facts.{Facts, AllFacts, done, facts}
 use Rattle.cp_at_once_laws.proofs.pairs.Fit.{StartsKnown, ProcessesUnknown}
 use Rattle.cp_at_once_laws.proofs.pairs.Shape.{kernel_shape}
+use Rattle.cp_resolved.proofs.frames.LeastCells.{right_true as and_right}
 
 -- ---- statuses by rank
 
@@ -28,14 +29,9 @@ rank initialised = 2
 
 pub rank_same : (a b : ComponentStatus) → rank a ≡ rank b → a ≡ b
 rank_same uninitialised uninitialised e = refl
-rank_same uninitialised initialising e = absurd (omega (arith, e))
-rank_same uninitialised initialised e = absurd (omega (arith, e))
-rank_same initialising uninitialised e = absurd (omega (arith, e))
 rank_same initialising initialising e = refl
-rank_same initialising initialised e = absurd (omega (arith, e))
-rank_same initialised uninitialised e = absurd (omega (arith, e))
-rank_same initialised initialising e = absurd (omega (arith, e))
 rank_same initialised initialised e = refl
+rank_same x y e = absurd (omega (arith, e))
 
 -- ---- no open call is the initial statement of a process
 
@@ -50,9 +46,6 @@ deeper cs me (initial_statement, n) (g ∷ fs) d b = (let less = d.0 in let rest
 not_mine : (cs : List Component) (me : ℕ) (fs : List Frame) → Descends cs fs → Bottom me fs → initial_in me fs ≡ true → ⊥
 not_mine cs me [] d b e = cc
 not_mine cs me ((own_statement, n) ∷ []) d b e = cc
-not_mine cs me ((local_routine, n) ∷ []) d b e = d
-not_mine cs me ((entry_routine, n) ∷ []) d b e = d
-not_mine cs me ((initial_statement, n) ∷ []) d b e = d
 not_mine cs me ((own_statement, n) ∷ g ∷ fs) d b e = d.0
 not_mine cs me ((local_routine, n) ∷ g ∷ fs) d b e = not_mine cs me (g ∷ fs) d.1 b e
 not_mine cs me ((entry_routine, n) ∷ g ∷ fs) d b e = not_mine cs me (g ∷ fs) d.1 b e
@@ -64,10 +57,7 @@ not_mine cs me ((initial_statement, n) ∷ g ∷ fs) d b e = go (or_cases (n == 
         let most = deeper cs me g fs d.1 b in
         omega (arith, less, most)
     go (inr h) later = later h
-
-and_right : (a b : Bool) → (a && b) ≡ true → b ≡ true
-and_right true b h = h
-and_right false b h = cc
+not_mine cs me _ d b e = d
 
 initial_held : (base : List Component) (me m : ℕ) (calls : List Call) → HeldCalls base me calls → initial_in m (frames calls) ≡ true → HeldBy base me (frames calls) m
 initial_held base me m [] h e = absurd (let bad : false ≡ true = e in cc)

@@ -90,10 +90,7 @@ module _ (p : Program) (s : State) (pid : ℕ) (d : Doing) where
         pending = refl;
         status = λ n. inl ((permanents_kept d.components c (e ++ (component_at d.components c).environment)).status n);
       }
-  as_shape r c e ready = nothing_shape
-  as_shape r c e (at_gate m) = nothing_shape
-  as_shape r c e (delayed m) = nothing_shape
-  as_shape r c e ended = nothing_shape
+  as_shape r c e _ = nothing_shape
 
   start_shape : (o : Option ℕ) (c : ℕ) (e : Environment) → Here (starting p s pid d o c e).state
   start_shape None c e = moved_shape ready
@@ -149,10 +146,7 @@ module _ (p : Program) (s : State) (pid : ℕ) (d : Doing) where
 
   as_exact : (r c : ℕ) (e : Environment) (status : Status) → Unless (starting_as p s pid d r status c e)
   as_exact r c e unstarted h = λ n. (permanents_kept d.components c (e ++ (component_at d.components c).environment)).status n
-  as_exact r c e ready h = never h
-  as_exact r c e (at_gate m) h = never h
-  as_exact r c e (delayed m) h = never h
-  as_exact r c e ended h = never h
+  as_exact r c e _ h = never h
 
   start_exact : (o : Option ℕ) (c : ℕ) (e : Environment) → Unless (starting p s pid d o c e)
   start_exact None c e h = λ n. refl
@@ -163,22 +157,18 @@ module _ (p : Program) (s : State) (pid : ℕ) (d : Doing) where
   show_exact false y h = λ n. refl
 
   pub kernel_exact : (move : Move) → s.gates ≡ first_gates → Unless (kernel_step p s pid d move)
-  kernel_exact stays first h = λ n. refl
   kernel_exact (enters m) first h = enter_exact (is_anybody_inside m s.processes) m
   kernel_exact (leaves m) first h = in_exact s.gates (moved_to ready s pid d) m first (λ n. refl)
   kernel_exact (delays m) first h = in_exact s.gates (moved_to (delayed m) s pid d) m first (λ n. refl)
   kernel_exact (continues m o) first h = continue_exact (moved_to ready s pid d) m o first (λ n. refl)
   kernel_exact (starts c e) first h = start_exact (process_of c (moved_to ready s pid d).processes) c e h
   kernel_exact (shows y) first h = show_exact (length s.output == output_room) y h
-  kernel_exact ends first h = λ n. refl
+  kernel_exact _ first h = λ n. refl
 
   -- who is started was unstarted
   started_fresh : (r c : ℕ) (e : Environment) (status : Status) → is_failure (starting_as p s pid d r status c e).event ≡ false → status ≡ unstarted
   started_fresh r c e unstarted h = refl
-  started_fresh r c e ready h = never h
-  started_fresh r c e (at_gate m) h = never h
-  started_fresh r c e (delayed m) h = never h
-  started_fresh r c e ended h = never h
+  started_fresh r c e _ h = never h
 
   pub starts_fresh : (o : Option ℕ) (c r : ℕ) (e : Environment) → o ≡ Some r → is_failure (starting p s pid d o c e).event ≡ false → (process_at (moved_to ready s pid d).processes r).status ≡ unstarted
   starts_fresh None c r e is h = absurd (let bad : None ≡ Some r = is in cc)

@@ -40,9 +40,8 @@ first_stays n [] s m r = r
 first_stays n (q ∷ line) s m r = replaced_ready s.processes q _ n refl r
 
 one_stays : (n : ℕ) (line : List ℕ) (s : State) (m : ℕ) → Stays n s (one_in line s m)
-one_stays n [] s m r = r
 one_stays n (q ∷ []) s m r = replaced_ready s.processes q _ n refl r
-one_stays n (q ∷ k ∷ line) s m r = r
+one_stays n _ s m r = r
 
 in_stays : (n : ℕ) (g : Gates) (s : State) (m : ℕ) → Stays n s (let_in g s m)
 in_stays n first_gates s m = first_stays n (line_of s m) s m
@@ -62,10 +61,7 @@ module _ (n : ℕ) (p : Program) (s : State) (pid : ℕ) (ne : n ≢ pid) (d : D
 
   as_stays : (r c : ℕ) (e : Environment) (status : Status) → Stays n s (starting_as p s pid d r status c e).state
   as_stays r c e unstarted h = replaced_ready (moved_to ready s pid d).processes r _ n refl (moved_stays ready h)
-  as_stays r c e ready h = h
-  as_stays r c e (at_gate m) h = h
-  as_stays r c e (delayed m) h = h
-  as_stays r c e ended h = h
+  as_stays r c e _ h = h
 
   start_stays : (o : Option ℕ) (c : ℕ) (e : Environment) → Stays n s (starting p s pid d o c e).state
   start_stays None c e = moved_stays ready

@@ -38,26 +38,23 @@ AllStatic cs xs = (n : ℕ) → SameStatic (component_at cs n) (component_at xs 
 
 pub mix_flip : (own ln : ℕ → Bool) (cs xs : List Component) → length cs ≡ length xs → AllStatic cs xs → mix own ln cs xs ≡ mix (λ n. not (own n)) (λ n. not (ln n)) xs cs
 mix_flip own ln [] [] e same = refl
-mix_flip own ln [] (x ∷ xs) e same = absurd (omega arith)
-mix_flip own ln (c ∷ cs) [] e same = absurd (omega arith)
 mix_flip own ln (c ∷ cs) (x ∷ xs) e same =
     ap (λ y. y ∷ mix (λ n. own (suc n)) (λ n. ln (suc n)) cs xs) (one_flip (own 0) (ln 0) c x (same 0)) ∙
     ap (λ l. one_of (not (own 0)) (not (ln 0)) x c ∷ l) (mix_flip (λ n. own (suc n)) (λ n. ln (suc n)) cs xs (omega arith) (λ n. same (suc n)))
+mix_flip own ln x y e same = absurd (omega arith)
 
 pub processes_flip : (own : ℕ → Bool) (ps xs : List Process) → length ps ≡ length xs → mixed_processes own ps xs ≡ mixed_processes (λ n. not (own n)) xs ps
 processes_flip own [] [] e = refl
-processes_flip own [] (x ∷ xs) e = absurd (omega arith)
-processes_flip own (p ∷ ps) [] e = absurd (omega arith)
 processes_flip own (p ∷ ps) (x ∷ xs) e =
     ap (λ y. y ∷ mixed_processes (λ n. own (suc n)) ps xs) (other_if (own 0) p x) ∙
     ap (λ l. (if not (own 0) then x else p) ∷ l) (processes_flip (λ n. own (suc n)) ps xs (omega arith))
+processes_flip own x y e = absurd (omega arith)
 
 -- what is mixed with itself
 one_self : (own ln : Bool) (c : Component) → one_of own ln c c ≡ c
 one_self true true c = refl
-one_self true false c = refl
-one_self false true c = refl
 one_self false false c = refl
+one_self _ _ c = refl
 
 mix_self : (own ln : ℕ → Bool) (cs : List Component) → mix own ln cs cs ≡ cs
 mix_self own ln [] = refl
@@ -129,10 +126,6 @@ pub after_other : (procs own ln : ℕ → Bool) (p : Program) (s : State) (a b :
     step_of p (silent (step_of p s b).state) a ≡ merged_step procs own ln (step_of p s b).state (step_of p s a)
 after_other procs own ln p s a b out shape apart_a apart_b =
     ap (λ t. step_of p t a) (others_state procs own ln p s b out shape apart_b) ∙ step_merged procs own ln (step_of p s b).state p s a apart_a
-
-not_not : (b : Bool) → not (not b) ≡ b
-not_not true = refl
-not_not false = refl
 
 pub two_steps : (procs own ln : ℕ → Bool) (p : Program) (s : State) (a b : ℕ) → s.output ≡ [] → SameShape s (step_of p s a).state → SameShape s (step_of p s b).state →
     step_of p (silent (step_of p s b).state) a ≡ merged_step procs own ln (step_of p s b).state (step_of p s a) →

@@ -2,7 +2,7 @@
 use Rattle.std.proofs.Common.{◌≡◌, ◌≢◌, ℕ, ◌<◌, ◌==◌, ◌∙◌, ◌⊎◌, inl, inr, Bool, true, false, ◌&&◌, not, List, [], ◌∷◌, length, Option, Some, None, Ok, ap, sym, refl, subst, length-set}
 use Rattle.cp_tree.specs.declared.declaration.SystemKind.TheVariants as system_kind
 use Rattle.cp_tree.specs.Syntax.{Program}
-use Rattle.cp_meaning.specs.State.{Environment, Component, component_at, own_statement, Status, unstarted, ready, at_gate, delayed, ended, Process, process_at, State, is_inside, waits_at}
+use Rattle.cp_meaning.specs.State.{Environment, Component, Status, unstarted, ready, at_gate, delayed, ended, Process, process_at, State, is_inside, waits_at}
 use Rattle.cp_meaning.specs.Kernel.{moved_to, is_anybody_inside, is_delayed_in, process_of}
 use Rattle.cp_meaning.specs.Move.{Move, stays, enters, leaves, delays, continues, starts, shows, ends, Doing}
 use Rattle.cp_meaning.specs.Steps.{first_components}
@@ -16,11 +16,12 @@ use Rattle.cp_meaning.proofs.OwnKernel.{process_found}
 use Rattle.cp_at_once_laws.proofs.pairs.Changes.{GoesFrom, Becomes, Changes, same, itself, woken, begins, left_by, moved_status, moved_component}
 use Rattle.cp_at_once_laws.proofs.pairs.Facts.{done, Facts}
 use Rattle.cp_at_once_laws.proofs.pairs.Fit.{StartsKnown, Fits}
-use Rattle.cp_at_once_laws.proofs.pairs.Flags.{touched, starts_at, different, untouched, goes_not, starts_not, both_false, QuietDone, in_range, facts_at, holds_own, of, x, y, procs, own, ln, fa, not_started, StillNot, monitors_two, one_starts}
+use Rattle.cp_at_once_laws.proofs.pairs.Flags.{touched, starts_at, untouched, goes_not, starts_not, both_false, QuietDone, in_range, facts_at, holds_own, of, x, procs, own, ln, fa, not_started, StillNot, monitors_two, one_starts}
 use Rattle.cp_at_once_laws.proofs.pairs.Holding.{held_told}
 use Rattle.cp_at_once_laws.proofs.pairs.Inside.{mover_same, woken_same}
 use Rattle.cp_at_once_laws.proofs.pairs.Merging.{mixed_processes, HeadOwn, HasBegun, MoveOwn, WokenOwn, StartedOwn}
 use Rattle.cp_at_once_laws.proofs.pairs.Two.{flipped}
+use Rattle.cp_refine.proofs.expressions.Members.{not_equal as different}
 
 -- ---- who has begun
 
@@ -33,21 +34,12 @@ Begun ended = Unit {0}
 
 begun_or : (status : Status) → (status ≡ unstarted) ⊎ Begun status
 begun_or unstarted = inl refl
-begun_or ready = inr tt
-begun_or (at_gate j) = inr tt
-begun_or (delayed j) = inr tt
-begun_or ended = inr tt
+begun_or _ = inr tt
 
 becomes_begun : (move : Move) (status : Status) → Becomes move status → Begun status
 becomes_begun (enters m) status (inl e) = subst Begun (sym e) tt
 becomes_begun (enters m) status (inr e) = subst Begun (sym e) tt
-becomes_begun (delays m) status e = subst Begun (sym e) tt
-becomes_begun ends status e = subst Begun (sym e) tt
-becomes_begun (leaves m) status e = subst Begun (sym e) tt
-becomes_begun (continues m o) status e = subst Begun (sym e) tt
-becomes_begun stays status e = subst Begun (sym e) tt
-becomes_begun (starts c x) status e = subst Begun (sym e) tt
-becomes_begun (shows y) status e = subst Begun (sym e) tt
+becomes_begun _ status e = subst Begun (sym e) tt
 
 pub begun_stays : (p : Program) (pid : ℕ) (d : Doing) (move : Move) (n : ℕ) (was now : Process) → Changes p pid d move n was now → Begun was.status → Begun now.status
 begun_stays p pid d move n was now (same e) h = subst Begun (sym (ap (λ z. z.status) e)) h
@@ -61,21 +53,13 @@ none_entered : (cs : List Component) (d : Doing) (old : List Rattle.cp_meaning.p
 none_entered cs d old stays h ne = h
 none_entered cs d old (shows v) h ne = h
 none_entered cs d old ends h ne = h
-none_entered cs d old (starts c e) h ne = h.0
 none_entered cs d old (enters m) h ne = absurd (ne m refl)
-none_entered cs d old (leaves m) h ne = h.0
-none_entered cs d old (continues m o) h ne = h.0
-none_entered cs d old (delays m) h ne = h.0
+none_entered cs d old _ h ne = h.0
 
 itself_free : (k : ℕ) (move : Move) (status : Status) → Becomes move status → ((m : ℕ) → move ≡ enters m → ⊥) → ((m : ℕ) → GoesFrom move m → m ≢ k) → waits_at k status ≡ false
 itself_free k (enters m) status e ne h = absurd (ne m refl)
 itself_free k (delays m) status e ne h = ap (waits_at k) e ∙ different m k (h m refl)
-itself_free k ends status e ne h = ap (waits_at k) e
-itself_free k (leaves m) status e ne h = ap (waits_at k) e
-itself_free k (continues m o) status e ne h = ap (waits_at k) e
-itself_free k stays status e ne h = ap (waits_at k) e
-itself_free k (starts c x) status e ne h = ap (waits_at k) e
-itself_free k (shows v) status e ne h = ap (waits_at k) e
+itself_free k _ status e ne h = ap (waits_at k) e
 
 module _ (p : Program) (ok : IsWellFormed p) (rules : StartsKnown p) (s : State) (f : Fits p s) (a b : ℕ) (ne : a ≢ b) (ra : (process_at s.processes a).status ≡ ready) (rb : (process_at s.processes b).status ≡ ready) (da : Doing) (quiet : QuietDone p s a da) where
   abbrev pub mine : ℕ → Bool
@@ -109,9 +93,6 @@ module _ (p : Program) (ok : IsWellFormed p) (rules : StartsKnown p) (s : State)
   module _ (db : Doing) (is_b : done p s b ≡ Ok db) where
     fb : Facts p s b db
     fb = facts_at p ok rules s f b db rb is_b
-
-    begun_not : (n : ℕ) → Begun (process_at s.processes n).status → (process_at s.processes n).status ≡ unstarted → ⊥
-    begun_not n h e = subst Begun e h
 
     -- who waits at b's monitor
     waits_free : (k n : ℕ) → GoesFrom db.move k → n < length s.processes → ((process_at s.processes n).status ≡ at_gate k) ⊎ ((process_at s.processes n).status ≡ delayed k) → flipped ours n ≡ true
@@ -159,10 +140,7 @@ module _ (p : Program) (ok : IsWellFormed p) (rules : StartsKnown p) (s : State)
 
       begun_in : (status : Status) → Begun status → HasBegun (flipped ours) (flipped mine) (flipped lines) X status
       begun_in unstarted h = absurd h
-      begun_in ready h = tt
-      begun_in (at_gate j) h = tt
-      begun_in (delayed j) h = tt
-      begun_in ended h = tt
+      begun_in _ h = tt
 
       started_free : (c : ℕ) (e : Environment) → db.move ≡ starts c e → AllBegun → StartedOwn (flipped ours) (flipped mine) (flipped lines) X (moved_to ready s b db) c (process_of c (moved_to ready s b db).processes)
       started_free c e is all = go (process_of c (moved_to ready s b db).processes) refl
@@ -212,11 +190,9 @@ module _ (p : Program) (ok : IsWellFormed p) (rules : StartsKnown p) (s : State)
       NoMeeting = (m : ℕ) → db.move ≡ enters m → GoesFrom da.move m → ⊥
 
       pub moves_b : StillNot p ok rules s f a b ne ra rb da quiet X db b → AllBegun → SameInside → NoMeeting → (move : Move) → db.move ≡ move → MoveOwn (flipped ours) (flipped mine) (flipped lines) X s b db move
-      moves_b still all inside apart stays is = tt
-      moves_b still all inside apart (shows v) is = tt
-      moves_b still all inside apart ends is = tt
       moves_b still all inside apart (enters m) is = (inside m is, ap not (goes_not da.move m (λ k g e. apart m is (subst (GoesFrom da.move) e g))))
       moves_b still all inside apart (leaves m) is = let g : GoesFrom db.move m = subst (λ k. GoesFrom k m) (sym is) refl in (goes_free m g, line_free m g)
       moves_b still all inside apart (delays m) is = let g : GoesFrom db.move m = subst (λ k. GoesFrom k m) (sym is) refl in (goes_free m g, line_free m g)
       moves_b still all inside apart (continues m o) is = let g : GoesFrom db.move m = subst (λ k. GoesFrom k m) (sym is) refl in (goes_free m g, line_free m g, woken_free m o still g)
       moves_b still all inside apart (starts c e) is = started_free c e is all
+      moves_b still all inside apart _ is = tt

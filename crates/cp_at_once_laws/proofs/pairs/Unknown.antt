@@ -4,9 +4,9 @@ use Rattle.cp_tree.specs.Syntax.{Program}
 use Rattle.cp_meaning.specs.Outcome.{Outcome}
 use Rattle.cp_meaning.specs.Names.{Name}
 use Rattle.cp_meaning.specs.Components.{components_of}
-use Rattle.cp_meaning.specs.State.{knows, Environment, component_at, Status, unstarted, ready, at_gate, delayed, ended, process_at, Gates, first_gates, any_gates, Shown, State}
+use Rattle.cp_meaning.specs.State.{knows, Environment, component_at, Status, unstarted, ready, at_gate, delayed, process_at, Gates, first_gates, any_gates, Shown, State}
 use Rattle.cp_meaning.specs.Places.{content_of}
-use Rattle.cp_meaning.specs.Move.{Move, stays, enters, leaves, delays, continues, starts, shows, ends, Doing}
+use Rattle.cp_meaning.specs.Move.{Move, enters, leaves, delays, continues, starts, shows, Doing}
 use Rattle.cp_meaning.specs.Kernel.{output_room, line_of, with_line_of, moved_to, made_ready, first_in, let_in, is_anybody_inside, entering, is_delayed_in, continuing, process_of, starting_as, starting, displaying, kernel_step}
 use Rattle.cp_meaning.specs.Steps.{first_components, opening, settled, step_of}
 use Rattle.cp_meaning.specs.WellFormed.{IsWellFormed}
@@ -53,10 +53,7 @@ module _ (p : Program) (s : State) (pid : ℕ) (d : Doing) (known : Known (λ n 
       go : (k : ℕ) (x : Name) → (content_of x e ≡ Some (knows k)) ⊎ (content_of x (component_at d.components c).environment ≡ Some (knows k)) → NoProcess p s pid k
       go k x (inl f) = h k x f
       go k x (inr f) = known c k x f
-  as_none r c e ready h = old
-  as_none r c e (at_gate m) h = old
-  as_none r c e (delayed m) h = old
-  as_none r c e ended h = old
+  as_none r c e _ h = old
 
   start_none : (o : Option ℕ) (c : ℕ) (e : Environment) → GivesNone p s pid (starts c e) → None' (starting p s pid d o c e).state
   start_none None c e h = known
@@ -67,14 +64,13 @@ module _ (p : Program) (s : State) (pid : ℕ) (d : Doing) (known : Known (λ n 
   show_none false y = known
 
   kernel_none : (move : Move) → s.gates ≡ first_gates → GivesNone p s pid move → None' (kernel_step p s pid d move).state
-  kernel_none stays first h = known
   kernel_none (enters m) first h = enter_none (is_anybody_inside m s.processes) m
   kernel_none (leaves m) first h = in_none s.gates (moved_to ready s pid d) m first known
   kernel_none (delays m) first h = in_none s.gates (moved_to (delayed m) s pid d) m first known
   kernel_none (continues m o) first h = continue_none (moved_to ready s pid d) m o first known
   kernel_none (starts c e) first h = start_none (process_of c (moved_to ready s pid d).processes) c e h
   kernel_none (shows y) first h = show_none (length s.output == output_room) y
-  kernel_none ends first h = known
+  kernel_none _ first h = known
 
 settled_unknown : (p : Program) (s : State) (pid : ℕ) (o : Outcome Doing) → s.gates ≡ first_gates → AllFacts p s pid o → ProcessesUnknown p s → ProcessesUnknown p (settled p s pid o).state
 settled_unknown p s pid (Ok d) first f old = kernel_none p s pid d f.known.0 old d.move first f.known.1

@@ -8,7 +8,7 @@ use Rattle.cp_meaning.specs.Systems.{system_of}
 use Rattle.cp_meaning.specs.State.{Component, component_at, Call, Environment, Status, unstarted, ready, at_gate, delayed, ended, Process, process_at, Gates, first_gates, State}
 use Rattle.cp_meaning.specs.Places.{View}
 use Rattle.cp_meaning.specs.Calls.{bound}
-use Rattle.cp_meaning.specs.Move.{Move, stays, enters, leaves, delays, continues, starts, shows, ends, Doing}
+use Rattle.cp_meaning.specs.Move.{Move, enters, delays, ends, Doing}
 use Rattle.cp_meaning.specs.LocalRules.{takes}
 use Rattle.cp_meaning.specs.Kernel.{kernel_step}
 use Rattle.cp_meaning.specs.Steps.{first_components, unstarted_process, process_first, processes_from, own_begun, opening, settled, step_of}
@@ -48,17 +48,15 @@ fresh_rest x ps h = λ q. h (suc q)
 
 fresh_first : (k : SystemKind) (n : ℕ) (ps : List Process) → AllFresh ps → AllFresh (process_first k n ps)
 fresh_first system_kind.Process n ps h = fresh_more (unstarted_process n) ps (inl (refl, refl)) h
-fresh_first system_kind.Class n ps h = h
-fresh_first system_kind.Monitor n ps h = h
+fresh_first _ n ps h = h
 
 fresh_from : (cs : List Component) (n : ℕ) → AllFresh (processes_from n cs)
 fresh_from [] n = fresh_none
 fresh_from (c ∷ cs) n = fresh_first c.kind n (processes_from (suc n) cs) (fresh_from cs (suc n))
 
 fresh_begun : (p : Program) (cs : List Component) (ps : List Process) → AllFresh ps → AllFresh (own_begun p cs ps)
-fresh_begun p [] ps h = h
-fresh_begun p (c ∷ cs) [] h = h
 fresh_begun p (c ∷ cs) (x ∷ ps) h = fresh_more _ ps (inr refl) (fresh_rest x ps h)
+fresh_begun p _ _ h = h
 
 fresh_waits : (cs : List Component) (x : Process) → Fresh x → Waits cs x
 fresh_waits cs x (inl h) = record { delayed_inside = λ m mon e. (let bad : unstarted ≡ delayed m = sym h.0 ∙ e in absurd cc); unstarted_outside = λ e. h.1 }
@@ -78,18 +76,11 @@ never_unstarted (enters m) status (inl h) e = (let bad : ready ≡ unstarted = s
 never_unstarted (enters m) status (inr h) e = (let bad : at_gate m ≡ unstarted = sym h ∙ e in absurd cc)
 never_unstarted (delays m) status h e = (let bad : delayed m ≡ unstarted = sym h ∙ e in absurd cc)
 never_unstarted ends status h e = (let bad : ended ≡ unstarted = sym h ∙ e in absurd cc)
-never_unstarted (leaves m) status h e = (let bad : ready ≡ unstarted = sym h ∙ e in absurd cc)
-never_unstarted (continues m o) status h e = (let bad : ready ≡ unstarted = sym h ∙ e in absurd cc)
-never_unstarted stays status h e = (let bad : ready ≡ unstarted = sym h ∙ e in absurd cc)
-never_unstarted (starts c x) status h e = (let bad : ready ≡ unstarted = sym h ∙ e in absurd cc)
-never_unstarted (shows y) status h e = (let bad : ready ≡ unstarted = sym h ∙ e in absurd cc)
+never_unstarted x status h e = (let bad : ready ≡ unstarted = sym h ∙ e in absurd cc)
 
 queue_of : Status → ℕ
 queue_of (delayed n) = n
-queue_of unstarted = 0
-queue_of ready = 0
-queue_of (at_gate n) = 0
-queue_of ended = 0
+queue_of _ = 0
 
 same_queue : (m j : ℕ) → delayed m ≡ delayed j → m ≡ j
 unfolding queue_of
@@ -100,11 +91,7 @@ delays_there (enters k) status m (inl h) e = (let bad : ready ≡ delayed m = sy
 delays_there (enters k) status m (inr h) e = (let bad : at_gate k ≡ delayed m = sym h ∙ e in absurd cc)
 delays_there (delays k) status m h e = ap delays (same_queue k m (sym h ∙ e))
 delays_there ends status m h e = (let bad : ended ≡ delayed m = sym h ∙ e in absurd cc)
-delays_there (leaves k) status m h e = (let bad : ready ≡ delayed m = sym h ∙ e in absurd cc)
-delays_there (continues k o) status m h e = (let bad : ready ≡ delayed m = sym h ∙ e in absurd cc)
-delays_there stays status m h e = (let bad : ready ≡ delayed m = sym h ∙ e in absurd cc)
-delays_there (starts c x) status m h e = (let bad : ready ≡ delayed m = sym h ∙ e in absurd cc)
-delays_there (shows y) status m h e = (let bad : ready ≡ delayed m = sym h ∙ e in absurd cc)
+delays_there x status m h e = (let bad : ready ≡ delayed m = sym h ∙ e in absurd cc)
 
 -- anything may be known
 abbrev Any : ℕ → Type 0

@@ -1,11 +1,11 @@
 -- An item of a process reads only variables that are its own.
 use Rattle.std.proofs.Common.{◌≡◌, ℕ, ◌-◌, ◌==◌, ◌∙◌, ℤ, Bool, true, false, if◌then◌else◌, List, [], ◌∷◌, length, Option, Some, None, Ok, Err, ap, sym, refl, arith, eq-eqb}
-use Rattle.cp_tree.specs.Syntax.{Expression, alone, related, Sum, sum, Terms, no_terms, more_terms, Term, term, Factors, no_factors, more_factors, Factor, number, character, named, group, negated, set_of, Expressions, no_expressions, more_expressions, Designator, designator, Selectors, no_selectors, more_selectors, Selector, field, index, Program}
+use Rattle.cp_tree.specs.Syntax.{Expression, alone, related, Sum, sum, Terms, no_terms, more_terms, Term, term, Factors, no_factors, more_factors, Factor, named, group, negated, set_of, Expressions, no_expressions, more_expressions, Designator, designator, Selectors, no_selectors, more_selectors, Selector, field, index, Program}
 use Rattle.cp_meaning.specs.Names.{Name}
 use Rattle.cp_meaning.specs.Outcome.{ErrorName, Outcome, ◌>>=◌}
 use Rattle.cp_meaning.specs.Types.{Ty, ordinal, queue_type, set_over, array_over, record_with, component_of, is_within}
 use Rattle.cp_meaning.specs.Values.{number_of}
-use Rattle.cp_meaning.specs.Scopes.{Meaning, constant_meaning, type_meaning, local_variable, permanent_variable, routine_meaning, standard_meaning, find}
+use Rattle.cp_meaning.specs.Scopes.{Meaning, constant_meaning, local_variable, permanent_variable, standard_meaning, find}
 use Rattle.cp_meaning.specs.Declarations.{Parameter}
 use Rattle.cp_meaning.specs.State.{Holder, in_call, in_component, Place, Content, holds, refers, knows, Component, component_at, Call}
 use Rattle.cp_meaning.specs.Places.{View, Target, content_of, call_above, environment_of, this_call, plain_place, referred, target_meant, target_named, value_at, value_held, component_with, element_chosen, around_of, component_known, component_by, component_there}
@@ -50,19 +50,13 @@ module _ (own ln : ℕ → Bool) (xs : List Component) (p : Program) (c : Call) 
   this_is = rw (eq-eqb (length calls) (length (c ∷ calls) - 1) (omega arith)) refl
 
   referred_own : (o : Option Content) (x : Name) → content_of x c.environment ≡ o → OwnPlace own (referred o (plain_place (this_call v) x)).holder
-  referred_own None x e = tt
-  referred_own (Some (holds w)) x e = tt
   referred_own (Some (refers q)) x e = held.1 x q e
-  referred_own (Some (knows n)) x e = tt
+  referred_own _ x e = tt
 
   meant_own : (x : Name) (o : Option Meaning) → OwnPlace own (target_meant v x o).place.holder
-  meant_own x None = tt
   meant_own x (Some (permanent_variable t)) = held.0
   meant_own x (Some (local_variable t)) = referred_own (content_of x (environment_of v (this_call v))) x (ap (λ k. content_of x k.environment) (sym this_is))
-  meant_own x (Some (routine_meaning r)) = tt
-  meant_own x (Some (constant_meaning b z)) = tt
-  meant_own x (Some (type_meaning t)) = tt
-  meant_own x (Some (standard_meaning s)) = tt
+  meant_own x _ = tt
 
   pub named_own : (x : Name) → OwnPlace own (target_named v x).place.holder
   named_own x = meant_own x (find x c.scope)
@@ -76,12 +70,8 @@ module _ (own ln : ℕ → Bool) (xs : List Component) (p : Program) (c : Call) 
   target_if false t e h = tt
 
   element_own : (u : Ty) (t : Target) (z : ℤ) → OwnPlace own t.place.holder → OwnTarget (with_element_of u t z)
-  element_own (ordinal r) t z h = h
-  element_own queue_type t z h = h
-  element_own (set_over r) t z h = h
-  element_own (record_with ts) t z h = h
-  element_own (component_of k) t z h = h
   element_own (array_over r u) t z h = target_if (is_within r z) _ _ h
+  element_own _ t z h = h
 
   bind_target : {A : Type 0} (o : Outcome A) (f : A → Outcome Target) → ((a : A) → OwnTarget (f a)) → OwnTarget (o >>= f)
   bind_target (Ok a) f h = h a
@@ -112,13 +102,8 @@ module _ (own ln : ℕ → Bool) (xs : List Component) (p : Program) (c : Call) 
   read_same q h = ap (λ e. part_at (value_held (content_of q.name e)) q.choices) (environment_same q.holder h)
 
   meant_same : (x : Name) (o : Option Meaning) → target_meant m x o ≡ target_meant v x o
-  meant_same x None = refl
   meant_same x (Some (permanent_variable t)) = refl
-  meant_same x (Some (local_variable t)) = refl
-  meant_same x (Some (routine_meaning r)) = refl
-  meant_same x (Some (constant_meaning b z)) = refl
-  meant_same x (Some (type_meaning t)) = refl
-  meant_same x (Some (standard_meaning s)) = refl
+  meant_same x _ = refl
 
   pub named_same : (x : Name) → target_named m x ≡ target_named v x
   named_same x = meant_same x (find x c.scope)
@@ -129,13 +114,9 @@ module _ (own ln : ℕ → Bool) (xs : List Component) (p : Program) (c : Call) 
 
   name_same : (at : ℕ) (d : Designator) (b : Bool) (o : Option Meaning) (t : Outcome Target) (a : Outcome Typed) → OwnTarget t → named_value m at d b o t a ≡ named_value v at d b o t a
   name_same at d true o t a h = refl
-  name_same at d false None t a h = place_bound t h
   name_same at d false (Some (constant_meaning b z)) t a h = refl
   name_same at d false (Some (standard_meaning s)) t a h = refl
-  name_same at d false (Some (type_meaning u)) t a h = place_bound t h
-  name_same at d false (Some (local_variable u)) t a h = place_bound t h
-  name_same at d false (Some (permanent_variable u)) t a h = place_bound t h
-  name_same at d false (Some (routine_meaning r)) t a h = place_bound t h
+  name_same at d false _ t a h = place_bound t h
 
   mutual
     pub value_same : (e : Expression) → value m e ≡ value v e
@@ -157,8 +138,6 @@ module _ (own ln : ℕ → Bool) (xs : List Component) (p : Program) (c : Call) 
     factors_same (more_factors op f fs) x = bind_same (factor_value m f) (factor_value v f) _ _ (factor_same f) (λ y. bind_same (multiplied_values op x.value y.value) (multiplied_values op x.value y.value) _ _ refl (λ z. factors_same fs z))
 
     factor_same : (f : Factor) → factor_value m f ≡ factor_value v f
-    factor_same (number at n) = refl
-    factor_same (character at k) = refl
     factor_same (named at d es) =
         ap (λ t. named_value m at d (is_call c.scope d) (meaning_here m d) t (first_value m es)) (target_same d) ∙
         ap (λ a. named_value m at d (is_call c.scope d) (meaning_here m d) (target_value v d) a) (first_same es) ∙
@@ -166,6 +145,7 @@ module _ (own ln : ℕ → Bool) (xs : List Component) (p : Program) (c : Call) 
     factor_same (group at e) = value_same e
     factor_same (negated at f) = bind_same (factor_value m f) (factor_value v f) _ _ (factor_same f) (λ x. refl)
     factor_same (set_of at es) = bind_same (members_value m es []) (members_value v es []) _ _ (members_same es []) (λ ns. refl)
+    factor_same _ = refl
 
     members_same : (es : Expressions) (ns : List ℕ) → members_value m es ns ≡ members_value v es ns
     members_same no_expressions ns = refl
@@ -194,9 +174,7 @@ module _ (own ln : ℕ → Bool) (xs : List Component) (p : Program) (c : Call) 
 
   known_same : (q : Place) (o : Option Content) → component_known m q o ≡ component_known v q o
   known_same q (Some (knows n)) = refl
-  known_same q (Some (holds w)) = ap (λ a. component_with (step_down a q.name (element_chosen q.choices)) (mix own ln cs xs)) (around_same q.holder) ∙ mix_with own ln _ cs xs
-  known_same q (Some (refers r)) = ap (λ a. component_with (step_down a q.name (element_chosen q.choices)) (mix own ln cs xs)) (around_same q.holder) ∙ mix_with own ln _ cs xs
-  known_same q None = ap (λ a. component_with (step_down a q.name (element_chosen q.choices)) (mix own ln cs xs)) (around_same q.holder) ∙ mix_with own ln _ cs xs
+  known_same q _ = ap (λ a. component_with (step_down a q.name (element_chosen q.choices)) (mix own ln cs xs)) (around_same q.holder) ∙ mix_with own ln _ cs xs
 
   by_same : (q : Place) (h : Holder) → OwnPlace own h → component_by m q h ≡ component_by v q h
   by_same q (in_call b) k = mix_length own ln cs xs
@@ -245,6 +223,5 @@ module _ (own ln : ℕ → Bool) (xs : List Component) (p : Program) (c : Call) 
       go false = bound_value_same q.ty e
 
   pub bound_same : (qs : List Parameter) (es : Expressions) → bound m qs es ≡ bound v qs es
-  bound_same [] es = refl
-  bound_same (q ∷ qs) no_expressions = refl
   bound_same (q ∷ qs) (more_expressions e es) = bind_same (bound_argument m q e) (bound_argument v q e) _ _ (argument_same q e) (λ k. bind_same (bound m qs es) (bound v qs es) _ _ (bound_same qs es) (λ rest. refl))
+  bound_same _ _ = refl

@@ -4,20 +4,20 @@ use Rattle.cp_tree.specs.declared.constant.Identifier.{Identifier}
 use Rattle.cp_tree.specs.declared.statement.Direction.{Direction}
 use Rattle.cp_tree.specs.declared.declaration.SystemKind.{SystemKind}
 use Rattle.cp_tree.specs.declared.declaration.SystemKind.TheVariants as system_kind
-use Rattle.cp_tree.specs.Syntax.{Expressions, Designator, Start, Statement, empty, assign, invoke, block, if_then, if_else, case_of, while_do, repeat_until, for_do, cycle, init, Program}
+use Rattle.cp_tree.specs.Syntax.{Expressions, Designator, Start, Statement, assign, invoke, if_then, if_else, case_of, while_do, for_do, Program}
 use Rattle.cp_meaning.specs.Names.{Name, temporary}
 use Rattle.cp_meaning.specs.Outcome.{Outcome, ◌>>=◌}
 use Rattle.cp_meaning.specs.Values.{Value, number_value, queue_value, number_of, waiting_in}
 use Rattle.cp_meaning.specs.Scopes.{Meaning, standard_meaning, routine_meaning, delay_procedure, continue_procedure, display_procedure}
 use Rattle.cp_meaning.specs.Declarations.{RoutineMeaning}
 use Rattle.cp_meaning.specs.Systems.{SystemMeaning, system_of}
-use Rattle.cp_meaning.specs.State.{knows, is_entry_kind, Place, Environment, Component, component_at, CallKind, own_statement, initial_statement, local_routine, entry_routine, Call, Item, statement_item, function_call, start_item, until, successor, return, init_end, end}
+use Rattle.cp_meaning.specs.State.{knows, is_entry_kind, Place, Environment, Component, component_at, CallKind, entry_routine, Call, Item, statement_item, function_call, start_item, until, successor, return, init_end, end}
 use Rattle.cp_meaning.specs.Places.{content_of, View, Target, target_named, value_at, stored, component_there}
 use Rattle.cp_meaning.specs.Operations.{same_integer, checked}
 use Rattle.cp_meaning.specs.Expressions.{value, target_value, first_value, meaning_here, routine_called}
 use Rattle.cp_meaning.specs.Move.{Move, Doing, stays, enters, leaves, delays, continues, starts, shows, ends}
 use Rattle.cp_meaning.specs.Calls.{bound, is_initialised, is_uninitialised, entered_as, with_move, with_items, entered, called_as, called, initial, initialised_in, started_as, started}
-use Rattle.cp_meaning.specs.LocalRules.{leaving_move, return_move, scope_here, becomes, assigned, arm_for, is_beyond, next_value, goes_on_with, queue_free, delayed_in, continued_from, in_place_of, argument_of, invoked, does, returned, finished, takes}
+use Rattle.cp_meaning.specs.LocalRules.{leaving_move, return_move, scope_here, assigned, arm_for, is_beyond, next_value, goes_on_with, queue_free, delayed_in, continued_from, in_place_of, argument_of, invoked, does, returned, finished, takes}
 use Rattle.cp_meaning.proofs.Frames.{Frame, frames}
 use Rattle.cp_meaning.proofs.Stored.{stored_frames}
 use Rattle.cp_meaning.proofs.Held.{Known, append_content, known_set, stored_known}
@@ -71,9 +71,6 @@ module _ (p : Program) (c : Call) (calls : List Call) (cs : List Component) (pid
     stays_here : (u : View) (items : List Item) → Kept u → Comes (with_items u items)
     stays_here u items k = record { from = tt; known = k }
 
-    becomes_comes : (u : View) (items : List Item) → Kept u → AllCome (becomes u items)
-    becomes_comes u items k = stays_here u items k
-
     assigned_comes : (t : Target) (w : Value) (f : View → Outcome Doing) → ((u : View) → Kept u → AllCome (f u)) → AllCome (assigned v t w >>= f)
     assigned_comes t w f h = go (checked t.ty w)
       where
@@ -83,8 +80,7 @@ module _ (p : Program) (c : Call) (calls : List Call) (cs : List Component) (pid
 
     entered_comes : (k : SystemKind) (d : ℕ) (r : RoutineMeaning) (o : Option Name) (items : List Item) (e : Environment) → Comes (entered_as k v d r o items e)
     entered_comes system_kind.Monitor d r o items e = record { from = tt; known = old }
-    entered_comes system_kind.Class d r o items e = record { from = tt; known = old }
-    entered_comes system_kind.Process d r o items e = record { from = tt; known = old }
+    entered_comes _ d r o items e = record { from = tt; known = old }
 
     into_comes : (d : ℕ) (r : RoutineMeaning) (o : Option Name) (es : Expressions) (items : List Item) → AllCome (entered v d r o es items)
     into_comes d r o es items = bind_comes (bound v r.parameters es) _ (λ e. if_comes (is_initialised (component_at cs d).status) _ _ (entered_comes (component_at cs d).kind d r o items e) tt)
@@ -111,9 +107,8 @@ module _ (p : Program) (c : Call) (calls : List Call) (cs : List Component) (pid
     in_comes d s items e h = if_comes (is_uninitialised (component_at cs d).status) _ _ (initial_comes d s items e h) tt
 
     as_comes : (k : SystemKind) (q : Place) (s : SystemMeaning) (items : List Item) (e : Environment) → Knows Good e → AllCome (started_as k v (component_there v q) s items e)
-    as_comes system_kind.Class q s items e h = in_comes (component_there v q) s items e h
-    as_comes system_kind.Monitor q s items e h = in_comes (component_there v q) s items e h
     as_comes system_kind.Process q s items e h = record { from = ((q, refl), h); known = old }
+    as_comes _ q s items e h = in_comes (component_there v q) s items e h
 
     with_known : (o : Outcome Environment) (f : Environment → Outcome Doing) → AllKnow Good o → ((e : Environment) → Knows Good e → AllCome (f e)) → AllCome (o >>= f)
     with_known (Ok e) f h k = k e h
@@ -131,8 +126,7 @@ module _ (p : Program) (c : Call) (calls : List Call) (cs : List Component) (pid
 
     leaving_from : (gs : List Frame) (k : SystemKind) → FromHere Good gs (leaving_move k c.component)
     leaving_from gs system_kind.Monitor = refl
-    leaving_from gs system_kind.Class = tt
-    leaving_from gs system_kind.Process = tt
+    leaving_from gs _ = tt
 
     back_from : (gs : List Frame) → FromHere Good gs (return_move cs c)
     back_from gs = go (is_entry_kind c.kind)
@@ -156,10 +150,8 @@ module _ (p : Program) (c : Call) (calls : List Call) (cs : List Component) (pid
     delay_comes o items q = bind_comes o _ (λ x. record { from = (refl, stored_frames v q (queue_value (Some pid))); known = kept_stored q (queue_value (Some pid)) })
 
     continue_comes : (k : CallKind) (items : List Item) (q : Place) → Comes (continued_from v k items q)
-    continue_comes own_statement items q = stays_here v items old
-    continue_comes initial_statement items q = stays_here v items old
-    continue_comes local_routine items q = stays_here v items old
     continue_comes entry_routine items q = record { from = refl; known = kept_stored q (queue_value None) }
+    continue_comes _ items q = stays_here v items old
 
     invoked_comes : (m : Option Meaning) (d : Designator) (es : Expressions) (items : List Item) → AllCome (invoked v pid m d es items)
     invoked_comes (Some (standard_meaning delay_procedure)) d es items = place_comes (argument_of es) (delayed_in v pid items) items (λ q. delay_comes (queue_free (waiting_in (value_at v q))) items q)
@@ -168,18 +160,14 @@ module _ (p : Program) (c : Call) (calls : List Call) (cs : List Component) (pid
     invoked_comes m d es items = call_comes d es None items
 
     does_comes : (s : Statement) (items : List Item) → AllCome (does v pid s items)
-    does_comes (empty at) items = stays_here v _ old
     does_comes (assign at d e) items = bind_comes (value v e) _ (λ x. bind_comes (target_value v d) _ (λ t. assigned_comes t x.value _ (λ u k. stays_here u items k)))
     does_comes (invoke at d es) items = invoked_comes (meaning_here v d) d es items
-    does_comes (block at ss) items = stays_here v _ old
     does_comes (if_then at e s) items = bind_comes (value v e) _ (λ x. stays_here v _ old)
     does_comes (if_else at e s t) items = bind_comes (value v e) _ (λ x. stays_here v _ old)
     does_comes (case_of at e as' b) items = bind_comes (value v e) _ (λ x. bind_comes (arm_for (scope_here v) (number_of x.value) as') _ (λ s. stays_here v _ old))
     does_comes (while_do at e s) items = bind_comes (value v e) _ (λ x. stays_here v _ old)
-    does_comes (repeat_until at ss e) items = stays_here v _ old
     does_comes (for_do at i e d b s) items = bind_comes (value v e) _ (λ x. bind_comes (value v b) _ (λ y. if_comes (is_beyond d (number_of x.value) (number_of y.value)) _ _ (stays_here v _ old) (next_comes at i (number_of x.value) d (number_of y.value) s items)))
-    does_comes (cycle at ss) items = stays_here v _ old
-    does_comes (init at ts) items = stays_here v _ old
+    does_comes _ items = stays_here v _ old
 
     pub takes_comes : (items : List Item) → AllCome (takes v pid items)
     takes_comes [] = stays_here v [] old

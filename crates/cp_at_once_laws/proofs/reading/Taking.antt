@@ -4,14 +4,14 @@ use Rattle.cp_tree.specs.declared.constant.Identifier.{Identifier}
 use Rattle.cp_tree.specs.declared.statement.Direction.{Direction}
 use Rattle.cp_tree.specs.declared.declaration.SystemKind.{SystemKind}
 use Rattle.cp_tree.specs.declared.declaration.SystemKind.TheVariants as system_kind
-use Rattle.cp_tree.specs.Syntax.{Expression, Expressions, Designator, Start, Statement, empty, assign, invoke, block, if_then, if_else, case_of, while_do, repeat_until, for_do, cycle, init, Program}
+use Rattle.cp_tree.specs.Syntax.{Expression, Expressions, Designator, Start, Statement, assign, invoke, if_then, if_else, case_of, while_do, for_do, Program}
 use Rattle.cp_meaning.specs.Names.{Name, temporary}
 use Rattle.cp_meaning.specs.Outcome.{ErrorName, Outcome, ◌>>=◌, not_init, init_twice}
 use Rattle.cp_meaning.specs.Values.{Value, number_value, queue_value, number_of, waiting_in}
-use Rattle.cp_meaning.specs.Scopes.{Meaning, constant_meaning, type_meaning, local_variable, permanent_variable, routine_meaning, standard_meaning, succ_function, pred_function, chr_function, ord_function, abs_function, empty_function, delay_procedure, continue_procedure, display_procedure}
+use Rattle.cp_meaning.specs.Scopes.{Meaning, constant_meaning, type_meaning, local_variable, permanent_variable, routine_meaning, standard_meaning, delay_procedure, continue_procedure, display_procedure}
 use Rattle.cp_meaning.specs.Declarations.{RoutineMeaning}
 use Rattle.cp_meaning.specs.Systems.{SystemMeaning, system_of}
-use Rattle.cp_meaning.specs.State.{Holder, in_call, in_component, Place, Environment, ComponentStatus, uninitialised, initialising, initialised, Component, component_at, no_component, CallKind, own_statement, initial_statement, local_routine, entry_routine, Call, current, callers, Item, statement_item, function_call, start_item, until, successor, return, init_end, end, is_entry_kind, is_end_of, has_init_end}
+use Rattle.cp_meaning.specs.State.{Holder, in_call, in_component, Place, Environment, ComponentStatus, uninitialised, initialising, initialised, Component, component_at, CallKind, local_routine, entry_routine, Call, callers, Item, statement_item, function_call, start_item, until, successor, return, init_end, end, is_entry_kind}
 use Rattle.cp_meaning.specs.Places.{View, Target, with_content, content_of, value_held, with_permanents, environment_of, with_environment_of, target_named, value_at, stored, component_there}
 use Rattle.cp_meaning.specs.Values.{with_part}
 use Rattle.cp_meaning.specs.Operations.{Typed, same_integer, checked}
@@ -27,13 +27,11 @@ use Rattle.cp_at_once_laws.proofs.reading.Reading.{OwnPlace, OwnCalls, v, m, Own
 
 uninitialised_told : (s : ComponentStatus) → is_uninitialised s ≡ true → s ≡ uninitialised
 uninitialised_told uninitialised h = refl
-uninitialised_told initialising h = cc
-uninitialised_told initialised h = cc
+uninitialised_told x h = cc
 
 initialised_told : (s : ComponentStatus) → is_initialised s ≡ true → s ≡ initialised
 initialised_told initialised h = refl
-initialised_told initialising h = cc
-initialised_told uninitialised h = cc
+initialised_told x h = cc
 
 -- ---- past the last component
 
@@ -152,8 +150,7 @@ module _ (own ln : ℕ → Bool) (xs : List Component) where
 
     entered_as_reads : (k : SystemKind) (d : ℕ) (r : RoutineMeaning) (o : Option Name) (items : List Item) (e : Environment) → entered_as k b d r o items e ≡ also_mixed (entered_as k a d r o items e)
     entered_as_reads system_kind.Monitor d r o items e = refl
-    entered_as_reads system_kind.Class d r o items e = refl
-    entered_as_reads system_kind.Process d r o items e = refl
+    entered_as_reads _ d r o items e = refl
 
     ok_if : (t : Bool) (x x' : Doing) (e : ErrorName) → x ≡ also_mixed x' → (if t then Ok x else Err e) ≡ all_mixed (if t then Ok x' else Err e)
     ok_if true x x' e h = ap (λ y. Ok y) h
@@ -226,9 +223,8 @@ module _ (own ln : ℕ → Bool) (xs : List Component) where
         go false h = other (is_uninitialised (status_at cs d)) refl h l
 
     started_as_reads : (k : SystemKind) (d : ℕ) (s : SystemMeaning) (items : List Item) (e : Environment) → Reads (started_as k b d s items e) (started_as k a d s items e)
-    started_as_reads system_kind.Class d s items e = initialised_reads d s items e
-    started_as_reads system_kind.Monitor d s items e = initialised_reads d s items e
     started_as_reads system_kind.Process d s items e = λ l. refl
+    started_as_reads _ d s items e = initialised_reads d s items e
 
     started_at_reads : (d : ℕ) (s : SystemMeaning) (es : Expressions) (items : List Item) → Reads (started_at b d s es items) (started_at a d s es items)
     started_at_reads d s es items =
@@ -280,48 +276,31 @@ module _ (own ln : ℕ → Bool) (xs : List Component) where
         go (Err x) = refl
 
     continue_reads : (k : CallKind) (items : List Item) (q : Place) → OwnPlace own q.holder → continued_from b k items q ≡ also_mixed (continued_from a k items q)
-    continue_reads own_statement items q h = refl
-    continue_reads initial_statement items q h = refl
-    continue_reads local_routine items q h = refl
     continue_reads entry_routine items q h =
         ap (λ u. let y : Doing = record { calls = callers u.calls; items = after_return items; components = u.components; move = continues c.component (waiting_in (value_at b q)) } in y) (stored_same a q (queue_value None) size h) ∙
         ap (λ w. let u = mixed (stored a q (queue_value None)) in let y : Doing = record { calls = callers u.calls; items = after_return items; components = u.components; move = continues c.component (waiting_in w) } in y) (read_same own ln xs p c calls cs size held q h)
+    continue_reads _ items q h = refl
 
     invoked_reads : (x : Option Meaning) (d : Designator) (es : Expressions) (items : List Item) → Reads (invoked b pid x d es items) (invoked a pid x d es items)
     invoked_reads (Some (standard_meaning delay_procedure)) d es items = place_reads (argument_of es) (delayed_in b pid items) (delayed_in a pid items) items (λ q h. delay_reads items q h)
     invoked_reads (Some (standard_meaning continue_procedure)) d es items = place_reads (argument_of es) _ _ items (λ q h l. ap (λ y. Ok y) (continue_reads c.kind items q h))
     invoked_reads (Some (standard_meaning display_procedure)) d es items = bind_reads (first_value b es) (first_value a es) _ _ (first_same own ln xs p c calls cs size held es) (λ x l. refl)
-    invoked_reads None d es items = called_reads d es None items
-    invoked_reads (Some (constant_meaning t z)) d es items = called_reads d es None items
-    invoked_reads (Some (type_meaning t)) d es items = called_reads d es None items
-    invoked_reads (Some (local_variable t)) d es items = called_reads d es None items
-    invoked_reads (Some (permanent_variable t)) d es items = called_reads d es None items
-    invoked_reads (Some (routine_meaning r)) d es items = called_reads d es None items
-    invoked_reads (Some (standard_meaning succ_function)) d es items = called_reads d es None items
-    invoked_reads (Some (standard_meaning pred_function)) d es items = called_reads d es None items
-    invoked_reads (Some (standard_meaning chr_function)) d es items = called_reads d es None items
-    invoked_reads (Some (standard_meaning ord_function)) d es items = called_reads d es None items
-    invoked_reads (Some (standard_meaning abs_function)) d es items = called_reads d es None items
-    invoked_reads (Some (standard_meaning empty_function)) d es items = called_reads d es None items
+    invoked_reads _ d es items = called_reads d es None items
 
     test_reads : (e : Expression) (f : Typed → List Item) → Reads (value b e >>= λ x. becomes b (f x)) (value a e >>= λ x. becomes a (f x))
     test_reads e f = bind_reads (value b e) (value a e) _ _ (value_same own ln xs p c calls cs size held e) (λ x l. refl)
 
     does_reads : (s : Statement) (items : List Item) → Reads (does b pid s items) (does a pid s items)
-    does_reads (empty at) items = λ l. refl
     does_reads (assign at d e) items = bind_reads (value b e) (value a e) _ _ (value_same own ln xs p c calls cs size held e) (λ x. target_reads d _ _ (λ t h. assigned_reads t x.value _ _ h (λ u l. refl)))
     does_reads (invoke at d es) items = invoked_reads (meaning_here a d) d es items
-    does_reads (block at ss) items = λ l. refl
     does_reads (if_then at e s) items = test_reads e _
     does_reads (if_else at e s t) items = test_reads e _
     does_reads (case_of at e as' z) items = bind_reads (value b e) (value a e) _ _ (value_same own ln xs p c calls cs size held e) (λ x. bind_reads (arm_for c.scope (number_of x.value) as') (arm_for c.scope (number_of x.value) as') _ _ refl (λ s l. refl))
     does_reads (while_do at e s) items = test_reads e _
-    does_reads (repeat_until at ss e) items = λ l. refl
     does_reads (for_do at i e d f s) items =
         bind_reads (value b e) (value a e) _ _ (value_same own ln xs p c calls cs size held e) (λ x. bind_reads (value b f) (value a f) _ _ (value_same own ln xs p c calls cs size held f) (λ y.
         if_reads (is_beyond d (number_of x.value) (number_of y.value)) _ _ _ _ (λ l. refl) (next_reads at i (number_of x.value) d (number_of y.value) s items)))
-    does_reads (cycle at ss) items = λ l. refl
-    does_reads (init at ts) items = λ l. refl
+    does_reads _ items = λ l. refl
 
     -- the component whose initial statement ends is its own
     abbrev pub EndsOwn : List Item → Type 0
@@ -336,7 +315,6 @@ module _ (own ln : ℕ → Bool) (xs : List Component) where
     EndsOwn (end ∷ items) = Unit {0}
 
     pub takes_reads : (items : List Item) → EndsOwn items → Reads (takes b pid items) (takes a pid items)
-    takes_reads [] h = λ l. refl
     takes_reads (statement_item s ∷ items) h = does_reads s items
     takes_reads (function_call at d es ∷ items) h = called_reads d es (Some (temporary at)) items
     takes_reads (start_item t ∷ items) h = started_reads t items
@@ -344,4 +322,4 @@ module _ (own ln : ℕ → Bool) (xs : List Component) where
     takes_reads (successor at i z d e s ∷ items) h = if_reads (same_integer z e) _ _ _ _ (λ l. refl) (next_reads at i (next_value d z) d e s items)
     takes_reads (return o ∷ items) h = λ l. ap (λ y. Ok y) (return_reads o items)
     takes_reads (init_end k ∷ items) h = λ l. ap (λ y. Ok y) (finished_reads k items h)
-    takes_reads (end ∷ items) h = λ l. refl
+    takes_reads _ h = λ l. refl

@@ -11,7 +11,7 @@ use Rattle.cp_check.specs.Faults.{declarations}
 use Rattle.cp_check.specs.Types.{may_own}
 use Rattle.cp_lawful.specs.Accepted.{IsAccepted}
 use Rattle.cp_meaning.specs.Names.{Name}
-use Rattle.cp_meaning.specs.Types.{Ty, ordinal, queue_type, set_over, array_over, record_with, component_of, length_of_range}
+use Rattle.cp_meaning.specs.Types.{Ty, array_over, component_of, length_of_range}
 use Rattle.cp_meaning.specs.Declarations.{Variable}
 use Rattle.cp_meaning.specs.Systems.{SystemMeaning, declared, program_system, own_meaning, or_own, system_of}
 use Rattle.cp_meaning.specs.Components.{PathStep, Path, Listed, step_down, listed_elements, listed_variable, listed_variables, listed, components_of, around}
@@ -22,6 +22,7 @@ use Rattle.cp_resolved.specs.Judging.{tokens_of}
 use Rattle.cp_resolved.proofs.agreeing.AgreeingTypes.{OwnedAt}
 use Rattle.cp_resolved.proofs.agreeing.VariablesAmongNames.{Declares, Counted}
 use Rattle.cp_resolved.proofs.counts.FewComponents.{agreed}
+use Rattle.cp_meaning.proofs.ComponentTree.{around_step as around_of}
 
 -- ---- lists and paths
 
@@ -46,11 +47,6 @@ in_either l (x ∷ xs) ys (inr h) = go (in_either l xs ys h)
     go : In l xs ⊎ In l ys → In l (x ∷ xs) ⊎ In l ys
     go (inl k) = inl (inr k)
     go (inr k) = inr k
-
-around_of : (a : Path) (s : PathStep) → around (a ++ s ∷ []) ≡ a
-around_of [] s = refl
-around_of (x ∷ []) s = refl
-around_of (x ∷ y ∷ a) s = ap (λ q. x ∷ q) (around_of (y ∷ a) s)
 
 some_step : (a : Path) (s : PathStep) → [] ≡ a ++ s ∷ [] → ⊥
 some_step [] s e = cc
@@ -104,15 +100,7 @@ module _ (Q : ℕ → ℕ → Type 0) where
     in_variable : (x : Name) (t : Ty) → MayHave k t → AreListed (listed_variable (listed p depth) path x t) → (l : Listed) → In l (listed_variable (listed p depth) path x t) → HasAround ls l
     in_variable x (component_of j) q all l h = in_one x None j q all l h
     in_variable x (array_over r (component_of j)) q all l h = in_elements x j (length_of_range r) 0 q all l h
-    in_variable x (array_over r (ordinal i)) q all l h = absurd h
-    in_variable x (array_over r queue_type) q all l h = absurd h
-    in_variable x (array_over r (set_over i)) q all l h = absurd h
-    in_variable x (array_over r (array_over i t)) q all l h = absurd h
-    in_variable x (array_over r (record_with us)) q all l h = absurd h
-    in_variable x (ordinal r) q all l h = absurd h
-    in_variable x queue_type q all l h = absurd h
-    in_variable x (set_over r) q all l h = absurd h
-    in_variable x (record_with us) q all l h = absurd h
+    in_variable x _ q all l h = absurd h
 
     in_variables : (vs : List Variable) → MayHaveAll k vs → AreListed (listed_variables (listed p depth) path vs) → (l : Listed) → In l (listed_variables (listed p depth) path vs) → HasAround ls l
     in_variables [] q all l h = absurd h
@@ -184,15 +172,7 @@ never_owned p k j o may process = absurd (go o (subst (λ (i : SystemKind). may_
 type_owned : (p : Program) (k : ℕ) (o : SystemKind) (t : Ty) → OwnedAt (tokens_of p) (spot.Permanent (Some o)) t → MayHave (IsAround p) k t
 type_owned p k o (component_of j) may = never_owned p k j o may
 type_owned p k o (array_over r (component_of j)) may = never_owned p k j o may
-type_owned p k o (array_over r (ordinal i)) may = tt
-type_owned p k o (array_over r queue_type) may = tt
-type_owned p k o (array_over r (set_over i)) may = tt
-type_owned p k o (array_over r (array_over i t)) may = tt
-type_owned p k o (array_over r (record_with us)) may = tt
-type_owned p k o (ordinal r) may = tt
-type_owned p k o queue_type may = tt
-type_owned p k o (set_over r) may = tt
-type_owned p k o (record_with us) may = tt
+type_owned p k o _ may = tt
 
 variables_owned : (p : Program) (k : ℕ) (o : SystemKind) (ss : Shapes) (vs : List Variable) (ds : Names) → Declares (tokens_of p) (spot.Permanent (Some o)) ss vs ds → MayHaveAll (IsAround p) k vs
 variables_owned p k o ss [] ds h = tt
@@ -202,15 +182,7 @@ variables_owned p k o ss (v ∷ vs) ds h = (type_owned p k o v.ty h.belongs.owne
 type_of_process : (p : Program) (k : ℕ) → (system_of p k).kind ≡ system_kind.Process → (t : Ty) → MayHave (IsAround p) k t
 type_of_process p k is (component_of j) = λ process. is
 type_of_process p k is (array_over r (component_of j)) = λ process. is
-type_of_process p k is (array_over r (ordinal i)) = tt
-type_of_process p k is (array_over r queue_type) = tt
-type_of_process p k is (array_over r (set_over i)) = tt
-type_of_process p k is (array_over r (array_over i t)) = tt
-type_of_process p k is (array_over r (record_with us)) = tt
-type_of_process p k is (ordinal r) = tt
-type_of_process p k is queue_type = tt
-type_of_process p k is (set_over r) = tt
-type_of_process p k is (record_with us) = tt
+type_of_process p k is _ = tt
 
 variables_of_process : (p : Program) (k : ℕ) → (system_of p k).kind ≡ system_kind.Process → (vs : List Variable) → MayHaveAll (IsAround p) k vs
 variables_of_process p k is [] = tt

@@ -3,7 +3,7 @@ use Rattle.std.proofs.Common.{◌≡◌, ℕ, zero, suc, Bool, true, false, List
 use Rattle.cp_tree.specs.declared.declaration.SystemKind.{SystemKind}
 use Rattle.cp_tree.specs.declared.declaration.SystemKind.TheVariants as system_kind
 use Rattle.cp_tree.specs.Read.{IsRead}
-use Rattle.cp_tree.specs.Syntax.{Program, Group, System, Definition, type_definition, system_definition, SystemDefinition, ProgramPart, program_constants, program_types, program_variables, Tree}
+use Rattle.cp_tree.specs.Syntax.{Program, Group, System, Definition, type_definition, system_definition, SystemDefinition, ProgramPart, program_types, Tree}
 use Rattle.cp_scope.specs.declared.types.ValueType.{ValueType}
 use Rattle.cp_scope.specs.declared.types.Meaning.TheVariants as meaning
 use Rattle.cp_scope.specs.declared.count.Use.{Use}
@@ -33,12 +33,11 @@ use Rattle.cp_resolved.specs.Fit.{nothing_declared}
 use Rattle.cp_resolved.specs.Judging.{tokens_of}
 use Rattle.cp_resolved.specs.Small.{Each, IsSmallDefinition, IsSmallProgramPart, IsSmallProgram}
 use Rattle.cp_resolved.specs.Tokens.{AreDifferent, all_tokens, routine_tokens, system_tokens, definition_tokens, program_part_tokens, program_tokens, token_of_type}
-use Rattle.cp_resolved.specs.Typed.{Tokens, ComponentIs, TypeIs}
-use Rattle.cp_resolved.proofs.agreeing.Agreeing.{Good, good_then, good_sound, none_left, none_right, none_first, appends_none}
+use Rattle.cp_resolved.specs.Typed.{ComponentIs, TypeIs}
+use Rattle.cp_resolved.proofs.agreeing.Agreeing.{Good, good_then, good_sound, none_left, none_right, appends_none}
 use Rattle.cp_resolved.proofs.agreeing.AgreeingNames.{W, New, IsKnown, Agree, sees}
 use Rattle.cp_resolved.proofs.agreeing.AgreeingParts.{standing_may, StepResult, name_result, names_result, all_declared}
 use Rattle.cp_resolved.proofs.agreeing.AgreeingProgram.{AreNumberedDefinitions, IsNumberedPart, AreNumberedParts, defined_agrees, part_agrees, start_agrees, start_settled, uses_sound}
-use Rattle.cp_resolved.proofs.agreeing.AgreeingRoutines.{none_before}
 use Rattle.cp_resolved.proofs.agreeing.AgreeingSystems.{entered_agrees}
 use Rattle.cp_resolved.proofs.agreeing.AgreeingTypes.{IsFew, KindOf, type_named}
 use Rattle.cp_resolved.proofs.agreeing.AgreeingWritten.{each_left, each_right}
@@ -48,11 +47,9 @@ use Rattle.cp_resolved.proofs.declarations.EnumerationsRead.{read_few, read_diff
 use Rattle.cp_resolved.proofs.declarations.Reserving.{pending_fresh}
 use Rattle.cp_resolved.proofs.declarations.SmallTexts.{read_small}
 use Rattle.cp_at_once_laws.proofs.rules.StartsKnown.{HasNoProcess}
+use Rattle.cp_lawful.proofs.Once.{no_first as none_first, none_before}
 
 module _ (p : Program) where
-  abbrev ks_of : Tokens
-  ks_of = tokens_of p
-
   -- ---- one parameter
 
   abbrev NoProcess : Ty → Type 0
@@ -71,39 +68,27 @@ module _ (p : Program) where
   component_none : (at : ℕ) (o k : SystemKind) (s : Scopes) (t : Ty) (v : ValueType) → typing.holding s v ≡ holds.Component k → TypeIs (W (tokens_of p) s.shapes) t v → Good (λ (u : ValueType). NoProcess t) (systems_of.component_admitted at o k v)
   component_none at system_kind.Class system_kind.Class s t v e i = no_process_of s t v (holds.Component system_kind.Class) e (λ bad. cc) i
   component_none at system_kind.Class system_kind.Monitor s t v e i = no_process_of s t v (holds.Component system_kind.Monitor) e (λ bad. cc) i
-  component_none at system_kind.Class system_kind.Process s t v e i = tt
-  component_none at system_kind.Monitor system_kind.Class s t v e i = tt
   component_none at system_kind.Monitor system_kind.Monitor s t v e i = no_process_of s t v (holds.Component system_kind.Monitor) e (λ bad. cc) i
-  component_none at system_kind.Monitor system_kind.Process s t v e i = tt
-  component_none at system_kind.Process system_kind.Class s t v e i = tt
   component_none at system_kind.Process system_kind.Monitor s t v e i = no_process_of s t v (holds.Component system_kind.Monitor) e (λ bad. cc) i
-  component_none at system_kind.Process system_kind.Process s t v e i = tt
+  component_none at _ _ s t v e i = tt
 
   admitted_none : (at : ℕ) (o : SystemKind) (s : Scopes) (t : Ty) (v : ValueType) (h : Holding) → typing.holding s v ≡ h → TypeIs (W (tokens_of p) s.shapes) t v → Good (λ (u : ValueType). NoProcess t) (systems_of.admitted at o h v)
   admitted_none at o s t v holds.Plain e i = no_process_of s t v holds.Plain e (λ bad. cc) i
-  admitted_none at o s t v holds.Queue e i = tt
-  admitted_none at o s t v holds.Queues e i = tt
   admitted_none at o s t v (holds.Component k) e i = component_none at o k s t v e i
-  admitted_none at o s t v (holds.Components k) e i = tt
+  admitted_none at o s t v _ e i = tt
 
   -- the same keeps the type that it is
   component_kept : (at : ℕ) (o k : SystemKind) (P : ValueType → Type 0) (v : ValueType) → P v → Good P (systems_of.component_admitted at o k v)
   component_kept at system_kind.Class system_kind.Class P v h = h
   component_kept at system_kind.Class system_kind.Monitor P v h = h
-  component_kept at system_kind.Class system_kind.Process P v h = tt
-  component_kept at system_kind.Monitor system_kind.Class P v h = tt
   component_kept at system_kind.Monitor system_kind.Monitor P v h = h
-  component_kept at system_kind.Monitor system_kind.Process P v h = tt
-  component_kept at system_kind.Process system_kind.Class P v h = tt
   component_kept at system_kind.Process system_kind.Monitor P v h = h
-  component_kept at system_kind.Process system_kind.Process P v h = tt
+  component_kept at _ _ P v h = tt
 
   admitted_kept : (at : ℕ) (o : SystemKind) (h : Holding) (P : ValueType → Type 0) (v : ValueType) → P v → Good P (systems_of.admitted at o h v)
   admitted_kept at o holds.Plain P v k = k
-  admitted_kept at o holds.Queue P v k = tt
-  admitted_kept at o holds.Queues P v k = tt
   admitted_kept at o (holds.Component j) P v k = component_kept at o j P v k
-  admitted_kept at o (holds.Components j) P v k = tt
+  admitted_kept at o _ P v k = tt
 
   parameter_kind : (o : SystemKind) (s : Scopes) (m : scopes.Scope) (g : Group) → IsKnown (tokens_of p) s m g.type_name.name (look g.type_name.name s) → Good (KindOf (tokens_of p) s.shapes (meant.type_named m g.type_name.name)) (systems_of.parameter_type o s g)
   unfolding systems_of.parameter_type
@@ -213,9 +198,8 @@ module _ (p : Program) where
   part_none : (s : Scopes) (d : Declared) (below : scopes.Scope) (ks : List ℕ) (q : ProgramPart) → (program_part_step s q).faults ≡ [] → IsNumberedPart (tokens_of p) p d q → IsSmallProgramPart q → Each (IsFew (tokens_of p)) (in_program_part q) → s.inner.pending ≡ [] → Agree (tokens_of p) p true None s d.scope below (program_part_tokens q ks) →
       HaveNone d.systems → HaveNone (program_part_in d q).systems
   unfolding program_part_step
-  part_none s d below ks (program_constants at ds) e number small few empty h all = all
   part_none s d below ks (program_types at ns) e number small few empty h all = definitions_none s d below ks ns e number small few empty h all
-  part_none s d below ks (program_variables at gs) e number small few empty h all = all
+  part_none s d below ks _ e number small few empty h all = all
 
   parts_none : (s : Scopes) (d : Declared) (below : scopes.Scope) (ks : List ℕ) (qs : List ProgramPart) → (program_part_steps s qs).faults ≡ [] → AreNumberedParts (tokens_of p) p d qs → Each IsSmallProgramPart qs → Each (IsFew (tokens_of p)) (each_in in_program_part qs) → s.inner.pending ≡ [] →
       Agree (tokens_of p) p true None s d.scope below (all_tokens program_part_tokens qs ks) → HaveNone d.systems → HaveNone (program_parts_in d qs).systems

@@ -1,22 +1,13 @@
 -- A leg that may be made at once is brought to the front of what a schedule does.
-use Rattle.std.proofs.Common.{◌≡◌, ◌≢◌, ◌⊎◌, inl, inr, ℕ, zero, suc, ◌≤◌, ◌==◌, ◌∙◌, Bool, true, false, Option, None, Some, ap, sym, refl, subst, arith, eqb-true, eq-eqb}
+use Rattle.std.proofs.Common.{◌≡◌, ◌≢◌, ◌⊎◌, inl, inr, ℕ, zero, suc, ◌≤◌, ◌∙◌, true, false, Option, None, Some, ap, sym, refl, subst, arith}
 use Rattle.cp_machine.specs.declared.event.Event.{Event}
 use Rattle.cp_machine.specs.declared.event.Event.TheVariants.{Local}
 use Rattle.cp_run.specs.System.{System}
 use Rattle.cp_at_once_laws.specs.AtOnce.{is_call, Leg, calls, after_local, QuietLeg, calls_quietly, after_quiet, Comes, done, meets, goes, IsNode, Finds, is_done, at_once_meets, at_once, node_meets, node_goes, Commutes, PicksQuiet, NobodyReady, GoalStays, OwnGoal, AtOnceLaw}
+use Rattle.cp_refine.proofs.control.Moving.{same_or_other as same_or_not}
 
 pub local_no_call : (e : Event) → e ≡ Local → is_call e ≡ true → ⊥
 local_no_call e h k = (let bad : false ≡ true = sym (ap is_call h) ∙ k in cc)
-
-pub same_or_not : (p q : ℕ) → (p ≡ q) ⊎ (p ≢ q)
-same_or_not p q = go (p == q) refl
-  where
-    go : (b : Bool) → (p == q) ≡ b → (p ≡ q) ⊎ (p ≢ q)
-    go true h = inl (eqb-true p q h)
-    go false h = inr (λ e. (let bad : true ≡ false = sym (eq-eqb p q e) ∙ h in cc))
-
-some_same : (p q : ℕ) → Some p ≡ Some q → p ≡ q
-some_same p q e = cc
 
 module _ {S : Type 0} (sys : System S) (Met : S → Type 0) (Quiet : S → ℕ → Type 0) (law : Commutes sys Met Quiet) where
   -- ---- a leg is one

@@ -11,7 +11,7 @@ use Rattle.cp_machine.specs.declared.process.Entry.{Entry}
 use Rattle.cp_machine.specs.declared.process.Entry.TheVariants.{Rest, Successor, Return, InitEnd}
 use Rattle.cp_machine.specs.Machine.{Machine, Thread, thread_at}
 use Rattle.cp_machine.specs.Stack.{rest_of}
-use Rattle.cp_meaning.specs.State.{State, Call, CallKind, own_statement, initial_statement, local_routine, entry_routine, Item, Process, unstarted, ready, at_gate, delayed, ended}
+use Rattle.cp_meaning.specs.State.{State, Call, CallKind, own_statement, initial_statement, entry_routine, Item, Process, unstarted, ready, at_gate, delayed, ended}
 use Rattle.cp_resolved.specs.Layouts.{Layouts}
 use Rattle.cp_resolved.specs.Stands.{Ground}
 use Rattle.cp_refine.specs.Kinds.{SameKind, KindsAgree}
@@ -31,10 +31,8 @@ leaving : (r : Tables) (c : Call) (k : CallKind) (a : SystemKind) (b : Component
 leaving r c entry_routine system_kind.Monitor (kind.Monitor m) h = refl
 leaving r c entry_routine system_kind.Process (kind.Process q) h = refl
 leaving r c entry_routine system_kind.Class kind.Class h = refl
-leaving r c own_statement a b h = refl
-leaving r c initial_statement a b h = refl
-leaving r c local_routine a b h = refl
 leaving r c entry_routine a b h = absurd h
+leaving r c _ a b h = refl
 
 quiet_kind : (k : CallKind) (a : Bool) → (k ≡ own_statement) ⊎ (k ≡ initial_statement) → (named.is_entry_kind k && a) ≡ false
 quiet_kind k a (inl e) = ap (λ j. named.is_entry_kind j && a) e

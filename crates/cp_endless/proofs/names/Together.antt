@@ -9,7 +9,7 @@ use Rattle.cp_endless.specs.Meaning.{EndsTheSame}
 use Rattle.cp_endless.specs.Moments.{AnyOf, Moment, moments}
 use Rattle.cp_endless.specs.Reachable.{EndsAfter, IsPossible, node_after}
 use Rattle.cp_endless.specs.Rounds.{chosen_spot, opening_spot, spot_after}
-use Rattle.cp_endless.proofs.Basics.{some_same}
+use Rattle.cp_resolved.proofs.names.Alike.{same_inside as some_same}
 
 abbrev pub MomentsAlike : {S T : Type 0} → (S → T → Type 0) → List (Moment S) → List (Moment T) → Type 0
 MomentsAlike R [] [] = Unit {0}
@@ -42,20 +42,17 @@ pub record ChoicesAlike {S T : Type 0} (a : System S) (b : System T) (steps : �
 turned_node : {S T : Type 0} (R : S → T → Type 0) (x : Node S) (y : Node T) → NodesAlike R x y → NodesAlike (λ t s. R s t) y x
 turned_node R (Halted k s) (Halted l t) h = (sym h.0, h.1)
 turned_node R (Choosing s) (Choosing t) h = h
-turned_node R (Halted k s) (Choosing t) h = absurd h
-turned_node R (Choosing s) (Halted k t) h = absurd h
+turned_node R _ _ h = absurd h
 
 turned_moments : {S T : Type 0} (R : S → T → Type 0) (ms : List (Moment S)) (ns : List (Moment T)) → MomentsAlike R ms ns → MomentsAlike (λ t s. R s t) ns ms
 turned_moments R [] [] h = tt
 turned_moments R (m ∷ ms) (n ∷ ns) h = (sym h.0, h.1, turned_moments R ms ns h.2)
-turned_moments R [] (n ∷ ns) h = absurd h
-turned_moments R (m ∷ ms) [] h = absurd h
+turned_moments R _ _ h = absurd h
 
 turned_spots : {S T : Type 0} (V : S → T → ℕ → Type 0) (x : Option (S × ℕ)) (y : Option (T × ℕ)) → SpotsAlike V x y → SpotsAlike (λ t s p. V s t p) y x
 turned_spots V None None h = tt
 turned_spots V (Some x) (Some y) h = (sym h.0, subst (λ p. V x.0 y.0 p) h.0 h.1)
-turned_spots V None (Some y) h = absurd h
-turned_spots V (Some x) None h = absurd h
+turned_spots V _ _ h = absurd h
 
 pub turned : {S T : Type 0} (a : System S) (b : System T) (steps : ℕ) (R : S → T → Type 0) (V : S → T → ℕ → Type 0) → ChoicesAlike a b steps R V → ChoicesAlike b a steps (λ t s. R s t) (λ t s p. V s t p)
 turned a b steps R V h =
@@ -85,15 +82,13 @@ halted_alike R k s (Halted l t) h = (t, ap (λ j. Halted j t) (sym h.0))
 pub each_alike : {S T : Type 0} (R : S → T → Type 0) (P : Moment S → Type 0) (Q : Moment T → Type 0) (ms : List (Moment S)) (ns : List (Moment T)) → ((m : Moment S) (n : Moment T) → m.mover ≡ n.mover → R m.state n.state → P m → Q n) → MomentsAlike R ms ns → Each P ms → Each Q ns
 each_alike R P Q [] [] f h e = tt
 each_alike R P Q (m ∷ ms) (n ∷ ns) f h e = (f m n h.0 h.1 e.0, each_alike R P Q ms ns f h.2 e.1)
-each_alike R P Q [] (n ∷ ns) f h e = absurd h
-each_alike R P Q (m ∷ ms) [] f h e = absurd h
+each_alike R P Q _ _ f h e = absurd h
 
 pub any_alike : {S T : Type 0} (R : S → T → Type 0) (P : Moment S → Type 0) (Q : Moment T → Type 0) (ms : List (Moment S)) (ns : List (Moment T)) → ((m : Moment S) (n : Moment T) → m.mover ≡ n.mover → R m.state n.state → P m → Q n) → MomentsAlike R ms ns → AnyOf P ms → AnyOf Q ns
 any_alike R P Q [] [] f h a = a
 any_alike R P Q (m ∷ ms) (n ∷ ns) f h (inl p) = inl (f m n h.0 h.1 p)
 any_alike R P Q (m ∷ ms) (n ∷ ns) f h (inr a) = inr (any_alike R P Q ms ns f h.2 a)
-any_alike R P Q [] (n ∷ ns) f h a = absurd h
-any_alike R P Q (m ∷ ms) [] f h a = absurd h
+any_alike R P Q _ _ f h a = absurd h
 
 module _ {S T : Type 0} (a : System S) (b : System T) (steps : ℕ) (R : S → T → Type 0) (V : S → T → ℕ → Type 0) (h : ChoicesAlike a b steps R V) where
   pub after_there : (word : List ℕ) (x last : Node S) (y : Node T) → NodesAlike R x y → node_after a steps x word ≡ Some last → (end : Node T) × (node_after b steps y word ≡ Some end) × NodesAlike R last end

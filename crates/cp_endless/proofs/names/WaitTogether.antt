@@ -13,8 +13,8 @@ use Rattle.cp_endless.specs.Standstill.{GoesOn, IsFairStretch, MayStandStill}
 use Rattle.cp_endless.specs.Traps.{IsStuckAfter}
 use Rattle.cp_endless.specs.WaitsForEver.{MayLinger, MayWaitForEver, NeverWaitsForEver, WaitsFrom, WaitsSometime}
 use Rattle.cp_endless.proofs.steps.Rounds.{from_there}
-use Rattle.cp_endless.proofs.Basics.{some_same}
 use Rattle.cp_endless.proofs.names.Together.{SpotsAlike, ChoicesAlike, turned, choosing_alike, each_alike, any_alike, after_there}
+use Rattle.cp_resolved.proofs.names.Alike.{same_inside as some_same}
 
 module _ {S T : Type 0} (a : System S) (b : System T) (steps : ℕ) (R : S → T → Type 0) (V : S → T → ℕ → Type 0) (h : ChoicesAlike a b steps R V) where
   module _ (wa : S → ℕ → Bool) (wb : T → ℕ → Bool) (q : ℕ) (waits : (s : S) (t : T) → R s t → wa s q ≡ wb t q) where
@@ -117,10 +117,10 @@ lingers_the_same a b steps R V h ia wa ib wb inside waits =
 
 -- ---- a stretch that goes on for ever
 
-plus : (n : ℕ) → n + 1 ≡ suc n
+pub plus : (n : ℕ) → n + 1 ≡ suc n
 plus n = omega arith
 
-spot_there : {S T : Type 0} (V : S → T → ℕ → Type 0) (s : S) (p : ℕ) (x : Option (S × ℕ)) (y : Option (T × ℕ)) → x ≡ Some (s, p) → SpotsAlike V x y → (t : T) × (y ≡ Some (t, p)) × V s t p
+pub spot_there : {S T : Type 0} (V : S → T → ℕ → Type 0) (s : S) (p : ℕ) (x : Option (S × ℕ)) (y : Option (T × ℕ)) → x ≡ Some (s, p) → SpotsAlike V x y → (t : T) × (y ≡ Some (t, p)) × V s t p
 spot_there V s p None y e h = absurd (cc)
 spot_there V s p (Some x) None e h = absurd h
 spot_there {S} {T} V s p (Some x) (Some y) e h =

@@ -4,9 +4,9 @@ use Rattle.std.specs.Prelude.{Contains}
 use Rattle.std.specs.List.{AllByRecursion as Each}
 use Rattle.std.proofs.lemmas.List.Elements.{All-from_recursion}
 use Rattle.cp_machine.specs.declared.event.Event.{Event}
-use Rattle.cp_machine.specs.declared.event.Event.TheVariants.{Local, Kernel, Ended, Fault, OutputFull}
+use Rattle.cp_machine.specs.declared.event.Event.TheVariants.{Local, Fault, OutputFull}
 use Rattle.cp_run.specs.declared.outcome.OutcomeKind.{OutcomeKind}
-use Rattle.cp_run.specs.declared.outcome.OutcomeKind.TheVariants.{Finished, AllWaiting, RunError, ChoiceLimit, StepLimit, OutputLimit}
+use Rattle.cp_run.specs.declared.outcome.OutcomeKind.TheVariants.{Finished, AllWaiting, ChoiceLimit, OutputLimit}
 use Rattle.cp_run.specs.declared.outcome.Turn.{Turn}
 use Rattle.cp_run.specs.declared.outcome.Turn.TheVariants.{Over, Due, Goes}
 use Rattle.cp_run.specs.System.{System}
@@ -20,12 +20,9 @@ use Rattle.cp_endless.specs.Tables.{IsKnownEnd, TablesLaw, WitnessLaw}
 use Rattle.cp_endless.proofs.Basics.{each_append}
 
 known_of : (ends : List OutcomeKind) (kind : OutcomeKind) → Contains ends kind → IsKnownEnd ends kind
-known_of ends Finished k = k
-known_of ends AllWaiting k = k
-known_of ends (RunError name process line) k = k
 known_of ends ChoiceLimit k = tt
-known_of ends StepLimit k = k
 known_of ends OutputLimit k = tt
+known_of ends _ k = k
 
 -- a row that each of some lists has is one of the whole
 each_of_all : {A B : Type 0} (P : B → Type 0) (f : A → List B) (xs : List A) → ((x : A) → Each P (f x)) → Each P (each f xs)
@@ -81,10 +78,9 @@ module _ {S : Type 0} (a b : System S) (R : S → S → Type 0) (f : Follows a b
 
   after_same : (s t : S) (p : ℕ) (e : Event) → R s t → turn_after a s p e ≡ turn_after b t p e
   after_same s t p Local r = at_same s t false p r
-  after_same s t p (Kernel call) r = at_same s t true p r
-  after_same s t p Ended r = at_same s t true p r
   after_same s t p (Fault x) r = refl
   after_same s t p OutputFull r = refl
+  after_same s t p _ r = at_same s t true p r
 
   node_near : (s t : S) (on other : ℕ → Node S) (turn : Turn) → R s t → ((q : ℕ) → Near (on q) (other q)) → Near (node_at s on turn) (node_at t other turn)
   node_near s t on other (Over kind) r h = inr refl
@@ -141,8 +137,7 @@ module _ {S : Type 0} (a b : System S) (R : S → S → Type 0) (f : Follows a b
 
     known_later : (x : Answer) → EndsKnown x → EndsKnown (later x)
     known_later (HasEnded o used) h = h
-    known_later (Wants ready) h = h
-    known_later (NotReady place) h = h
+    known_later _ h = h
 
     halted_known : (k : OutcomeKind) (s : S) (y : Node S) → Near (Halted k s) y → IsIn among (Contains ends) y → IsKnownEnd ends k
     halted_known k s (Halted j t) n i = ⊎_elim (λ (e : k ≡ OutputLimit). subst (IsKnownEnd ends) (sym e) tt) (λ (e : k ≡ j). subst (IsKnownEnd ends) (sym e) (known_of ends j i)) n
@@ -167,8 +162,7 @@ module _ {S : Type 0} (a b : System S) (R : S → S → Type 0) (f : Follows a b
         by : (c : Bool) → Each (λ (l : Line). IsKnownEnd ends l.outcome.kind) (if c then record { word = word; outcome = o } ∷ [] else [])
         by true = (h, tt)
         by false = tt
-    line_known word (Wants ready) h = tt
-    line_known word (NotReady place) h = tt
+    line_known word _ h = tt
 
     pub table_known : R a.start b.start → (choices : ℕ) → Each (λ l. IsKnownEnd ends l.outcome.kind) (table a choices steps)
     unfolding table

@@ -6,8 +6,9 @@ use Rattle.std.proofs.lemmas.List.{append_assoc, map-append}
 use Rattle.cp_run.specs.declared.outcome.Outcome.{Outcome}
 use Rattle.cp_run.specs.declared.outcome.OutcomeKind.TheVariants.{ChoiceLimit}
 use Rattle.cp_run.specs.System.{System}
-use Rattle.cp_run.specs.Run.{joined_below, Node, Halted, Choosing, Answer, Ended, Wants, NotReady, later, may, chosen, opened, run_from}
+use Rattle.cp_run.specs.Run.{joined_below, Node, Halted, Choosing, Answer, Ended, NotReady, later, may, chosen, opened, run_from}
 use Rattle.cp_run.specs.Table.{Line, words, lines_of, each, table}
+use Rattle.cp_refine.proofs.Alike.{each_same}
 
 -- a row, one number further
 abbrev pub behind : ℕ → Line → Line
@@ -19,7 +20,7 @@ walk sys steps choices (Halted kind s) = record { word = []; outcome = record { 
 walk sys steps zero (Choosing s) = record { word = []; outcome = record { kind = ChoiceLimit; output = sys.output s } } ∷ []
 walk sys steps (suc choices) (Choosing s) = joined_below sys.processes (λ p. if may sys s p then map (behind p) (walk sys steps choices (chosen sys steps s p)) else [])
 
-each_append : {A B : Type 0} (f : A → List B) (xs ys : List A) → each f (xs ++ ys) ≡ each f xs ++ each f ys
+pub each_append : {A B : Type 0} (f : A → List B) (xs ys : List A) → each f (xs ++ ys) ≡ each f xs ++ each f ys
 each_append f [] ys = refl
 each_append f (x ∷ xs) ys = ap (λ l. f x ++ l) (each_append f xs ys) ∙ sym (append_assoc (f x) (each f xs) (each f ys))
 
@@ -34,10 +35,6 @@ joined_same (suc n) f g h = ap (λ l. l ++ f n) (joined_same n f g h) ∙ ap (λ
 pub each_map : {A B C : Type 0} (f : B → List C) (h : A → B) (xs : List A) → each f (map h xs) ≡ each (λ x. f (h x)) xs
 each_map f h [] = refl
 each_map f h (x ∷ xs) = ap (λ l. f (h x) ++ l) (each_map f h xs)
-
-pub each_same : {A B : Type 0} (f g : A → List B) (xs : List A) → ((x : A) → f x ≡ g x) → each f xs ≡ each g xs
-each_same f g [] h = refl
-each_same f g (x ∷ xs) h = ap (λ l. l ++ each f xs) (h x) ∙ ap (λ l. g x ++ l) (each_same f g xs h)
 
 map_each : {A B C : Type 0} (h : B → C) (f : A → List B) (xs : List A) → each (λ x. map h (f x)) xs ≡ map h (each f xs)
 map_each h f [] = refl
@@ -68,8 +65,7 @@ over_lines p word outcome = ap (λ b. if b then record { word = p ∷ word; outc
 -- the row of a word, one number further
 pub later_lines : (p : ℕ) (word : List ℕ) (a : Answer) → lines_of (p ∷ word) (later a) ≡ map (behind p) (lines_of word a)
 later_lines p word (Ended outcome used) = ap (λ b. if b then record { word = p ∷ word; outcome = outcome } ∷ [] else []) (suc_eqb used (length word)) ∙ shown_line p word outcome (used == length word)
-later_lines p word (Wants ready) = refl
-later_lines p word (NotReady place) = refl
+later_lines p word _ = refl
 
 -- the rows of all words, from a node
 abbrev pub kept : {S : Type 0} → System S → ℕ → ℕ → Node S → List Line

@@ -3,7 +3,7 @@ use Rattle.std.proofs.Common.{◌≡◌, ℕ, Bool, true, false, if◌then◌els
 use Rattle.cp_run.specs.System.{System}
 use Rattle.cp_run.specs.Run.{Node, Halted, Choosing, may, chosen}
 use Rattle.cp_endless.specs.Reachable.{node_after}
-use Rattle.cp_endless.proofs.Basics.{some_same}
+use Rattle.cp_resolved.proofs.names.Alike.{same_inside as some_same}
 
 module _ {S : Type 0} (sys : System S) (steps : ℕ) where
   -- the first number may be chosen, and the others lead on

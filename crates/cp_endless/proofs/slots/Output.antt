@@ -7,7 +7,7 @@ use Rattle.std.proofs.lemmas.List.{length-append}
 use Rattle.std.proofs.lemmas.Bool.{cases_order, ne_eqb, eqb-false}
 use Rattle.cp_slots.specs.Tables.{Tables, item_at, component_at}
 use Rattle.cp_slots.specs.declared.item.Action.{Action}
-use Rattle.cp_slots.specs.declared.item.Action.TheVariants.{Empty, Assign, AssignSet, Copy, Block, If, Case, While, Until, For, Cycle, Call, Start, Delay, Continue, Display}
+use Rattle.cp_slots.specs.declared.item.Action.TheVariants.{Assign, AssignSet, Copy, If, Case, While, Until, For, Call, Start, Delay, Continue, Display}
 use Rattle.cp_slots.specs.declared.item.Item.{Item}
 use Rattle.cp_slots.specs.declared.place.Argument.{Argument}
 use Rattle.cp_slots.specs.declared.tables.ComponentKind.{ComponentKind}
@@ -20,7 +20,7 @@ use Rattle.cp_machine.specs.declared.event.Event.{Event}
 use Rattle.cp_machine.specs.declared.gates.Gates.{Gates}
 use Rattle.cp_machine.specs.declared.gates.Gates.TheVariants.{First, Any}
 use Rattle.cp_machine.specs.declared.process.Entry.{Entry}
-use Rattle.cp_machine.specs.declared.process.Entry.TheVariants.{Rest, Successor, Return, InitEnd}
+use Rattle.cp_machine.specs.declared.process.Entry.TheVariants.{Rest, Successor, Return}
 use Rattle.cp_machine.specs.declared.process.Status.TheVariants.{Delayed}
 use Rattle.cp_machine.specs.declared.shown.Shown.{Shown}
 use Rattle.cp_machine.specs.declared.state.TheConstants.{MOST_SHOWN}
@@ -71,10 +71,6 @@ module _ (out o : List Shown) (less : length o ≤ length out) (room : length ou
   either_twins true h k = h
   either_twins false h k = k
 
-  -- each is asked by itself, and the answers are the same
-  both_twins : (b c : Bool) {x y x' y' : Stepped} → c ≡ b → Twins x x' → Twins y y' → Twins (if b then x else y) (if c then x' else y')
-  both_twins b c {x} {y} {x'} {y'} e h k = subst (λ d. Twins (if b then x else y) (if d then x' else y')) (sym e) (either_twins b h k)
-
   -- ---- the kernel
 
   first_in_alike : (m : Machine) (monitor : ℕ) (line : List ℕ) → Shows m → BothBy (λ x. first_in x monitor line) m
@@ -82,9 +78,8 @@ module _ (out o : List Shown) (less : length o ≤ length out) (room : length ou
   first_in_alike m monitor (q ∷ line) h = alike _ h
 
   one_in_alike : (m : Machine) (monitor : ℕ) (line : List ℕ) → Shows m → BothBy (λ x. one_in x monitor line) m
-  one_in_alike m monitor [] h = alike _ h
   one_in_alike m monitor (q ∷ []) h = alike _ h
-  one_in_alike m monitor (p ∷ q ∷ line) h = alike _ h
+  one_in_alike m monitor _ h = alike _ h
 
   let_in_by_alike : (gates : Gates) (m : Machine) (monitor : ℕ) (line : List ℕ) → Shows m → BothBy (λ x. let_in_by gates x monitor line) m
   let_in_by_alike First m monitor line h = first_in_alike m monitor line h
@@ -122,8 +117,7 @@ module _ (out o : List Shown) (less : length o ≤ length out) (room : length ou
       → Shows m → TwinsBy (λ x. called_in r x pid k routine component arguments bounds result rest) m
   called_in_twins r m pid (kind.Monitor monitor) routine component arguments bounds result rest h =
       inr (refl, entered_alike (called r m pid routine component arguments bounds result (Some monitor) rest) pid monitor h)
-  called_in_twins r m pid kind.Class routine component arguments bounds result rest h = twins _ _ h
-  called_in_twins r m pid (kind.Process number) routine component arguments bounds result rest h = twins _ _ h
+  called_in_twins r m pid _ routine component arguments bounds result rest h = twins _ _ h
 
   called_by_twins : (r : Tables) (m : Machine) (pid line : ℕ) (is_entry : Bool) (routine component : ℕ) (arguments : List Argument) (bounds : List Bound) (result : Option ℕ) (rest : List Entry)
       → Shows m → TwinsBy (λ x. called_by r x pid line is_entry routine component arguments bounds result rest) m
@@ -142,8 +136,7 @@ module _ (out o : List Shown) (less : length o ≤ length out) (room : length ou
   started_twins : (r : Tables) (m : Machine) (pid line : ℕ) (k : ComponentKind) (routine component : ℕ) (arguments : List Argument) (bounds : List Bound) (rest : List Entry)
       → Shows m → TwinsBy (λ x. started r x pid line k routine component arguments bounds rest) m
   started_twins r m pid line (kind.Process q) routine component arguments bounds rest h = start_process_twins r m pid line q component arguments bounds rest h
-  started_twins r m pid line (kind.Monitor monitor) routine component arguments bounds rest h = start_inside_twins r m pid line routine component arguments bounds rest h
-  started_twins r m pid line kind.Class routine component arguments bounds rest h = start_inside_twins r m pid line routine component arguments bounds rest h
+  started_twins r m pid line _ routine component arguments bounds rest h = start_inside_twins r m pid line routine component arguments bounds rest h
 
   returned_twins : (r : Tables) (m : Machine) (pid : ℕ) (caller : Frame) (result monitor : Option ℕ) (es : List Entry) → Shows m → TwinsBy (λ x. returned r x pid caller result monitor es) m
   returned_twins r m pid caller result None es h = twins _ _ h
@@ -154,20 +147,15 @@ module _ (out o : List Shown) (less : length o ≤ length out) (room : length ou
   delayed_in_twins : (m : Machine) (pid line cell : ℕ) (k : ComponentKind) (rest : List Entry) → Shows m → TwinsBy (λ x. delayed_in x pid line cell k rest) m
   delayed_in_twins m pid line cell (kind.Monitor monitor) rest h =
       either_twins (is_true (slice_index_or m.permanents cell (pos 0))) (twins _ _ h) (inr (refl, delayed_alike (with_stack m pid rest) pid monitor cell h))
-  delayed_in_twins m pid line cell kind.Class rest h = twins _ _ h
-  delayed_in_twins m pid line cell (kind.Process number) rest h = twins _ _ h
+  delayed_in_twins m pid line cell _ rest h = twins _ _ h
 
   delay_at_twins : (r : Tables) (m : Machine) (pid line : ℕ) (rest : List Entry) (a : Address) → Shows m → TwinsBy (λ x. delay_at r x pid line rest a) m
   delay_at_twins r m pid line rest (address.Permanent cell) h = delayed_in_twins m pid line cell (component_at r (thread_at m.threads pid).frame.component).kind rest h
   delay_at_twins r m pid line rest (address.Local cell) h = twins _ _ h
 
   continued_from_twins : (r : Tables) (m : Machine) (pid cell : ℕ) (es : List Entry) → Shows m → TwinsBy (λ x. continued_from r x pid cell es) m
-  continued_from_twins r m pid cell [] h = twins _ _ h
-  continued_from_twins r m pid cell (Rest at ∷ es) h = twins _ _ h
-  continued_from_twins r m pid cell (Successor at z last ∷ es) h = twins _ _ h
-  continued_from_twins r m pid cell (InitEnd caller component ∷ es) h = twins _ _ h
-  continued_from_twins r m pid cell (Return caller result None ∷ es) h = twins _ _ h
   continued_from_twins r m pid cell (Return caller result (Some monitor) ∷ es) h = inr (refl, continued_alike (left r m pid caller result es) monitor cell h)
+  continued_from_twins r m pid cell _ h = twins _ _ h
 
   continue_at_twins : (r : Tables) (m : Machine) (pid : ℕ) (next : Option ℕ) (es : List Entry) (a : Address) → Shows m → TwinsBy (λ x. continue_at r x pid next es a) m
   continue_at_twins r m pid next es (address.Permanent cell) h = continued_from_twins r (with_stack m pid (from_end es)) pid cell (from_end es) h
@@ -222,7 +210,6 @@ module _ (out o : List Shown) (less : length o ≤ length out) (room : length ou
     evaluated line (Err e) f = twins _ _ h
 
     act_twins : (at : ℕ) (item : Item) (a : Action) (es : List Entry) → TwinsBy (λ x. act r x pid at item a es) m
-    act_twins at item Empty es = twins _ _ h
     act_twins at item (Assign target value low high) es =
         evaluated item.line (value_of m pid value) (λ v.
         evaluated item.line (address_of m pid target) (λ p.
@@ -234,7 +221,6 @@ module _ (out o : List Shown) (less : length o ≤ length out) (room : length ou
     act_twins at item (Copy target source size) es =
         evaluated item.line (address_of m pid source) (λ from.
         evaluated item.line (address_of m pid target) (λ to. twins _ _ h))
-    act_twins at item (Block list) es = twins _ _ h
     act_twins at item (If test list other) es = evaluated item.line (value_of m pid test) (λ v. twins _ _ h)
     act_twins at item (Case selector arms) es =
         evaluated item.line (value_of m pid selector) (λ v.
@@ -246,7 +232,6 @@ module _ (out o : List Shown) (less : length o ≤ length out) (room : length ou
         evaluated item.line (value_of m pid last) (λ y.
         either_twins (is_beyond down x y) (twins _ _ h)
         (evaluated item.line (ranged low high x) (λ z. twins _ _ h))))
-    act_twins at item (Cycle list) es = twins _ _ h
     act_twins at item (Call routine component is_entry arguments result) es =
         evaluated item.line (component_of m pid component) (λ c.
         evaluated item.line (arguments_of m pid arguments.items) (λ bs.
@@ -258,33 +243,19 @@ module _ (out o : List Shown) (less : length o ≤ length out) (room : length ou
     act_twins at item (Delay place) es = evaluated item.line (address_of m pid place) (λ p. delay_at_twins r m pid item.line (rest_of item.next es) p h)
     act_twins at item (Continue place) es = evaluated item.line (address_of m pid place) (λ p. continue_at_twins r m pid item.next es p h)
     act_twins at item (Display value kind) es = evaluated item.line (value_of m pid value) (λ v. show_twins m h pid (rest_of item.next es) (shown_as kind v))
+    act_twins at item _ es = twins _ _ h
 
     successor_twins : (at : ℕ) (item : Item) (a : Action) (es : List Entry) (z last : ℤ) → TwinsBy (λ x. succeeded x pid at item a es z last) m
     successor_twins at item (For variable low high first end down list) es z last =
         either_twins (int_eq z last) (twins _ _ h)
         (evaluated item.line (next_value down low high z) (λ w. twins _ _ h))
-    successor_twins at item Empty es z last = twins _ _ h
-    successor_twins at item (Assign target value low high) es z last = twins _ _ h
-    successor_twins at item (AssignSet target value low high) es z last = twins _ _ h
-    successor_twins at item (Copy target source size) es z last = twins _ _ h
-    successor_twins at item (Block list) es z last = twins _ _ h
-    successor_twins at item (If test list other) es z last = twins _ _ h
-    successor_twins at item (Case selector arms) es z last = twins _ _ h
-    successor_twins at item (While test list again) es z last = twins _ _ h
-    successor_twins at item (Until test list again) es z last = twins _ _ h
-    successor_twins at item (Cycle list) es z last = twins _ _ h
-    successor_twins at item (Call routine component is_entry arguments result) es z last = twins _ _ h
-    successor_twins at item (Start component routine arguments) es z last = twins _ _ h
-    successor_twins at item (Delay place) es z last = twins _ _ h
-    successor_twins at item (Continue place) es z last = twins _ _ h
-    successor_twins at item (Display value shown) es z last = twins _ _ h
+    successor_twins at item _ es z last = twins _ _ h
 
     top_twins : (es : List Entry) → TwinsBy (λ x. take_top r x pid es) m
-    top_twins [] = twins _ _ h
     top_twins (Rest at ∷ es) = act_twins at (item_at r at) (item_at r at).action es
     top_twins (Successor at z last ∷ es) = successor_twins at (item_at r at) (item_at r at).action es z last
     top_twins (Return caller result monitor ∷ es) = returned_twins r m pid caller result monitor es h
-    top_twins (InitEnd caller component ∷ es) = twins _ _ h
+    top_twins _ = twins _ _ h
 
 -- ---- a step, an admission and readings
 

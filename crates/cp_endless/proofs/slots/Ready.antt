@@ -6,7 +6,7 @@ use Rattle.std.proofs.lemmas.Bool.{cases_eq, cases_lt}
 use Rattle.std.proofs.lemmas.List.{get_or_past, length-set}
 use Rattle.cp_slots.specs.Tables.{Tables, item_at, component_at}
 use Rattle.cp_slots.specs.declared.item.Action.{Action}
-use Rattle.cp_slots.specs.declared.item.Action.TheVariants.{Empty, Assign, AssignSet, Copy, Block, If, Case, While, Until, For, Cycle, Call, Start, Delay, Continue, Display}
+use Rattle.cp_slots.specs.declared.item.Action.TheVariants.{Assign, AssignSet, Copy, If, Case, While, Until, For, Call, Start, Delay, Continue, Display}
 use Rattle.cp_slots.specs.declared.item.Item.{Item}
 use Rattle.cp_slots.specs.declared.place.Argument.{Argument}
 use Rattle.cp_slots.specs.declared.tables.ComponentKind.{ComponentKind}
@@ -108,9 +108,8 @@ module _ (start : Machine) (pid : ℕ) where
   first_in_keeps m monitor (q ∷ line) h = goes_in_keeps m monitor q line h
 
   one_in_keeps : (m : Machine) (monitor : ℕ) (line : List ℕ) → Keeps m → Keeps (one_in m monitor line)
-  one_in_keeps m monitor [] h = h
   one_in_keeps m monitor (q ∷ []) h = goes_in_keeps m monitor q [] h
-  one_in_keeps m monitor (p ∷ q ∷ line) h = h
+  one_in_keeps m monitor _ h = h
 
   let_in_by_keeps : (gates : Gates) (m : Machine) (monitor : ℕ) (line : List ℕ) → Keeps m → Keeps (let_in_by gates m monitor line)
   let_in_by_keeps First m monitor line h = first_in_keeps m monitor line h
@@ -176,8 +175,7 @@ module _ (start : Machine) (pid : ℕ) where
 
   started_keeps : (r : Tables) (m : Machine) (line : ℕ) (k : ComponentKind) (routine component : ℕ) (arguments : List Argument) (bounds : List Bound) (rest : List Entry) → Keeps m → StepKeeps (started r m pid line k routine component arguments bounds rest)
   started_keeps r m line (kind.Process q) routine component arguments bounds rest h = start_process_keeps r m line q component arguments bounds rest h
-  started_keeps r m line (kind.Monitor monitor) routine component arguments bounds rest h = start_inside_keeps r m line routine component arguments bounds rest h
-  started_keeps r m line kind.Class routine component arguments bounds rest h = start_inside_keeps r m line routine component arguments bounds rest h
+  started_keeps r m line _ routine component arguments bounds rest h = start_inside_keeps r m line routine component arguments bounds rest h
 
   returned_keeps : (r : Tables) (m : Machine) (caller : Frame) (result monitor : Option ℕ) (es : List Entry) → Keeps m → StepKeeps (returned r m pid caller result monitor es)
   returned_keeps r m caller result None es h = left_keeps r m caller result es h
@@ -191,20 +189,15 @@ module _ (start : Machine) (pid : ℕ) where
   delayed_in_keeps : (m : Machine) (line cell : ℕ) (k : ComponentKind) (rest : List Entry) → Keeps m → StepKeeps (delayed_in m pid line cell k rest)
   delayed_in_keeps m line cell (kind.Monitor monitor) rest h =
       either_keeps (is_true (slice_index_or m.permanents cell (pos 0))) _ _ h (delayed_keeps (with_stack m pid rest) monitor cell (stack_keeps m rest h))
-  delayed_in_keeps m line cell kind.Class rest h = stack_keeps m rest h
-  delayed_in_keeps m line cell (kind.Process number) rest h = stack_keeps m rest h
+  delayed_in_keeps m line cell _ rest h = stack_keeps m rest h
 
   delay_at_keeps : (r : Tables) (m : Machine) (line : ℕ) (rest : List Entry) (a : Address) → Keeps m → StepKeeps (delay_at r m pid line rest a)
   delay_at_keeps r m line rest (address.Permanent cell) h = delayed_in_keeps m line cell (component_at r (thread_at m.threads pid).frame.component).kind rest h
   delay_at_keeps r m line rest (address.Local cell) h = stack_keeps m rest h
 
   continued_from_keeps : (r : Tables) (m : Machine) (cell : ℕ) (es : List Entry) → Keeps m → StepKeeps (continued_from r m pid cell es)
-  continued_from_keeps r m cell [] h = h
-  continued_from_keeps r m cell (Rest at ∷ es) h = h
-  continued_from_keeps r m cell (Successor at z last ∷ es) h = h
-  continued_from_keeps r m cell (InitEnd caller component ∷ es) h = h
-  continued_from_keeps r m cell (Return caller result None ∷ es) h = h
   continued_from_keeps r m cell (Return caller result (Some monitor) ∷ es) h = continued_keeps (left r m pid caller result es) monitor cell (left_keeps r m caller result es h)
+  continued_from_keeps r m cell _ h = h
 
   continue_at_keeps : (r : Tables) (m : Machine) (next : Option ℕ) (es : List Entry) (a : Address) → Keeps m → StepKeeps (continue_at r m pid next es a)
   continue_at_keeps r m next es (address.Permanent cell) h = continued_from_keeps r (with_stack m pid (from_end es)) cell (from_end es) (stack_keeps m (from_end es) h)
@@ -230,7 +223,6 @@ module _ (r : Tables) (m : Machine) (pid : ℕ) where
   evaluated o failed go f g = value_keeps m pid o failed go f g
 
   act_keeps : (at : ℕ) (item : Item) (a : Action) (es : List Entry) → Steps (act r m pid at item a es)
-  act_keeps at item Empty es = going _
   act_keeps at item (Assign target value low high) es =
       evaluated (value_of m pid value) _ _ (λ e. same) (λ v.
       evaluated (address_of m pid target) _ _ (λ e. same) (λ p.
@@ -242,7 +234,6 @@ module _ (r : Tables) (m : Machine) (pid : ℕ) where
   act_keeps at item (Copy target source size) es =
       evaluated (address_of m pid source) _ _ (λ e. same) (λ from.
       evaluated (address_of m pid target) _ _ (λ e. same) (λ to. writing _ _))
-  act_keeps at item (Block list) es = going _
   act_keeps at item (If test list other) es = evaluated (value_of m pid test) _ _ (λ e. same) (λ v. going _)
   act_keeps at item (Case selector arms) es =
       evaluated (value_of m pid selector) _ _ (λ e. same) (λ v.
@@ -254,7 +245,6 @@ module _ (r : Tables) (m : Machine) (pid : ℕ) where
       evaluated (value_of m pid last) _ _ (λ e. same) (λ y.
       either_keeps m pid (is_beyond down x y) _ _ (going _)
       (evaluated (ranged low high x) _ _ (λ e. same) (λ z. writing _ _))))
-  act_keeps at item (Cycle list) es = going _
   act_keeps at item (Call routine component is_entry arguments result) es =
       evaluated (component_of m pid component) _ _ (λ e. same) (λ c.
       evaluated (arguments_of m pid arguments.items) _ _ (λ e. same) (λ bs. called_by_keeps m pid r m item.line is_entry routine c arguments.items bs result _ same))
@@ -265,26 +255,13 @@ module _ (r : Tables) (m : Machine) (pid : ℕ) where
   act_keeps at item (Continue place) es = evaluated (address_of m pid place) _ _ (λ e. same) (λ p. continue_at_keeps m pid r m item.next es p same)
   act_keeps at item (Display value shown) es =
       evaluated (value_of m pid value) _ _ (λ e. same) (λ v. either_keeps m pid (length m.output == MOST_SHOWN) _ _ same (going _))
+  act_keeps at item _ es = going _
 
   successor_keeps : (at : ℕ) (item : Item) (a : Action) (es : List Entry) (z last : ℤ) → Steps (succeeded m pid at item a es z last)
   successor_keeps at item (For variable low high first end down list) es z last =
       either_keeps m pid (int_eq z last) _ _ (going _)
       (evaluated (next_value down low high z) _ _ (λ e. same) (λ w. writing _ _))
-  successor_keeps at item Empty es z last = going _
-  successor_keeps at item (Assign target value low high) es z last = going _
-  successor_keeps at item (AssignSet target value low high) es z last = going _
-  successor_keeps at item (Copy target source size) es z last = going _
-  successor_keeps at item (Block list) es z last = going _
-  successor_keeps at item (If test list other) es z last = going _
-  successor_keeps at item (Case selector arms) es z last = going _
-  successor_keeps at item (While test list again) es z last = going _
-  successor_keeps at item (Until test list again) es z last = going _
-  successor_keeps at item (Cycle list) es z last = going _
-  successor_keeps at item (Call routine component is_entry arguments result) es z last = going _
-  successor_keeps at item (Start component routine arguments) es z last = going _
-  successor_keeps at item (Delay place) es z last = going _
-  successor_keeps at item (Continue place) es z last = going _
-  successor_keeps at item (Display value shown) es z last = going _
+  successor_keeps at item _ es z last = going _
 
   top_keeps : (es : List Entry) → Steps (take_top r m pid es)
   top_keeps [] = status_keeps m pid m Ended same

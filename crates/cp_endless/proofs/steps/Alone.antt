@@ -2,15 +2,15 @@
 use Rattle.std.proofs.Common.{◌≡◌, inl, inr, ◌∙◌, ◌+◌, ℕ, Bool, true, false, if◌then◌else◌, List, [], ◌∷◌, ◌++◌, None, Some, sym, ap, subst}
 use Rattle.cp_run.specs.declared.outcome.OutcomeKind.TheVariants.{StepLimit}
 use Rattle.cp_run.specs.declared.outcome.Turn.{Turn}
-use Rattle.cp_run.specs.declared.outcome.Turn.TheVariants.{Over, Due, Goes}
+use Rattle.cp_run.specs.declared.outcome.Turn.TheVariants.{Goes}
 use Rattle.cp_run.specs.System.{System}
 use Rattle.cp_run.specs.Run.{Node, Halted, Choosing, node_at, settled_turn, turn_at, stretch, opened, may, chosen}
 use Rattle.cp_endless.specs.Reachable.{EndsAfter, LeadsTo, node_after}
 use Rattle.cp_endless.specs.Rounds.{AloneLaw, IsCut, IsRound, SetsOut, chosen_spot, opening_spot, spot_by}
-use Rattle.cp_endless.proofs.Basics.{some_same}
 use Rattle.cp_endless.proofs.possible.Words.{after_append}
 use Rattle.cp_endless.proofs.steps.Nodes.{cut_node, chosen_same, opened_same}
 use Rattle.cp_endless.proofs.steps.Rounds.{rounds, cut_if_on}
+use Rattle.cp_resolved.proofs.names.Alike.{same_inside as some_same}
 
 -- ---- a word that leads to a due choice leads there with more steps too
 
@@ -40,9 +40,8 @@ module _ {S : Type 0} (sys : System S) where
   -- ---- the stretch of a spot
 
   spot_node : (n : ℕ) (s : S) (u : Turn) (t : S) (p : ℕ) → spot_by s (λ q. Some (s, q)) u ≡ Some (t, p) → node_at s (stretch sys n s) u ≡ stretch sys n t p
-  spot_node n s (Over kind) t p e = absurd (cc)
-  spot_node n s Due t p e = absurd (cc)
   spot_node n s (Goes q) t p e = ap (λ (x : S × ℕ). stretch sys n x.0 x.1) (some_same (s, q) (t, p) e)
+  spot_node n s x t p e = absurd (cc)
 
   pub opened_spot : (n : ℕ) (t : S) (p : ℕ) → opening_spot sys ≡ Some (t, p) → opened sys n ≡ stretch sys n t p
   unfolding opened

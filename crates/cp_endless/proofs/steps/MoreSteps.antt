@@ -2,7 +2,7 @@
 use Rattle.std.proofs.Common.{◌≡◌, ◌⊎◌, inl, inr, ⊎_elim, ◌∙◌, ◌+◌, ℕ, Bool, true, false, if◌then◌else◌, List, [], ◌∷◌, Option, None, Some, refl, sym, ap, subst}
 use Rattle.std.specs.Prelude.{Contains}
 use Rattle.cp_run.specs.declared.outcome.OutcomeKind.{OutcomeKind}
-use Rattle.cp_run.specs.declared.outcome.OutcomeKind.TheVariants.{Finished, AllWaiting, RunError, ChoiceLimit, StepLimit, OutputLimit}
+use Rattle.cp_run.specs.declared.outcome.OutcomeKind.TheVariants.{StepLimit}
 use Rattle.cp_run.specs.System.{System}
 use Rattle.cp_run.specs.Run.{Node, Halted, Choosing, opened, may, chosen}
 use Rattle.cp_endless.specs.MoreSteps.{CutsAreRounds, MoreStepsLaw, MoreStepsRoundsLaw}
@@ -82,12 +82,7 @@ more_steps_rounds sys steps more states ends h there = settled_still sys steps m
 -- where an end at the limit of steps is not met, no stretch is cut
 uncut : {S : Type 0} (x : Node S) (states : List S) (ends : List OutcomeKind) → (Contains ends StepLimit → ⊥) → IsIn (Contains states) (Contains ends) x → IsCut x → ⊥
 uncut (Halted StepLimit s) states ends none i c = none i
-uncut (Halted Finished s) states ends none i c = c
-uncut (Halted AllWaiting s) states ends none i c = c
-uncut (Halted (RunError name process line) s) states ends none i c = c
-uncut (Halted ChoiceLimit s) states ends none i c = c
-uncut (Halted OutputLimit s) states ends none i c = c
-uncut (Choosing s) states ends none i c = c
+uncut _ states ends none i c = c
 
 pub more_steps : {S : Type 0} (sys : System S) → MoreStepsLaw sys
 more_steps sys steps more states ends h none =

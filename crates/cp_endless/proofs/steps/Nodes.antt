@@ -1,37 +1,26 @@
 -- A stretch that is not cut is the same for every greater limit of steps.
 use Rattle.std.proofs.Common.{◌≡◌, ◌⊎◌, inl, inr, ◌∙◌, ◌+◌, ℕ, zero, suc, Bool, true, false, if◌then◌else◌, refl, ap, subst, arith}
-use Rattle.cp_run.specs.declared.outcome.OutcomeKind.TheVariants.{Finished, AllWaiting, RunError, ChoiceLimit, StepLimit, OutputLimit}
+use Rattle.cp_run.specs.declared.outcome.OutcomeKind.TheVariants.{StepLimit}
 use Rattle.cp_run.specs.declared.outcome.Turn.{Turn}
-use Rattle.cp_run.specs.declared.outcome.Turn.TheVariants.{Over, Due, Goes}
+use Rattle.cp_run.specs.declared.outcome.Turn.TheVariants.{Goes}
 use Rattle.cp_run.specs.System.{System}
-use Rattle.cp_run.specs.Run.{Node, Halted, Choosing, node_at, settled_turn, turn_at, turn_after, stretch, opened, chosen}
+use Rattle.cp_run.specs.Run.{Node, Halted, node_at, settled_turn, turn_at, turn_after, stretch, opened, chosen}
 use Rattle.cp_endless.specs.Rounds.{IsCut}
 
 pub cut_node : {S : Type 0} (x : Node S) → IsCut x → (s : S) × (x ≡ Halted StepLimit s)
 cut_node (Halted StepLimit s) c = (s, refl)
-cut_node (Halted Finished s) c = absurd c
-cut_node (Halted AllWaiting s) c = absurd c
-cut_node (Halted (RunError name process line) s) c = absurd c
-cut_node (Halted ChoiceLimit s) c = absurd c
-cut_node (Halted OutputLimit s) c = absurd c
-cut_node (Choosing s) c = absurd c
+cut_node _ c = absurd c
 
 pub cut_or_not : {S : Type 0} (x : Node S) → IsCut x ⊎ (IsCut x → ⊥)
 cut_or_not (Halted StepLimit s) = inl tt
-cut_or_not (Halted Finished s) = inr (λ c. c)
-cut_or_not (Halted AllWaiting s) = inr (λ c. c)
-cut_or_not (Halted (RunError name process line) s) = inr (λ c. c)
-cut_or_not (Halted ChoiceLimit s) = inr (λ c. c)
-cut_or_not (Halted OutputLimit s) = inr (λ c. c)
-cut_or_not (Choosing s) = inr (λ c. c)
+cut_or_not _ = inr (λ c. c)
 
 -- ---- one step more
 
 module _ {S : Type 0} (sys : System S) where
   node_more : (t : S) (on other : ℕ → Node S) (turn : Turn) → ((q : ℕ) → (IsCut (on q) → ⊥) → other q ≡ on q) → (IsCut (node_at t on turn) → ⊥) → node_at t other turn ≡ node_at t on turn
-  node_more t on other (Over kind) h c = refl
-  node_more t on other Due h c = refl
   node_more t on other (Goes q) h c = h q c
+  node_more t on other _ h c = refl
 
   stretch_more : (left : ℕ) (s : S) (p : ℕ) → (IsCut (stretch sys left s p) → ⊥) → stretch sys (suc left) s p ≡ stretch sys left s p
   unfolding stretch

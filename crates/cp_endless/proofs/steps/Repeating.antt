@@ -7,20 +7,19 @@ use Rattle.cp_endless.specs.Moments.{AnyOf, stretch_moments}
 use Rattle.cp_endless.specs.Reachable.{node_after}
 use Rattle.cp_endless.specs.Repeats.{CallsAt, Repeats, RepeatsLaw}
 use Rattle.cp_endless.specs.Rounds.{IsRound, SetsOut, chosen_spot, spot_after}
-use Rattle.cp_endless.proofs.Basics.{some_same}
 use Rattle.cp_endless.proofs.steps.Alone.{alone}
 use Rattle.cp_endless.proofs.steps.Rounds.{happens_early}
+use Rattle.cp_resolved.proofs.names.Alike.{same_inside as some_same}
 
 last_same : (u v : List ℕ) (a b : ℕ) → u ++ a ∷ [] ≡ v ++ b ∷ [] → (u ≡ v) × (a ≡ b)
 last_same [] [] a b e = (refl, cc)
 last_same [] (y ∷ []) a b e = absurd (cc)
-last_same [] (y ∷ z ∷ v) a b e = absurd (cc)
 last_same (x ∷ []) [] a b e = absurd (cc)
-last_same (x ∷ y ∷ u) [] a b e = absurd (cc)
 last_same (x ∷ u) (y ∷ v) a b e =
     let heads : x ≡ y = cc in
     let rest = last_same u v a b (cc) in
     (ap (λ k. k ∷ u) heads ∙ ap (λ w. y ∷ w) rest.0, rest.1)
+last_same x y a b e = absurd (cc)
 
 not_empty : (u : List ℕ) (a : ℕ) → [] ≡ u ++ a ∷ [] → ⊥
 not_empty [] a e = cc
@@ -29,7 +28,7 @@ not_empty (x ∷ u) a e = cc
 choosing_same : {S : Type 0} (s t : S) → Some (Choosing s) ≡ Some (Choosing t) → s ≡ t
 choosing_same s t e = cc
 
-none_of : {A : Type 0} (P : A → Type 0) (xs : List A) → Each (λ x. P x → ⊥) xs → AnyOf P xs → ⊥
+pub none_of : {A : Type 0} (P : A → Type 0) (xs : List A) → Each (λ x. P x → ⊥) xs → AnyOf P xs → ⊥
 none_of P [] e a = a
 none_of P (x ∷ xs) e (inl p) = e.0 p
 none_of P (x ∷ xs) e (inr a) = none_of P xs e.1 a

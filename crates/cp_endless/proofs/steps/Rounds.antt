@@ -10,9 +10,10 @@ use Rattle.cp_endless.specs.Fair.{IsServed}
 use Rattle.cp_endless.specs.Moments.{AnyOf, Moment, RoundHappensLaw, moments_by, stretch_moments}
 use Rattle.cp_endless.specs.Rounds.{CutLaw, IsCut, IsRound, RoundLaw, spot_after, spot_by}
 use Rattle.cp_endless.specs.Standstill.{GoesOn, IsFairStretch, IsStandstill, StandsStill, StandstillFoundLaw, StandstillLaw}
-use Rattle.cp_endless.proofs.Basics.{some_same, distance}
+use Rattle.cp_endless.proofs.Basics.{distance}
+use Rattle.cp_resolved.proofs.names.Alike.{same_inside as some_same}
 
-some_none : {A : Type 0} (x : A) → Some x ≡ None → ⊥
+pub some_none : {A : Type 0} (x : A) → Some x ≡ None → ⊥
 some_none x e = cc
 
 module _ {S : Type 0} (sys : System S) where
@@ -31,9 +32,8 @@ module _ {S : Type 0} (sys : System S) where
       plus n = omega arith
 
       by : (turn : Turn) → spot_by (sys.step s p) (spot_after sys n (sys.step s p)) turn ≡ Some (t, q) → ((r : ℕ) → spot_after sys n (sys.step s p) r ≡ Some (t, q) → spot_after sys (n + m) (sys.step s p) r ≡ spot_after sys m t q) → spot_by (sys.step s p) (spot_after sys (n + m) (sys.step s p)) turn ≡ spot_after sys m t q
-      by (Over kind) e on = absurd (cc)
-      by Due e on = absurd (cc)
       by (Goes r) e on = on r e
+      by x e on = absurd (cc)
 
   -- who stood still stands still
   still : (n m : ℕ) (s : S) (p : ℕ) → spot_after sys n s p ≡ None → spot_after sys (n + m) s p ≡ None
@@ -44,9 +44,8 @@ module _ {S : Type 0} (sys : System S) where
       plus n = omega arith
 
       by : (turn : Turn) → spot_by (sys.step s p) (spot_after sys n (sys.step s p)) turn ≡ None → ((r : ℕ) → spot_after sys n (sys.step s p) r ≡ None → spot_after sys (n + m) (sys.step s p) r ≡ None) → spot_by (sys.step s p) (spot_after sys (n + m) (sys.step s p)) turn ≡ None
-      by (Over kind) e on = refl
-      by Due e on = refl
       by (Goes r) e on = on r e
+      by _ e on = refl
 
   -- ---- a round
 
@@ -188,9 +187,8 @@ module _ {S : Type 0} (sys : System S) where
   )
     where
       by : (turn : Turn) → turn_after sys (sys.step s p) p (sys.event s p) ≡ turn → ((r : ℕ) → turn_after sys (sys.step s p) p (sys.event s p) ≡ Goes r → Each P (stretch_moments sys n (sys.step s p) r)) → Each P (moments_by (stretch_moments sys n (sys.step s p)) turn)
-      by (Over kind) e on = tt
-      by Due e on = tt
       by (Goes r) e on = on r e
+      by _ e on = tt
 
   module _ (s : S) (p : ℕ) (round : IsRound sys s p) where
     -- where it stands after d steps of the round, it stands after some steps of one round

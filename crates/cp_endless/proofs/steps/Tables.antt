@@ -2,7 +2,7 @@
 use Rattle.std.proofs.Common.{◌≡◌, ◌∙◌, ◌+◌, ℕ, zero, suc, Bool, true, false, if◌then◌else◌, List, [], ◌∷◌, ◌++◌, map, refl, sym, ap, subst}
 use Rattle.std.specs.List.{AllByRecursion as Each}
 use Rattle.std.proofs.lemmas.List.Elements.{recursion_from_All}
-use Rattle.cp_run.specs.declared.outcome.OutcomeKind.TheVariants.{Finished, AllWaiting, RunError, ChoiceLimit, StepLimit, OutputLimit}
+use Rattle.cp_run.specs.declared.outcome.OutcomeKind.TheVariants.{StepLimit}
 use Rattle.cp_run.specs.System.{System}
 use Rattle.cp_run.specs.Run.{joined_below, Node, Halted, Choosing, may, opened, chosen}
 use Rattle.cp_run.specs.Table.{Line, table}
@@ -31,18 +31,11 @@ module _ {S : Type 0} (sys : System S) (steps more : ℕ) where
   not_cut : (choices : ℕ) (x : Node S) → Enough (walk sys steps choices x) → IsCut x → ⊥
   unfolding walk
   not_cut choices (Halted StepLimit s) h c = h.0
-  not_cut choices (Halted Finished s) h c = c
-  not_cut choices (Halted AllWaiting s) h c = c
-  not_cut choices (Halted (RunError name process line) s) h c = c
-  not_cut choices (Halted ChoiceLimit s) h c = c
-  not_cut choices (Halted OutputLimit s) h c = c
-  not_cut choices (Choosing s) h c = c
+  not_cut choices _ h c = c
 
   walk_same : (choices : ℕ) (x : Node S) → Enough (walk sys steps choices x) → walk sys (more + steps) choices x ≡ walk sys steps choices x
   unfolding walk
   walk_same zero (Halted kind s) h = refl
-  walk_same zero (Choosing s) h = refl
-  walk_same (suc choices) (Halted kind s) h = refl
   walk_same (suc choices) (Choosing s) h =
       same_below sys.processes
       (λ p. if may sys s p then map (behind p) (walk sys steps choices (chosen sys steps s p)) else [])
@@ -54,6 +47,7 @@ module _ {S : Type 0} (sys : System S) (steps more : ℕ) where
           (if b then map (behind p) (walk sys (more + steps) choices (chosen sys (more + steps) s p)) else []) ≡ (if b then map (behind p) (walk sys steps choices (chosen sys steps s p)) else [])
       by p true on h = ap (map (behind p)) (on (unmapped p (walk sys steps choices (chosen sys steps s p)) h))
       by p false on h = refl
+  walk_same _ _ h = refl
 
 pub more_steps_tables : {S : Type 0} (sys : System S) → MoreStepsTablesLaw sys
 more_steps_tables sys choices steps more h =

@@ -51,7 +51,7 @@ only_first : {A : Type 0} (x y : A) → Contains (x ∷ []) y → x ≡ y
 only_first x y (zero, less, e) = e
 only_first x y (suc k, less, e) = absurd (omega (arith, less))
 
-none_in : {A : Type 0} (x : A) → Contains [] x → ⊥
+pub none_in : {A : Type 0} (x : A) → Contains [] x → ⊥
 none_in x h = let less = h.1 in omega (arith, less)
 
 -- where nothing is shown there is one state, and no end is possible

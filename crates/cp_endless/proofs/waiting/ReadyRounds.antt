@@ -2,14 +2,15 @@
 use Rattle.std.proofs.Common.{◌≡◌, ◌⊎◌, inl, inr, ⊎_elim, ℕ, zero, suc, Bool, true, false, if◌then◌else◌, List, [], ◌∷◌, Some, refl, sym, subst, ◌∙◌}
 use Rattle.std.specs.List.{AllByRecursion as Each}
 use Rattle.cp_run.specs.declared.outcome.Turn.{Turn}
-use Rattle.cp_run.specs.declared.outcome.Turn.TheVariants.{Over, Due, Goes}
+use Rattle.cp_run.specs.declared.outcome.Turn.TheVariants.{Goes}
 use Rattle.cp_run.specs.System.{System}
 use Rattle.cp_run.specs.Run.{Node, Halted, Choosing, node_at, settled_turn, turn_after, stretch, chosen}
 use Rattle.cp_endless.specs.Fair.{IsServed, ReadyRoundLaw, ReadyServedLaw, StaysReady}
 use Rattle.cp_endless.specs.Moments.{AnyOf, Moment, moments, moments_along, moments_by, states_along, stretch_moments}
 use Rattle.cp_endless.specs.Reachable.{node_after}
-use Rattle.cp_endless.proofs.Basics.{some_same, each_left, each_right, each_append, any_split}
+use Rattle.cp_endless.proofs.Basics.{each_left, each_right, each_append, any_split}
 use Rattle.cp_endless.proofs.possible.Words.{after_first}
+use Rattle.cp_resolved.proofs.names.Alike.{same_inside as some_same}
 
 module _ {S : Type 0} (sys : System S) (stays : StaysReady sys) (q : ℕ) where
   abbrev Ready : S → Type 0
@@ -27,14 +28,12 @@ module _ {S : Type 0} (sys : System S) (stays : StaysReady sys) (q : ℕ) where
 
   -- what comes after a turn
   ready_by : (t : S) (on : ℕ → List (Moment S)) (go : ℕ → Node S) (turn : Turn) → Ready t → Each Apart (moments_by on turn) → ((x : ℕ) → Each Apart (on x) → Each ReadyIn (on x) × AtEnd (go x)) → Each ReadyIn (moments_by on turn) × AtEnd (node_at t go turn)
-  ready_by t on go (Over kind) r a f = (tt, r)
-  ready_by t on go Due r a f = (tt, r)
   ready_by t on go (Goes x) r a f = f x a
+  ready_by t on go _ r a f = (tt, r)
 
   later_by : (t : S) (on : ℕ → List (Moment S)) (go : ℕ → Node S) (turn : Turn) → AnyOf ReadyIn (moments_by on turn) → Each Apart (moments_by on turn) → ((x : ℕ) → AnyOf ReadyIn (on x) → Each Apart (on x) → AtEnd (go x)) → AtEnd (node_at t go turn)
-  later_by t on go (Over kind) y a f = absurd y
-  later_by t on go Due y a f = absurd y
   later_by t on go (Goes x) y a f = f x y a
+  later_by t on go _ y a f = absurd y
 
   stretch_ready : (left : ℕ) (s : S) (p : ℕ) → Ready s → Each Apart (stretch_moments sys left s p) → Each ReadyIn (stretch_moments sys left s p) × AtEnd (stretch sys left s p)
   unfolding stretch_moments stretch

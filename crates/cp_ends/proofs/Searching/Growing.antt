@@ -4,7 +4,7 @@ use Rattle.std.specs.Prelude.{Option, Some, None, slice_get, if◌then◌else◌
 use Rattle.std.proofs.lemmas.Bool.{cases_lt}
 use Rattle.std.proofs.lemmas.Option.{slice_get_past}
 use Rattle.cp_ends.specs.Graph.{Goal, Place, End, Arrival, Graph}
-use Rattle.cp_ends.specs.Searched.{Findings, Tests, has, with_goal, with_values, arrived, gone_on, gone_on_from, searched}
+use Rattle.cp_ends.specs.Searched.{Findings, Tests, with_goal, with_values, arrived, gone_on, gone_on_from, searched}
 use Rattle.cp_ends.proofs.Searching.Lists.{Grows, grown_at, grown_length, grows_joined, grows_same}
 use Rattle.cp_ends.proofs.Searching.Adding.{IsKept, first_grows, kept_stays}
 
@@ -40,20 +40,6 @@ module _ {S E V : Type 0} (t : Tests S E V) where
   pub arrived_extends : (f : Findings S E V) (w : List ℕ) (a : Arrival S E V) → Extends t f (arrived t f w a)
   arrived_extends f w a = extends_joined f (with_shown t f w a) (arrived t f w a) (shown_extends f w a) (goal_extends (with_shown t f w a) w a.goal)
 
-  pub arrived_at : (f : Findings S E V) (w : List ℕ) (a : Arrival S E V) (i : ℕ) (y : S × List ℕ) → slice_get f.states i ≡ Some y → slice_get (arrived t f w a).states i ≡ Some y
-  arrived_at f w a i y at = grown_at f.states (arrived t f w a).states i y (arrived_extends f w a).states at
-
-  pub arrived_length : (f : Findings S E V) (w : List ℕ) (a : Arrival S E V) → length f.states ≤ length (arrived t f w a).states
-  arrived_length f w a = grown_length f.states (arrived t f w a).states (arrived_extends f w a).states
-
-  -- a place that was not found comes to the end
-  pub arrived_new : (f : Findings S E V) (w : List ℕ) (a : Arrival S E V) (s : S) → a.goal ≡ Place s → has t.state f.states s ≡ false → (arrived t f w a).states ≡ f.states ++ (s, w) ∷ []
-  arrived_new f w a s goal new = ap (λ o. (with_goal t (with_shown t f w a) w o).states) goal ∙ ap (λ b. if b then f.states else f.states ++ (s, w) ∷ []) new
-
-  -- and one that was found leaves the places as they were
-  pub arrived_again : (f : Findings S E V) (w : List ℕ) (a : Arrival S E V) (s : S) → a.goal ≡ Place s → has t.state f.states s ≡ true → (arrived t f w a).states ≡ f.states
-  arrived_again f w a s goal again = ap (λ o. (with_goal t (with_shown t f w a) w o).states) goal ∙ ap (λ b. if b then f.states else f.states ++ (s, w) ∷ []) again
-
 module _ {S E V : Type 0} (g : Graph S E V) (t : Tests S E V) where
   pub going_extends : (x : S × List ℕ) (n : ℕ) (f : Findings S E V) → Extends t f (gone_on g t x n f)
   going_extends x zero f = extends_same t f
@@ -63,24 +49,8 @@ module _ {S E V : Type 0} (g : Graph S E V) (t : Tests S E V) where
       by true on = extends_joined t f (gone_on g t x n f) (arrived t (gone_on g t x n f) (x.1 ++ n ∷ []) (g.on x.0 n)) on (arrived_extends t (gone_on g t x n f) (x.1 ++ n ∷ []) (g.on x.0 n))
       by false on = on
 
-  -- with more of its edges
-  pub going_on : (x : S × List ℕ) (n m : ℕ) (f : Findings S E V) → n ≤ m → Extends t (gone_on g t x n f) (gone_on g t x m f)
-  going_on x n zero f le = let e : n ≡ 0 = omega (arith, le) in subst (λ k. Extends t (gone_on g t x k f) f) (sym e) (extends_same t f)
-  going_on x n (suc m) f le = by (going_on x n m f) (cases_lt m n)
-    where
-      more : (b : Bool) → Extends t (gone_on g t x m f) (if b then arrived t (gone_on g t x m f) (x.1 ++ m ∷ []) (g.on x.0 m) else gone_on g t x m f)
-      more true = arrived_extends t (gone_on g t x m f) (x.1 ++ m ∷ []) (g.on x.0 m)
-      more false = extends_same t (gone_on g t x m f)
-
-      by : (n ≤ m → Extends t (gone_on g t x n f) (gone_on g t x m f)) → (m < n) ⊎ (n ≤ m) → Extends t (gone_on g t x n f) (gone_on g t x (suc m) f)
-      by on (inl lt) = let e : n ≡ suc m = omega (arith, lt, le) in subst (λ k. Extends t (gone_on g t x k f) (gone_on g t x (suc m) f)) (sym e) (extends_same t (gone_on g t x (suc m) f))
-      by on (inr low) = extends_joined t (gone_on g t x n f) (gone_on g t x m f) (gone_on g t x (suc m) f) (on low) (more (g.may x.0 m))
-
   pub going_at : (x : S × List ℕ) (n : ℕ) (f : Findings S E V) (i : ℕ) (y : S × List ℕ) → slice_get f.states i ≡ Some y → slice_get (gone_on g t x n f).states i ≡ Some y
   going_at x n f i y at = grown_at f.states (gone_on g t x n f).states i y (going_extends x n f).states at
-
-  pub going_length : (x : S × List ℕ) (n : ℕ) (f : Findings S E V) → length f.states ≤ length (gone_on g t x n f).states
-  going_length x n f = grown_length f.states (gone_on g t x n f).states (going_extends x n f).states
 
   -- ---- one place more
 

@@ -1,5 +1,5 @@
 -- Lists by the places of their elements, lists that grow at their end, and lists of things with words.
-use Rattle.std.proofs.Common.{◌≡◌, ◌⊎◌, inl, inr, ⊎_elim, ◌<◌, ◌≤◌, ℕ, zero, suc, true, List, [], ◌∷◌, ◌++◌, length, get_or, refl, ap, sym, ◌∙◌, subst, arith, length-append, append_assoc}
+use Rattle.std.proofs.Common.{◌≡◌, ◌⊎◌, inl, inr, ⊎_elim, ◌<◌, ◌≤◌, ℕ, true, List, [], ◌∷◌, ◌++◌, length, get_or, refl, ap, sym, ◌∙◌, subst, arith, length-append, append_assoc}
 use Rattle.std.specs.Prelude.{◌≢◌, All, AllPairs, Contains, Option, Some, slice_get}
 use Rattle.std.proofs.lemmas.Bool.{cases_lt}
 use Rattle.std.proofs.lemmas.List.{append-nil}
@@ -7,6 +7,7 @@ use Rattle.std.proofs.lemmas.List.Elements.{All-get_or, Contains-append_left, Co
 use Rattle.std.proofs.lemmas.Option.{same_Some, slice_get_read, slice_get_within, get_or_from_slice_get}
 use Rattle.cp_ends.specs.Firsts.{is_up_to}
 use Rattle.cp_ends.proofs.Searching.Words.{up_to_joined}
+use Rattle.cp_resolved.proofs.names.Entries.{still_there as at_front}
 
 -- ---- by places
 
@@ -55,11 +56,6 @@ grows_push xs x = (x ∷ [], refl)
 
 pub grown_contains : {X : Type 0} (xs ys : List X) (x : X) → Grows xs ys → Contains xs x → Contains ys x
 grown_contains xs ys x g h = subst (λ l. Contains l x) (sym g.1) (Contains-append_left xs g.0 x h)
-
-at_front : {X : Type 0} (xs more : List X) (i : ℕ) (x : X) → slice_get xs i ≡ Some x → slice_get (xs ++ more) i ≡ Some x
-at_front [] more i x at = cc
-at_front (y ∷ xs) more zero x at = at
-at_front (y ∷ xs) more (suc i) x at = at_front xs more i x at
 
 pub grown_at : {X : Type 0} (xs ys : List X) (i : ℕ) (x : X) → Grows xs ys → slice_get xs i ≡ Some x → slice_get ys i ≡ Some x
 grown_at xs ys i x g at = ap (λ l. slice_get l i) g.1 ∙ at_front xs g.0 i x at

@@ -71,18 +71,6 @@ module _ {S E V : Type 0} (g : Graph S E V) (t : Tests S E V) (exact : AreExact 
       let lt : to.0 < n = early to.0 (s, word) to.1 few in
       recorded_stays t (searched g t n) shown (word ++ p ∷ []) (g.on s p) shown_more (searched_recorded g t exact bounded n to.0 (s, word) p lt (stood_early to.0 (s, word) lt to.1) edge)
 
-  -- each place to which a shorter word leads was gone on from
-  pub stopped_gone : (s : S) (w : List ℕ) → LeadsToPlace g s w → length w < length x.1 → (i : ℕ) × (word : List ℕ) × (i < n) × (slice_get (searched g t n).states i ≡ Some (s, word))
-  stopped_gone s w leads few =
-      let b = reached_place g t shown (length x.1) start closed s w leads (omega (arith, few)) in
-      let to = place_of found.states (s, b.0) b.1 in
-      let lt : to.0 < n = early to.0 (s, b.0) to.1 (omega (arith, few, up_to_length b.0 w b.2)) in
-      (to.0, b.0, lt, stood_early to.0 (s, b.0) lt to.1)
-
-  -- and x was not
-  pub stopped_here : (i : ℕ) (y : S × List ℕ) → i < n → slice_get (searched g t n).states i ≡ Some y → y.0 ≢ x.0
-  stopped_here i y lt to = pair_at (λ (e k : S × List ℕ). e.0 ≢ k.0) found.states i n y x found_sound.states.once lt (going_at g t x c (searched g t n) i y to) found_here
-
   pub stopped_states : AreFirsts (Within (length x.1) (LeadsToPlace g)) (filter (is_within (length x.1)) (gone_on g t x c (searched g t n)).states)
   stopped_states = are_firsts_within (LeadsToPlace g) shown.states (x.1 ++ c ∷ []) stopped_sound.states (length x.1) (λ s w leads within. reached_place g t shown (length x.1) start closed s w leads within)
 

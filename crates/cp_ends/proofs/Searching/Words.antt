@@ -3,6 +3,7 @@ use Rattle.std.proofs.Common.{◌≡◌, ◌⊎◌, inl, inr, ⊎_elim, ◌<◌,
 use Rattle.std.proofs.lemmas.Bool.{ltb-true, lt-ltb, eqb-true, eq-eqb, cases_lt}
 use Rattle.std.specs.Prelude.{◌≢◌, ◌==◌, ◌&&◌, ◌||◌, nat_lt}
 use Rattle.cp_ends.specs.Firsts.{in_dictionary, is_up_to}
+use Rattle.cp_ends.proofs.named.OnNames.{shorter_first as up_to_shorter}
 
 -- less, or the same and the test passes
 abbrev both : ℕ → ℕ → Bool → Bool
@@ -37,8 +38,6 @@ dictionary_same (p ∷ v) = from_same p p (in_dictionary v v) refl (dictionary_s
 
 dictionary_joined : (u v w : List ℕ) → in_dictionary u v ≡ true → in_dictionary v w ≡ true → in_dictionary u w ≡ true
 dictionary_joined [] v w first second = refl
-dictionary_joined (p ∷ u) [] w first second = cc
-dictionary_joined (p ∷ u) (q ∷ v) [] first second = cc
 dictionary_joined (p ∷ u) (q ∷ v) (r ∷ w) first second = by (parts p q (in_dictionary u v) first) (parts q r (in_dictionary v w) second) (dictionary_joined u v w)
   where
     by : (p < q) ⊎ ((p ≡ q) × (in_dictionary u v ≡ true)) → (q < r) ⊎ ((q ≡ r) × (in_dictionary v w ≡ true)) → (in_dictionary u v ≡ true → in_dictionary v w ≡ true → in_dictionary u w ≡ true) → in_dictionary (p ∷ u) (r ∷ w) ≡ true
@@ -46,6 +45,7 @@ dictionary_joined (p ∷ u) (q ∷ v) (r ∷ w) first second = by (parts p q (in
     by (inl a) (inr b) on = let e = b.0 in from_less p r (in_dictionary u w) (omega (arith, a, e))
     by (inr a) (inl b) on = let e = a.0 in from_less p r (in_dictionary u w) (omega (arith, b, e))
     by (inr a) (inr b) on = from_same p r (in_dictionary u w) (cc (a.0, b.0)) (on a.1 b.1)
+dictionary_joined (p ∷ u) x y first second = cc
 
 dictionary_push : (v w : List ℕ) (p q : ℕ) → length v ≡ length w → in_dictionary v w ≡ true → (v ≢ w) ⊎ (p ≤ q) → in_dictionary (v ++ p ∷ []) (w ++ q ∷ []) ≡ true
 dictionary_push [] [] p q long h (inl other) = absurd (other refl)
@@ -66,10 +66,6 @@ dictionary_push (a ∷ v) (b ∷ w) p q long h or = by (parts a b (in_dictionary
 up_to_parts : (v w : List ℕ) → is_up_to v w ≡ true → (length v < length w) ⊎ ((length v ≡ length w) × (in_dictionary v w ≡ true))
 unfolding is_up_to
 up_to_parts v w h = parts (length v) (length w) (in_dictionary v w) h
-
-up_to_shorter : (v w : List ℕ) → length v < length w → is_up_to v w ≡ true
-unfolding is_up_to
-up_to_shorter v w lt = from_less (length v) (length w) (in_dictionary v w) lt
 
 up_to_dictionary : (v w : List ℕ) → length v ≡ length w → in_dictionary v w ≡ true → is_up_to v w ≡ true
 unfolding is_up_to

@@ -28,10 +28,11 @@ use Rattle.cp_ends.specs.Named.{HasNoCut}
 use Rattle.cp_ends.specs.declared.end.End as code
 use Rattle.cp_ends.specs.declared.end.End.TheVariants.{Over}
 use Rattle.cp_ends.proofs.named.Kinds.{cut_round, no_steps_more}
-use Rattle.cp_ends.proofs.named.Later.{moments_split, spot_moments, each_append}
+use Rattle.cp_ends.proofs.named.Later.{moments_split, spot_moments}
 use Rattle.cp_ends.proofs.words.Edges.{some_same, edge_node, edge_shown, EndsWith, edge_sets_out, shows_edge, edge_shows}
 use Rattle.cp_ends.proofs.words.Returns.{ComesToNode, ComesAgain, edge_comes, cut_there}
 use Rattle.cp_ends.proofs.words.Translated.{plain_end, value_any, any_value}
+use Rattle.cp_endless.proofs.possible.Walks.{each_append}
 
 module _ {S : Type 0} (sys : System S) where
   -- a stretch that stands still has no more moments
@@ -46,9 +47,8 @@ module _ {S : Type 0} (sys : System S) where
       by : (u : Turn) → spot_by (sys.step s p) (spot_after sys n (sys.step s p)) u ≡ None →
           ((r : ℕ) → spot_after sys n (sys.step s p) r ≡ None → stretch_moments sys (n + m) (sys.step s p) r ≡ stretch_moments sys n (sys.step s p) r) →
           moments_by (stretch_moments sys (n + m) (sys.step s p)) u ≡ moments_by (stretch_moments sys n (sys.step s p)) u
-      by (turn.Over kind) e on = refl
-      by turn.Due e on = refl
       by (turn.Goes r) e on = on r e
+      by _ e on = refl
 
   -- what was cut leads on to no choice
   cut_leads_nowhere : (steps : ℕ) (x : Node S) (word : List ℕ) (t : S) → IsCut x → node_after sys steps x word ≡ Some (Choosing t) → ⊥
@@ -127,13 +127,12 @@ module _ {S : Type 0} (sys : System S) (forget : S → S) (eq : S → S → Bool
   module _ (v : Shown) (word : List ℕ) where
     -- of a stretch that is not cut
     uncut_shown : (e : S × Turn) → EndsWith quiet steps word e → (IsCut (edge_node quiet steps e) → ⊥) → Contains (edge_shown sys forget (more + steps) e) v → Contains (edge_shown sys forget steps e) v
-    uncut_shown (s, turn.Over kind) last uncut c = c
-    uncut_shown (s, turn.Due) last uncut c = c
     uncut_shown (s, turn.Goes p) last uncut c = by (spot_after quiet steps s p) refl
       where
         by : (o : Option (S × ℕ)) → spot_after quiet steps s p ≡ o → Contains (values_of (stretch_moments quiet steps s p)) v
         by None e = subst (λ ms. Contains (values_of ms) v) (ap (λ n. stretch_moments quiet n s p) (other_order more steps) ∙ moments_same quiet steps more s p e) c
         by (Some x) e = absurd (uncut (cut_is quiet (stretch quiet steps s p) x.0 (cut_there quiet steps s p x.0 x.1 e)))
+    uncut_shown _ last uncut c = c
 
     -- of one that repeats
     again_shown_early : (s : S) (p : ℕ) (r : Repeats quiet steps s p) → Contains (values_of (stretch_moments quiet (more + steps) s p)) v → Contains (values_of (stretch_moments quiet steps s p)) v ⊎ Contains (values_of (repeated_part r)) v

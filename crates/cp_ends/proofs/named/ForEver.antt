@@ -1,5 +1,5 @@
 -- A stretch that is seen to repeat goes on for ever, and calls the kernel again and again or not at all.
-use Rattle.std.proofs.Common.{◌≡◌, inl, inr, ◌∙◌, ◌+◌, ◌≤◌, ℕ, zero, suc, List, [], ◌∷◌, ◌++◌, Option, None, Some, refl, sym, ap, subst, arith}
+use Rattle.std.proofs.Common.{◌≡◌, inl, inr, ◌∙◌, ◌+◌, ◌≤◌, ℕ, zero, suc, List, Option, None, Some, refl, sym, ap, subst, arith}
 use Rattle.std.specs.List.{AllByRecursion as Each}
 use Rattle.cp_run.specs.declared.outcome.Turn.{Turn}
 use Rattle.cp_run.specs.declared.outcome.Turn.TheVariants.{Over, Due, Goes}
@@ -11,17 +11,10 @@ use Rattle.cp_endless.specs.Rounds.{IsRound, SetsOut, spot_after, spot_by}
 use Rattle.cp_endless.proofs.steps.Rounds.{from_there, happens_early, rounds}
 use Rattle.cp_ends.specs.ForEver.{GoesOnForEver, IsAloneForEver, SpinsForEver}
 use Rattle.cp_ends.proofs.named.Kinds.{no_steps_more}
-use Rattle.cp_ends.proofs.named.Later.{distance, moments_split}
+use Rattle.cp_ends.proofs.named.Later.{moments_split}
 use Rattle.cp_ends.proofs.words.Edges.{some_same}
-
-none_of : {A : Type 0} (P : A → Type 0) (xs : List A) → Each (λ x. P x → ⊥) xs → AnyOf P xs → ⊥
-none_of P [] e a = a
-none_of P (x ∷ xs) e (inl p) = e.0 p
-none_of P (x ∷ xs) e (inr a) = none_of P xs e.1 a
-
-any_right : {A : Type 0} (P : A → Type 0) (xs ys : List A) → AnyOf P ys → AnyOf P (xs ++ ys)
-any_right P [] ys a = a
-any_right P (x ∷ xs) ys a = inr (any_right P xs ys a)
+use Rattle.cp_endless.proofs.steps.Repeating.{none_of}
+use Rattle.cp_endless.proofs.Basics.{any_right, distance}
 
 module _ {S : Type 0} (sys : System S) where
   moment_of : (P : Moment S → Type 0) (n : ℕ) (s : S) (p : ℕ) → AnyOf P (stretch_moments sys n s p) → (i : ℕ) × (t : S) × (q : ℕ) × (spot_after sys i s p ≡ Some (t, q)) × P (record { state = t; mover = q })

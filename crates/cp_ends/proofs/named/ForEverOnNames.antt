@@ -1,5 +1,5 @@
 -- What goes on for ever on slots does so on the program's own names.
-use Rattle.std.proofs.Common.{◌≡◌, inl, inr, ◌∙◌, ◌+◌, ℕ, zero, suc, List, Option, None, Some, sym, ap, subst, arith}
+use Rattle.std.proofs.Common.{◌≡◌, inl, inr, ◌∙◌, ℕ, zero, suc, List, Some, sym, ap, subst}
 use Rattle.cp_tree.specs.Syntax.{Tree}
 use Rattle.cp_tree.specs.Read.{IsRead}
 use Rattle.cp_layout.specs.Laid.{plain, laid}
@@ -23,20 +23,11 @@ use Rattle.cp_endless.specs.Silent.{named_without_output, silent_named, silent_s
 use Rattle.cp_endless.specs.Standstill.{GoesOn}
 use Rattle.cp_endless.proofs.names.Going.{in_choices, silent_in_step}
 use Rattle.cp_endless.proofs.names.Meant.{leaves}
-use Rattle.cp_endless.proofs.names.Together.{ChoicesAlike, SpotsAlike, after_there, choosing_alike, turned}
+use Rattle.cp_endless.proofs.names.Together.{ChoicesAlike, after_there, choosing_alike, turned}
 use Rattle.cp_endless.proofs.steps.Rounds.{from_there}
 use Rattle.cp_ends.specs.ForEver.{GoesOnForEver, IsAloneForEver, SpinsForEver, CallsIn}
 use Rattle.cp_ends.proofs.words.Edges.{some_same}
-
-one_more_step : (n : ℕ) → n + 1 ≡ suc n
-one_more_step n = omega arith
-
-spot_there : {S T : Type 0} (V : S → T → ℕ → Type 0) (s : S) (p : ℕ) (x : Option (S × ℕ)) (y : Option (T × ℕ)) → x ≡ Some (s, p) → SpotsAlike V x y → (t : T) × (y ≡ Some (t, p)) × V s t p
-spot_there V s p None y e h = absurd (cc)
-spot_there V s p (Some x) None e h = absurd h
-spot_there {S} {T} V s p (Some x) (Some y) e h =
-    let same = some_same x (s, p) e in
-    (y.0, ap (λ (n : ℕ). Some (y.0, n)) (sym h.0 ∙ ap (λ (z : S × ℕ). z.1) same), subst (λ (z : S × ℕ). V z.0 y.0 z.1) same h.1)
+use Rattle.cp_endless.proofs.names.WaitTogether.{plus as one_more_step, spot_there}
 
 -- where two systems are alike from choice to choice, and steps tell the same
 module _ {S T : Type 0} (a : System S) (b : System T) (steps : ℕ) (R : S → T → Type 0) (V : S → T → ℕ → Type 0) (h : ChoicesAlike a b steps R V) (tells : (s : S) (t : T) (p : ℕ) → V s t p → a.event s p ≡ b.event t p) where

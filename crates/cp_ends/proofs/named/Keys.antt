@@ -1,5 +1,5 @@
 -- Machines of one key are one.
-use Rattle.std.proofs.Common.{◌≡◌, ◌∙◌, ℕ, Bool, true, false, ◌&&◌, List, [], ◌∷◌, refl, ap}
+use Rattle.std.proofs.Common.{◌≡◌, ◌∙◌, ℕ, true, ◌&&◌, List, [], ◌∷◌, refl, ap}
 use Rattle.std.specs.Prelude.{nat_eq}
 use Rattle.std.proofs.lemmas.Bool.{eqb-true, eq-eqb}
 use lib.Pointwise.{pointwise}
@@ -7,20 +7,13 @@ use Rattle.cp_key.specs.Key.{key_of}
 use Rattle.cp_key.proofs.Keys.{key_tells}
 use Rattle.cp_machine.specs.System.{Machine}
 use Rattle.cp_ends.specs.Holds.{same_key}
-
-both_first : (a b : Bool) → (a && b) ≡ true → a ≡ true
-both_first true b h = refl
-both_first false b h = h
-
-both_second : (a b : Bool) → (a && b) ≡ true → b ≡ true
-both_second true b h = h
-both_second false b h = absurd (cc)
+use Rattle.cp_resolved.proofs.frames.LeastCells.{right_true as both_second}
+use Rattle.cp_resolved.proofs.counts.FewCells.{left_of as both_first}
 
 one_list : (xs ys : List ℕ) → pointwise nat_eq xs ys ≡ true → xs ≡ ys
 one_list [] [] h = refl
-one_list [] (y ∷ ys) h = absurd (cc)
-one_list (x ∷ xs) [] h = absurd (cc)
 one_list (x ∷ xs) (y ∷ ys) h = ap (λ z. z ∷ xs) (eqb-true x y (both_first (nat_eq x y) (pointwise nat_eq xs ys) h)) ∙ ap (λ l. y ∷ l) (one_list xs ys (both_second (nat_eq x y) (pointwise nat_eq xs ys) h))
+one_list x y h = absurd (cc)
 
 list_self : (xs : List ℕ) → pointwise nat_eq xs xs ≡ true
 list_self [] = refl

@@ -2,7 +2,7 @@
 use Rattle.std.proofs.Common.{◌≡◌, ◌⊎◌, inl, inr, ◌∙◌, ◌+◌, ℕ, zero, suc, Bool, true, false, if◌then◌else◌, List, [], ◌∷◌, ◌++◌, map, None, Some, refl, sym, ap, subst, arith}
 use Rattle.std.specs.Prelude.{Contains}
 use Rattle.cp_run.specs.declared.outcome.OutcomeKind.{OutcomeKind}
-use Rattle.cp_run.specs.declared.outcome.OutcomeKind.TheVariants.{Finished, AllWaiting, RunError, ChoiceLimit, StepLimit, OutputLimit}
+use Rattle.cp_run.specs.declared.outcome.OutcomeKind.TheVariants.{StepLimit}
 use Rattle.cp_run.specs.declared.outcome.Turn.{Turn}
 use Rattle.cp_run.specs.System.{System}
 use Rattle.cp_run.specs.Run.{Node, Halted, Choosing, may, opened, chosen}
@@ -49,22 +49,14 @@ no_steps_more n = omega arith
 module _ {S : Type 0} (quiet : System S) (steps : ℕ) where
   pub so_over : (end : code.End) (word : List ℕ) → EndsSo quiet steps end word → EndsAfter quiet steps word (kind_of end)
   so_over (Over StepLimit) word so = so.0
-  so_over (Over Finished) word so = so
-  so_over (Over AllWaiting) word so = so
-  so_over (Over (RunError name process line)) word so = so
-  so_over (Over ChoiceLimit) word so = so
-  so_over (Over OutputLimit) word so = so
   so_over (Alone q) word so = subst (λ n. EndsAfter quiet n word StepLimit) (no_steps_more steps) ((repeating quiet).alone steps word q so 0)
   so_over (Spins q) word so = subst (λ n. EndsAfter quiet n word StepLimit) (no_steps_more steps) ((repeating quiet).spins steps word q so 0)
+  so_over _ word so = so
 
   -- an end that is not at the limit of steps is told by its kind
   pub over_kind : (kind : OutcomeKind) (word : List ℕ) → (kind ≡ StepLimit → ⊥) → EndsAfter quiet steps word kind → EndsSo quiet steps (Over kind) word
   over_kind StepLimit word other ends = absurd (other refl)
-  over_kind Finished word other ends = ends
-  over_kind AllWaiting word other ends = ends
-  over_kind (RunError name process line) word other ends = ends
-  over_kind ChoiceLimit word other ends = ends
-  over_kind OutputLimit word other ends = ends
+  over_kind _ word other ends = ends
 
 module _ {S : Type 0} (sys : System S) (forget : S → S) (eq : S → S → Bool) (steps : ℕ) (same : (s t : S) → eq s t ≡ true → s ≡ t) (self : (s : S) → eq s s ≡ true) where
   abbrev quiet : System S
@@ -143,8 +135,7 @@ module _ {S : Type 0} (sys : System S) (forget : S → S) (eq : S → S → Bool
 
       goes_round : (word : List ℕ) (end : code.End) → kind_of end ≡ StepLimit → EndsSo quiet steps end word → GoesRound word
       goes_round word (Over kind) is so = let h = all_ends.all (Over StepLimit) word (subst (λ k. EndsSo quiet steps (Over k) word) is so) in absurd (no_cut h.0 h.1)
-      goes_round word (Alone q) is x = (x.begin, x.first, x.sets_out, round_of x.begin x.first x.repeats)
-      goes_round word (Spins q) is x = (x.begin, x.first, x.sets_out, round_of x.begin x.first x.repeats)
+      goes_round word _ is x = (x.begin, x.first, x.sets_out, round_of x.begin x.first x.repeats)
 
       pub cut_round : (word : List ℕ) (x : Node S) → LeadsTo quiet steps word x → IsCut x → GoesRound word
       cut_round word x leads cut =

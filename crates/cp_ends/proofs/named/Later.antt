@@ -1,7 +1,6 @@
 -- What a stretch that repeats shows it shows in twice as many steps as the limit.
-use Rattle.std.proofs.Common.{◌≡◌, inl, inr, ◌∙◌, ◌+◌, ◌≤◌, ℕ, zero, suc, List, [], ◌∷◌, ◌++◌, Some, refl, sym, ap, subst, arith}
+use Rattle.std.proofs.Common.{◌≡◌, inl, inr, ◌∙◌, ◌+◌, ℕ, zero, suc, List, ◌∷◌, ◌++◌, Some, sym, ap, subst, arith}
 use Rattle.std.specs.Prelude.{Contains}
-use Rattle.std.proofs.lemmas.List.{append_assoc}
 use Rattle.std.proofs.lemmas.List.Elements.{Contains-append_left, Contains-append_right}
 use Rattle.cp_machine.specs.declared.shown.Shown.{Shown}
 use Rattle.cp_run.specs.declared.outcome.Turn.{Turn}
@@ -17,15 +16,8 @@ use Rattle.cp_endless.specs.Shown.{shown_at, ShowsAfter}
 use Rattle.cp_endless.proofs.steps.Alone.{alone, leads_more}
 use Rattle.cp_ends.specs.Ends.{ShowsAgain}
 use Rattle.cp_ends.proofs.words.Edges.{some_same, edge_spot, edge_moments, spot_edge, edge_shows}
-
-pub distance : (a b : ℕ) → a ≤ b → (d : ℕ) × (a + d ≡ b)
-distance zero b le = (b, omega arith)
-distance (suc a) zero le = absurd (omega (arith, le))
-distance (suc a) (suc b) le = let x = distance a b (omega (arith, le)) in (x.0, (let e = x.1 in omega (arith, e)))
-
-pub each_append : {A B : Type 0} (f : A → List B) (xs ys : List A) → each f (xs ++ ys) ≡ each f xs ++ each f ys
-each_append f [] ys = refl
-each_append f (x ∷ xs) ys = ap (λ l. f x ++ l) (each_append f xs ys) ∙ sym (append_assoc (f x) (each f xs) (each f ys))
+use Rattle.cp_endless.proofs.possible.Walks.{each_append}
+use Rattle.cp_endless.proofs.Basics.{distance}
 
 module _ {S : Type 0} (sys : System S) where
   -- the moments of a stretch, and of what goes on from where it stands
@@ -43,15 +35,13 @@ module _ {S : Type 0} (sys : System S) where
       by : (u : Turn) → spot_by (sys.step s p) (spot_after sys n (sys.step s p)) u ≡ Some (t, q) →
           ((r : ℕ) → spot_after sys n (sys.step s p) r ≡ Some (t, q) → stretch_moments sys (n + m) (sys.step s p) r ≡ stretch_moments sys n (sys.step s p) r ++ stretch_moments sys m t q) →
           moments_by (stretch_moments sys (n + m) (sys.step s p)) u ≡ moments_by (stretch_moments sys n (sys.step s p)) u ++ stretch_moments sys m t q
-      by (turn.Over kind) e on = absurd (cc)
-      by turn.Due e on = absurd (cc)
       by (turn.Goes r) e on = on r e
+      by x e on = absurd (cc)
 
   -- the moments of an edge are those of its stretch
   pub spot_moments : (n : ℕ) (e : S × Turn) (s : S) (p : ℕ) → edge_spot sys e ≡ Some (s, p) → edge_moments sys n e ≡ stretch_moments sys n s p
-  spot_moments n (t, turn.Over kind) s p spot = absurd (cc)
-  spot_moments n (t, turn.Due) s p spot = absurd (cc)
   spot_moments n (t, turn.Goes q) s p spot = ap (λ (x : S × ℕ). stretch_moments sys n x.0 x.1) (some_same (t, q) (s, p) spot)
+  spot_moments n x s p spot = absurd (cc)
 
   more_sets_out : (steps more : ℕ) (word : List ℕ) (s : S) (p : ℕ) → SetsOut sys steps word s p → SetsOut sys (more + steps) word s p
   more_sets_out steps more word s p (inl x) = inl x

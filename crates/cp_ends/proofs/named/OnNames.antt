@@ -47,7 +47,7 @@ lengths a b = ⊎_elim
     (λ (apart : (a < b) ⊎ (b < a)). ⊎_elim (λ (less : a < b). inl (omega (arith, less))) (λ (more : b < a). inr more) apart)
     (cases_order a b)
 
-shorter_first : (word other : List ℕ) → length word < length other → is_up_to word other ≡ true
+pub shorter_first : (word other : List ℕ) → length word < length other → is_up_to word other ≡ true
 unfolding is_up_to
 shorter_first word other less = ap (λ x. x || ((length word == length other) && in_dictionary word other)) (lt-ltb (length word) (length other) less)
 

@@ -13,27 +13,19 @@ use Rattle.cp_endless.specs.Reachable.{node_after, LeadsTo}
 use Rattle.cp_endless.specs.Rounds.{spot_by, chosen_spot, SetsOut}
 use Rattle.cp_endless.specs.Shown.{shown_at, ShowsAfter}
 use Rattle.cp_endless.proofs.possible.Words.{after_first, after_append}
+use Rattle.cp_ends.proofs.Searching.Arrivals.{last_cases as last_of}
 
 -- ---- words
-
-pub last_of : (word : List ℕ) → (word ≡ []) ⊎ ((stem : List ℕ) × (c : ℕ) × (word ≡ stem ++ c ∷ []))
-last_of [] = inl refl
-last_of (p ∷ word) = by (last_of word)
-  where
-    by : (word ≡ []) ⊎ ((stem : List ℕ) × (c : ℕ) × (word ≡ stem ++ c ∷ [])) → (p ∷ word ≡ []) ⊎ ((stem : List ℕ) × (c : ℕ) × (p ∷ word ≡ stem ++ c ∷ []))
-    by (inl none) = inr ([], p, ap (λ w. p ∷ w) none)
-    by (inr x) = inr (p ∷ x.0, x.1, ap (λ w. p ∷ w) x.2)
 
 pub last_same : (u v : List ℕ) (a b : ℕ) → u ++ a ∷ [] ≡ v ++ b ∷ [] → (u ≡ v) × (a ≡ b)
 last_same [] [] a b e = (refl, cc)
 last_same [] (y ∷ []) a b e = absurd (cc)
-last_same [] (y ∷ z ∷ v) a b e = absurd (cc)
 last_same (x ∷ []) [] a b e = absurd (cc)
-last_same (x ∷ y ∷ u) [] a b e = absurd (cc)
 last_same (x ∷ u) (y ∷ v) a b e =
     let heads : x ≡ y = cc in
     let rest = last_same u v a b (cc) in
     (ap (λ k. k ∷ u) heads ∙ ap (λ w. y ∷ w) rest.0, rest.1)
+last_same x y a b e = absurd (cc)
 
 pub not_empty : (u : List ℕ) (a : ℕ) → [] ≡ u ++ a ∷ [] → ⊥
 not_empty [] a e = cc

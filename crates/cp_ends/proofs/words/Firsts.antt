@@ -35,6 +35,3 @@ module _ {A : Type 0} (P Q : A → List ℕ → Type 0) (same : SayTheSame P Q) 
 
   pub within_same : (d : ℕ) → SayTheSame (Within d P) (Within d Q)
   within_same d = record { there = λ a word w. (same.there a word w.0, w.1); back = λ a word w. (same.back a word w.0, w.1) }
-
-pub same_back : {A : Type 0} (P Q : A → List ℕ → Type 0) → SayTheSame P Q → SayTheSame Q P
-same_back P Q same = record { there = same.back; back = same.there }

@@ -4,7 +4,7 @@ use Rattle.std.specs.List.{AllByRecursion as Each}
 use Rattle.std.proofs.lemmas.Bool.{cases_order, eq-eqb}
 use Rattle.std.proofs.lemmas.Bool.Decides.{eqb_tells}
 use Rattle.cp_machine.specs.declared.event.Event.{Event}
-use Rattle.cp_machine.specs.declared.event.Event.TheVariants.{Local, Kernel, Ended, Fault, OutputFull}
+use Rattle.cp_machine.specs.declared.event.Event.TheVariants.{Kernel}
 use Rattle.cp_machine.specs.declared.shown.Shown.{Shown}
 use Rattle.cp_run.specs.declared.outcome.OutcomeKind.TheVariants.{StepLimit}
 use Rattle.cp_run.specs.declared.outcome.Turn.{Turn}
@@ -26,7 +26,7 @@ use Rattle.cp_ends.proofs.words.Edges.{some_same, edge_node, edge_spot, edge_sho
 pub pair : {A B : Type 0} (a b : A) (x y : B) → a ≡ b → x ≡ y → (◌≡◌ {A = A × B}) (a, x) (b, y)
 pair a b x y e f = cc
 
-number : (a b : ℕ) → (a == b) ≡ true → a ≡ b
+pub number : (a b : ℕ) → (a == b) ≡ true → a ≡ b
 number a b e = ⊎_elim (λ (t : (eqb a b ≡ true) × (a ≡ b)). t.1) (λ (t : (eqb a b ≡ false) × (a ≢ b)). absurd (differ (sym e ∙ t.0))) (eqb_tells a b)
   where
     differ : true ≡ false → ⊥
@@ -36,17 +36,11 @@ number a b e = ⊎_elim (λ (t : (eqb a b ≡ true) × (a ≡ b)). t.1) (λ (t :
 
 call_is : (e : Event) → is_call e ≡ true → IsKernelCall e
 call_is (Kernel call) is = tt
-call_is Local is = absurd (cc)
-call_is Ended is = absurd (cc)
-call_is (Fault f) is = absurd (cc)
-call_is OutputFull is = absurd (cc)
+call_is x is = absurd (cc)
 
 call_is_none : (e : Event) → is_call e ≡ false → IsKernelCall e → ⊥
 call_is_none (Kernel call) is k = cc
-call_is_none Local is k = k
-call_is_none Ended is k = k
-call_is_none (Fault f) is k = k
-call_is_none OutputFull is k = k
+call_is_none _ is k = k
 
 module _ {S : Type 0} (sys : System S) where
   pub has_calls : (ms : List (Moment S)) → has_call sys ms ≡ true → AnyOf (CallsAt sys) ms
@@ -182,10 +176,9 @@ module _ {S : Type 0} (sys : System S) (forget : S → S) (eq : S → S → Bool
     -- ---- of an edge
 
     pub edge_comes : (e : S × Turn) → ComesToNode e ⊎ ComesAgain e
-    edge_comes (s, turn.Over kind) = inl (record { repeats_none = λ t q spot r. none_some (t, q) spot; goal = refl; shown = refl })
-    edge_comes (s, turn.Due) = inl (record { repeats_none = λ t q spot r. none_some (t, q) spot; goal = refl; shown = refl })
     edge_comes (s, turn.Goes p) = by (stretch_comes s p)
       where
         by : Plainly s p (stretch_arrival sys forget eq steps s p) ⊎ Again s p (stretch_arrival sys forget eq steps s p) → ComesToNode (s, turn.Goes p) ⊎ ComesAgain (s, turn.Goes p)
         by (inl x) = inl (record { repeats_none = λ t q spot r. x.0 (subst (λ (y : S × ℕ). Repeats quiet steps y.0 y.1) (sym (some_same (s, p) (t, q) spot)) r); goal = x.1; shown = x.2 })
         by (inr x) = inr (record { begin = s; first = p; spot = refl; repeats = x.0; cut = x.1; goal = x.2; shown = x.3 })
+    edge_comes _ = inl (record { repeats_none = λ t q spot r. none_some (t, q) spot; goal = refl; shown = refl })

@@ -23,8 +23,9 @@ use Rattle.cp_ends.specs.Arrivals.{arrival_by, goal_of, has_call, stretch_arriva
 use Rattle.cp_ends.specs.Ends.{EndsSo, ShowsSo}
 use Rattle.cp_ends.specs.declared.end.End as code
 use Rattle.cp_ends.specs.declared.end.End.TheVariants.{Over, Alone, Spins}
-use Rattle.cp_ends.proofs.words.Edges.{last_of, some_same, first_edge, first_node, edge_by, next_edge, next_node, edge_node, edge_spot, edge_shown, EndsWith, edge_once, node_edge, edge_leads, spot_edge, edge_sets_out, shows_edge, edge_shows}
+use Rattle.cp_ends.proofs.words.Edges.{some_same, first_edge, first_node, edge_by, next_edge, next_node, edge_node, edge_spot, edge_shown, EndsWith, edge_once, node_edge, edge_leads, spot_edge, edge_sets_out, shows_edge, edge_shows}
 use Rattle.cp_ends.proofs.words.Returns.{alone_or_spins, edge_arrival, ComesToNode, ComesAgain, edge_comes, has_calls, has_no_calls}
+use Rattle.cp_ends.proofs.Searching.Arrivals.{last_cases as last_of}
 
 -- ---- words of a graph, the last number apart
 
@@ -78,9 +79,6 @@ due_is (Halted kind t) s e = absurd (cc)
 goal_due : {S : Type 0} (x : Node S) → place_of (goal_of x) ≡ due_of x
 goal_due (Choosing s) = refl
 goal_due (Halted kind s) = refl
-
-alone_or_spins_no_place : {S : Type 0} (b : Bool) (q : ℕ) → place_of {S = S} (End (alone_or_spins b q)) ≡ None
-alone_or_spins_no_place b q = refl
 
 module _ {S : Type 0} (sys : System S) (forget : S → S) (eq : S → S → Bool) (steps : ℕ) (same : (s t : S) → eq s t ≡ true → s ≡ t) (self : (s : S) → eq s s ≡ true) where
   abbrev quiet : System S
@@ -165,9 +163,6 @@ module _ {S : Type 0} (sys : System S) (forget : S → S) (eq : S → S → Bool
       let place = place_back x.2 x.0 x.4 in
       ap (λ w. arrival_from g g.start w) x.3 ∙ arrival_on g x.0 x.1 g.start place.0 x.2 place.1 place.2 (may_same x.2 x.1 ∙ x.5) ∙
       ap (λ (a : Arrival S code.End Shown). Some a) (on_arrival x.2 x.1 ∙ ap arrival (sym x.6))
-
-  edge_at : (word : List ℕ) (s t : S) (p q : ℕ) (e f : S × Turn) → Last word e → Last word f → edge_spot quiet e ≡ Some (s, p) → edge_spot quiet f ≡ Some (t, q) → (◌≡◌ {A = S × ℕ}) (s, p) (t, q)
-  edge_at word s t p q e f le lf here there = some_same (s, p) (t, q) (sym here ∙ ap (edge_spot quiet) (edge_once quiet steps word e f le lf) ∙ there)
 
   -- ---- ends
 

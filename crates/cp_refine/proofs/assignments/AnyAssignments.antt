@@ -13,14 +13,14 @@ use Rattle.cp_machine.specs.Memory.{memory_at, number_put}
 use Rattle.cp_machine.specs.Stack.{rest_of}
 use Rattle.cp_machine.specs.Statements as statements
 use Rattle.cp_machine.specs.Step.{step_at}
-use Rattle.cp_meaning.specs.Types.{Range, Ty, ordinal, queue_type, set_over, array_over, record_with, component_of, is_within}
+use Rattle.cp_meaning.specs.Types.{Range, Ty, ordinal, set_over, array_over, record_with, is_within}
 use Rattle.cp_meaning.specs.Values.{number_value}
 use Rattle.cp_meaning.specs.State.{Place, Item, statement_item, State}
 use Rattle.cp_meaning.specs.Places.{stored}
 use Rattle.cp_meaning.specs.LocalRules.{becomes}
 use Rattle.cp_meaning.specs.Steps.{view_of, step_of, settled}
 use Rattle.cp_resolved.specs.Layouts.{cells_of, Layouts, here}
-use Rattle.cp_resolved.specs.Compiled.{Form, as_ordinal, as_set, as_place, as_component, a_variable, expression_form, designator_form}
+use Rattle.cp_resolved.specs.Compiled.{Form, as_ordinal, as_set, as_place, a_variable, expression_form, designator_form}
 use Rattle.cp_resolved.specs.Encoded.{HasType}
 use Rattle.cp_resolved.specs.Stands.{Ground, ItemAt, AssignedBy}
 use Rattle.cp_refine.specs.Agrees.{Sees}
@@ -67,20 +67,7 @@ module _ (g : Ground) (p : Program) (l : Layouts) (s : State) (m : Machine) (q a
       copy_runs g p l s m q at token d e mid es xs ys k ex (array_over r u) known (λ w. refl) spot c (subst (ItemAt g at token mid) (is.1 ∙ ap (λ v. code.copy_cells spot c (cells_of v)) is.0) item) target (formed ∙ ap (λ v. Some (record { ty = v; form = as_place c })) is.0)
   by_type (record_with ts) spot t (as_place c) a known base is item target formed =
       copy_runs g p l s m q at token d e mid es xs ys k ex (record_with ts) known (λ w. refl) spot c (subst (ItemAt g at token mid) (is.1 ∙ ap (λ v. code.copy_cells spot c (cells_of v)) is.0) item) target (formed ∙ ap (λ v. Some (record { ty = v; form = as_place c })) is.0)
-  by_type (ordinal r) spot t (as_set b) a known base is item target formed = absurd is
-  by_type (ordinal r) spot t (as_place b) a known base is item target formed = absurd is
-  by_type (ordinal r) spot t (as_component b) a known base is item target formed = absurd is
-  by_type (set_over r) spot t (as_ordinal b) a known base is item target formed = absurd is
-  by_type (set_over r) spot t (as_place b) a known base is item target formed = absurd is
-  by_type (set_over r) spot t (as_component b) a known base is item target formed = absurd is
-  by_type (array_over r u) spot t (as_ordinal b) a known base is item target formed = absurd is
-  by_type (array_over r u) spot t (as_set b) a known base is item target formed = absurd is
-  by_type (array_over r u) spot t (as_component b) a known base is item target formed = absurd is
-  by_type (record_with ts) spot t (as_ordinal b) a known base is item target formed = absurd is
-  by_type (record_with ts) spot t (as_set b) a known base is item target formed = absurd is
-  by_type (record_with ts) spot t (as_component b) a known base is item target formed = absurd is
-  by_type queue_type spot t f a known base is item target formed = absurd is
-  by_type (component_of n) spot t f a known base is item target formed = absurd is
+  by_type _ spot t _ a known base is item target formed = absurd is
 
   -- the whole step
   pub assignment_runs : VariablesApart g l m q es k.own.ty → RangeKnown k.own.ty → StepIs g p l q (slice_index g.lines token) (step_of p s q) (step_at g.tables m q)

@@ -1,5 +1,5 @@
 -- Of tables that stand for a program, variables are apart: those of frames, those of components, and the frames of a process.
-use Rattle.std.proofs.Common.{◌≡◌, ◌≢◌, ℕ, zero, suc, ◌+◌, ◌<◌, ◌≤◌, ◌⊎◌, inl, inr, Bool, true, false, List, [], ◌∷◌, ap, sym, refl, subst, arith, length, Some}
+use Rattle.std.proofs.Common.{◌≡◌, ◌≢◌, ℕ, ◌+◌, ◌<◌, ◌≤◌, ◌⊎◌, inl, inr, Bool, true, false, List, [], ◌∷◌, ap, sym, refl, subst, arith, length, Some}
 use Rattle.std.proofs.lemmas.Slice.Eq.{bytes_eq-Decides}
 use Rattle.cp_tree.specs.Syntax.{Program}
 use Rattle.cp_slots.specs.Systems.{IsTyped}
@@ -7,8 +7,7 @@ use Rattle.cp_slots.specs.Tables.{Tables, component_at}
 use Rattle.cp_store.specs.declared.memory.Frame.{Frame}
 use Rattle.cp_machine.specs.declared.process.Entry.{Entry}
 use Rattle.cp_machine.specs.declared.process.Entry.TheVariants.{Rest, Successor, Return, InitEnd}
-use Rattle.cp_machine.specs.Fits.{StackFits, ThreadFits, size_of}
-use Rattle.cp_machine.specs.Machine.{Machine, thread_at}
+use Rattle.cp_machine.specs.Fits.{StackFits, size_of}
 use Rattle.cp_meaning.specs.Names.{Name, same_name}
 use Rattle.cp_meaning.specs.Types.{Ty}
 use Rattle.cp_resolved.specs.Layouts.{cells_of, Layouts, look}
@@ -16,9 +15,8 @@ use Rattle.cp_resolved.specs.Resolved.{RoutineIs, SystemIs}
 use Rattle.cp_resolved.specs.Stands.{Ground}
 use Rattle.cp_refine.specs.Represents.{frames_of}
 use Rattle.cp_refine.proofs.control.Control.{top_frame}
-use Rattle.cp_refine.proofs.assignments.LocalBlocks.{CallsApart}
 use Rattle.cp_refine.proofs.control.Moving.{same_or_other}
-use Rattle.cp_refine.proofs.assignments.Writing.{ComponentsApart}
+use Rattle.cp_refine.proofs.assignments.Writing.{ComponentsApart, side as below_or_above}
 use Rattle.cp_refine.proofs.assignments.WritingCalls.{FrameApart, FramesApart, Below}
 
 -- ---- the variables of a frame
@@ -50,26 +48,7 @@ frames_apart r f (Successor at z last ∷ es) h = frames_apart r f es h.1
 frames_apart r f (Return caller slot monitor ∷ es) h = frames_below_base (size_of r) f.base caller es (let e = h.0.cells in omega (arith, e)) (frames_apart r caller es h.3)
 frames_apart r f (InitEnd caller component ∷ es) h = frames_below_base (size_of r) f.base caller es (let e = h.0.cells in omega (arith, e)) (frames_apart r caller es h.2)
 
--- what an assignment to a variable of an open call wants to know
-pub calls_apart : (g : Ground) (p : Program) (l : Layouts) (m : Machine) (q at : ℕ) (es : List Entry) → ((n : ℕ) → n < length g.tables.routines → RoutineIs g p l n) → ThreadFits g.tables (thread_at m.threads q) → (thread_at m.threads q).stack ≡ Rest at ∷ es → CallsApart g l m q es
-calls_apart g p l m q at es routines fits stack =
-    record {
-      size = size_of g.tables;
-      apart = λ n h. frame_apart g p l n (routines n h);
-      frames = frames_apart g.tables (thread_at m.threads q).frame es (subst (λ (us : List Entry). StackFits g.tables (thread_at m.threads q).frame us) stack fits.stack).1;
-    }
-
 -- ---- the variables of components
-
-pub below_or_above : (n k : ℕ) → n ≢ k → (n < k) ⊎ (k < n)
-below_or_above zero zero d = absurd (d refl)
-below_or_above zero (suc k) d = inl (omega arith)
-below_or_above (suc n) zero d = inr (omega arith)
-below_or_above (suc n) (suc k) d = go (below_or_above n k (λ e. d (ap suc e)))
-  where
-    go : (n < k) ⊎ (k < n) → (suc n < suc k) ⊎ (suc k < suc n)
-    go (inl h) = inl (omega (arith, h))
-    go (inr h) = inr (omega (arith, h))
 
 module _ (g : Ground) (p : Program) (l : Layouts) (typed : IsTyped g.tables) (systems : (n : ℕ) → n < length g.tables.components → SystemIs g p l (component_at g.tables n).system) where
   -- where a variable of a component begins

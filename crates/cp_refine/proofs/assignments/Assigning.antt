@@ -1,5 +1,5 @@
 -- What an assignment to a variable of an open call leaves as it was: entries, and what stands for the items that are still to be done.
-use Rattle.std.proofs.Common.{◌≡◌, ℕ, zero, suc, ◌==◌, Bool, true, false, if◌then◌else◌, List, [], ◌∷◌, ap, sym, refl, subst, length}
+use Rattle.std.proofs.Common.{◌≡◌, ℕ, suc, ◌==◌, Bool, true, false, if◌then◌else◌, List, [], ◌∷◌, ap, sym, refl, subst, length}
 use Rattle.std.specs.Prelude.{◌&&◌, ◌||◌, slice_set}
 use Rattle.cp_tree.specs.Syntax.{Program}
 use Rattle.cp_store.specs.declared.memory.Frame.{Frame}
@@ -45,6 +45,5 @@ stack_kept g p l below e f calls items (InitEnd caller component ∷ es) h =
     go false ih = (h.0, with_call_environment h.1 below e, h.2, refl, h.4, h.5, ih)
 
 pub set_set : {A : Type 0} (xs : List A) (n : ℕ) (a b : A) → slice_set (slice_set xs n a) n b ≡ slice_set xs n b
-set_set [] n a b = refl
-set_set (x ∷ xs) zero a b = refl
 set_set (x ∷ xs) (suc n) a b = ap (λ ys. x ∷ ys) (set_set xs n a b)
+set_set _ _ a b = refl

@@ -67,14 +67,13 @@ module _ (g : Ground) (p : Program) (l : Layouts) (s : State) (m : Machine) (q a
       StepIs g p l q line (settled p s q (o >>= λ x. w >>= λ y. assigned (view_of p s q) y x.value >>= λ u. becomes u (xs ++ ys)))
       (statements.with_value r (statements.fault m q line) (λ v. statements.with_value a (statements.fault m q line) (statements.assigned m q line range.low range.high (rest_of n es) v)))
   outcomes t (Err b) (Err c) w a n i h j = fails g p l s m q at (statement_item (assign token d e)) mid es xs ys k line b c h
-  outcomes t (Err b) (Ok z) w a n i h j = absurd h
-  outcomes t (Ok x) (Err c) w a n i h j = absurd h
   outcomes t (Ok x) (Ok z) (Err b) (Err c) n i h j = fails g p l s m q at (statement_item (assign token d e)) mid es xs ys k line b c j
   outcomes t (Ok x) (Ok z) (Err b) (Ok a) n i h j = absurd j
   outcomes t (Ok x) (Ok z) (Ok y) (Err c) n i h j = absurd j
   outcomes t (Ok x) (Ok z) (Ok y) (Ok a) n i h j =
       subst (λ (v : Value). StepIs g p l q line (settled p s q (assigned (view_of p s q) y v >>= λ u. becomes u (xs ++ ys))) (statements.assigned m q line range.low range.high (rest_of n es) z a)) (sym h.1)
       (subst (λ (u : Ty). StepIs g p l q line (settled p s q (assigned (view_of p s q) (record { place = y.place; ty = u }) (number_value z) >>= λ v. becomes v (xs ++ ys))) (statements.assigned m q line range.low range.high (rest_of n es) z a)) (sym j.0) (in_range y.place a z n i j.1))
+  outcomes t _ _ w a n i h j = absurd h
 
 -- the whole step, for any variable that is found
 pub assign_runs : (g : Ground) (p : Program) (l : Layouts) (s : State) (m : Machine) (q at token : ℕ) (d : Designator) (e : Expression) (mid : Option ℕ) (es : List Entry) (xs ys : List Item) → (k : Taken g p l s m q at (statement_item (assign token d e)) mid es xs ys) → (ex : Executes g p l m q) →

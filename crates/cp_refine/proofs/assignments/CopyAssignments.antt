@@ -97,12 +97,11 @@ module _ (g : Ground) (p : Program) (l : Layouts) (s : State) (m : Machine) (q a
   outcomes (Err c) w (Ok b) a n i h j = absurd h
   outcomes (Ok x) w (Err b) a n i h j = absurd h
   outcomes (Ok x) (Err c) (Ok from) (Err b) n i h j = fails g p l s m q at (statement_item (assign token d e)) mid es xs ys k line c b j
-  outcomes (Ok x) (Err c) (Ok from) (Ok to) n i h j = absurd j
-  outcomes (Ok x) (Ok y) (Ok from) (Err b) n i h j = absurd j
   outcomes (Ok x) (Ok y) (Ok from) (Ok to) n i h j =
       subst (λ (u : Ty). StepIs g p l q line (settled p s q (assigned (view_of p s q) (record { place = y.place; ty = u }) (value_at (view_of p s q) x.place) >>= λ v. becomes v (xs ++ ys))) (statements.local (cells_put (with_stack m q (rest_of n es)) q to from (cells_of t)))) (sym j.0)
       (subst (λ (o : Outcome Value). StepIs g p l q line (settled p s q ((o >>= λ v. Ok (stored (view_of p s q) y.place v)) >>= λ v. becomes v (xs ++ ys))) (statements.local (cells_put (with_stack m q (rest_of n es)) q to from (cells_of t)))) (sym (free (value_at (view_of p s q) x.place)))
       (success y.place x.place to from n i j.1 h.1))
+  outcomes (Ok x) _ (Ok from) _ n i h j = absurd j
 
   abbrev after_value : Outcome Typed → Stepped
   after_value o = settled p s q (o >>= λ x. target_value (view_of p s q) d >>= λ y. assigned (view_of p s q) y x.value >>= λ u. becomes u (xs ++ ys))

@@ -8,13 +8,13 @@ use Rattle.cp_store.specs.declared.memory.Address.{Address}
 use Rattle.cp_store.specs.declared.memory.Address.TheVariants.{Permanent, Local}
 use Rattle.cp_store.specs.Memory.{Memory}
 use Rattle.cp_meaning.specs.Names.{Name, same_name}
-use Rattle.cp_meaning.specs.Types.{Ty, ordinal, queue_type, set_over, array_over, record_with, component_of, FieldTypes, no_field_types, more_field_types, length_of_range}
+use Rattle.cp_meaning.specs.Types.{Ty, array_over, record_with, FieldTypes, no_field_types, more_field_types, length_of_range}
 use Rattle.cp_meaning.specs.Values.{Value, Choice, the_field, the_element, part_of}
 use Rattle.cp_resolved.specs.Layouts.{cells_of}
 use Rattle.cp_resolved.specs.Encoded.{HasType, Chosen, further_chosen, field_chosen, one_chosen, then_chosen, chosen_at}
 use Rattle.cp_refine.specs.Represents.{further, LiesAt}
 use Rattle.cp_refine.proofs.assignments.Blocks.{ReadsFirst}
-use Rattle.cp_refine.proofs.expressions.Parts.{encode_length, one_part, part_stands}
+use Rattle.cp_refine.proofs.expressions.Parts.{encode_length, one_part, part_stands, some_chosen}
 use Rattle.cp_refine.proofs.assignments.Writing.{further_apart}
 
 -- ---- parts of one value
@@ -22,9 +22,6 @@ use Rattle.cp_refine.proofs.assignments.Writing.{further_apart}
 -- cells from one number on, and from another, are the same or apart
 abbrev Beside : (o n j k : ℕ) → Type 0
 Beside o n j k = (o + n ≤ j) ⊎ (j + k ≤ o)
-
-some_chosen : (a b : Chosen) → Some a ≡ Some b → a ≡ b
-some_chosen a b e = cc
 
 field_beside : (ts : FieldTypes) (x y : Name) (b c : Chosen) → field_chosen ts x ≡ Some b → field_chosen ts y ≡ Some c → (x ≡ y) ⊎ Beside b.0 (cells_of b.1) c.0 (cells_of c.1)
 field_beside no_field_types x y b c e d = absurd (cc)
@@ -79,14 +76,7 @@ one_beside (array_over r t) (the_element n) (the_element k) b c e d = go (cases_
         inr (subst (λ (w : Chosen). Beside w.0 (cells_of w.1) c.0 (cells_of c.1)) (some_chosen (n * cells_of t, t) b e) (subst (λ (w : Chosen). Beside (n * cells_of t) (cells_of t) w.0 (cells_of w.1)) (some_chosen (k * cells_of t, t) c d) (inl (element_beside (cells_of t) n k less))))
     go (inr (inr more)) true true e d =
         inr (subst (λ (w : Chosen). Beside w.0 (cells_of w.1) c.0 (cells_of c.1)) (some_chosen (n * cells_of t, t) b e) (subst (λ (w : Chosen). Beside (n * cells_of t) (cells_of t) w.0 (cells_of w.1)) (some_chosen (k * cells_of t, t) c d) (inr (element_beside (cells_of t) k n more))))
-one_beside (ordinal r) x y b c e d = absurd (cc)
-one_beside queue_type x y b c e d = absurd (cc)
-one_beside (set_over r) x y b c e d = absurd (cc)
-one_beside (component_of k) x y b c e d = absurd (cc)
-one_beside (record_with ts) (the_element n) y b c e d = absurd (cc)
-one_beside (record_with ts) (the_field x) (the_element n) b c e d = absurd (cc)
-one_beside (array_over r t) (the_field x) y b c e d = absurd (cc)
-one_beside (array_over r t) (the_element n) (the_field x) b c e d = absurd (cc)
+one_beside x y z b c e d = absurd (cc)
 
 -- the first choice, and the others
 record FirstChosen (u : Ty) (x : Choice) (cs : List Choice) (c : Chosen) : Type 0 where

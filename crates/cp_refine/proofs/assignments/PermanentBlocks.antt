@@ -123,8 +123,7 @@ module _ (g : Ground) (p : Program) (l : Layouts) (s : State) (m : Machine) (rep
 
   monitor_after : (n : ℕ) (c : ComponentKind) → MonitorIs s m n c → MonitorIs state_after machine_after n c
   monitor_after n (kind.Monitor j) h = (h.0 ∙ sym (line_same n), h.1)
-  monitor_after n (kind.Process j) h = tt
-  monitor_after n kind.Class h = tt
+  monitor_after n _ h = tt
 
   abbrev old_view : View → View
   old_view v = record { program = v.program; calls = v.calls; components = s.components }

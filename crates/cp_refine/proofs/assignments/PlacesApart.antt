@@ -18,15 +18,9 @@ use Rattle.cp_resolved.specs.Encoded.{chosen_at}
 use Rattle.cp_refine.specs.Represents.{further, LiesAt, frame_above, InFrame, BeginsAt, PlaceAt, CallsHold}
 use Rattle.cp_refine.proofs.control.Moving.{same_or_other}
 use Rattle.cp_refine.proofs.assignments.Overlaps.{SameOrApart, part_ends, parts_apart}
-use Rattle.cp_refine.proofs.expressions.Reading.{AllLie, held_above}
+use Rattle.cp_refine.proofs.expressions.Reading.{AllLie, held_above, frame_same as frame_is}
 use Rattle.cp_refine.proofs.assignments.Writing.{ComponentsApart}
-use Rattle.cp_refine.proofs.assignments.WritingCalls.{FrameApart, FramesApart, below_in, apart_below}
-
-frame_is : (f g : Frame) → Some f ≡ Some g → f ≡ g
-frame_is f g e = cc
-
-type_is : (a b : Ty) → Some a ≡ Some b → a ≡ b
-type_is a b e = cc
+use Rattle.cp_refine.proofs.assignments.WritingCalls.{FrameApart, FramesApart, below_in, apart_below, type_is}
 
 -- ---- frames
 
@@ -44,13 +38,12 @@ frames_beside size (x ∷ fs) b c f g apart other e d = go (length fs == b) (len
 -- a frame of an open call has a routine
 pub routine_there : (r : Tables) (l : Layouts) (m : Memory) (below : ℕ) (cs : List Call) (fs : List Frame) (f : Frame) → CallsHold r l m cs fs → frame_above fs below ≡ Some f → f.routine < length r.routines
 routine_there r l m below [] [] f h e = absurd (cc)
-routine_there r l m below [] (g ∷ fs) f h e = absurd h
-routine_there r l m below (c ∷ cs) [] f h e = absurd h
 routine_there r l m below (c ∷ cs) (g ∷ fs) f h e = go (length fs == below) (routine_there r l m below cs fs f h.2) e
   where
     go : (b : Bool) → (frame_above fs below ≡ Some f → f.routine < length r.routines) → (if b then Some g else frame_above fs below) ≡ Some f → f.routine < length r.routines
     go true ih d = subst (λ (n : Frame). n.routine < length r.routines) (frame_is g f d) h.0.routine
     go false ih d = ih d
+routine_there r l m below _ _ f h e = absurd h
 
 -- ---- numbers of cells
 

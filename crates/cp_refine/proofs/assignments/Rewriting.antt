@@ -6,10 +6,10 @@ use Rattle.std.proofs.lemmas.List.{get_or-append-add, get_or_append_left}
 use Rattle.std.proofs.Math.Nat.{suc-mul}
 use Rattle.cp_meaning.specs.Names.{Name, same_name}
 use Rattle.cp_meaning.specs.Types.{Ty, ordinal, queue_type, set_over, array_over, record_with, component_of, FieldTypes, no_field_types, more_field_types, length_of_range}
-use Rattle.cp_meaning.specs.Values.{Value, number_value, array_value, record_value, set_value, queue_value, Values, no_values, more_values, FieldValues, no_field_values, more_field_values, Choice, the_field, the_element, part_of, part_at, with_element, with_field, with_one_part, with_part}
+use Rattle.cp_meaning.specs.Values.{Value, array_value, record_value, Values, no_values, more_values, FieldValues, no_field_values, more_field_values, Choice, the_field, the_element, part_of, part_at, with_element, with_field, with_one_part, with_part}
 use Rattle.cp_resolved.specs.Layouts.{cells_of}
 use Rattle.cp_resolved.specs.Encoded.{encode, encode_all, encode_fields, HasType, AllHave, HaveTypes, Chosen, further_chosen, field_chosen, one_chosen, then_chosen, chosen_at}
-use Rattle.cp_refine.proofs.expressions.Parts.{encode_length, PartAt, one_part, part_stands}
+use Rattle.cp_refine.proofs.expressions.Parts.{encode_length, PartAt, one_part, part_stands, some_chosen}
 
 -- outside these cells
 abbrev pub Outside : (first cells j : ℕ) → Type 0
@@ -67,10 +67,9 @@ new_before old new ys same =
 
 element_typed : (t : Ty) (n : ℕ) (vs : Values) (i : ℕ) (y : Value) → AllHave (HasType t) n vs → HasType t y → AllHave (HasType t) n (with_element vs i y)
 element_typed t zero no_values i y h k = tt
-element_typed t zero (more_values v vs) i y h k = absurd h
-element_typed t (suc n) no_values i y h k = absurd h
 element_typed t (suc n) (more_values v vs) zero y h k = (k, h.1)
 element_typed t (suc n) (more_values v vs) (suc i) y h k = (h.0, element_typed t n vs i y h.1 k)
+element_typed t _ _ i y h k = absurd h
 
 element_new : (t : Ty) (n : ℕ) (vs : Values) (i : ℕ) (y : Value) → AllHave (HasType t) n vs → HasType t y → i < n → NewAt (encode_all vs) (encode_all (with_element vs i y)) (encode y) (i * cells_of t)
 element_new t zero vs i y h k less = absurd (omega arith)
@@ -87,9 +86,6 @@ element_new t (suc n) (more_values v vs) (suc i) y h k less =
 pub record OneNew (t : Ty) (w : Value) (x : Choice) (c : Chosen) (y : Value) : Type 0 where
   pub typed : HasType t (with_one_part w x y)
   pub cells : NewAt (encode w) (encode (with_one_part w x y)) (encode y) c.0
-
-some_chosen : (a b : Chosen) → Some a ≡ Some b → a ≡ b
-some_chosen a b e = cc
 
 -- ---- fields
 
@@ -146,14 +142,7 @@ one_new (set_over r) w x c y h e k = absurd (cc)
 one_new (component_of n) w x c y h e k = absurd (cc)
 one_new (record_with ts) w (the_element n) c y h e k = absurd (cc)
 one_new (array_over r t) w (the_field x) c y h e k = absurd (cc)
-one_new (record_with ts) (number_value z) (the_field x) c y h e k = absurd h
-one_new (record_with ts) (array_value vs) (the_field x) c y h e k = absurd h
-one_new (record_with ts) (set_value ns) (the_field x) c y h e k = absurd h
-one_new (record_with ts) (queue_value o) (the_field x) c y h e k = absurd h
-one_new (array_over r t) (number_value z) (the_element n) c y h e k = absurd h
-one_new (array_over r t) (record_value fs) (the_element n) c y h e k = absurd h
-one_new (array_over r t) (set_value ns) (the_element n) c y h e k = absurd h
-one_new (array_over r t) (queue_value o) (the_element n) c y h e k = absurd h
+one_new _ _ _ c y h e k = absurd h
 
 -- ---- all choices
 

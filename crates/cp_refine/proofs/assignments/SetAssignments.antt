@@ -100,8 +100,6 @@ module _ (g : Ground) (p : Program) (l : Layouts) (s : State) (m : Machine) (q a
       StepIs g p l q line (settled p s q (o >>= λ x. w >>= λ y. assigned (view_of p s q) y x.value >>= λ u. becomes u (xs ++ ys)))
       (statements.with_value r (statements.fault m q line) (λ v. statements.with_value a (statements.fault m q line) (statements.set_assigned m q line (natural_of range.low) (natural_of range.high) (rest_of n es) v)))
   outcomes t (Err b) (Err c) w a n i h j = fails g p l s m q at (statement_item (assign token d e)) mid es xs ys k line b c h
-  outcomes t (Err b) (Ok z) w a n i h j = absurd h
-  outcomes t (Ok x) (Err c) w a n i h j = absurd h
   outcomes t (Ok x) (Ok z) (Err b) (Err c) n i h j = fails g p l s m q at (statement_item (assign token d e)) mid es xs ys k line b c j
   outcomes t (Ok x) (Ok z) (Err b) (Ok a) n i h j = absurd j
   outcomes t (Ok x) (Ok z) (Ok y) (Err c) n i h j = absurd j
@@ -110,6 +108,7 @@ module _ (g : Ground) (p : Program) (l : Layouts) (s : State) (m : Machine) (q a
       (subst (λ (v : Value). StepIs g p l q line (settled p s q (assigned (view_of p s q) y v >>= λ u. becomes u (xs ++ ys))) (statements.set_assigned m q line (natural_of range.low) (natural_of range.high) (rest_of n es) (set_with (bits_of h.1.0)) a)) (sym h.1.1)
       (subst (λ (u : Ty). StepIs g p l q line (settled p s q (assigned (view_of p s q) (record { place = y.place; ty = u }) (set_value h.1.0) >>= λ v. becomes v (xs ++ ys))) (statements.set_assigned m q line (natural_of range.low) (natural_of range.high) (rest_of n es) (set_with (bits_of h.1.0)) a)) (sym j.0)
       (in_range y.place a h.1.0 n i j.1 (members_of_type t h.1.0 h.1.2))))
+  outcomes t _ _ w a n i h j = absurd h
 
   abbrev result : Stepped
   result = settled p s q (value (view_of p s q) e >>= λ x. target_value (view_of p s q) d >>= λ y. assigned (view_of p s q) y x.value >>= λ u. becomes u (xs ++ ys))

@@ -11,7 +11,7 @@ use Rattle.cp_meaning.specs.Names.{Name, same_name}
 use Rattle.cp_meaning.specs.Types.{Range, Ty, ordinal}
 use Rattle.cp_meaning.specs.Values.{Value, number_value, Choice, with_part}
 use Rattle.cp_meaning.specs.State as named
-use Rattle.cp_meaning.specs.State.{Content, holds, Environment, Component, no_component}
+use Rattle.cp_meaning.specs.State.{Content, Environment, Component}
 use Rattle.cp_meaning.specs.Places.{content_of, with_content, value_held}
 use Rattle.cp_resolved.specs.Layouts.{cells_of, Layouts, look}
 use Rattle.cp_resolved.specs.Encoded.{encode, HasType, chosen_at}
@@ -55,7 +55,7 @@ put_writes m (Local n) z h =
     elsewhere (Permanent k) d = refl
     elsewhere (Local k) d = set_there m.cells n k z (pos 0) (λ e. d (ap Local e))
 
-has_same : (m m2 : Memory) (a : Address) (z : ℤ) (b : Address) (cells : ℕ) → WritesCell m m2 a z → HasCells m b cells → HasCells m2 b cells
+pub has_same : (m m2 : Memory) (a : Address) (z : ℤ) (b : Address) (cells : ℕ) → WritesCell m m2 a z → HasCells m b cells → HasCells m2 b cells
 has_same m m2 a z (Permanent n) cells w h = let e = w.permanents in omega (arith, e, h)
 has_same m m2 a z (Local n) cells w h = let e = w.cells in omega (arith, e, h)
 
@@ -73,7 +73,7 @@ pub further_apart : (a : Address) (k n : ℕ) → k ≢ n → further a k ≢ fu
 further_apart (Permanent j) k n d e = (let s : j + k ≡ j + n = cc in d (omega (arith, s)))
 further_apart (Local j) k n d e = (let s : j + k ≡ j + n = cc in d (omega (arith, s)))
 
-side : (i o : ℕ) → i ≢ o → (i < o) ⊎ (o < i)
+pub side : (i o : ℕ) → i ≢ o → (i < o) ⊎ (o < i)
 side zero zero d = absurd (d refl)
 side zero (suc o) d = inl (omega arith)
 side (suc i) zero d = inr (omega arith)

@@ -15,7 +15,7 @@ use Rattle.cp_meaning.specs.Places.{content_of, with_content, value_held, call_a
 use Rattle.cp_resolved.specs.Layouts.{cells_of, Layouts, cell_named, look}
 use Rattle.cp_resolved.specs.Encoded.{HasType, chosen_at}
 use Rattle.cp_refine.specs.Represents.{LiesAt, frame_above, PlaceAt, CallHolds, CallsHold}
-use Rattle.cp_refine.proofs.expressions.Reading.{calls_frames}
+use Rattle.cp_refine.proofs.expressions.Reading.{calls_frames, frame_same as frame_is}
 use Rattle.cp_refine.proofs.assignments.Writing.{WritesCell, lies_kept, lies_new, content_here, content_there}
 
 -- the cells of a frame's variables are inside its size, and those of different names apart; no name is a variable and a `var` parameter
@@ -34,13 +34,10 @@ abbrev pub FramesApart : (size : ℕ → ℕ) → List Frame → Type 0
 FramesApart size [] = Unit {0}
 FramesApart size (f ∷ fs) = Below size f.base fs
 
-local_is : (a b : ℕ) → Local a ≡ Local b → a ≡ b
+pub local_is : (a b : ℕ) → Local a ≡ Local b → a ≡ b
 local_is a b e = cc
 
-frame_is : (f g : Frame) → Some f ≡ Some g → f ≡ g
-frame_is f g e = cc
-
-type_is : (a b : Ty) → Some a ≡ Some b → a ≡ b
+pub type_is : (a b : Ty) → Some a ≡ Some b → a ≡ b
 type_is a b e = cc
 
 -- a frame of a list lies where the list does
@@ -75,8 +72,7 @@ module _ (r : Tables) (l : Layouts) (size : ℕ → ℕ) (m m2 : Memory) (apart 
   calls_below : (cs : List Call) (fs : List Frame) (base : ℕ) → base ≤ a → Below size base fs → CallsHold r l m cs fs → CallsHold r l m2 cs fs
   calls_below [] [] base le b h = tt
   calls_below (c ∷ cs) (f ∷ fs) base le b h = (h.0, held_elsewhere c f fs h.0.routine (inr (let w = b.0 in omega (arith, w, le))) h.1, calls_below cs fs f.base (let w = b.0 in omega (arith, w, le)) b.1 h.2)
-  calls_below [] (f ∷ fs) base le b h = absurd h
-  calls_below (c ∷ cs) [] base le b h = absurd h
+  calls_below _ _ base le b h = absurd h
 
   module _ (below : ℕ) (y : Name) (u : Ty) (choices : List Choice) (offset : ℕ) (range : Range) (chosen : chosen_at u choices ≡ Some (offset, ordinal range)) (typed : HasType (ordinal range) (number_value z)) (fits : offset < cells_of u) where
     abbrev pub new_for : Environment → Environment
@@ -116,20 +112,17 @@ module _ (r : Tables) (l : Layouts) (size : ℕ → ℕ) (m m2 : Memory) (apart 
     -- a frame of an open call has a routine
     routine_above : (cs : List Call) (fs : List Frame) (f : Frame) → CallsHold r l m cs fs → frame_above fs below ≡ Some f → f.routine < length r.routines
     routine_above [] [] f h e = absurd (cc)
-    routine_above [] (g ∷ fs) f h e = absurd h
-    routine_above (c ∷ cs) [] f h e = absurd h
     routine_above (c ∷ cs) (g ∷ fs) f h e = go (length fs == below) (routine_above cs fs f h.2) e
       where
         go : (b : Bool) → (frame_above fs below ≡ Some f → f.routine < length r.routines) → (if b then Some g else frame_above fs below) ≡ Some f → f.routine < length r.routines
         go true ih d = subst (λ (x : Frame). x.routine < length r.routines) (frame_is g f d) h.0.routine
         go false ih d = ih d
+    routine_above _ _ f h e = absurd h
 
     -- all calls, of which one is written
     pub calls_written : (cs : List Call) (fs : List Frame) (f : Frame) → frame_above fs below ≡ Some f → look y (l.frames f.routine).variables ≡ Some u → a ≡ f.base + cell_named (l.frames f.routine) y + offset → FramesApart size fs → CallsHold r l m cs fs →
         CallsHold r l m2 (with_call_environment cs below (new_for (call_above cs below).environment)) fs
     calls_written [] [] f e known at below_them h = absurd (cc)
-    calls_written [] (g ∷ fs) f e known at below_them h = absurd h
-    calls_written (c ∷ cs) [] f e known at below_them h = absurd h
     calls_written (c ∷ cs) (g ∷ fs) f e known at below_them h =
         subst (λ n. CallsHold r l m2 (if n == below then with_environment c (new_for (if n == below then c else call_above cs below).environment) ∷ cs else c ∷ with_call_environment cs below (new_for (if n == below then c else call_above cs below).environment)) (g ∷ fs)) (sym (calls_frames r l m cs fs h.2))
         (go (length fs == below) (λ d. calls_written cs fs f d known at (apart_below size g.base fs below_them) h.2) e)
@@ -148,3 +141,4 @@ module _ (r : Tables) (l : Layouts) (size : ℕ → ℕ) (m m2 : Memory) (apart 
             let w = below_in size g.base below fs f below_them d in
             let i = (apart f.routine (routine_above cs fs f h.2 d)).inside y u known in
             (h.0, held_elsewhere c g fs h.0.routine (inl (omega (arith, w, i, at, fits))) h.1, ih d)
+    calls_written _ _ f e known at below_them h = absurd h

@@ -4,7 +4,7 @@ use Rattle.std.specs.Prelude.{pos, slice_index_or}
 use Rattle.cp_slots.specs.declared.place.Argument.{Argument}
 use Rattle.cp_slots.specs.Tables.{Tables}
 use Rattle.cp_store.specs.declared.argument.Bound.{Bound}
-use Rattle.cp_store.specs.declared.argument.Bound.TheVariants.{Scalar, Set, Copy, Reference, Component}
+use Rattle.cp_store.specs.declared.argument.Bound.TheVariants.{Copy, Reference, Component}
 use Rattle.cp_store.specs.declared.memory.Address.{Address}
 use Rattle.cp_store.specs.declared.memory.Address.TheVariants.{Permanent, Local}
 use Rattle.cp_store.specs.declared.memory.Frame.{Frame}
@@ -24,15 +24,13 @@ use Rattle.cp_refine.specs.Parameters.{IsOther, AreDifferent}
 use Rattle.cp_refine.specs.Represents.{LiesAt, PlaceAt}
 use Rattle.cp_refine.proofs.control.Moving.{set_here, set_there}
 use Rattle.cp_refine.proofs.expressions.Parts.{encode_length}
-use Rattle.cp_refine.proofs.expressions.Seeing.{onward_is}
+use Rattle.cp_store.proofs.Reaches.{onward_exact as onward_is}
 
 -- what is put as a value
 put_is : (m mem : Memory) (f : Frame) (slot : ℕ) (b : Bound) → IsValue m b → put_in_frame mem f slot b ≡ put_value mem (Local (onward f.base slot)) b
-put_is m mem f slot (Scalar z) h = refl
-put_is m mem f slot (Set s) h = refl
-put_is m mem f slot (Copy from size) h = refl
 put_is m mem f slot (Reference a) h = absurd h
 put_is m mem f slot (Component n) h = absurd h
+put_is m mem f slot _ h = refl
 
 -- the layout and the frame of the call: its cells come after those that the process had, and so do its references
 module _ (r : Tables) (l : Layouts) (fs : List Frame) (lay : FrameLayout) (m : Memory) (f : Frame) (size count : ℕ) (base_is : f.base ≡ length m.cells) (first_is : f.references ≡ length m.references)
@@ -58,20 +56,14 @@ module _ (r : Tables) (l : Layouts) (fs : List Frame) (lay : FrameLayout) (m : M
   local_is a b e = cc
 
   keeps : (n : Memory) → Binds n → (b : Bound) → IsValue m b → Keeps m n b
-  keeps n i (Scalar z) h = tt
-  keeps n i (Set s) h = tt
   keeps n i (Copy (Permanent from) size) h = λ k less. ap (λ xs. slice_index_or xs (from + k) (pos 0)) i.permanents
   keeps n i (Copy (Local from) size) h = λ k less. i.below (from + k) (let e = base_is in omega (arith, e, h, less))
-  keeps n i (Reference a) h = tt
-  keeps n i (Component c) h = tt
+  keeps n i _ h = tt
 
   source_apart : (slot cells : ℕ) (b : Bound) → IsValue m b → IsApartFrom (Local (f.base + slot)) cells b
-  source_apart slot cells (Scalar z) h = tt
-  source_apart slot cells (Set s) h = tt
   source_apart slot cells (Copy (Permanent from) size) h = λ j k less fewer e. absurd (cc)
   source_apart slot cells (Copy (Local from) size) h = λ j k less fewer e. (let d = local_is (f.base + slot + j) (from + k) e in let b = base_is in omega (arith, d, b, h, less, fewer))
-  source_apart slot cells (Reference a) h = tt
-  source_apart slot cells (Component c) h = tt
+  source_apart slot cells _ h = tt
 
   -- ---- one parameter
 
@@ -189,28 +181,24 @@ module _ (r : Tables) (l : Layouts) (fs : List Frame) (lay : FrameLayout) (m : M
       side : (j : ℕ) → j < cells_of q.ty → cell_of q + j ≡ f.base + cell_named lay x + i → (cell_named lay x + cells_of t ≤ cell_named lay q.name) ⊎ (cell_named lay q.name + cells_of q.ty ≤ cell_named lay x) → ⊥
       side j small e (inl o) = omega (arith, small, e, less, o)
       side j small e (inr o) = omega (arith, small, e, less, o)
-  free_cell x t i q (refers y) b known less other h is = tt
-  free_cell x t i q (knows y) b known less other h is = tt
+  free_cell x t i q _ b known less other h is = tt
 
   pub free_cells : (x : Name) (t : Ty) (i : ℕ) (qs : List Parameter) (e : Environment) (xs : List Argument) (bs : List Bound) → look x lay.variables ≡ Some t → i < cells_of t → IsOther x qs → ParametersAre lay qs → Given qs e xs bs → AreFreeCells qs e (f.base + cell_named lay x + i)
-  free_cells x t i [] e xs bs known less other h is = tt
-  free_cells x t i (q ∷ qs) [] xs bs known less other h is = tt
   free_cells x t i (q ∷ qs) (d ∷ e) [] bs known less other h is = absurd is
   free_cells x t i (q ∷ qs) (d ∷ e) (y ∷ xs) [] known less other h is = absurd is
   free_cells x t i (q ∷ qs) (d ∷ e) (y ∷ xs) (b ∷ bs) known less other h is = (free_cell x t i q d.1 b known less other.0 h.0 is.2, free_cells x t i qs e xs bs known less other.1 h.1 is.3)
+  free_cells x t i _ _ xs bs known less other h is = tt
 
   free_place : (x : Name) (t : Ty) (q : Parameter) (c : Content) (b : Bound) → look x lay.references ≡ Some t → same_name x q.name ≡ false → ParameterIs lay q.is_var q → IsBound r l fs m q c b → IsFreePlace q c (f.references + cell_named lay x)
   free_place x t q (refers y) (Reference a) known other h is = λ e. different x q.name t q.ty other known (reference_of q is.0 h) (omega (arith, e))
   free_place x t q (refers y) b known other h is = absurd is
-  free_place x t q (holds w) b known other h is = tt
-  free_place x t q (knows y) b known other h is = tt
+  free_place x t q _ b known other h is = tt
 
   free_places : (x : Name) (t : Ty) (qs : List Parameter) (e : Environment) (xs : List Argument) (bs : List Bound) → look x lay.references ≡ Some t → IsOther x qs → ParametersAre lay qs → Given qs e xs bs → AreFreePlaces qs e (f.references + cell_named lay x)
-  free_places x t [] e xs bs known other h is = tt
-  free_places x t (q ∷ qs) [] xs bs known other h is = tt
   free_places x t (q ∷ qs) (d ∷ e) [] bs known other h is = absurd is
   free_places x t (q ∷ qs) (d ∷ e) (y ∷ xs) [] known other h is = absurd is
   free_places x t (q ∷ qs) (d ∷ e) (y ∷ xs) (b ∷ bs) known other h is = (free_place x t q d.1 b known other.0 h.0 is.2, free_places x t qs e xs bs known other.1 h.1 is.3)
+  free_places x t _ _ xs bs known other h is = tt
 
   pub record AllBound (qs : List Parameter) (e : Environment) (n n2 : Memory) : Type 0 where
     pub binds : Binds n2
@@ -234,12 +222,6 @@ module _ (r : Tables) (l : Layouts) (fs : List Frame) (lay : FrameLayout) (m : M
 
   pub all_bound : (qs : List Parameter) (e : Environment) (xs : List Argument) (bs : List Bound) (n : Memory) → Binds n → ParametersAre lay qs → AreDifferent qs → Given qs e xs bs → AllBound qs e n (bound_in_frame n f xs bs)
   all_bound [] [] [] [] n i h d is = record { binds = i; cell = λ k free. refl; place = λ k free. refl; lies = tt }
-  all_bound [] [] [] (b ∷ bs) n i h d is = absurd is
-  all_bound [] [] (x ∷ xs) bs n i h d is = absurd is
-  all_bound [] (c ∷ e) xs bs n i h d is = absurd is
-  all_bound (q ∷ qs) [] xs bs n i h d is = absurd is
-  all_bound (q ∷ qs) (c ∷ e) [] bs n i h d is = absurd is
-  all_bound (q ∷ qs) (c ∷ e) (x ∷ xs) [] n i h d is = absurd is
   all_bound (q ∷ qs) (c ∷ e) (x ∷ xs) (b ∷ bs) n i h d is =
       let one = one_bound q c.1 b x.slot n is.1 i h.0 is.2 in
       let more = all_bound qs e xs bs (put_in_frame n f x.slot b) one.binds h.1 d.1 is.3 in
@@ -249,3 +231,4 @@ module _ (r : Tables) (l : Layouts) (fs : List Frame) (lay : FrameLayout) (m : M
         place = λ k free. more.place k free.1 ∙ one.place k free.0;
         lies = (stays_bound q c.1 b qs e xs bs (put_in_frame n f x.slot b) (bound_in_frame (put_in_frame n f x.slot b) f xs bs) h.0 is.2 d.0 h.1 is.3 more one.lies, more.lies);
       }
+  all_bound _ _ _ _ n i h d is = absurd is

@@ -1,5 +1,5 @@
 -- What the arguments of a call give, and the component that it names, at the item of the call: premises of the whole step of a call.
-use Rattle.std.proofs.Common.{◌≡◌, ℕ, List, ◌∷◌, Option, sym, subst, true, false, Some, None}
+use Rattle.std.proofs.Common.{◌≡◌, ℕ, List, ◌∷◌, Option, sym, subst, true, false, Some}
 use Rattle.std.specs.Prelude.{map}
 use Rattle.cp_tree.specs.Syntax.{Program, Expressions, Designator}
 use Rattle.cp_slots.specs.Code as code
@@ -15,7 +15,7 @@ use Rattle.cp_meaning.specs.Calls.{bound}
 use Rattle.cp_meaning.specs.Declarations.{RoutineMeaning}
 use Rattle.cp_meaning.specs.Expressions.{name_of, target_value}
 use Rattle.cp_meaning.specs.Lifting.{expressions_calls, designator_calls}
-use Rattle.cp_meaning.specs.Scopes.{Meaning, constant_meaning, type_meaning, local_variable, permanent_variable, routine_meaning, standard_meaning, find}
+use Rattle.cp_meaning.specs.Scopes.{Meaning, routine_meaning, find}
 use Rattle.cp_meaning.specs.State.{Environment, Item, State}
 use Rattle.cp_meaning.specs.Steps.{view_of}
 use Rattle.cp_resolved.specs.Compiled.{a_component, designator_form}
@@ -55,9 +55,4 @@ call_component g p l s m q at token i mid es xs ys k ex d args o ci kept known i
 
     named_part : (w : Option Meaning) → CalleeIs this d w ci.part ci.is_entry ci.number → designator_form this d ≡ Some (a_component ci.part (l.owners ci.number))
     named_part (Some (routine_meaning r)) c = (let other : ci.is_entry ≡ false = c.1 in absurd (cc))
-    named_part (Some (constant_meaning b z)) c = c.0
-    named_part (Some (type_meaning t)) c = c.0
-    named_part (Some (local_variable t)) c = c.0
-    named_part (Some (permanent_variable t)) c = c.0
-    named_part (Some (standard_meaning t)) c = c.0
-    named_part None c = c.0
+    named_part _ c = c.0

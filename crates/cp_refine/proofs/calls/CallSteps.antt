@@ -117,11 +117,10 @@ module _ (g : Ground) (p : Program) (l : Layouts) (s : State) (m : Machine) (q a
         StepIs g p l q line (settled p s q (e >>= λ b. Ok (opened view (this_component view) local_routine routine o (xs ++ ys) b)))
         (statements.with_value r (statements.fault m q line) (λ bs. calls.called_by g.tables m q line false ci.number n as' bs slot (rest_of mid es)))
     inside_bound n same can (Err e) (Err f) h = fails g p l s m q at i mid es xs ys k line e f h
-    inside_bound n same can (Err e) (Ok bs) h = absurd h
-    inside_bound n same can (Ok e) (Err f) h = absurd h
     inside_bound n same can (Ok e) (Ok bs) h =
         subst (λ c. StepIs g p l q line (settled p s q (Ok (opened view c local_routine routine o (xs ++ ys) e))) (statements.local (calls.called g.tables m q ci.number n as' bs slot None (rest_of mid es)))) (sym same)
         (called_inside g p l s m q es (goes g p l s m q at i mid es xs ys k) (xs ++ ys) (rest_of mid es) (stack_after g p l s m q at i mid es xs ys k) rest_frames ci.number n can o ci.taken e as' bs h line)
+    inside_bound n same can _ _ h = absurd h
 
     -- ---- an entry
 
@@ -130,11 +129,10 @@ module _ (g : Ground) (p : Program) (l : Layouts) (s : State) (m : Machine) (q a
     status_same (kind.Monitor j) uninitialised phase.Uninitialised never h = refl
     status_same (kind.Monitor j) initialising phase.Initialising never h = refl
     status_same (kind.Monitor j) initialised phase.Initialised never h = refl
-    status_same (kind.Monitor j) u w never h = absurd h
     status_same kind.Class uninitialised phase.Uninitialised never h = refl
     status_same kind.Class initialising phase.Initialising never h = refl
     status_same kind.Class initialised phase.Initialised never h = refl
-    status_same kind.Class u w never h = absurd h
+    status_same _ u w never h = absurd h
 
     module _ (entry : EntryKnown) (n : ℕ) (is_found : IsFound n) where
       can : CanCall g p l m q ci.number n es
@@ -160,8 +158,6 @@ module _ (g : Ground) (p : Program) (l : Layouts) (s : State) (m : Machine) (q a
           StepIs g p l q line (settled p s q (e >>= λ b. if is_initialised (named.component_at s.components n).status then Ok (entered_as (named.component_at s.components n).kind view n routine o (xs ++ ys) b) else Err not_init))
           (statements.with_value r (statements.fault m q line) (λ bs. calls.called_by g.tables m q line true ci.number n as' bs slot (rest_of mid es)))
       entry_bound (Err e) (Err f) h = fails g p l s m q at i mid es xs ys k line e f h
-      entry_bound (Err e) (Ok bs) h = absurd h
-      entry_bound (Ok e) (Err f) h = absurd h
       entry_bound (Ok e) (Ok bs) h =
           subst (λ b. StepIs g p l q line (settled p s q (if b then Ok (entered_as (named.component_at s.components n).kind view n routine o (xs ++ ys) e) else Err not_init)) (calls.called_by g.tables m q line true ci.number n as' bs slot (rest_of mid es))) (sym initialised_same)
           (go (slot_machine.is_initialised (phase_at m n)))
@@ -170,16 +166,16 @@ module _ (g : Ground) (p : Program) (l : Layouts) (s : State) (m : Machine) (q a
               (if b then calls.called_in g.tables m q (component_at g.tables n).kind ci.number n as' bs slot (rest_of mid es) else statements.fault m q line error.NotInit)
           go true = by_kind e bs h (component_at g.tables n).kind refl (named.component_at s.components n).kind (entry.kinds n can.there)
           go false = fails g p l s m q at i mid es xs ys k line not_init error.NotInit refl
+      entry_bound _ _ h = absurd h
 
     entry_found : EntryKnown → (t : Outcome Target) (r : Result ℕ slots.ErrorName) → component_of m q place ≡ r → ComponentAgrees view t r →
         StepIs g p l q line (settled p s q (t >>= λ u. entered view (component_there view u.place) routine o args (xs ++ ys)))
         (statements.with_value r (statements.fault m q line) (λ component. statements.with_value (arguments_of m q as') (statements.fault m q line) (λ bs. calls.called_by g.tables m q line true ci.number component as' bs slot (rest_of mid es))))
     entry_found entry (Err e) (Err f) same h = fails g p l s m q at i mid es xs ys k line e f h
-    entry_found entry (Err e) (Ok n) same h = absurd h
-    entry_found entry (Ok t) (Err f) same h = absurd h
     entry_found entry (Ok t) (Ok n) same h =
         subst (λ c. StepIs g p l q line (settled p s q (entered view c routine o args (xs ++ ys))) (statements.with_value (arguments_of m q as') (statements.fault m q line) (λ bs. calls.called_by g.tables m q line true ci.number n as' bs slot (rest_of mid es)))) (sym h)
         (entry_bound entry n (place, place_is, same) (bound view routine.parameters args) (arguments_of m q as') (known.arguments as' args_are))
+    entry_found entry _ _ same h = absurd h
 
     -- ---- by what the name stands for
 
@@ -257,13 +253,8 @@ module _ (g : Ground) (p : Program) (l : Layouts) (s : State) (m : Machine) (q a
       go (Some (standard_meaning t)) never h = absurd (never t refl)
 
   invoked_is : (w : Option Meaning) → NoStandard w → invoked (view_of p s q) q w d args (xs ++ ys) ≡ called (view_of p s q) d args None (xs ++ ys)
-  invoked_is None never = refl
-  invoked_is (Some (constant_meaning t z)) never = refl
-  invoked_is (Some (type_meaning t)) never = refl
-  invoked_is (Some (local_variable t)) never = refl
-  invoked_is (Some (permanent_variable t)) never = refl
-  invoked_is (Some (routine_meaning y)) never = refl
   invoked_is (Some (standard_meaning t)) never = absurd (never t refl)
+  invoked_is _ never = refl
 
   pub call_step : (never : NoStandard scope_name) → CallKnown g p l s m q at token (statement_item (invoke token d args)) mid es xs ys k d args None (call_item never) → StepIs g p l q (slice_index g.lines token) (step_of p s q) (step_at g.tables m q)
   call_step never known =

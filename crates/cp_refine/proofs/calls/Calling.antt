@@ -27,9 +27,9 @@ use Rattle.cp_machine.specs.Statements as statements
 use Rattle.cp_meaning.specs.Names.{Name}
 use Rattle.cp_meaning.specs.Declarations.{RoutineMeaning}
 use Rattle.cp_meaning.specs.State as named
-use Rattle.cp_meaning.specs.State.{ready, at_gate, unstarted, delayed, Status, Environment, Component, CallKind, local_routine, entry_routine, Call, Item, return, Process, State, has_entry, is_entry_kind, is_inside, waits_at}
+use Rattle.cp_meaning.specs.State.{ready, at_gate, Status, Environment, CallKind, local_routine, entry_routine, Call, Item, return, Process, State, has_entry, is_entry_kind, waits_at}
 use Rattle.cp_meaning.specs.Kernel as meaning
-use Rattle.cp_meaning.specs.Kernel.{kernel_step, local_event, enter_event, is_anybody_inside}
+use Rattle.cp_meaning.specs.Kernel.{local_event, enter_event, is_anybody_inside}
 use Rattle.cp_meaning.specs.Calls.{least_of, least_result}
 use Rattle.cp_meaning.specs.Lifting.{items_of_all}
 use Rattle.cp_meaning.specs.Move.{Doing, enters}
@@ -43,11 +43,12 @@ use Rattle.cp_refine.proofs.assignments.Assigning.{set_set}
 use Rattle.cp_refine.proofs.control.Control.{Goes, StepIs}
 use Rattle.cp_refine.proofs.calls.FramesBelow.{lie_lower, frames_lie, calls_below}
 use Rattle.cp_refine.proofs.gates.Gates as gates
-use Rattle.cp_refine.proofs.gates.Gates.{OwnNumbers, HasCalled, nobody_inside, somebody_inside, differs}
+use Rattle.cp_refine.proofs.gates.Gates.{OwnNumbers, HasCalled, nobody_inside, somebody_inside}
 use Rattle.cp_refine.proofs.control.Lists.{all_items, stack_rest, frames_rest}
 use Rattle.cp_refine.proofs.control.Moving.{set_here, inside_same, moved}
 use Rattle.cp_refine.proofs.calls.NewFrame.{CanOpen, bound_memory, binds_all, holds_new}
 use Rattle.cp_refine.proofs.control.Running.{calls_alike}
+use Rattle.cp_refine.proofs.expressions.Members.{not_equal as differs}
 
 -- what has to be known of a process that calls a routine in a component
 pub record CanCall (g : Ground) (p : Program) (l : Layouts) (m : Machine) (q number d : ℕ) (es : List Entry) : Type 0 where
@@ -151,11 +152,10 @@ module _ (g : Ground) (p : Program) (l : Layouts) (s : State) (m : Machine) (q :
   Outside c = (n j : ℕ) → (component_at g.tables n).kind ≡ kind.Monitor j → (is_entry_kind c && d == n) ≡ false
 
   inside_kept : (c : CallKind) (t : Thread) → Outside c → (n : ℕ) (a : ComponentKind) → (component_at g.tables n).kind ≡ a → MonitorIs s m n a → MonitorIs (record s { processes = slice_set s.processes q (new_process ready c) }) (with_thread m q t) n a
-  inside_kept c t out n (kind.Process j) f h = tt
-  inside_kept c t out n kind.Class f h = tt
   inside_kept c t out n (kind.Monitor j) f h =
       let entry : has_entry n (new_call c ∷ before.calls) ≡ has_entry n before.calls = ap (λ b. b || has_entry n before.calls) (out n j f) in
       (h.0, h.1 ∙ sym (inside_same n q (new_process ready c) s.processes (ap (λ b. b && true) entry ∙ sym (ap (λ u. has_entry n before.calls && not (waits_at n u)) k.was)) k.there))
+  inside_kept c t out n _ f h = tt
 
   stands_new : (c : CallKind) (monitor : Option ℕ) → monitor ≡ monitor_left g.tables (new_call c) c (component_at g.tables d).kind → ProcessIs g p l q (new_process ready c) (new_thread monitor)
   stands_new c monitor left =

@@ -82,5 +82,4 @@ module _ (g : Ground) (p : Program) (l : Layouts) (routines : (n : ℕ) → n < 
   pub calls_below : (cs : List Call) (fs : List Frame) → LieBelow g.tables base first fs → CallsHold g.tables l m cs fs → CallsHold g.tables l m2 cs fs
   calls_below [] [] b h = tt
   calls_below (c ∷ cs) (f ∷ fs) b h = (h.0, call_below c f fs h.0.routine b.0 b.1 h.1, calls_below cs fs b.2 h.2)
-  calls_below [] (f ∷ fs) b h = absurd h
-  calls_below (c ∷ cs) [] b h = absurd h
+  calls_below _ _ b h = absurd h

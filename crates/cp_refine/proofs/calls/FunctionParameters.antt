@@ -2,8 +2,8 @@
 use Rattle.std.proofs.Common.{◌≡◌, ◌∙◌, false, List, [], ◌∷◌, ◌++◌, Option, Some, None, ap, sym, refl, subst}
 use Rattle.cp_tree.specs.Syntax.{Designator, designator, Group, RoutineKind, procedure, function, Routine, Program}
 use Rattle.cp_meaning.specs.Names.{Name}
-use Rattle.cp_meaning.specs.Types.{Ty, ordinal, queue_type, set_over, array_over, record_with, component_of}
-use Rattle.cp_meaning.specs.Scopes.{Meaning, constant_meaning, type_meaning, local_variable, permanent_variable, routine_meaning, standard_meaning, Scope, find, since}
+use Rattle.cp_meaning.specs.Types.{Ty, array_over, component_of}
+use Rattle.cp_meaning.specs.Scopes.{Meaning, local_variable, permanent_variable, routine_meaning, Scope, find, since}
 use Rattle.cp_meaning.specs.Declarations.{type_named, names_of, Parameter, Heading, parameters_named, with_group, with_groups, heading_of, result_of, RoutineMeaning, routine_in}
 use Rattle.cp_meaning.specs.Expressions.{routine_of_system, routine_of_type, routine_meant, routine_called}
 use Rattle.cp_meaning.specs.Lifting.{last_field}
@@ -43,35 +43,17 @@ some_same a b e = cc
 
 system_declared : (y : Name) (o : Option Meaning) (s : Scope) (m : RoutineMeaning) → routine_of_system y o s ≡ Some m → IsDeclared m
 system_declared y (Some (routine_meaning r)) s m e = record { scope = since y s; routine = r; same = sym (some_same (routine_in (since y s) r) m e) }
-system_declared y (Some (constant_meaning b z)) s m e = absurd (cc)
-system_declared y (Some (type_meaning t)) s m e = absurd (cc)
-system_declared y (Some (local_variable t)) s m e = absurd (cc)
-system_declared y (Some (permanent_variable t)) s m e = absurd (cc)
-system_declared y (Some (standard_meaning q)) s m e = absurd (cc)
-system_declared y None s m e = absurd (cc)
+system_declared y x s m e = absurd (cc)
 
 type_declared : (p : Program) (t : Ty) (y : Name) (m : RoutineMeaning) → routine_of_type p t y ≡ Some m → IsDeclared m
 type_declared p (component_of k) y m e = system_declared y (find y (system_of p k).scope) (system_of p k).scope m e
 type_declared p (array_over r (component_of k)) y m e = system_declared y (find y (system_of p k).scope) (system_of p k).scope m e
-type_declared p (array_over r (ordinal q)) y m e = absurd (cc)
-type_declared p (array_over r queue_type) y m e = absurd (cc)
-type_declared p (array_over r (set_over q)) y m e = absurd (cc)
-type_declared p (array_over r (array_over q t)) y m e = absurd (cc)
-type_declared p (array_over r (record_with ts)) y m e = absurd (cc)
-type_declared p (ordinal q) y m e = absurd (cc)
-type_declared p queue_type y m e = absurd (cc)
-type_declared p (set_over q) y m e = absurd (cc)
-type_declared p (record_with ts) y m e = absurd (cc)
+type_declared p x y m e = absurd (cc)
 
 meant_declared : (p : Program) (s : Scope) (x : Name) (w : Option Meaning) (o : Option Name) (m : RoutineMeaning) → routine_meant p s x w o ≡ Some m → IsDeclared m
 meant_declared p s x (Some (routine_meaning r)) o m e = record { scope = since x s; routine = r; same = sym (some_same (routine_in (since x s) r) m e) }
 meant_declared p s x (Some (permanent_variable t)) (Some y) m e = type_declared p t y m e
-meant_declared p s x (Some (permanent_variable t)) None m e = absurd (cc)
-meant_declared p s x (Some (constant_meaning b z)) o m e = absurd (cc)
-meant_declared p s x (Some (type_meaning t)) o m e = absurd (cc)
-meant_declared p s x (Some (local_variable t)) o m e = absurd (cc)
-meant_declared p s x (Some (standard_meaning q)) o m e = absurd (cc)
-meant_declared p s x None o m e = absurd (cc)
+meant_declared p s x y z m e = absurd (cc)
 
 pub called_values : (p : Program) (s : Scope) (d : Designator) (m : RoutineMeaning) → routine_called p s d ≡ Some m → (m.result ≡ None → ⊥) → Each (λ (q : Parameter). q.is_var ≡ false) m.parameters
 called_values p s (designator i ss) m e some = declared_values m (meant_declared p s i.name (find i.name s) (last_field ss) m e) some

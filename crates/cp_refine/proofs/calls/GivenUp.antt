@@ -26,9 +26,9 @@ use Rattle.cp_refine.proofs.assignments.Apart.{frame_apart, frames_apart}
 use Rattle.cp_refine.proofs.control.Control.{top_frame}
 use Rattle.cp_refine.proofs.calls.FramesBelow.{LieBelow, frames_lie, SameBelow, calls_below}
 use Rattle.cp_refine.proofs.expressions.Reading.{calls_frames}
-use Rattle.cp_refine.proofs.expressions.Seeing.{onward_is}
 use Rattle.cp_refine.proofs.assignments.Writing.{put_writes}
 use Rattle.cp_refine.proofs.assignments.WritingCalls.{calls_written}
+use Rattle.cp_store.proofs.Reaches.{onward_exact as onward_is}
 
 -- ---- on names
 

@@ -1,9 +1,9 @@
 -- The results of the calls of a statement have their cells, and so have those of the calls inside each of these.
 use Rattle.std.proofs.Common.{◌≡◌, ◌∙◌, ℕ, Bool, true, false, List, [], ◌∷◌, ◌++◌, Option, Some, None, ap, sym}
-use Rattle.cp_tree.specs.Syntax.{Expression, alone, related, Sum, sum, Terms, no_terms, more_terms, Term, term, Factors, no_factors, more_factors, Factor, number, character, named, group, negated, set_of, Expressions, no_expressions, more_expressions, Designator, designator, Selectors, no_selectors, more_selectors, Selector, field, index}
+use Rattle.cp_tree.specs.Syntax.{Expression, alone, related, Sum, sum, Terms, no_terms, more_terms, Term, term, Factors, no_factors, more_factors, Factor, number, named, group, negated, set_of, Expressions, no_expressions, more_expressions, Designator, designator, Selectors, no_selectors, more_selectors, Selector, field, index}
 use Rattle.cp_meaning.specs.Names.{temporary}
 use Rattle.cp_meaning.specs.Types.{Ty}
-use Rattle.cp_meaning.specs.State.{Item, statement_item, function_call, start_item, until, successor, return, init_end, end}
+use Rattle.cp_meaning.specs.State.{Item, function_call}
 use Rattle.cp_meaning.specs.Declarations.{RoutineMeaning}
 use Rattle.cp_meaning.specs.Places.{result_type}
 use Rattle.cp_meaning.specs.Expressions.{result_called, routine_called}
@@ -17,24 +17,12 @@ use Rattle.cp_refine.specs.Remaining.{IsKept, AreKept}
 pub kept_left : (h : Here) (xs ys : List Item) → AreKept h (xs ++ ys) → AreKept h xs
 kept_left h [] ys k = tt
 kept_left h (function_call at d es ∷ xs) ys k = (k.0, kept_left h xs ys k.1)
-kept_left h (statement_item t ∷ xs) ys k = absurd k
-kept_left h (start_item t ∷ xs) ys k = absurd k
-kept_left h (until ss e ∷ xs) ys k = absurd k
-kept_left h (successor at i z d b s ∷ xs) ys k = absurd k
-kept_left h (return o ∷ xs) ys k = absurd k
-kept_left h (init_end m ∷ xs) ys k = absurd k
-kept_left h (end ∷ xs) ys k = absurd k
+kept_left h _ ys k = absurd k
 
 pub kept_right : (h : Here) (xs ys : List Item) → AreKept h (xs ++ ys) → AreKept h ys
 kept_right h [] ys k = k
 kept_right h (function_call at d es ∷ xs) ys k = kept_right h xs ys k.1
-kept_right h (statement_item t ∷ xs) ys k = absurd k
-kept_right h (start_item t ∷ xs) ys k = absurd k
-kept_right h (until ss e ∷ xs) ys k = absurd k
-kept_right h (successor at i z d b s ∷ xs) ys k = absurd k
-kept_right h (return o ∷ xs) ys k = absurd k
-kept_right h (init_end m ∷ xs) ys k = absurd k
-kept_right h (end ∷ xs) ys k = absurd k
+kept_right h _ ys k = absurd k
 
 -- ---- the calls that stand before a statement
 
@@ -48,13 +36,7 @@ call_kept g h n at d es next c = go c.called.routine c.called.called (h.layouts.
 pub calls_kept : (g : Ground) (h : Here) (first last : Option ℕ) (xs : List Item) → CallsAre g h first xs last → AreKept h xs
 calls_kept g h first last [] c = tt
 calls_kept g h first last (function_call at d es ∷ xs) c = (call_kept g h c.0 at d es c.1 c.3, calls_kept g h c.1 last xs c.4)
-calls_kept g h first last (statement_item t ∷ xs) c = absurd c
-calls_kept g h first last (start_item t ∷ xs) c = absurd c
-calls_kept g h first last (until ss e ∷ xs) c = absurd c
-calls_kept g h first last (successor at i z d b s ∷ xs) c = absurd c
-calls_kept g h first last (return o ∷ xs) c = absurd c
-calls_kept g h first last (init_end m ∷ xs) c = absurd c
-calls_kept g h first last (end ∷ xs) c = absurd c
+calls_kept g h first last _ c = absurd c
 
 -- ---- the calls inside calls
 
@@ -66,13 +48,7 @@ InnerKept h (i ∷ items) = ⊥
 pub inner_both : (h : Here) (xs ys : List Item) → InnerKept h xs → InnerKept h ys → InnerKept h (xs ++ ys)
 inner_both h [] ys k j = j
 inner_both h (function_call at d es ∷ xs) ys k j = (k.0, inner_both h xs ys k.1 j)
-inner_both h (statement_item t ∷ xs) ys k j = absurd k
-inner_both h (start_item t ∷ xs) ys k j = absurd k
-inner_both h (until ss e ∷ xs) ys k j = absurd k
-inner_both h (successor at i z d b s ∷ xs) ys k j = absurd k
-inner_both h (return o ∷ xs) ys k j = absurd k
-inner_both h (init_end m ∷ xs) ys k j = absurd k
-inner_both h (end ∷ xs) ys k j = absurd k
+inner_both h _ ys k j = absurd k
 
 own_inner : (h : Here) (b : Bool) (at : ℕ) (d : Designator) (es : Expressions) → AreKept h (designator_calls h.scope d ++ expressions_calls h.scope es) → InnerKept h (own_call b at d es)
 own_inner h true at d es k = (k, tt)
@@ -103,8 +79,6 @@ mutual
       inner_both h (factor_calls h.scope f) (factors_calls h.scope fs) (factor_inner h f (kept_left h (factor_calls h.scope f) (factors_calls h.scope fs) k)) (factors_inner h fs (kept_right h (factor_calls h.scope f) (factors_calls h.scope fs) k))
 
   factor_inner : (h : Here) (f : Factor) → AreKept h (factor_calls h.scope f) → InnerKept h (factor_calls h.scope f)
-  factor_inner h (number at n) k = tt
-  factor_inner h (character at c) k = tt
   factor_inner h (named at d es) k =
       let both = kept_left h (designator_calls h.scope d ++ expressions_calls h.scope es) (own_call (is_call h.scope d) at d es) k in
       inner_both h (designator_calls h.scope d ++ expressions_calls h.scope es) (own_call (is_call h.scope d) at d es)
@@ -113,6 +87,7 @@ mutual
   factor_inner h (group at e) k = expression_inner h e k
   factor_inner h (negated at f) k = factor_inner h f k
   factor_inner h (set_of at es) k = expressions_inner h es k
+  factor_inner h _ k = tt
 
   pub expressions_inner : (h : Here) (es : Expressions) → AreKept h (expressions_calls h.scope es) → InnerKept h (expressions_calls h.scope es)
   expressions_inner h no_expressions k = tt

@@ -31,6 +31,7 @@ use Rattle.cp_refine.specs.Parameters.{IsOther, AreDifferent}
 use Rattle.cp_refine.specs.Represents.{LiesAt, PlaceAt, CallHolds}
 use Rattle.cp_refine.proofs.calls.Binding.{Binds, OneLies, AllLie, AllBound, all_bound, free_cells}
 use Rattle.cp_refine.proofs.expressions.Parts.{encode_length}
+use Rattle.cp_meaning.proofs.OwnLocal.{nothing_append as content_second}
 
 -- ---- environments
 
@@ -40,14 +41,6 @@ content_first x (d ∷ a) b c e = go (same_name x d.0) (λ k. content_first x a 
   where
     go : (w : Bool) → (content_of x a ≡ Some c → content_of x (a ++ b) ≡ Some c) → (if w then Some d.1 else content_of x a) ≡ Some c → (if w then Some d.1 else content_of x (a ++ b)) ≡ Some c
     go true ih e = e
-    go false ih e = ih e
-
-pub content_second : (x : Name) (a b : Environment) → content_of x a ≡ None → content_of x (a ++ b) ≡ content_of x b
-content_second x [] b e = refl
-content_second x (d ∷ a) b e = go (same_name x d.0) (content_second x a b) e
-  where
-    go : (w : Bool) → (content_of x a ≡ None → content_of x (a ++ b) ≡ content_of x b) → (if w then Some d.1 else content_of x a) ≡ None → (if w then Some d.1 else content_of x (a ++ b)) ≡ content_of x b
-    go true ih e = absurd (cc)
     go false ih e = ih e
 
 -- first values are no places
@@ -157,9 +150,6 @@ module _ (g : Ground) (p : Program) (l : Layouts) (fs : List Frame) (m : Memory)
 
   found : (x : Name) (u : Ty) (qs : List Parameter) (e : Environment) (xs : List Argument) (bs : List Bound) (n : Memory) → Given qs e xs bs → ParametersAre lay qs → AllHere n qs e → look x (parameter_variables qs) ≡ Some u → Found x u e n
   found x u [] e xs bs n is h a k = absurd (cc)
-  found x u (q ∷ qs) [] xs bs n is h a k = absurd is
-  found x u (q ∷ qs) (d ∷ e) [] bs n is h a k = absurd is
-  found x u (q ∷ qs) (d ∷ e) (y ∷ xs) [] n is h a k = absurd is
   found x u (q ∷ qs) (d ∷ e) (y ∷ xs) (b ∷ bs) n is h a k = go (same_name x q.name) refl (found x u qs e xs bs n is.3 h.1 a.1) k
     where
       go : (w : Bool) → same_name x q.name ≡ w → (look x (parameter_variables qs) ≡ Some u → Found x u e n) → (if w then Some q.ty else look x (parameter_variables qs)) ≡ Some u → Found x u (d ∷ e) n
@@ -188,18 +178,16 @@ module _ (g : Ground) (p : Program) (l : Layouts) (fs : List Frame) (m : Memory)
             known = w.known;
             given = w.given;
           }
+  found x u (q ∷ qs) _ _ _ n is h a k = absurd is
 
   not_found : (x : Name) (qs : List Parameter) (e : Environment) (xs : List Argument) (bs : List Bound) → Given qs e xs bs → look x (parameter_variables qs) ≡ None → content_of x e ≡ None
   not_found x [] [] xs bs is k = refl
-  not_found x [] (d ∷ e) xs bs is k = absurd is
-  not_found x (q ∷ qs) [] xs bs is k = absurd is
-  not_found x (q ∷ qs) (d ∷ e) [] bs is k = absurd is
-  not_found x (q ∷ qs) (d ∷ e) (y ∷ xs) [] is k = absurd is
   not_found x (q ∷ qs) (d ∷ e) (y ∷ xs) (b ∷ bs) is k = go (same_name x q.name) refl (not_found x qs e xs bs is.3) k
     where
       go : (w : Bool) → same_name x q.name ≡ w → (look x (parameter_variables qs) ≡ None → content_of x e ≡ None) → (if w then Some q.ty else look x (parameter_variables qs)) ≡ None → content_of x (d ∷ e) ≡ None
       go true s ih k = absurd (cc)
       go false s ih k = ap (λ (v : Bool). if v then Some d.1 else content_of x e) (ap (same_name x) is.0 ∙ s) ∙ ih k
+  not_found x _ _ _ _ is k = absurd is
 
   -- no name is a variable and a `var` parameter
   not_both : (x y : Name) (t u : Ty) → y ≡ x → look x lay.variables ≡ Some t → look y lay.references ≡ Some u → ⊥
@@ -266,10 +254,9 @@ module _ (g : Ground) (p : Program) (l : Layouts) (fs : List Frame) (m : Memory)
 
     -- a variable is no place
     value_plain : (x : Name) (t : Ty) (q : Parameter) (c : Content) (b : Bound) (y : Place) → look x lay.variables ≡ Some t → q.name ≡ x → ParameterIs lay q.is_var q → IsBound g.tables l fs m q c b → c ≡ refers y → ⊥
-    value_plain x t q (holds w) b y known same h is e = cc
     value_plain x t q (refers z) (Reference a) y known same h is e = not_both x q.name t q.ty same known (place_known q is.0 h)
     value_plain x t q (refers z) b y known same h is e = is
-    value_plain x t q (knows n) b y known same h is e = cc
+    value_plain x t q z b y known same h is e = cc
 
     variable_plain : (x : Name) (t : Ty) (y : Place) → look x lay.variables ≡ Some t → (o : Option Ty) → look x (parameter_variables meaning.parameters) ≡ o → content_of x environment ≡ Some (refers y) → ⊥
     variable_plain x t y known None k d =

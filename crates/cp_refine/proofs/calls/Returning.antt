@@ -23,7 +23,7 @@ use Rattle.cp_machine.specs.Step.{take_top, step_at}
 use Rattle.cp_meaning.specs.Names.{Name}
 use Rattle.cp_meaning.specs.Types.{Range, Ty, ordinal}
 use Rattle.cp_meaning.specs.State as named
-use Rattle.cp_meaning.specs.State.{ready, at_gate, unstarted, delayed, Component, CallKind, own_statement, initial_statement, local_routine, entry_routine, Call, current, callers, Item, return, Process, no_process, State, has_entry, is_entry_kind, is_inside, waits_at}
+use Rattle.cp_meaning.specs.State.{ready, at_gate, Component, CallKind, entry_routine, Call, current, callers, Item, return, Process, no_process, State, has_entry, is_entry_kind, is_inside, waits_at}
 use Rattle.cp_meaning.specs.Kernel as meaning
 use Rattle.cp_meaning.specs.Kernel.{kernel_step, local_event, leave_event}
 use Rattle.cp_meaning.specs.Move.{stays}
@@ -39,10 +39,11 @@ use Rattle.cp_refine.specs.Represents.{StackIs, StatusIs, ProcessIs, Runs, Retur
 use Rattle.cp_refine.proofs.assignments.Assigning.{entries_kept, stack_kept, set_set}
 use Rattle.cp_refine.proofs.control.Control.{StepIs}
 use Rattle.cp_refine.proofs.gates.Gates as gates
-use Rattle.cp_refine.proofs.gates.Gates.{OwnNumbers, OthersOutside, HasReturned, none_left, differs}
+use Rattle.cp_refine.proofs.gates.Gates.{OwnNumbers, OthersOutside, HasReturned, none_left}
 use Rattle.cp_refine.proofs.calls.GivenUp.{calls_back, view_with, calls_are, components_same, calls_given_up}
 use Rattle.cp_refine.proofs.gates.LettingIn.{FirstWaits, lets_in}
 use Rattle.cp_refine.proofs.control.Moving.{set_here, set_there, inside_same, moved}
+use Rattle.cp_refine.proofs.expressions.Members.{not_equal as differs}
 
 -- ---- a monitor that is left, and then lets its line in
 
@@ -175,9 +176,6 @@ module _ (g : Ground) (p : Program) (l : Layouts) (s : State) (m : Machine) (q :
   -- ---- a call that was no entry of a monitor
 
   not_inside : (n j : ℕ) (c : CallKind) → call.kind ≡ c → (d : ComponentKind) → (component_at g.tables call.component).kind ≡ d → monitor_left g.tables call c d ≡ None → (component_at g.tables n).kind ≡ kind.Monitor j → (is_entry_kind c && call.component == n) ≡ false
-  not_inside n j own_statement e d f none is = refl
-  not_inside n j initial_statement e d f none is = refl
-  not_inside n j local_routine e d f none is = refl
   not_inside n j entry_routine e (kind.Monitor i) f none is = absurd (cc)
   not_inside n j entry_routine e (kind.Process i) f none is = go (call.component == n) refl
     where
@@ -189,14 +187,14 @@ module _ (g : Ground) (p : Program) (l : Layouts) (s : State) (m : Machine) (q :
       go : (b : Bool) → call.component == n ≡ b → call.component == n ≡ false
       go true d = (let w : (component_at g.tables call.component).kind ≡ kind.Monitor j = ap (λ i. (component_at g.tables i).kind) (eqb-true call.component n d) ∙ is in absurd (cc))
       go false d = d
+  not_inside n j _ e d f none is = refl
 
   inside_kept : (o : Option Name) (t : Thread) → monitor_left g.tables call call.kind (component_at g.tables call.component).kind ≡ None → (n : ℕ) (d : ComponentKind) → (component_at g.tables n).kind ≡ d → MonitorIs s m n d → MonitorIs (record s { processes = slice_set s.processes q (process_back o) }) (with_thread m q t) n d
-  inside_kept o t none n (kind.Process j) e h = tt
-  inside_kept o t none n kind.Class e h = tt
   inside_kept o t none n (kind.Monitor j) e h =
       let entry : has_entry n (calls_back o call calls_around) ≡ has_entry n before.calls =
       entries_back o n ∙ sym (entries_were n ∙ ap (λ b. b || has_entry n calls_around) (not_inside n j call.kind refl (component_at g.tables call.component).kind refl none e)) in
       (h.0, h.1 ∙ sym (inside_same n q (process_back o) s.processes (ap (λ b. b && true) entry ∙ sym (ap (λ u. has_entry n before.calls && not (waits_at n u)) k.was)) k.there))
+  inside_kept o t none n _ e h = tt
 
   pub stays_back : (o : Option Name) → ResultGoes (here p l caller.routine) o (l.meanings thread.frame.routine).result → monitor_left g.tables call call.kind (component_at g.tables call.component).kind ≡ None →
       Represents g p l (record s { processes = slice_set s.processes q (process_back o) }) (with_thread m q (thread_back (result_cell (here p l caller.routine) o)))
@@ -297,13 +295,11 @@ module _ (g : Ground) (p : Program) (l : Layouts) (s : State) (m : Machine) (q :
   by_kind : (line : ℕ) → (call.kind ≡ entry_routine → (j : ℕ) → (component_at g.tables call.component).kind ≡ kind.Monitor j → MayLeave g s m q call.component) →
       (c : CallKind) → call.kind ≡ c → (d : ComponentKind) → (component_at g.tables call.component).kind ≡ d → (e : SystemKind) → SameKind e d →
       StepIs g p l q line (kernel_step p s q (with_move (with_items done items_after) (if is_entry_kind c then leaving_move e call.component else stays)) (if is_entry_kind c then leaving_move e call.component else stays)) (calls.returned g.tables m q caller slot (monitor_left g.tables call c d) es)
-  by_kind line may own_statement a d b e w = local_back line (ap (λ c. monitor_left g.tables call c (component_at g.tables call.component).kind) a)
-  by_kind line may initial_statement a d b e w = local_back line (ap (λ c. monitor_left g.tables call c (component_at g.tables call.component).kind) a)
-  by_kind line may local_routine a d b e w = local_back line (ap (λ c. monitor_left g.tables call c (component_at g.tables call.component).kind) a)
   by_kind line may entry_routine a (kind.Monitor j) b system_kind.Monitor w = leave_back line j b a (may a j b)
   by_kind line may entry_routine a (kind.Process j) b system_kind.Process w = local_back line (ap (λ c. monitor_left g.tables call c (component_at g.tables call.component).kind) a ∙ ap (monitor_left g.tables call entry_routine) b)
   by_kind line may entry_routine a kind.Class b system_kind.Class w = local_back line (ap (λ c. monitor_left g.tables call c (component_at g.tables call.component).kind) a ∙ ap (monitor_left g.tables call entry_routine) b)
   by_kind line may entry_routine a d b e w = absurd w
+  by_kind line may _ a d b e w = local_back line (ap (λ c. monitor_left g.tables call c (component_at g.tables call.component).kind) a)
 
   -- the whole step
   pub return_step : (line : ℕ) → KindsAgree g.tables s → (call.kind ≡ entry_routine → (j : ℕ) → (component_at g.tables call.component).kind ≡ kind.Monitor j → MayLeave g s m q call.component) → StepIs g p l q line (step_of p s q) (step_at g.tables m q)

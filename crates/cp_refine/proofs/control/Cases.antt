@@ -107,8 +107,7 @@ module _ (g : Ground) (p : Program) (l : Layouts) (s : State) (m : Machine) (q a
       subst (λ (y : ℤ). StepIs g p l q line (settled p s q (arm_for inside y as' >>= λ t. becomes (view_of p s q) (items_of inside t ++ (xs ++ ys)))) (statements.with_value (statements.arm_for z arms) (statements.fault m q line) (λ list. statements.local (with_stack m q (rest_of list (rest_of n es))))))
       (sym (ap number_of h.1)) (by_arm z arms n w own)
   by_value arms n w own t (Err a) (Err d) h = fails g p l s m q at (statement_item (case_of token e as' b)) mid es xs ys k line a d h
-  by_value arms n w own t (Ok x) (Err d) h = absurd h
-  by_value arms n w own t (Err a) (Ok z) h = absurd h
+  by_value arms n w own t _ _ h = absurd h
 
   pub case_step : SelectorAgrees p s m q e k.own.1 k.own.0 → StepIs g p l q line (step_of p s q) (step_at g.tables m q)
   case_step selector =

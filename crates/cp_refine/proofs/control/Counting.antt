@@ -230,12 +230,11 @@ module _ (g : Ground) (p : Program) (l : Layouts) (s : State) (m : Machine) (q a
   outcomes ta tb (Err x) ob (Ok z) rb h j = absurd h
   outcomes ta tb (Ok x) ob (Err y) rb h j = absurd h
   outcomes ta tb (Ok x) (Err y) (Ok z) (Err w) h j = fails g p l s m q at for_item mid es xs ys k for_line y w j
-  outcomes ta tb (Ok x) (Err y) (Ok z) (Ok w) h j = absurd j
-  outcomes ta tb (Ok x) (Ok y) (Ok z) (Err w) h j = absurd j
   outcomes ta tb (Ok x) (Ok y) (Ok z) (Ok w) h j =
       subst (λ (v : Value). StepIs g p l q for_line (settled p s q (with_bounds inside.scope (record { ty = x.ty; value = v }) y)) (statements.for_from m q for_line at k.own.origin k.own.range.low k.own.range.high (is_down d) k.own.body mid es z w)) (sym h.1)
       (subst (λ (v : Value). StepIs g p l q for_line (settled p s q (with_bounds inside.scope (record { ty = x.ty; value = number_value z }) (record { ty = y.ty; value = v }))) (statements.for_from m q for_line at k.own.origin k.own.range.low k.own.range.high (is_down d) k.own.body mid es z w)) (sym j.1)
       (from_first g p l s m q at token i e d f t mid es xs ys (goes g p l s m q at for_item mid es xs ys k) k.own k.after k.below frames_now seen stores z w))
+  outcomes ta tb (Ok x) _ (Ok z) _ h j = absurd j
 
   pub for_step : StepIs g p l q for_line (step_of p s q) (step_at g.tables m q)
   for_step =

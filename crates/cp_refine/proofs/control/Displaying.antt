@@ -30,7 +30,7 @@ use Rattle.cp_meaning.specs.Types.{Base, integers, booleans, characters, enumera
 use Rattle.cp_meaning.specs.Values.{Value, number_value}
 use Rattle.cp_meaning.specs.Scopes.{Meaning, standard_meaning, display_procedure, find}
 use Rattle.cp_meaning.specs.State as named
-use Rattle.cp_meaning.specs.State.{ready, Item, statement_item, Shown, ComponentStatus, uninitialised, initialising, initialised, State}
+use Rattle.cp_meaning.specs.State.{ready, Item, statement_item, Shown, ComponentStatus, uninitialised, State}
 use Rattle.cp_meaning.specs.Kernel.{Stepped, displaying, moved_to, output_room}
 use Rattle.cp_meaning.specs.Move.{Doing}
 use Rattle.cp_meaning.specs.Expressions.{value, name_of}
@@ -70,9 +70,8 @@ pub shown_same : (g : Ground) (b : Base) (z : ℤ) → is_within (range_of_base 
 shown_same g integers z h few = refl
 shown_same g booleans z h few = ap shown_variant.Truth (sym (is_true_same z h))
 shown_same g characters (pos n) h few = ap shown_variant.Char (below_same 256 n (grind (arith, ints, h)))
-shown_same g characters (negsuc n) h few = absurd (grind (arith, ints, h))
 shown_same g (enumerated at xs) (pos n) h few = ap shown_variant.Constant (below_same 65536 (g.firsts at + n) (grind (arith, ints, h, few)))
-shown_same g (enumerated at xs) (negsuc n) h few = absurd (grind (arith, ints, h))
+shown_same g x (negsuc n) h few = absurd (grind (arith, ints, h))
 
 abbrev typed_as : Ty → Value → Typed
 typed_as t w = record { ty = t; value = w }
@@ -80,18 +79,13 @@ typed_as t w = record { ty = t; value = w }
 -- ---- the output is no part of anything else
 
 begun_kept : (s : State) (os : List Shown) (k : ComponentKind) (u : ComponentStatus) → HasBegun (record s { output = os }) k u → HasBegun s k u
-begun_kept s os (kind.Process j) u b = b
 begun_kept s os (kind.Monitor j) uninitialised b = b
-begun_kept s os (kind.Monitor j) initialising b = b
-begun_kept s os (kind.Monitor j) initialised b = b
 begun_kept s os kind.Class uninitialised b = b
-begun_kept s os kind.Class initialising b = b
-begun_kept s os kind.Class initialised b = b
+begun_kept s os _ _ b = b
 
 monitor_kept : (s : State) (m : Machine) (os : List Shown) (us : List slot_shown.Shown) (n : ℕ) (k : ComponentKind) → MonitorIs s m n k → MonitorIs (record s { output = os }) (record m { output = us }) n k
 monitor_kept s m os us n (kind.Process j) h = h
-monitor_kept s m os us n (kind.Monitor j) h = h
-monitor_kept s m os us n kind.Class h = h
+monitor_kept s m os us n _ h = h
 
 pub output_is : (g : Ground) (p : Program) (l : Layouts) (s : State) (m : Machine) (os : List Shown) (us : List slot_shown.Shown) → us ≡ map (shown_of g.firsts) os → Represents g p l s m → Represents g p l (record s { output = os }) (record m { output = us })
 output_is g p l s m os us e rep =
@@ -160,15 +154,13 @@ module _ (g : Ground) (p : Program) (l : Layouts) (s : State) (m : Machine) (q a
             state = output_is g p l (moved_to ready s q doing) (with_stack m q (rest_of mid es)) (s.output ++ value_shown ∷ []) (m.output ++ shown_so ∷ []) appended (goes_on_to g p l s m q at item_here mid es xs ys k None [] refl);
             event = refl;
           }
-      go true false f = absurd (cc)
-      go false true f = absurd (cc)
+      go x y f = absurd (cc)
 
   outcomes : (range : Range) → FewConstants g range.base → (o : Outcome Typed) (r : Result ℤ slots.ErrorName) → OrdinalAgrees o (ordinal range) r → (n : Option ℕ) → n ≡ mid →
       StepIs g p l q line (settled p s q (o >>= λ x. Ok (shown (view_of p s q) (xs ++ ys) x))) (statements.with_value r (statements.fault m q line) (λ v. statements.show m q (rest_of n es) (shown_as (kind_of g.firsts range.base) v)))
   outcomes range few (Err b) (Err c) h n i = fails g p l s m q at item_here mid es xs ys k line b c h
-  outcomes range few (Err b) (Ok z) h n i = absurd h
-  outcomes range few (Ok x) (Err c) h n i = absurd h
   outcomes range few (Ok x) (Ok z) h n i = shows range x z n i h.0 h.1 h.2 few
+  outcomes range few _ _ h n i = absurd h
 
   abbrev pub this : Here
   this = here p l (thread_at m.threads q).frame.routine

@@ -10,7 +10,7 @@ use Rattle.cp_machine.specs.declared.process.Status.TheVariants as status
 use Rattle.cp_machine.specs.Machine.{Machine, Thread, thread_at, with_thread}
 use Rattle.cp_machine.specs.Step.{take_top, step_at}
 use Rattle.cp_meaning.specs.State as named
-use Rattle.cp_meaning.specs.State.{ready, ended, unstarted, Status, Call, Item, end, Process, State, is_inside, has_entry, waits_at}
+use Rattle.cp_meaning.specs.State.{ready, ended, Status, Item, end, Process, State, is_inside, has_entry, waits_at}
 use Rattle.cp_meaning.specs.LocalRules.{takes}
 use Rattle.cp_meaning.specs.Steps.{view_of, step_of, settled}
 use Rattle.cp_resolved.specs.Layouts.{Layouts}
@@ -46,8 +46,7 @@ module _ (g : Ground) (p : Program) (l : Layouts) (s : State) (m : Machine) (q :
     where
       kept : is_inside n ended_process ≡ is_inside n before
       kept = sym (ap (λ (u : Status). has_entry n before.calls && not (waits_at n u)) was)
-  inside_kept n (kind.Process j) h = tt
-  inside_kept n kind.Class h = tt
+  inside_kept n _ h = tt
 
   pub end_step : (line : ℕ) → StepIs g p l q line (step_of p s q) (step_at g.tables m q)
   end_step line =

@@ -4,7 +4,7 @@ use Rattle.cp_tree.specs.Syntax.{Start, Statement, empty, assign, invoke, block,
 use Rattle.cp_store.specs.declared.memory.Frame.{Frame}
 use Rattle.cp_machine.specs.declared.process.Entry.{Entry}
 use Rattle.cp_machine.specs.Stack.{rest_of}
-use Rattle.cp_meaning.specs.State.{Call, Item, statement_item, function_call, start_item, until, successor, return, init_end, end}
+use Rattle.cp_meaning.specs.State.{Call, Item, statement_item, function_call, start_item}
 use Rattle.cp_meaning.specs.Lifting.{expression_calls, expressions_calls, designator_calls, start_items, items_of, items_of_all}
 use Rattle.cp_resolved.specs.Layouts.{Layouts, Here, here}
 use Rattle.cp_resolved.specs.Stands.{Ground, CallsAre, StartsAre, OwnAll, StatementIs}
@@ -21,13 +21,7 @@ items_append g h first mid last (x ∷ xs) ys i j = (i.0, i.1, i.2, i.3, i.4, it
 pub calls_items : (g : Ground) (h : Here) (first last : Option ℕ) (xs : List Item) → CallsAre g h first xs last → InnerKept h xs → ItemsAre g h first xs last
 calls_items g h first last [] c k = c
 calls_items g h first last (function_call at d es ∷ xs) c k = (c.0, c.1, c.2, c.3, k.0, calls_items g h c.1 last xs c.4 k.1)
-calls_items g h first last (statement_item t ∷ xs) c k = absurd c
-calls_items g h first last (start_item t ∷ xs) c k = absurd c
-calls_items g h first last (until ss e ∷ xs) c k = absurd c
-calls_items g h first last (successor at i z d b s ∷ xs) c k = absurd c
-calls_items g h first last (return o ∷ xs) c k = absurd c
-calls_items g h first last (init_end m ∷ xs) c k = absurd c
-calls_items g h first last (end ∷ xs) c k = absurd c
+calls_items g h first last _ c k = absurd c
 
 pub one_item : (g : Ground) (h : Here) (n : ℕ) (i : Item) (next : Option ℕ) → ItemIs g h n i next → AreKept h (calls_before h.scope i) → ItemsAre g h (Some n) (i ∷ []) next
 one_item g h n i next k b = (n, next, refl, k, b, refl)

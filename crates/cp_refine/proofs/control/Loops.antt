@@ -31,7 +31,7 @@ use Rattle.cp_refine.specs.PlainValues.{plain_value}
 use Rattle.cp_refine.specs.Remaining.{AreKept, ItemsAre}
 use Rattle.cp_refine.specs.Represents.{StackIs, frames_of}
 use Rattle.cp_refine.specs.Agrees.{OrdinalAgrees}
-use Rattle.cp_refine.proofs.control.Control.{Taken, StepIs, TestAgrees, takes_item, acts, acts_before, fails, branches, calls_now, stack_after, local_to, scope_is, is_block}
+use Rattle.cp_refine.proofs.control.Control.{Taken, StepIs, TestAgrees, takes_item, acts, acts_before, fails, branches, calls_now, stack_after, local_to, scope_is, is_block, is_if as is_if_else}
 use Rattle.cp_refine.proofs.calls.Kept.{calls_kept, expression_inner}
 use Rattle.cp_refine.proofs.control.Lists.{items_append, calls_items, statement_items, all_items, stack_rest, frames_rest}
 use Rattle.cp_refine.proofs.expressions.Numbers.{is_true_same}
@@ -39,10 +39,6 @@ use Rattle.cp_refine.proofs.expressions.Values.{truth_range}
 use Rattle.cp_refine.proofs.expressions.Views.{views_agree}
 
 -- ---- what an action is by its view
-
-is_if_else : (a : Action) (c : code.Expression) (list other : Option ℕ) → code.action_seen a ≡ code.choose c list other → (x : code_expression.Expression) × (a ≡ action.If x list other) × (code.expression_seen x ≡ c)
-is_if_else (action.If x k j) c list other e = (x, cc, cc)
-is_if_else a c list other e = absurd (cc)
 
 is_while : (a : Action) (c : code.Expression) (list : Option ℕ) (again : ℕ) → code.action_seen a ≡ code.while_do c list again → (x : code_expression.Expression) × (a ≡ action.While x list again) × (code.expression_seen x ≡ c)
 is_while (action.While x k j) c list again e = (x, cc, cc)
@@ -86,11 +82,10 @@ module _ (g : Ground) (p : Program) (l : Layouts) (s : State) (m : Machine) (q a
 
       go : (o : Outcome Typed) (r : Result ℤ slots.ErrorName) → OrdinalAgrees o test.0 r → StepIs g p l q line (settled p s q (o >>= λ x. becomes (view_of p s q) (if is_true x then zs else ws))) (statements.with_value r (statements.fault m q line) (λ v. statements.local (with_stack m q (if cells.is_true v then fs else gs))))
       go (Err b) (Err d) h = fails g p l s m q at i mid es xs ys k line b d h
-      go (Ok x) (Err d) h = absurd h
-      go (Err b) (Ok z) h = absurd h
       go (Ok x) (Ok z) h =
           subst (λ (c : Bool). StepIs g p l q line (settled p s q (becomes (view_of p s q) (if c then zs else ws))) (statements.local (with_stack m q (if cells.is_true z then fs else gs))))
           (sym (ap (λ (w : Value). int_lt (pos 0) (number_of w)) h.1 ∙ is_true_same z (truth_range test.0 z test.1 h.2))) (either (cells.is_true z))
+      go _ _ h = absurd h
 
   -- the items after this one, as the stack below has them
   after_same : SameFrames (rest_of mid es)

@@ -8,7 +8,7 @@ use Rattle.cp_slots.specs.Tables.{component_at}
 use Rattle.cp_machine.specs.declared.process.Status.TheVariants as status
 use Rattle.cp_machine.specs.Machine.{Machine, Monitor, Thread, thread_at, no_thread, phase_at, with_thread}
 use Rattle.cp_meaning.specs.State as named
-use Rattle.cp_meaning.specs.State.{Holder, in_call, in_component, Place, Environment, Component, uninitialised, initialising, initialised, ComponentStatus, unstarted, ready, at_gate, delayed, ended, Status, Process, no_process, State, is_inside, has_entry, waits_at}
+use Rattle.cp_meaning.specs.State.{Holder, in_call, in_component, Place, Environment, Component, uninitialised, initialising, initialised, ComponentStatus, unstarted, ready, delayed, Status, Process, no_process, State, is_inside, has_entry, waits_at}
 use Rattle.cp_meaning.specs.Kernel.{after}
 use Rattle.cp_meaning.specs.Places.{View, content_of, value_held, environment_of, value_at}
 use Rattle.cp_meaning.specs.Values.{part_at}
@@ -28,13 +28,12 @@ set_there xs n k x d h = get_or-set_other xs n k x d h
 
 pub same_or_other : (k n : ℕ) → (k ≡ n) ⊎ (k ≢ n)
 same_or_other zero zero = inl refl
-same_or_other zero (suc n) = inr (λ e. omega (arith, e))
-same_or_other (suc k) zero = inr (λ e. omega (arith, e))
 same_or_other (suc k) (suc n) = go (same_or_other k n)
   where
     go : (k ≡ n) ⊎ (k ≢ n) → (suc k ≡ suc n) ⊎ (suc k ≢ suc n)
     go (inl e) = inl (ap suc e)
     go (inr d) = inr (λ e. d (omega (arith, e)))
+same_or_other x y = inr (λ e. omega (arith, e))
 
 -- ---- who is inside
 
@@ -189,5 +188,4 @@ stays_inside s m q x t n (kind.Monitor j) there was still same h = (h.0, h.1 ∙
   where
     kept : is_inside n x ≡ is_inside n (named.process_at s.processes q)
     kept = ap (λ (u : Status). has_entry n x.calls && not (waits_at n u)) still ∙ (ap (λ (b : Bool). b && not (waits_at n ready)) same ∙ sym (ap (λ (u : Status). has_entry n (named.process_at s.processes q).calls && not (waits_at n u)) was))
-stays_inside s m q x t n (kind.Process j) there was still same h = tt
-stays_inside s m q x t n kind.Class there was still same h = tt
+stays_inside s m q x t n _ there was still same h = tt

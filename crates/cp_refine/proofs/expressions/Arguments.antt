@@ -22,7 +22,7 @@ use Rattle.cp_store.specs.Sets as sets
 use Rattle.cp_store.specs.Values.{then_with, ranged}
 use Rattle.cp_meaning.specs.Names.{Name}
 use Rattle.cp_meaning.specs.Outcome.{Outcome, out_of_range, ◌>>=◌}
-use Rattle.cp_meaning.specs.Types.{Ty, Range, ordinal, queue_type, set_over, array_over, record_with, component_of, natural_of, is_within}
+use Rattle.cp_meaning.specs.Types.{Ty, Range, ordinal, set_over, array_over, record_with, component_of, natural_of, is_within}
 use Rattle.cp_meaning.specs.Values.{Value, number_value, set_value}
 use Rattle.cp_meaning.specs.Declarations.{Parameter}
 use Rattle.cp_meaning.specs.State.{Content, holds, refers, knows, Environment}
@@ -33,7 +33,7 @@ use Rattle.cp_meaning.specs.Expressions.{value, target_value, variable_in}
 use Rattle.cp_meaning.specs.Calls.{refers_to, bound_variable, bound_value, bound_argument, bound}
 use Rattle.cp_meaning.specs.Lifting.{is_call, expression_calls, expressions_calls}
 use Rattle.cp_resolved.specs.Layouts.{cells_of, Layouts, Here}
-use Rattle.cp_resolved.specs.Compiled.{Form, as_ordinal, as_set, as_place, as_component, place_form, expression_form}
+use Rattle.cp_resolved.specs.Compiled.{Form, as_ordinal, as_set, as_place, place_form, expression_form}
 use Rattle.cp_resolved.specs.Encoded.{encode, bits_of, AreMembers, HasType}
 use Rattle.cp_resolved.specs.Stands.{ValueGiven, PlaceGiven, GivenBy, IsGiven, AreGiven}
 use Rattle.cp_refine.specs.Agrees.{OrdinalAgrees, SetAgrees, PlaceAgrees, TargetAgrees, Sees}
@@ -130,13 +130,12 @@ held t o = o >>= λ x. checked t x.value >>= λ w. Ok (holds w)
 
 number_bound : (m : Memory) (r : Range) (t : Ty) (o : Outcome Typed) (s : Result ℤ slots.ErrorName) → RangeKnown (ordinal r) → OrdinalAgrees o t s → ValueAgrees m (ordinal r) (held (ordinal r) o) (then_with s (λ z. then_with (ranged r.low r.high z) (λ v. Ok (Scalar v))))
 number_bound m r t (Err e) (Err d) base h = h
-number_bound m r t (Err e) (Ok z) base h = absurd h
-number_bound m r t (Ok x) (Err d) base h = absurd h
 number_bound m r t (Ok x) (Ok z) base h = subst (λ w. ValueAgrees m (ordinal r) (checked (ordinal r) w >>= λ v. Ok (holds v)) (then_with (ranged r.low r.high z) (λ v. Ok (Scalar v)))) (sym h.1) (go (is_within r z) refl)
   where
     go : (b : Bool) → is_within r z ≡ b → ValueAgrees m (ordinal r) ((if b then Ok (number_value z) else Err out_of_range) >>= λ v. Ok (holds v)) (then_with (if b then Ok z else Err error.Range) (λ v. Ok (Scalar v)))
     go true inside = number_given m r z (base z inside)
     go false inside = refl
+number_bound m r t _ _ base h = absurd h
 
 members_bound : (m : Memory) (r : Range) (t : Ty) (o : Outcome Typed) (s : Result SetValue slots.ErrorName) → RangeKnown (set_over r) → SetAgrees o t s →
     ValueAgrees m (set_over r) (held (set_over r) o) (then_with s (λ z. then_with (sets.ranged (natural_of r.low) (natural_of r.high) z) (λ v. Ok (Set v))))
@@ -160,11 +159,10 @@ members_bound m r t (Ok x) (Ok z) base h =
 
 block_bound : (m : Memory) (t u : Ty) (o : Outcome Typed) (s : Result Address slots.ErrorName) → ((w : Value) → checked u w ≡ Ok w) → t ≡ u → PlaceAgrees m o t s → ValueAgrees m u (held u o) (then_with s (λ at. Ok (Copy at (cells_of t))))
 block_bound m t u (Err e) (Err d) free same h = h
-block_bound m t u (Err e) (Ok z) free same h = absurd h
-block_bound m t u (Ok x) (Err d) free same h = absurd h
 block_bound m t u (Ok x) (Ok a) free same h =
     subst (λ (o : Outcome Value). ValueAgrees m u (o >>= λ v. Ok (holds v)) (Ok (Copy a (cells_of t)))) (sym (free x.value))
     (subst (λ i. GivesValue m i x.value (Copy a (cells_of t))) same (copy_given m t x.value a h.1))
+block_bound m t u _ _ free same h = absurd h
 
 -- ---- one argument
 
@@ -204,36 +202,20 @@ module _ (r : Tables) (l : Layouts) (fs : List Frame) (v : View) (m : Memory) (f
   value_given (record_with ts) t (as_place x) e a c seen formed kept base plain given =
       subst (λ s. ValueAgrees m (record_with ts) (held (record_with ts) (value v e)) s) (sym (copy_bound m bindings f a x (cells_of t) (seen ∙ given.1)))
       (block_bound m t (record_with ts) (value v e) (plain_address m f x) (λ w. refl) given.0 (expression_ok r l fs v m f h sees e (record { ty = t; form = as_place x }) kept formed))
-  value_given (ordinal q) t (as_set x) e a c seen formed kept base plain given = absurd given
-  value_given (ordinal q) t (as_place x) e a c seen formed kept base plain given = absurd given
-  value_given (ordinal q) t (as_component x) e a c seen formed kept base plain given = absurd given
-  value_given (set_over q) t (as_ordinal x) e a c seen formed kept base plain given = absurd given
-  value_given (set_over q) t (as_place x) e a c seen formed kept base plain given = absurd given
-  value_given (set_over q) t (as_component x) e a c seen formed kept base plain given = absurd given
-  value_given (array_over q u) t (as_ordinal x) e a c seen formed kept base plain given = absurd given
-  value_given (array_over q u) t (as_set x) e a c seen formed kept base plain given = absurd given
-  value_given (array_over q u) t (as_component x) e a c seen formed kept base plain given = absurd given
-  value_given (record_with ts) t (as_ordinal x) e a c seen formed kept base plain given = absurd given
-  value_given (record_with ts) t (as_set x) e a c seen formed kept base plain given = absurd given
-  value_given (record_with ts) t (as_component x) e a c seen formed kept base plain given = absurd given
-  value_given queue_type t form e a c seen formed kept base plain given = absurd given
   value_given (component_of k) t form e a c seen formed kept base plain given = absurd plain
+  value_given _ t _ e a c seen formed kept base plain given = absurd given
 
   held_bound : (q : Parameter) → q.is_var ≡ false → (o : Outcome Content) (s : Result Bound slots.ErrorName) → ValueAgrees m q.ty o s → BoundAgrees r l fs m q o s
   held_bound q is (Ok (holds w)) (Ok b) k = (is, k)
   held_bound q is (Err e) (Err d) k = k
   held_bound q is (Ok (refers x)) (Ok b) k = absurd k
   held_bound q is (Ok (knows n)) (Ok b) k = absurd k
-  held_bound q is (Ok (holds w)) (Err d) k = absurd k
-  held_bound q is (Ok (refers x)) (Err d) k = absurd k
-  held_bound q is (Ok (knows n)) (Err d) k = absurd k
-  held_bound q is (Err e) (Ok b) k = absurd k
+  held_bound q is _ _ k = absurd k
 
   place_bound : (q : Parameter) (t : Ty) → q.is_var ≡ true → t ≡ q.ty → (o : Outcome Target) (s : Result Address slots.ErrorName) → TargetAgrees r l fs o t s → BoundAgrees r l fs m q (refers_to o) (then_with s (λ at. Ok (Reference at)))
   place_bound q t is same (Ok x) (Ok a) k = (is, subst (λ u. PlaceAt r l fs x.place u a) same k.1)
   place_bound q t is same (Err e) (Err d) k = k
-  place_bound q t is same (Ok x) (Err d) k = absurd k
-  place_bound q t is same (Err e) (Ok a) k = absurd k
+  place_bound q t is same _ _ k = absurd k
 
   one_given : (q : Parameter) (e : Expression) (a : ArgumentValue) (c : code.ArgumentValue) → code.value_seen a ≡ c → IsGiven h q e c → AreKept h (expression_calls h.scope e) → ArgumentKnown h q e → BoundAgrees r l fs m q (bound_argument v q e) (bound_at m bindings f a)
   one_given q e a c seen given kept known = go q.is_var refl given.given
@@ -282,12 +264,11 @@ module _ (r : Tables) (l : Layouts) (fs : List Frame) (v : View) (m : Memory) (f
   more_bound : (places : Name → ℕ) (q : Parameter) (qs : List Parameter) (x : Argument) (xs : List Argument) (o : Outcome Content) (s : Result Bound slots.ErrorName) (p : Outcome Environment) (t : Result (List Bound) slots.ErrorName) → x.slot ≡ places q.name →
       BoundAgrees r l fs m q o s → BoundsAgree (Are places qs xs) p t → BoundsAgree (Are places (q ∷ qs) (x ∷ xs)) (o >>= λ c. p >>= λ rest. Ok ((q.name, c) ∷ rest)) (then_with s (λ b. then_with t (λ bs. Ok (b ∷ bs))))
   more_bound places q qs x xs (Err e) (Err d) p t at i j = i
-  more_bound places q qs x xs (Err e) (Ok b) p t at i j = absurd i
-  more_bound places q qs x xs (Ok c) (Err d) p t at i j = absurd i
   more_bound places q qs x xs (Ok c) (Ok b) (Err e) (Err d) at i j = j
   more_bound places q qs x xs (Ok c) (Ok b) (Err e) (Ok bs) at i j = absurd j
   more_bound places q qs x xs (Ok c) (Ok b) (Ok rest) (Err d) at i j = absurd j
   more_bound places q qs x xs (Ok c) (Ok b) (Ok rest) (Ok bs) at i j = (refl, at, i, j)
+  more_bound places q qs x xs _ _ p t at i j = absurd i
 
   pub arguments_agree : (places : Name → ℕ) (qs : List Parameter) (es : Expressions) (cs : List code.Argument) (xs : List Argument) → map code.argument_seen xs ≡ cs → AreGiven h places qs es cs → AreKept h (expressions_calls h.scope es) → ArgumentsKnown h qs es →
       BoundsAgree (λ e bs. AreBound r l fs m places qs e xs bs) (bound v qs es) (bounds_at m bindings f xs)
@@ -301,7 +282,4 @@ module _ (r : Tables) (l : Layouts) (fs : List Frame) (v : View) (m : Memory) (f
       (more_bound places q qs x xs (bound_argument v q e) (bound_at m bindings f x.value) (bound v qs es) (bounds_at m bindings f xs) (ap (λ (y : code.Argument). y.slot) first ∙ given.0)
       (one_given q e x.value c.value (ap (λ (y : code.Argument). y.value) first) given.1 (kept_left h (expression_calls h.scope e) (expressions_calls h.scope es) kept) known.0)
       (arguments_agree places qs es cs xs rest given.2 (kept_right h (expression_calls h.scope e) (expressions_calls h.scope es) kept) known.1))
-  arguments_agree places [] no_expressions (c ∷ cs) xs seen given kept known = absurd given
-  arguments_agree places [] (more_expressions e es) cs xs seen given kept known = absurd given
-  arguments_agree places (q ∷ qs) no_expressions cs xs seen given kept known = absurd given
-  arguments_agree places (q ∷ qs) (more_expressions e es) [] xs seen given kept known = absurd given
+  arguments_agree places _ _ _ xs seen given kept known = absurd given

@@ -16,7 +16,7 @@ use Rattle.cp_store.specs.Places.{origin_address, element_offset}
 use Rattle.cp_store.specs.Values.{then_with}
 use Rattle.cp_meaning.specs.Names.{Name, same_name}
 use Rattle.cp_meaning.specs.Outcome.{Outcome, ◌>>=◌, out_of_range}
-use Rattle.cp_meaning.specs.Types.{Range, Ty, ordinal, queue_type, set_over, array_over, record_with, component_of, FieldTypes, no_field_types, more_field_types, natural_of, length_of_range, field_type, field_type_in, is_within}
+use Rattle.cp_meaning.specs.Types.{Range, Ty, ordinal, array_over, record_with, FieldTypes, no_field_types, more_field_types, natural_of, length_of_range, field_type, field_type_in, is_within}
 use Rattle.cp_meaning.specs.Values.{number_of, Choice, the_field, the_element}
 use Rattle.cp_meaning.specs.State.{Place}
 use Rattle.cp_meaning.specs.Operations.{Typed}
@@ -28,9 +28,10 @@ use Rattle.cp_resolved.specs.Compiled as compiled
 use Rattle.cp_resolved.specs.Compiled.{Form, as_ordinal, as_set, as_place, as_component, Formed, Designated, a_variable, some_components, a_component, then_form, part_of_form, with_field_form, with_element_form, with_index_form}
 use Rattle.cp_refine.specs.PlainValues.{plain_value, plain_address, plain_indexed}
 use Rattle.cp_refine.specs.Represents.{further, PlaceAt}
-use Rattle.cp_refine.specs.Agrees.{OrdinalAgrees, FormAgrees, TargetAgrees, DesignatedAgrees, Few, Sees}
-use Rattle.cp_refine.proofs.expressions.Parts.{encode_length, one_part}
+use Rattle.cp_refine.specs.Agrees.{OrdinalAgrees, FormAgrees, TargetAgrees, DesignatedAgrees, Sees}
+use Rattle.cp_refine.proofs.expressions.Parts.{encode_length, one_part, some_chosen}
 use Rattle.cp_refine.proofs.expressions.Reading.{further_further}
+use Rattle.cp_refine.proofs.expressions.SetCells.{moved_on as moved_is}
 
 -- ---- addresses that move
 
@@ -43,11 +44,6 @@ moved_moved (Local n) j k = ap Local (onward_onward n j k)
 
 moved_either : (a : Address) (j k : ℕ) → moved (moved a j) k ≡ moved (moved a k) j
 moved_either a j k = moved_moved a j k ∙ (ap (moved a) (let e : j + k ≡ k + j = omega arith in e) ∙ sym (moved_moved a k j))
-
--- to a cell that is there one moves by exactly that many cells
-pub moved_is : (m : Memory) (a : Address) (all k : ℕ) → Few m → HasCells m a all → k ≤ all → moved a k ≡ further a k
-moved_is m (Permanent n) all k few h le = ap Permanent (let p = few.permanents in omega (arith, p, h, le))
-moved_is m (Local n) all k few h le = ap Local (let p = few.cells in omega (arith, p, h, le))
 
 -- ---- indices
 
@@ -76,10 +72,6 @@ module _ (m : Memory) (f : Frame) where
   then_ok (Ok a) = refl
   then_ok (Err e) = refl
 
-  then_assoc : (r : Result Address slots.ErrorName) (F G : Address → Result Address slots.ErrorName) → then_with r (λ x. then_with (F x) G) ≡ then_with (then_with r F) G
-  then_assoc (Ok a) F G = refl
-  then_assoc (Err e) F G = refl
-
   indexed_last : (is : code.Indices) (c : code.Expression) (r : Range) (size : ℕ) (a : Address) → plain_indexed m f (compiled.with_index is c r size) a ≡ then_with (plain_indexed m f is a) (last_index c r size)
   indexed_last code.no_indices c r size a = then_ok (last_index c r size a)
   indexed_last (code.more_indices (code.index d low high n) is) c r size a = go (λ b. indexed_last is c r size b) (then_with (plain_value m f d) (λ v. then_with (element_offset low high n v) (λ far. Ok (moved a far))))
@@ -89,9 +81,6 @@ module _ (m : Memory) (f : Frame) where
       go rest (Err e) = refl
 
 -- ---- choices with one more
-
-some_chosen : (a b : Chosen) → Some a ≡ Some b → a ≡ b
-some_chosen a b e = cc
 
 pub chosen_more : (t : Ty) (cs : List Choice) (c : Choice) (o k : ℕ) (u w : Ty) → chosen_at t cs ≡ Some (o, u) → one_chosen u c ≡ Some (k, w) → chosen_at t (cs ++ c ∷ []) ≡ Some (o + k, w)
 chosen_more t [] c o k u w e d =
@@ -132,8 +121,7 @@ natural_is (negsuc n) h = absurd (grind (arith, ints))
 
 pub natural_less : (d e : ℤ) → int_le (pos 0) d ≡ true → int_lt d e ≡ true → natural_of d < natural_of e
 natural_less (pos n) (pos k) h i = grind (arith, ints)
-natural_less (pos n) (negsuc k) h i = absurd (grind (arith, ints))
-natural_less (negsuc n) e h i = absurd (grind (arith, ints))
+natural_less x y h i = absurd (grind (arith, ints))
 
 pub above_low : (low high z : ℤ) → (int_le low z && int_le z high) ≡ true → int_le (pos 0) (z +ℤ neg_ℤ low) ≡ true
 above_low low high z h = grind (arith, ints)
@@ -171,15 +159,13 @@ module _ (r : Tables) (l : Layouts) (fs : List Frame) (v : View) (m : Memory) (f
   field_target : (ts : FieldTypes) (x : Name) (c : Chosen) → field_chosen ts x ≡ Some c → (o : Outcome Target) (a : Result Address slots.ErrorName) → TargetAgrees r l fs o (record_with ts) a → TargetAgrees r l fs (o >>= λ t. Ok (with_field t x)) c.1 (then_with a (λ b. Ok (moved b c.0)))
   field_target ts x c e (Ok y) (Ok a) i = (ap (λ t. field_type t x) i.0 ∙ field_named ts x c e, place_further y.place (record_with ts) c.1 a (the_field x) c.0 i.1 e)
   field_target ts x c e (Err a) (Err b) i = i
-  field_target ts x c e (Ok y) (Err b) i = absurd i
-  field_target ts x c e (Err a) (Ok b) i = absurd i
+  field_target ts x c e _ _ i = absurd i
 
   some_designated : (d e : Designated) → Some d ≡ Some e → d ≡ e
   some_designated d e i = cc
 
   pub field_ok : (d e : Designated) (o : Outcome Target) (x : Name) → DesignatedAgrees r l fs m f o d → with_field_form d x ≡ Some e → DesignatedAgrees r l fs m f (o >>= λ t. Ok (with_field t x)) e
   field_ok (a_component c k) e o x i j = subst (DesignatedAgrees r l fs m f (o >>= λ t. Ok (with_field t x))) (some_designated (a_component c k) e j) tt
-  field_ok (some_components first q k) e o x i j = absurd (cc)
   field_ok (a_variable p (record_with ts)) e o x i j = go p i (field_chosen ts x) refl j
     where
       go : (p : code.Place) → TargetAgrees r l fs o (record_with ts) (plain_address m f p) → (w : Option Chosen) → field_chosen ts x ≡ w → then_form w (λ c. Some (part_of_form p c)) ≡ Some e → DesignatedAgrees r l fs m f (o >>= λ t. Ok (with_field t x)) e
@@ -188,11 +174,7 @@ module _ (r : Tables) (l : Layouts) (fs : List Frame) (v : View) (m : Memory) (f
           subst (DesignatedAgrees r l fs m f (o >>= λ t. Ok (with_field t x))) (some_designated (a_variable (code.place b (offset + c.0) is) c.1) e j)
           (subst (TargetAgrees r l fs (o >>= λ t. Ok (with_field t x)) c.1) (sym (ap (plain_indexed m f is) (sym (moved_moved (origin_address m.references f b) offset c.0)) ∙ indexed_further m f is (moved (origin_address m.references f b) offset) c.0))
           (field_target ts x c k o (plain_indexed m f is (moved (origin_address m.references f b) offset)) i))
-  field_ok (a_variable p (ordinal q)) e o x i j = absurd (cc)
-  field_ok (a_variable p queue_type) e o x i j = absurd (cc)
-  field_ok (a_variable p (set_over q)) e o x i j = absurd (cc)
-  field_ok (a_variable p (array_over q u)) e o x i j = absurd (cc)
-  field_ok (a_variable p (component_of k)) e o x i j = absurd (cc)
+  field_ok y e o x i j = absurd (cc)
 
   -- ---- an element
 
@@ -226,8 +208,6 @@ module _ (r : Tables) (l : Layouts) (fs : List Frame) (v : View) (m : Memory) (f
   indexed_target : (q : Range) (u t : Ty) (c : code.Expression) (o : Outcome Target) (a : Result Address slots.ErrorName) (i : Outcome Typed) (x : Result ℤ slots.ErrorName) → TargetAgrees r l fs o (array_over q u) a → OrdinalAgrees i t x →
       TargetAgrees r l fs (o >>= λ t. i >>= λ a. with_index t a) u (then_with a (λ b. then_with x (λ v. then_with (element_offset q.low q.high (cells_of u) v) (λ far. Ok (moved b far)))))
   indexed_target q u t c (Err e) (Err d) i x j k = j
-  indexed_target q u t c (Ok y) (Err d) i x j k = absurd j
-  indexed_target q u t c (Err e) (Ok a) i x j k = absurd j
   indexed_target q u t c (Ok y) (Ok a) (Err e) (Err d) j k = k
   indexed_target q u t c (Ok y) (Ok a) (Ok w) (Err d) j k = absurd k
   indexed_target q u t c (Ok y) (Ok a) (Err e) (Ok z) j k = absurd k
@@ -235,19 +215,16 @@ module _ (r : Tables) (l : Layouts) (fs : List Frame) (v : View) (m : Memory) (f
       subst (λ (n : ℤ). TargetAgrees r l fs (with_element_of y.ty y n) u (then_with (element_offset q.low q.high (cells_of u) z) (λ far. Ok (moved a far)))) (sym (ap number_of k.1))
       (subst (λ (s : Ty). TargetAgrees r l fs (with_element_of s y z) u (then_with (element_offset q.low q.high (cells_of u) z) (λ far. Ok (moved a far)))) (sym j.0)
       (element_target q u y a z j.0 j.1 (is_within q z) refl))
+  indexed_target q u t c _ _ i x j k = absurd j
 
   element_ok : (d e : Designated) (o : Outcome Target) (t : Ty) (c : code.Expression) (i : Outcome Typed) → DesignatedAgrees r l fs m f o d → OrdinalAgrees i t (plain_value m f c) → with_element_form h d c ≡ Some e → DesignatedAgrees r l fs m f (o >>= λ t. i >>= λ a. with_index t a) e
   element_ok (some_components first q k) e o t c i j n w = subst (DesignatedAgrees r l fs m f (o >>= λ t. i >>= λ a. with_index t a)) (some_designated (a_component (code.element first q.low q.high (h.layouts.systems k).count c) k) e w) tt
-  element_ok (a_component d k) e o t c i j n w = absurd (cc)
   element_ok (a_variable (code.place b offset is) (array_over q u)) e o t c i j n w =
       subst (DesignatedAgrees r l fs m f (o >>= λ t. i >>= λ a. with_index t a)) (some_designated (a_variable (code.place b offset (compiled.with_index is c q (cells_of u))) u) e w)
       (subst (TargetAgrees r l fs (o >>= λ t. i >>= λ a. with_index t a) u) (sym (indexed_last m f is c q (cells_of u) (moved (origin_address m.references f b) offset)))
       (indexed_target q u t c o (plain_indexed m f is (moved (origin_address m.references f b) offset)) i (plain_value m f c) j n))
   element_ok (a_variable p (ordinal q)) e o t c i j n w = absurd (cc)
-  element_ok (a_variable p queue_type) e o t c i j n w = absurd (cc)
-  element_ok (a_variable p (set_over q)) e o t c i j n w = absurd (cc)
-  element_ok (a_variable p (record_with ts)) e o t c i j n w = absurd (cc)
-  element_ok (a_variable p (component_of k)) e o t c i j n w = absurd (cc)
+  element_ok x e o t c i j n w = absurd (cc)
 
   pub index_ok : (d e : Designated) (o : Outcome Target) (x : Formed) (i : Outcome Typed) → DesignatedAgrees r l fs m f o d → FormAgrees m f i x.ty x.form → with_index_form h d x ≡ Some e → DesignatedAgrees r l fs m f (o >>= λ t. i >>= λ a. with_index t a) e
   index_ok d e o x i j n w = go x.form n w

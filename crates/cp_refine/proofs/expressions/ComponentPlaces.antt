@@ -6,7 +6,7 @@ use Rattle.cp_tree.specs.Syntax.{Designator, designator, Selectors, no_selectors
 use Rattle.cp_slots.specs.Code as code
 use Rattle.cp_slots.specs.Tables.{Tables}
 use Rattle.cp_slots.specs.declared.place.ComponentPlace.{ComponentPlace}
-use Rattle.cp_slots.specs.declared.place.ComponentPlace.TheVariants.{Own, Contained, Element, Parameter}
+use Rattle.cp_slots.specs.declared.place.ComponentPlace.TheVariants.{Element}
 use Rattle.cp_store.specs.declared.error.ErrorName as slots
 use Rattle.cp_store.specs.declared.error.ErrorName.TheVariants as error
 use Rattle.cp_store.specs.declared.memory.Frame.{Frame}
@@ -19,9 +19,9 @@ use Rattle.cp_meaning.specs.Names.{Name}
 use Rattle.cp_meaning.specs.Outcome.{Outcome, out_of_range, ◌>>=◌}
 use Rattle.cp_meaning.specs.Types.{Ty, Range, ordinal, queue_type, set_over, array_over, record_with, component_of, natural_of, length_of_range, is_within}
 use Rattle.cp_meaning.specs.Values.{Choice, the_field, the_element, number_of}
-use Rattle.cp_meaning.specs.Scopes.{Scope, Meaning, constant_meaning, type_meaning, local_variable, permanent_variable, routine_meaning, standard_meaning, find}
+use Rattle.cp_meaning.specs.Scopes.{Scope, Meaning, local_variable, permanent_variable, routine_meaning, find}
 use Rattle.cp_meaning.specs.State as named
-use Rattle.cp_meaning.specs.State.{in_component, Place, Content, knows, Environment, Component, current}
+use Rattle.cp_meaning.specs.State.{in_component, Place, knows, Component}
 use Rattle.cp_meaning.specs.Systems.{system_of}
 use Rattle.cp_meaning.specs.Operations.{Typed}
 use Rattle.cp_meaning.specs.Places.{View, Target, content_of, target_meant, target_named, plain_place, with_choice, this_component, component_with, component_known, component_there}
@@ -29,7 +29,7 @@ use Rattle.cp_meaning.specs.Expressions.{value, target_value, selected, chosen, 
 use Rattle.cp_meaning.specs.Lifting.{designator_calls, selectors_calls, selector_calls}
 use Rattle.cp_resolved.specs.Layouts.{Layouts, Here, system_here, is_parameter, is_own}
 use Rattle.cp_resolved.specs.Compiled as compiled
-use Rattle.cp_resolved.specs.Compiled.{Form, as_ordinal, as_set, as_place, as_component, Formed, Designated, a_variable, some_components, a_component, then_form, component_begun, permanent_begun, result_begun, begun_form, part_of_form, field_of_form, with_field_form, element_of_form, with_element_form, with_index_form, expression_form, designator_form, selected_form, chosen_form}
+use Rattle.cp_resolved.specs.Compiled.{Form, as_ordinal, as_set, as_place, as_component, Formed, Designated, a_variable, some_components, a_component, then_form, component_begun, result_begun, begun_form, part_of_form, field_of_form, with_field_form, element_of_form, with_element_form, with_index_form, expression_form, designator_form, selected_form, chosen_form}
 use Rattle.cp_resolved.specs.Encoded.{field_chosen}
 use Rattle.cp_refine.specs.Agrees.{OrdinalAgrees, FormAgrees, Sees}
 use Rattle.cp_refine.specs.Given.{ComponentAgrees}
@@ -37,7 +37,7 @@ use Rattle.cp_refine.specs.Named.{error_of}
 use Rattle.cp_refine.specs.PlainValues.{plain_value}
 use Rattle.cp_refine.specs.Remaining.{AreKept}
 use Rattle.cp_refine.proofs.expressions.Choosing.{natural_is, natural_less, above_low, below_all}
-use Rattle.cp_refine.proofs.expressions.Expressions.{expression_ok}
+use Rattle.cp_refine.proofs.expressions.Expressions.{expression_ok, bind_assoc as bind_twice}
 use Rattle.cp_refine.proofs.calls.Kept.{kept_left, kept_right}
 use Rattle.cp_refine.proofs.expressions.Values.{then_some}
 use Rattle.cp_refine.proofs.expressions.Views.{views_agree}
@@ -51,10 +51,8 @@ plain_component m bindings f (code.element first low high stride c) = then_with 
 plain_component m bindings f (code.parameter slot) = Ok (slice_index_or bindings (onward f.own slot) 0)
 
 pub component_seen_is : (m : Memory) (bindings : List ℕ) (f : Frame) (c : ComponentPlace) → component_at m bindings f c ≡ plain_component m bindings f (code.component_seen c)
-component_seen_is m bindings f Own = refl
-component_seen_is m bindings f (Contained n) = refl
 component_seen_is m bindings f (Element first low high stride e) = ap (λ r. then_with r (λ i. then_with (element_offset low high stride i) (λ far. Ok (onward (onward f.component first) far)))) (views_agree.value m f e.value)
-component_seen_is m bindings f (Parameter slot) = refl
+component_seen_is m bindings f _ = refl
 
 -- ---- what is known of the component that executes
 
@@ -99,23 +97,11 @@ designated_is a b e = cc
 
 field_variable : (t : Ty) (p : code.Place) (x : Name) (w : Designated) → field_of_form t p x ≡ Some w → IsVariable w
 field_variable (record_with ts) (code.place o offset is) x w e = then_some (IsVariable w) (field_chosen ts x) (λ c. Some (part_of_form (code.place o offset is) c)) w e (λ c k j. subst IsVariable (designated_is _ w j) tt)
-field_variable (ordinal r) p x w e = absurd (cc)
-field_variable queue_type p x w e = absurd (cc)
-field_variable (set_over r) p x w e = absurd (cc)
-field_variable (array_over r t) p x w e = absurd (cc)
-field_variable (component_of k) p x w e = absurd (cc)
+field_variable y p x w e = absurd (cc)
 
 element_variable : (t : Ty) (p : code.Place) (c : code.Expression) (w : Designated) → element_of_form t p c ≡ Some w → IsVariable w
 element_variable (array_over r t) (code.place o offset is) c w e = subst IsVariable (designated_is _ w e) tt
-element_variable (ordinal r) p x w e = absurd (cc)
-element_variable queue_type p x w e = absurd (cc)
-element_variable (set_over r) p x w e = absurd (cc)
-element_variable (record_with ts) p x w e = absurd (cc)
-element_variable (component_of k) p x w e = absurd (cc)
-
-bind_twice : {A B C : Type 0} (o : Outcome A) (F : A → Outcome B) (G : B → Outcome C) → ((o >>= F) >>= G) ≡ (o >>= λ x. F x >>= G)
-bind_twice (Ok x) F G = refl
-bind_twice (Err e) F G = refl
+element_variable y p x w e = absurd (cc)
 
 module _ (r : Tables) (l : Layouts) (fs : List Frame) (v : View) (m : Memory) (f : Frame) (h : Here) (sees : Sees r l fs v m f h) (bindings : List ℕ) (known : ComponentsKnown v f h bindings) where
   -- the number of a component, whatever fields come after it
@@ -136,8 +122,7 @@ module _ (r : Tables) (l : Layouts) (fs : List Frame) (v : View) (m : Memory) (f
 
   of_variable : (o : Outcome Target) (w : Designated) → IsVariable w → NamedAgrees o w
   of_variable o (a_variable p t) i = tt
-  of_variable o (a_component c k) i = absurd i
-  of_variable o (some_components first q k) i = absurd i
+  of_variable o _ i = absurd i
 
   -- ---- names
 
@@ -175,10 +160,6 @@ module _ (r : Tables) (l : Layouts) (fs : List Frame) (v : View) (m : Memory) (f
       exact n first number le same = (let few = known.few in omega (arith, le, same, few))
 
   begun_agrees : (x : Name) (w : Option Meaning) → find x h.scope ≡ w → (d : Designated) → begun_form h x w ≡ Some d → NamedAgrees (Ok (target_meant v x w)) d
-  begun_agrees x None e d k = absurd (cc)
-  begun_agrees x (Some (constant_meaning b z)) e d k = absurd (cc)
-  begun_agrees x (Some (type_meaning t)) e d k = absurd (cc)
-  begun_agrees x (Some (standard_meaning t)) e d k = absurd (cc)
   begun_agrees x (Some (local_variable t)) e d k = of_variable (Ok (target_meant v x (Some (local_variable t)))) d (subst IsVariable (designated_is _ d k) tt)
   begun_agrees x (Some (routine_meaning y)) e d k = of_variable (Ok (target_meant v x (Some (routine_meaning y)))) d (go (is_own h x) k)
     where
@@ -201,14 +182,14 @@ module _ (r : Tables) (l : Layouts) (fs : List Frame) (v : View) (m : Memory) (f
   begun_agrees x (Some (permanent_variable queue_type)) e d k = of_variable (Ok (target_meant v x (Some (permanent_variable queue_type)))) d (subst IsVariable (designated_is _ d k) tt)
   begun_agrees x (Some (permanent_variable (set_over n))) e d k = of_variable (Ok (target_meant v x (Some (permanent_variable (set_over n))))) d (subst IsVariable (designated_is _ d k) tt)
   begun_agrees x (Some (permanent_variable (record_with ts))) e d k = of_variable (Ok (target_meant v x (Some (permanent_variable (record_with ts))))) d (subst IsVariable (designated_is _ d k) tt)
+  begun_agrees x y e d k = absurd (cc)
 
   -- ---- selectors
 
   field_number : (x : Name) (o : Outcome Target) (s : Result ℕ slots.ErrorName) → NumberAgrees o s → NumberAgrees (o >>= λ t. Ok (with_field t x)) s
   field_number x (Ok t) (Ok n) k = λ cs fields. ap (λ ds. component_there v (record { holder = t.place.holder; name = t.place.name; choices = ds })) (append_assoc t.place.choices (the_field x ∷ []) cs) ∙ k (the_field x ∷ cs) fields
   field_number x (Err e) (Err d) k = k
-  field_number x (Ok t) (Err d) k = absurd k
-  field_number x (Err e) (Ok n) k = absurd k
+  field_number x _ _ k = absurd k
 
   field_agrees : (x : Name) (d w : Designated) (o : Outcome Target) → NamedAgrees o d → with_field_form d x ≡ Some w → NamedAgrees (o >>= λ t. Ok (with_field t x)) w
   field_agrees x (a_variable p t) w o k e = of_variable _ w (field_variable t p x w e)
@@ -228,11 +209,10 @@ module _ (r : Tables) (l : Layouts) (fs : List Frame) (v : View) (m : Memory) (f
       NumberAgrees (o >>= λ u. i >>= λ x. with_index u x) (then_with s (λ z. then_with (element_offset q.low q.high (h.layouts.systems n).count z) (λ far. Ok (onward (onward f.component first) far))))
   index_number first n q t (Err e) i s k j = absurd k
   index_number first n q t (Ok u) (Err e) (Err d) k j = j
-  index_number first n q t (Ok u) (Err e) (Ok z) k j = absurd j
-  index_number first n q t (Ok u) (Ok x) (Err d) k j = absurd j
   index_number first n q t (Ok u) (Ok x) (Ok z) k j =
       subst (λ (y : ℤ). NumberAgrees (with_element_of u.ty u y) (then_with (element_offset q.low q.high (h.layouts.systems n).count z) (λ far. Ok (onward (onward f.component first) far)))) (sym (ap number_of j.1))
       (subst (λ (y : Ty). NumberAgrees (with_element_of y u z) (then_with (element_offset q.low q.high (h.layouts.systems n).count z) (λ far. Ok (onward (onward f.component first) far)))) (sym k.0) (element_number first n q u z k (is_within q z) refl))
+  index_number first n q t (Ok u) _ _ k j = absurd j
 
   element_agrees : (d w : Designated) (o : Outcome Target) (t : Ty) (c : code.Expression) (i : Outcome Typed) → NamedAgrees o d → OrdinalAgrees i t (plain_value m f c) → with_element_form h d c ≡ Some w → NamedAgrees (o >>= λ u. i >>= λ x. with_index u x) w
   element_agrees (a_variable p u) w o t c i k j e = of_variable _ w (element_variable u p c w e)
@@ -281,5 +261,4 @@ module _ (r : Tables) (l : Layouts) (fs : List Frame) (v : View) (m : Memory) (f
       plain : (o : Outcome Target) (s : Result ℕ slots.ErrorName) → NumberAgrees o s → ComponentAgrees v o s
       plain (Ok t) (Ok n) h = sym (ap (λ ds. component_there v (record { holder = t.place.holder; name = t.place.name; choices = ds })) (none_more t.place.choices)) ∙ h [] tt
       plain (Err e) (Err d) h = h
-      plain (Ok t) (Err d) h = absurd h
-      plain (Err e) (Ok n) h = absurd h
+      plain _ _ h = absurd h

@@ -23,7 +23,7 @@ use Rattle.cp_refine.specs.Represents.{CallIs, CallsHold, HasBegun, Represents}
 use Rattle.cp_refine.proofs.expressions.ComponentPlaces.{own_component, ComponentsKnown}
 
 -- the innermost call is that of the innermost frame
-top_call : (r : Tables) (l : Layouts) (m : Memory) (cs : List Call) (f : Frame) (fs : List Frame) → CallsHold r l m cs (f ∷ fs) → CallIs r l (current cs) f
+pub top_call : (r : Tables) (l : Layouts) (m : Memory) (cs : List Call) (f : Frame) (fs : List Frame) → CallsHold r l m cs (f ∷ fs) → CallIs r l (current cs) f
 top_call r l m [] f fs h = absurd h
 top_call r l m (c ∷ cs) f fs h = h.0
 
@@ -45,10 +45,6 @@ module _ (g : Ground) (p : Program) (l : Layouts) (s : State) (m : Machine) (rep
 
   own_is : this_component view ≡ f.component
   own_is = call.component
-
-  -- the component on names
-  component_is : own_component view ≡ named.component_at s.components f.component
-  component_is = ap (named.component_at s.components) own_is
 
   there : f.component < length s.components
   there = let e = rep.component_count in let b = call.there in omega (arith, e, b)

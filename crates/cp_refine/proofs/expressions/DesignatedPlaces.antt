@@ -7,8 +7,8 @@ use Rattle.cp_slots.specs.Code as code
 use Rattle.cp_meaning.specs.Names.{Name}
 use Rattle.cp_meaning.specs.Outcome.{Outcome, out_of_range, ◌>>=◌}
 use Rattle.cp_meaning.specs.Operations.{Typed}
-use Rattle.cp_meaning.specs.Types.{Ty, ordinal, queue_type, set_over, array_over, record_with, component_of, natural_of, is_within}
-use Rattle.cp_meaning.specs.Scopes.{Meaning, constant_meaning, type_meaning, local_variable, permanent_variable, routine_meaning, standard_meaning, find}
+use Rattle.cp_meaning.specs.Types.{Ty, array_over, record_with, component_of, natural_of, is_within}
+use Rattle.cp_meaning.specs.Scopes.{Meaning, local_variable, permanent_variable, routine_meaning, find}
 use Rattle.cp_meaning.specs.State.{Holder, in_call, in_component, Place, current}
 use Rattle.cp_meaning.specs.Values.{the_element, number_of}
 use Rattle.cp_meaning.specs.Places.{View, Target, target_meant, target_named, with_choice, this_component}
@@ -33,11 +33,7 @@ element_leads q (array_over r u) t z h = go (is_within r z)
     go : (b : Bool) → LeadsTo q (if b then Ok (record { place = with_choice t.place (the_element (natural_of (z +ℤ neg_ℤ r.low))); ty = u }) else Err out_of_range)
     go true = h
     go false = tt
-element_leads q (ordinal r) t z h = h
-element_leads q queue_type t z h = h
-element_leads q (set_over r) t z h = h
-element_leads q (record_with ts) t z h = h
-element_leads q (component_of k) t z h = h
+element_leads q _ t z h = h
 
 chosen_leads : (v : View) (q : Place) (c : Selector) (t : Target) → IsPartOf q t.place → LeadsTo q (chosen v c t)
 chosen_leads v q (field i) t h = h
@@ -69,11 +65,7 @@ IsOwnHolder v (in_component n) = n ≡ this_component v
 meant_own : (v : View) (x : Name) (w : Option Meaning) → ((u : Ty) → w ≡ Some (local_variable u) → ⊥) → IsOwnHolder v (target_meant v x w).place.holder
 meant_own v x (Some (permanent_variable u)) never = refl
 meant_own v x (Some (local_variable u)) never = absurd (never u refl)
-meant_own v x (Some (routine_meaning r)) never = tt
-meant_own v x (Some (constant_meaning b z)) never = tt
-meant_own v x (Some (type_meaning u)) never = tt
-meant_own v x (Some (standard_meaning s)) never = tt
-meant_own v x None never = tt
+meant_own v x _ never = tt
 
 -- where no local variable is visible, so that none is a `var` parameter
 pub designated_own : (v : View) → ((x : Name) (u : Ty) → find x (current v.calls).scope ≡ Some (local_variable u) → ⊥) → (d : Designator) (x : Target) → target_value v d ≡ Ok x → IsOwnHolder v x.place.holder
@@ -109,19 +101,11 @@ module _ (w : Option Meaning) where
 
   field_so : (t : Ty) (p : code.Place) (x : Name) → FormSo (field_of_form t p x)
   field_so (record_with ts) (code.place o n is) x = some_so (field_chosen ts x) (λ c. Some (part_of_form (code.place o n is) c)) (λ c. tt)
-  field_so (ordinal r) p x = tt
-  field_so queue_type p x = tt
-  field_so (set_over r) p x = tt
-  field_so (array_over r t) p x = tt
-  field_so (component_of k) p x = tt
+  field_so _ p x = tt
 
   element_so : (t : Ty) (p : code.Place) (c : code.Expression) → FormSo (element_of_form t p c)
   element_so (array_over r t) (code.place o n is) c = tt
-  element_so (ordinal r) p c = tt
-  element_so queue_type p c = tt
-  element_so (set_over r) p c = tt
-  element_so (record_with ts) p c = tt
-  element_so (component_of k) p c = tt
+  element_so _ p c = tt
 
   with_field_so : (d : Designated) (x : Name) → IsSo d → FormSo (with_field_form d x)
   with_field_so (a_variable p t) x g = field_so t p x
@@ -148,28 +132,16 @@ component_so h x k false = refl
 permanent_so : (h : Here) (x : Name) (t : Ty) → IsSo (Some (permanent_variable t)) (permanent_begun h x t)
 permanent_so h x (component_of k) = component_so h x k (is_parameter x _)
 permanent_so h x (array_over r (component_of k)) = refl
-permanent_so h x (ordinal r) = tt
-permanent_so h x queue_type = tt
-permanent_so h x (set_over r) = tt
-permanent_so h x (record_with ts) = tt
-permanent_so h x (array_over r (ordinal q)) = tt
-permanent_so h x (array_over r queue_type) = tt
-permanent_so h x (array_over r (set_over q)) = tt
-permanent_so h x (array_over r (array_over q t)) = tt
-permanent_so h x (array_over r (record_with ts)) = tt
+permanent_so h x _ = tt
 
 begun_so : (h : Here) (x : Name) (w : Option Meaning) → FormSo w (begun_form h x w)
 begun_so h x (Some (permanent_variable t)) = permanent_so h x t
-begun_so h x (Some (local_variable t)) = tt
 begun_so h x (Some (routine_meaning r)) = go (is_own h x)
   where
     go : (b : Bool) → FormSo (Some (routine_meaning r)) (result_begun h b)
     go true = tt
     go false = tt
-begun_so h x None = tt
-begun_so h x (Some (constant_meaning b z)) = tt
-begun_so h x (Some (type_meaning t)) = tt
-begun_so h x (Some (standard_meaning t)) = tt
+begun_so h x _ = tt
 
 -- what has the form of a component is named as one
 pub component_meant : (h : Here) (i : Identifier) (ss : Selectors) (part : code.ComponentPlace) (k : ℕ) → designator_form h (designator i ss) ≡ Some (a_component part k) → IsNamedAs (find i.name h.scope) k

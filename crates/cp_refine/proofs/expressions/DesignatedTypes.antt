@@ -3,19 +3,19 @@ use Rattle.std.proofs.Common.{◌≡◌, ℕ, ◌+◌, pos, int_le, Bool, true, 
 use Rattle.cp_tree.specs.Syntax.{Designator, designator, Selectors, no_selectors, more_selectors, Selector, field, index, Program}
 use Rattle.cp_slots.specs.Code as code
 use Rattle.cp_meaning.specs.Names.{Name}
-use Rattle.cp_meaning.specs.Types.{Range, Ty, ordinal, queue_type, set_over, array_over, record_with, component_of, FieldTypes}
+use Rattle.cp_meaning.specs.Types.{Range, Ty, ordinal, set_over, array_over, record_with, component_of, FieldTypes}
 use Rattle.cp_meaning.specs.Values.{the_field}
 use Rattle.cp_meaning.specs.Places.{result_type}
-use Rattle.cp_meaning.specs.Scopes.{Meaning, constant_meaning, type_meaning, local_variable, permanent_variable, routine_meaning, standard_meaning, find}
+use Rattle.cp_meaning.specs.Scopes.{Meaning, local_variable, permanent_variable, routine_meaning, find}
 use Rattle.cp_resolved.specs.Layouts.{Here, here, Layouts, is_own, is_parameter}
 use Rattle.cp_resolved.specs.Compiled.{then_form, Designated, a_variable, some_components, a_component, part_of_form, component_begun, permanent_begun, result_begun, begun_form, with_field_form, with_element_form, with_index_form, ordinal_form, chosen_form, selected_form, designator_form, expression_form}
 use Rattle.cp_resolved.specs.Encoded.{Chosen, field_chosen, then_chosen}
 use Rattle.cp_resolved.specs.Standing.{is_bounded, is_based, is_indexed, is_element, is_standing, IsFit, IsFreeResult}
-use Rattle.cp_resolved.proofs.counts.FewCells.{in_order}
+use Rattle.cp_resolved.proofs.counts.FewCells.{in_order, left_of as first_true}
 use Rattle.cp_resolved.proofs.declarations.StandingParts.{free_part, within_base}
-use Rattle.cp_resolved.proofs.forms.Typing.{first_true, second_true}
 use Rattle.cp_refine.proofs.assignments.AnyAssignments.{RangeKnown}
-use Rattle.cp_refine.proofs.expressions.FreeParts.{free_standing, element_standing}
+use Rattle.cp_resolved.proofs.frames.LeastCells.{right_true as second_true}
+use Rattle.cp_resolved.proofs.agreeing.AgreeingTypes.{element_standing, free_standing}
 
 -- ---- a type that stands
 
@@ -33,10 +33,7 @@ high_enough r h =
 pub range_known : (t : Ty) → IsGood t → RangeKnown t
 range_known (ordinal r) h = within_base r h
 range_known (set_over r) h = high_enough r h
-range_known queue_type h = tt
-range_known (array_over r t) h = tt
-range_known (record_with ts) h = tt
-range_known (component_of k) h = tt
+range_known _ h = tt
 
 field_stands : (ts : FieldTypes) (x : Name) (c : Chosen) → IsGood (record_with ts) → field_chosen ts x ≡ Some c → IsGood c.1
 field_stands ts x c h e =
@@ -60,15 +57,7 @@ component_good h x k false = tt
 permanent_good : (h : Here) (x : Name) (t : Ty) → IsGood t → DesignatedGood (permanent_begun h x t)
 permanent_good h x (component_of k) g = component_good h x k (is_parameter x _)
 permanent_good h x (array_over r (component_of k)) g = tt
-permanent_good h x (ordinal r) g = g
-permanent_good h x queue_type g = g
-permanent_good h x (set_over r) g = g
-permanent_good h x (record_with ts) g = g
-permanent_good h x (array_over r (ordinal q)) g = g
-permanent_good h x (array_over r queue_type) g = g
-permanent_good h x (array_over r (set_over q)) g = g
-permanent_good h x (array_over r (array_over q t)) g = g
-permanent_good h x (array_over r (record_with ts)) g = g
+permanent_good h x _ g = g
 
 result_good : (o : Option Ty) → IsFreeResult o → IsGood (result_type o)
 result_good None free = refl
@@ -90,10 +79,7 @@ begun_good p l n x known = go (find x (l.meanings n).scope) (known.fit x)
     go (Some (permanent_variable t)) f = permanent_good (here p l n) x t f
     go (Some (local_variable t)) f = free_standing t f
     go (Some (routine_meaning r)) f = own (is_own (here p l n) x)
-    go None f = tt
-    go (Some (constant_meaning b z)) f = tt
-    go (Some (type_meaning t)) f = tt
-    go (Some (standard_meaning t)) f = tt
+    go _ f = tt
 
 some_good : {A : Type 0} (o : Option A) (make : A → Option Designated) → ((a : A) → o ≡ Some a → FormGood (make a)) → FormGood (then_form o make)
 some_good None make each = tt
@@ -104,24 +90,14 @@ then_good None make g each = tt
 then_good (Some d) make g each = each d g
 
 with_field_good : (d : Designated) (x : Name) → DesignatedGood d → FormGood (with_field_form d x)
-with_field_good (a_component c k) x g = tt
-with_field_good (some_components first r k) x g = tt
 with_field_good (a_variable (code.place o n is) (record_with ts)) x g = some_good (field_chosen ts x) (λ c. Some (part_of_form (code.place o n is) c)) (λ c e. field_stands ts x c g e)
 with_field_good (a_variable p (ordinal r)) x g = tt
-with_field_good (a_variable p queue_type) x g = tt
-with_field_good (a_variable p (set_over r)) x g = tt
-with_field_good (a_variable p (array_over r t)) x g = tt
-with_field_good (a_variable p (component_of k)) x g = tt
+with_field_good _ x g = tt
 
 with_element_good : (h : Here) (d : Designated) (c : code.Expression) → DesignatedGood d → FormGood (with_element_form h d c)
-with_element_good h (a_component b k) c g = tt
-with_element_good h (some_components first r k) c g = tt
 with_element_good h (a_variable (code.place o n is) (array_over r t)) c g = element_standing t (second_true (is_indexed r t) (is_element t) g)
 with_element_good h (a_variable p (ordinal r)) c g = tt
-with_element_good h (a_variable p queue_type) c g = tt
-with_element_good h (a_variable p (set_over r)) c g = tt
-with_element_good h (a_variable p (record_with ts)) c g = tt
-with_element_good h (a_variable p (component_of k)) c g = tt
+with_element_good h _ c g = tt
 
 chosen_good : (h : Here) (c : Selector) (d : Designated) → DesignatedGood d → FormGood (chosen_form h c d)
 chosen_good h (field i) d g = with_field_good d i.name g

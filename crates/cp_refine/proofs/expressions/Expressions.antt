@@ -11,7 +11,6 @@ use Rattle.cp_tree.specs.Syntax.{Expression, alone, related, Sum, sum, Terms, no
 use Rattle.cp_slots.specs.Tables.{Tables}
 use Rattle.cp_store.specs.declared.error.ErrorName as slots
 use Rattle.cp_store.specs.declared.memory.Address.{Address}
-use Rattle.cp_store.specs.declared.memory.Address.TheVariants.{Permanent, Local}
 use Rattle.cp_store.specs.declared.memory.Frame.{Frame}
 use Rattle.cp_store.specs.Memory.{Memory, cell_at}
 use Rattle.cp_store.specs.Sets as sets
@@ -21,7 +20,7 @@ use Rattle.cp_meaning.specs.Names.{temporary}
 use Rattle.cp_meaning.specs.Outcome.{Outcome, ◌>>=◌}
 use Rattle.cp_meaning.specs.Types.{Ty, ordinal, set_over, queue_type, array_over, record_with, component_of, Base, integers, characters, Range, all_integers, all_booleans, is_within}
 use Rattle.cp_meaning.specs.Values.{Value, number_value, array_value, record_value, set_value, queue_value, number_of}
-use Rattle.cp_meaning.specs.Scopes.{Scope, Meaning, constant_meaning, type_meaning, local_variable, permanent_variable, routine_meaning, standard_meaning, Standard, find}
+use Rattle.cp_meaning.specs.Scopes.{Scope, Meaning, constant_meaning, standard_meaning, Standard, find}
 use Rattle.cp_meaning.specs.Operations.{Typed, truth, is_true, related_values, added_values, multiplied_values, signed_value, standard_value, range_of_base}
 use Rattle.cp_meaning.specs.Places.{View, Target, target_named, value_at, plain_place, this_call}
 use Rattle.cp_meaning.specs.Expressions.{value, sum_value, terms_value, term_value, factors_value, factor_value, first_value, members_value, with_member_checked, target_value, selected, chosen, named_value, call_value, result_called, routine_called}
@@ -29,9 +28,9 @@ use Rattle.cp_meaning.specs.Lifting.{is_call, own_call, expression_calls, sum_ca
 use Rattle.cp_slots.specs.Code as code
 use Rattle.cp_refine.specs.PlainValues.{plain_value, plain_set, plain_address}
 use Rattle.cp_resolved.specs.Layouts.{Layouts, Here, frame_here, look}
-use Rattle.cp_resolved.specs.Compiled.{Form, as_ordinal, as_set, as_place, as_component, Formed, Designated, a_variable, some_components, a_component, then_form, is_integer, is_boolean, compared_forms, added_forms, multiplied_forms, signed_ordinal, signed_form, not_form_of, not_form, applied_form, valued_form, loaded_form, call_form, constant_form, named_form, begun_form, expression_form, sum_form, terms_form, term_form, factors_form, factor_form, first_form, members_form, set_form, with_member_form, designator_form, selected_form, chosen_form}
+use Rattle.cp_resolved.specs.Compiled.{Form, as_ordinal, as_set, Formed, Designated, a_variable, then_form, is_integer, is_boolean, compared_forms, added_forms, multiplied_forms, signed_ordinal, signed_form, not_form_of, not_form, applied_form, valued_form, loaded_form, call_form, constant_form, named_form, begun_form, expression_form, sum_form, terms_form, term_form, factors_form, factor_form, first_form, members_form, set_form, with_member_form, designator_form, selected_form, chosen_form}
 use Rattle.cp_resolved.specs.Encoded.{encode, HasType}
-use Rattle.cp_refine.specs.Represents.{further, BlockAt, LiesAt}
+use Rattle.cp_refine.specs.Represents.{BlockAt, LiesAt}
 use Rattle.cp_refine.specs.Agrees.{OrdinalAgrees, SetAgrees, PlaceAgrees, FormAgrees, TargetAgrees, DesignatedAgrees, BegunAgrees, Sees}
 use Rattle.cp_refine.specs.Remaining.{IsKept, AreKept}
 use Rattle.cp_refine.proofs.expressions.Choosing.{field_ok, index_ok}
@@ -40,12 +39,10 @@ use Rattle.cp_refine.proofs.expressions.Standards.{base_again, signed_plus, appl
 use Rattle.cp_refine.proofs.expressions.Numbers.{fits_narrowed, not_same}
 use Rattle.cp_refine.proofs.expressions.Sets.{sets_related, member, sets_added, sets_multiplied, set_loaded, MembersAgree, member_added, set_constructed, members_done}
 use Rattle.cp_refine.proofs.expressions.Values.{then_some, FormOk, one_agrees, related_cells, added_agree, multiplied_agree, truth_range}
+use Rattle.cp_resolved.proofs.components.ComponentImages.{both as both_true}
+use Rattle.cp_refine.proofs.expressions.SetCells.{no_further as further_none}
 
 -- ---- what lies at an address
-
-further_none : (a : Address) → further a 0 ≡ a
-further_none (Permanent n) = let e : n + 0 ≡ n = omega arith in cc
-further_none (Local n) = let e : n + 0 ≡ n = omega arith in cc
 
 -- an ordinal is a number in its cell
 pub number_lies : (m : Memory) (r : Range) (w : Value) (a : Address) → LiesAt m (ordinal r) w a → (z : ℤ) × (w ≡ number_value z) × (cell_at m a ≡ z) × (is_within (range_of_base r.base) z ≡ true)
@@ -60,7 +57,7 @@ number_lies m r w a h = go w h.typed h.block
 
 -- ---- binding
 
-bind_assoc : {A B C : Type 0} (o : Outcome A) (F : A → Outcome B) (G : B → Outcome C) → ((o >>= F) >>= G) ≡ (o >>= λ x. F x >>= G)
+pub bind_assoc : {A B C : Type 0} (o : Outcome A) (F : A → Outcome B) (G : B → Outcome C) → ((o >>= F) >>= G) ≡ (o >>= λ x. F x >>= G)
 bind_assoc (Ok x) F G = refl
 bind_assoc (Err e) F G = refl
 
@@ -71,56 +68,29 @@ chain_assoc (Err e) p F G = refl
 ok_some : (m : Memory) (f : Frame) (o : Outcome Typed) (w : Option Formed) (z : Formed) → w ≡ Some z → FormOk m f o w → FormAgrees m f o z.ty z.form
 ok_some m f o w z e h = subst (λ (k : Option Formed). FormOk m f o k) e h
 
-both_true : (a b : Bool) → (a && b) ≡ true → (a ≡ true) × (b ≡ true)
-both_true true b h = (refl, h)
-both_true false b h = absurd (cc)
-
 module _ (r : Tables) (l : Layouts) (fs : List Frame) (v : View) (m : Memory) (f : Frame) (h : Here) (sees : Sees r l fs v m f h) where
   related_ok : (q : Relation) (t u : Ty) (x y : Form) (o p : Outcome Typed) → FormAgrees m f o t x → FormAgrees m f p u y → FormOk m f (o >>= λ a. p >>= λ b. Ok (truth (related_values q a.value b.value))) (compared_forms q x y)
   related_ok q t u (as_ordinal a) (as_ordinal b) o p i j = related_cells m f q t u a b o p i j
   related_ok q t u (as_ordinal a) (as_set b) o p i j = member m f q t u a b o p i j
   related_ok q t u (as_set a) (as_set b) o p i j = sets_related m f q t u a b o p i j
-  related_ok q t u (as_ordinal a) (as_place b) o p i j = tt
-  related_ok q t u (as_ordinal a) (as_component b) o p i j = tt
-  related_ok q t u (as_set a) (as_ordinal b) o p i j = tt
-  related_ok q t u (as_set a) (as_place b) o p i j = tt
-  related_ok q t u (as_set a) (as_component b) o p i j = tt
-  related_ok q t u (as_place a) y o p i j = tt
-  related_ok q t u (as_component a) y o p i j = tt
+  related_ok q t u _ _ o p i j = tt
 
   added_ok : (op : Addition) (x y : Formed) (a b : Form) (o p : Outcome Typed) → FormAgrees m f o x.ty a → FormAgrees m f p y.ty b → FormOk m f (o >>= λ i. p >>= λ j. added_values op i.value j.value) (added_forms op x y a b)
   added_ok op x y (as_ordinal a) (as_ordinal b) o p i j = added_agree m f op x.ty y.ty (is_integer x.ty && is_integer y.ty) (is_boolean x.ty && is_boolean y.ty) a b o p (both_true (is_integer x.ty) (is_integer y.ty)) (both_true (is_boolean x.ty) (is_boolean y.ty)) i j
   added_ok op x y (as_set a) (as_set b) o p i j = sets_added m f op x y a b o p i j
-  added_ok op x y (as_ordinal a) (as_set b) o p i j = tt
-  added_ok op x y (as_ordinal a) (as_place b) o p i j = tt
-  added_ok op x y (as_ordinal a) (as_component b) o p i j = tt
-  added_ok op x y (as_set a) (as_ordinal b) o p i j = tt
-  added_ok op x y (as_set a) (as_place b) o p i j = tt
-  added_ok op x y (as_set a) (as_component b) o p i j = tt
-  added_ok op x y (as_place a) b o p i j = tt
-  added_ok op x y (as_component a) b o p i j = tt
+  added_ok op x y _ _ o p i j = tt
 
   multiplied_ok : (op : Multiplication) (x y : Formed) (a b : Form) (o p : Outcome Typed) → FormAgrees m f o x.ty a → FormAgrees m f p y.ty b → FormOk m f (o >>= λ i. p >>= λ j. multiplied_values op i.value j.value) (multiplied_forms op x y a b)
   multiplied_ok op x y (as_ordinal a) (as_ordinal b) o p i j = multiplied_agree m f op x.ty y.ty (is_integer x.ty && is_integer y.ty) (is_boolean x.ty && is_boolean y.ty) a b o p (both_true (is_integer x.ty) (is_integer y.ty)) (both_true (is_boolean x.ty) (is_boolean y.ty)) i j
   multiplied_ok op x y (as_set a) (as_set b) o p i j = sets_multiplied m f op x y a b o p i j
-  multiplied_ok op x y (as_ordinal a) (as_set b) o p i j = tt
-  multiplied_ok op x y (as_ordinal a) (as_place b) o p i j = tt
-  multiplied_ok op x y (as_ordinal a) (as_component b) o p i j = tt
-  multiplied_ok op x y (as_set a) (as_ordinal b) o p i j = tt
-  multiplied_ok op x y (as_set a) (as_place b) o p i j = tt
-  multiplied_ok op x y (as_set a) (as_component b) o p i j = tt
-  multiplied_ok op x y (as_place a) b o p i j = tt
-  multiplied_ok op x y (as_component a) b o p i j = tt
+  multiplied_ok op x y _ _ o p i j = tt
 
   negated_step : (t : Ty) (x : Typed) (a : ℤ) → is_boolean t ≡ true → x.value ≡ number_value a → HasType t (number_value a) → OrdinalAgrees (Ok (truth (if is_true x then false else true))) (ordinal all_booleans) (Ok (cells.truth (not (cells.is_true a))))
   negated_step t x a b e d = subst (λ (w : Value). OrdinalAgrees (Ok (truth (if int_lt (pos 0) (number_of w) then false else true))) (ordinal all_booleans) (Ok (cells.truth (not (cells.is_true a))))) (sym e) (not_same a (truth_range t a b d))
 
   not_ok : (x : Formed) (b : Bool) (a : Form) (o : Outcome Typed) → is_boolean x.ty ≡ b → FormAgrees m f o x.ty a → FormOk m f (o >>= λ i. Ok (truth (if is_true i then false else true))) (not_form_of b a)
   not_ok x true (as_ordinal c) o e i = one_agrees x.ty (ordinal all_booleans) _ _ o (plain_value m f c) (λ y a d k. negated_step x.ty y a e d k) i
-  not_ok x true (as_set c) o e i = tt
-  not_ok x true (as_place c) o e i = tt
-  not_ok x true (as_component c) o e i = tt
-  not_ok x false a o e i = tt
+  not_ok x _ _ o e i = tt
 
   minus_step : (x : Typed) (a : ℤ) → x.value ≡ number_value a → OrdinalAgrees (signed_value (Some sign.Minus) x) (ordinal all_integers) (cells.negated a)
   minus_step x a e = subst (λ (w : Value). OrdinalAgrees (signed_value (Some sign.Minus) (record { ty = x.ty; value = w })) (ordinal all_integers) (cells.negated a)) (sym e) (fits_narrowed (neg_ℤ a))
@@ -133,14 +103,7 @@ module _ (r : Tables) (l : Layouts) (fs : List Frame) (v : View) (m : Memory) (f
       unsigned (Err y) k = k
   signed_ok (Some sign.Plus) x true (as_ordinal c) o d e i = signed_plus m f x c o e i
   signed_ok (Some sign.Minus) x true (as_ordinal c) o d e i = one_agrees x.ty (ordinal all_integers) _ _ o (plain_value m f c) (λ y a k j. minus_step y a k) i
-  signed_ok (Some sign.Plus) x true (as_set c) o d e i = tt
-  signed_ok (Some sign.Plus) x true (as_place c) o d e i = tt
-  signed_ok (Some sign.Plus) x true (as_component c) o d e i = tt
-  signed_ok (Some sign.Minus) x true (as_set c) o d e i = tt
-  signed_ok (Some sign.Minus) x true (as_place c) o d e i = tt
-  signed_ok (Some sign.Minus) x true (as_component c) o d e i = tt
-  signed_ok (Some sign.Plus) x false a o d e i = tt
-  signed_ok (Some sign.Minus) x false a o d e i = tt
+  signed_ok _ x _ _ o d e i = tt
 
   -- ---- variables
 
@@ -168,8 +131,7 @@ module _ (r : Tables) (l : Layouts) (fs : List Frame) (v : View) (m : Memory) (f
       failed (array_over q u) = subst (λ (s : Result Address slots.ErrorName). PlaceAgrees m (Err x) (array_over q u) s) (sym e) i
       failed (record_with ts) = subst (λ (s : Result Address slots.ErrorName). PlaceAgrees m (Err x) (record_with ts) s) (sym e) i
       failed (component_of n) = subst (λ (s : Result Address slots.ErrorName). PlaceAgrees m (Err x) (component_of n) s) (sym e) i
-  loaded_ok t p (Ok x) (Err a) e i = absurd i
-  loaded_ok t p (Err x) (Ok a) e i = absurd i
+  loaded_ok t p _ _ e i = absurd i
 
   abbrev BegunOk : Outcome Target → Option Designated → Type 0
   BegunOk o None = Unit {0}
@@ -181,8 +143,7 @@ module _ (r : Tables) (l : Layouts) (fs : List Frame) (v : View) (m : Memory) (f
 
   valued_ok : (d : Designated) (o : Outcome Target) → DesignatedAgrees r l fs m f o d → FormOk m f (o >>= λ x. Ok (record { ty = x.ty; value = value_at v x.place })) (valued_form d)
   valued_ok (a_variable p t) o i = loaded_ok t p o (plain_address m f p) refl i
-  valued_ok (some_components first q k) o i = tt
-  valued_ok (a_component c k) o i = tt
+  valued_ok _ o i = tt
 
   then_valued_ok : (w : Option Designated) (o : Outcome Target) → ((d : Designated) → w ≡ Some d → DesignatedAgrees r l fs m f o d) → FormOk m f (o >>= λ x. Ok (record { ty = x.ty; value = value_at v x.place })) (then_form w valued_form)
   then_valued_ok None o k = tt
@@ -202,11 +163,7 @@ module _ (r : Tables) (l : Layouts) (fs : List Frame) (v : View) (m : Memory) (f
   -- the result of a call lies in its cell
   result_ok : (at : ℕ) (t : Ty) → look (temporary at) (frame_here h).variables ≡ Some t → FormOk m f (Ok (record { ty = t; value = value_at v (plain_place (this_call v) (temporary at)) })) (call_form h at t)
   result_ok at (ordinal q) e = valued_ok (a_variable (code.place ((frame_here h).origins (temporary at)) 0 code.no_indices) (ordinal q)) (Ok (record { place = plain_place (this_call v) (temporary at); ty = ordinal q })) (sees.temporaries at (ordinal q) e)
-  result_ok at queue_type e = tt
-  result_ok at (set_over q) e = tt
-  result_ok at (array_over q t) e = tt
-  result_ok at (record_with ts) e = tt
-  result_ok at (component_of k) e = tt
+  result_ok at _ e = tt
 
   call_ok : (at : ℕ) (d : Designator) → IsKept h at d → FormOk m f (Ok (call_value v at d)) (call_form h at (result_called (routine_called h.program h.scope d)))
   call_ok at d kept =
@@ -221,11 +178,7 @@ module _ (r : Tables) (l : Layouts) (fs : List Frame) (v : View) (m : Memory) (f
   name_ok at i ss es true g kept e w o q p k j = call_ok at (designator i ss) kept.0
   name_ok at i ss es false (Some (constant_meaning b z)) kept e w o q p k j = constant_ok b z
   name_ok at i ss es false (Some (standard_meaning s)) kept e w o q p k j = then_applied_ok s q p j
-  name_ok at i ss es false (Some (type_meaning t)) kept e w o q p k j = then_valued_ok w o k
-  name_ok at i ss es false (Some (local_variable t)) kept e w o q p k j = then_valued_ok w o k
-  name_ok at i ss es false (Some (permanent_variable t)) kept e w o q p k j = then_valued_ok w o k
-  name_ok at i ss es false (Some (routine_meaning x)) kept e w o q p k j = then_valued_ok w o k
-  name_ok at i ss es false None kept e w o q p k j = then_valued_ok w o k
+  name_ok at i ss es false _ kept e w o q p k j = then_valued_ok w o k
 
   done_ok : (o : Outcome Typed) (x : Formed) → FormAgrees m f o x.ty x.form → FormAgrees m f (o >>= λ y. Ok y) x.ty x.form
   done_ok (Ok y) x i = i

@@ -1,24 +1,18 @@
 -- Parts of variables whose types stand: no variable has both a queue and a part in which no queue is.
-use Rattle.std.proofs.Common.{◌≡◌, ◌∙◌, ℕ, ◌+◌, ◌*◌, true, false, ◌&&◌, if◌then◌else◌, Bool, List, [], ◌∷◌, Option, Some, None, inl, inr, refl, sym, ap, subst}
-use Rattle.std.specs.Prelude.{◌⊎◌, nat_lt}
-use Rattle.cp_meaning.specs.Types.{Range, Ty, ordinal, queue_type, set_over, array_over, record_with, component_of, length_of_range}
+use Rattle.std.proofs.Common.{◌≡◌, ◌∙◌, ℕ, ◌+◌, true, false, List, [], ◌∷◌, Option, Some, None, inl, inr, refl, sym, ap, subst}
+use Rattle.std.specs.Prelude.{◌⊎◌}
+use Rattle.cp_meaning.specs.Types.{Range, Ty, queue_type, array_over, component_of}
 use Rattle.cp_meaning.specs.Values.{Choice, the_field, the_element}
 use Rattle.cp_resolved.specs.Encoded.{Chosen, further_chosen, one_chosen, then_chosen, chosen_at}
-use Rattle.cp_resolved.specs.Layouts.{cells_of}
-use Rattle.cp_resolved.specs.Standing.{is_indexed, is_free, is_element, is_standing}
-use Rattle.cp_resolved.proofs.declarations.StandingParts.{free_part}
-use Rattle.cp_resolved.proofs.forms.Typing.{first_true, second_true}
+use Rattle.cp_resolved.specs.Standing.{is_indexed, is_free, is_standing}
+use Rattle.cp_resolved.proofs.declarations.StandingParts.{free_part, element_is, no_part}
+use Rattle.cp_resolved.proofs.names.Alike.{same_inside as some_same}
+use Rattle.cp_resolved.proofs.frames.LeastCells.{right_true as second_true}
 
 -- ---- what has no free part
 
 abbrev NoFree : Ty → Type 0
 NoFree t = (cs : List Choice) (o : ℕ) (v : Ty) → chosen_at t cs ≡ Some (o, v) → is_free v ≡ true → ⊥
-
-some_same : {A : Type 0} (x y : A) → Some x ≡ Some y → x ≡ y
-some_same x y h = cc
-
-no_part : (c : Chosen) → None ≡ Some c → ⊥
-no_part c h = let bad : None ≡ Some c = h in absurd cc
 
 -- a type that is not free itself and has no parts
 alone : (t : Ty) → is_free t ≡ false → ((i : Choice) → one_chosen t i ≡ None) → NoFree t
@@ -36,13 +30,6 @@ further_some : (n : ℕ) (o : Option Chosen) (c : Chosen) → further_chosen n o
 further_some n None c h = absurd (let bad : None ≡ Some c = h in cc)
 further_some n (Some d) c h = record { part = d; is = refl; same = ap (λ (e : Chosen). e.1) (some_same (n + d.0, d.1) c h) }
 
-element_is : (n : ℕ) (r : Range) (t : Ty) (c : Chosen) → one_chosen (array_over r t) (the_element n) ≡ Some c → t ≡ c.1
-element_is n r t c h = go (nat_lt n (length_of_range r)) h
-  where
-    go : (b : Bool) → (if b then Some (n * cells_of t, t) else None) ≡ Some c → t ≡ c.1
-    go true e = ap (λ (d : Chosen). d.1) (some_same (n * cells_of t, t) c e)
-    go false e = absurd (let bad : None ≡ Some c = e in cc)
-
 -- an array of such
 array_alone : (r : Range) (t : Ty) → is_free t ≡ false → NoFree t → NoFree (array_over r t)
 array_alone r t bound none [] o v h free =
@@ -59,17 +46,11 @@ array_alone r t bound none (the_element n ∷ cs) o v h free = go (one_chosen (a
         none cs k.part.0 v (subst (λ (u : Ty). chosen_at u cs ≡ Some (k.part.0, v)) (sym (element_is n r t d e)) (k.is ∙ ap (λ (u : Ty). Some (k.part.0, u)) k.same)) free
 
 free_or_none : (t : Ty) → is_standing t ≡ true → (is_free t ≡ true) ⊎ NoFree t
-free_or_none (ordinal r) h = inl h
 free_or_none queue_type h = inr (alone queue_type refl (λ i. refl))
-free_or_none (set_over r) h = inl h
-free_or_none (record_with ts) h = inl h
 free_or_none (component_of n) h = inr (alone (component_of n) refl (λ i. refl))
 free_or_none (array_over r queue_type) h = inr (array_alone r queue_type refl (alone queue_type refl (λ i. refl)))
 free_or_none (array_over r (component_of n)) h = inr (array_alone r (component_of n) refl (alone (component_of n) refl (λ i. refl)))
-free_or_none (array_over r (ordinal q)) h = inl h
-free_or_none (array_over r (set_over q)) h = inl h
-free_or_none (array_over r (array_over q t)) h = inl h
-free_or_none (array_over r (record_with ts)) h = inl h
+free_or_none _ h = inl h
 
 -- ---- variables
 
@@ -81,30 +62,3 @@ unqueued_free u cs ds o j t h free e g = go (free_or_none u h)
     go (inr none) = none cs o t e free
 
 -- ---- free types stand
-
-both_true : (a b : Bool) → a ≡ true → b ≡ true → (a && b) ≡ true
-both_true a b h g = ap (λ c. c && b) h ∙ g
-
-pub free_element : (t : Ty) → is_free t ≡ true → is_element t ≡ true
-free_element (ordinal r) h = h
-free_element queue_type h = refl
-free_element (set_over r) h = h
-free_element (array_over r t) h = h
-free_element (record_with ts) h = h
-free_element (component_of n) h = refl
-
-pub free_standing : (t : Ty) → is_free t ≡ true → is_standing t ≡ true
-free_standing (ordinal r) h = h
-free_standing queue_type h = refl
-free_standing (set_over r) h = h
-free_standing (array_over r t) h = both_true (is_indexed r t) (is_element t) (first_true (is_indexed r t) (is_free t) h) (free_element t (second_true (is_indexed r t) (is_free t) h))
-free_standing (record_with ts) h = h
-free_standing (component_of n) h = refl
-
-pub element_standing : (t : Ty) → is_element t ≡ true → is_standing t ≡ true
-element_standing (ordinal r) h = h
-element_standing queue_type h = refl
-element_standing (set_over r) h = h
-element_standing (array_over r t) h = free_standing (array_over r t) h
-element_standing (record_with ts) h = h
-element_standing (component_of n) h = refl

@@ -1,8 +1,8 @@
 -- In no least value does a process wait, nor in a part of one.
-use Rattle.std.proofs.Common.{ℕ, zero, suc, Bool, true, false, if◌then◌else◌, List, [], ◌∷◌, ◌++◌, Some, None}
+use Rattle.std.proofs.Common.{ℕ, zero, suc, Bool, true, false, if◌then◌else◌, List, [], ◌∷◌, ◌++◌, Some}
 use Rattle.cp_meaning.specs.Names.{Name, same_name}
-use Rattle.cp_meaning.specs.Types.{Ty, ordinal, queue_type, set_over, array_over, record_with, component_of, FieldTypes, no_field_types, more_field_types, has_components, length_of_range}
-use Rattle.cp_meaning.specs.Values.{Value, number_value, array_value, record_value, set_value, queue_value, Values, no_values, more_values, FieldValues, no_field_values, more_field_values, Choice, the_field, the_element, copies, least, least_fields, element_at, field_at, part_of, part_at}
+use Rattle.cp_meaning.specs.Types.{Ty, array_over, record_with, FieldTypes, no_field_types, more_field_types, has_components, length_of_range}
+use Rattle.cp_meaning.specs.Values.{Value, array_value, record_value, queue_value, Values, no_values, more_values, FieldValues, no_field_values, more_field_values, Choice, the_field, the_element, copies, least, least_fields, element_at, field_at, part_of, part_at}
 use Rattle.cp_meaning.specs.Declarations.{Variable}
 use Rattle.cp_meaning.specs.State.{holds, Environment}
 use Rattle.cp_meaning.specs.Places.{content_of, value_held}
@@ -11,12 +11,10 @@ use Rattle.cp_meaning.specs.Calls.{least_of}
 abbrev mutual
   -- nobody waits in a queue of the value
   pub IsFree : Value → Type 0
-  IsFree (number_value z) = Unit {0}
   IsFree (array_value vs) = AreFree vs
   IsFree (record_value fs) = FieldsFree fs
-  IsFree (set_value ns) = Unit {0}
-  IsFree (queue_value None) = Unit {0}
   IsFree (queue_value (Some q)) = ⊥
+  IsFree _ = Unit {0}
 
   pub AreFree : Values → Type 0
   AreFree no_values = Unit {0}
@@ -34,12 +32,9 @@ copies_free (suc n) v h = (h, copies_free n v h)
 
 mutual
   pub least_free : (t : Ty) → IsFree (least t)
-  least_free (ordinal r) = tt
-  least_free queue_type = tt
-  least_free (set_over r) = tt
   least_free (array_over r t) = copies_free (length_of_range r) (least t) (least_free t)
   least_free (record_with ts) = fields_free ts
-  least_free (component_of k) = tt
+  least_free _ = tt
 
   fields_free : (ts : FieldTypes) → FieldsFree (least_fields ts)
   fields_free no_field_types = tt
@@ -63,11 +58,7 @@ field_free (more_field_values y v fs) x h = go (same_name x y) (field_free fs x 
 one_free : (v : Value) (c : Choice) → IsFree v → IsFree (part_of v c)
 one_free (array_value vs) (the_element n) h = element_free vs n h
 one_free (record_value fs) (the_field x) h = field_free fs x h
-one_free (array_value vs) (the_field x) h = h
-one_free (record_value fs) (the_element n) h = h
-one_free (number_value z) c h = h
-one_free (set_value ns) c h = h
-one_free (queue_value o) c h = h
+one_free _ _ h = h
 
 pub part_free : (v : Value) (cs : List Choice) → IsFree v → IsFree (part_at v cs)
 part_free v [] h = h

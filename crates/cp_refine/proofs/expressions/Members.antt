@@ -149,13 +149,12 @@ member_where test j less = in_filtered test 128 0 j (omega arith) (omega arith) 
 -- ---- numbers by their bits
 
 bit_same : (x y : ℕ) → x < 2 → y < 2 → (x == 1) ≡ (y == 1) → x ≡ y
-bit_same zero zero h k e = refl
-bit_same (suc zero) (suc zero) h k e = refl
 bit_same zero (suc zero) h k e = absurd (cc)
 bit_same (suc zero) zero h k e = absurd (cc)
 bit_same (suc (suc x)) y h k e = absurd (omega (arith, h))
 bit_same zero (suc (suc y)) h k e = absurd (omega (arith, k))
 bit_same (suc zero) (suc (suc y)) h k e = absurd (omega (arith, k))
+bit_same _ _ h k e = refl
 
 pub same_bits : (a b : ℕ) → a < 2 ^ 128 → b < 2 ^ 128 → ((k : ℕ) → k < 128 → has_bit a k ≡ has_bit b k) → a ≡ b
 same_bits a b small tiny h = same_from_bits_below 128 a b small tiny (λ k less. bit_same (bit_at a k) (bit_at b k) (bit_at-lt a k) (bit_at-lt b k) (h k less))

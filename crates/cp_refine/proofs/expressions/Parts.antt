@@ -14,14 +14,13 @@ use Rattle.cp_resolved.specs.Encoded.{encode, encode_all, encode_fields, HasType
 
 all_length : (c : ℕ) (Has : Value → Type 0) → ((v : Value) → Has v → length (encode v) ≡ c) → (n : ℕ) (vs : Values) → AllHave Has n vs → length (encode_all vs) ≡ n * c
 all_length c Has e zero no_values h = omega arith
-all_length c Has e zero (more_values v vs) h = absurd h
-all_length c Has e (suc n) no_values h = absurd h
 all_length c Has e (suc n) (more_values v vs) h =
     let a = e v h.0 in
     let b = all_length c Has e n vs h.1 in
     let d = length-append (encode v) (encode_all vs) in
     let k = suc-mul n c in
     omega (arith, a, b, d, k)
+all_length c Has e _ _ h = absurd h
 
 mutual
   pub encode_length : (t : Ty) (w : Value) → HasType t w → length (encode w) ≡ cells_of t
@@ -30,37 +29,16 @@ mutual
   encode_length (set_over r) (set_value ns) h = refl
   encode_length (array_over r t) (array_value vs) h = all_length (cells_of t) (HasType t) (λ v k. encode_length t v k) (length_of_range r) vs h
   encode_length (record_with ts) (record_value fs) h = fields_length ts fs h
-  encode_length (ordinal r) (array_value vs) h = absurd h
-  encode_length (ordinal r) (record_value fs) h = absurd h
-  encode_length (ordinal r) (set_value ns) h = absurd h
-  encode_length (ordinal r) (queue_value o) h = absurd h
-  encode_length queue_type (number_value z) h = absurd h
-  encode_length queue_type (array_value vs) h = absurd h
-  encode_length queue_type (record_value fs) h = absurd h
-  encode_length queue_type (set_value ns) h = absurd h
-  encode_length (set_over r) (number_value z) h = absurd h
-  encode_length (set_over r) (array_value vs) h = absurd h
-  encode_length (set_over r) (record_value fs) h = absurd h
-  encode_length (set_over r) (queue_value o) h = absurd h
-  encode_length (array_over r t) (number_value z) h = absurd h
-  encode_length (array_over r t) (record_value fs) h = absurd h
-  encode_length (array_over r t) (set_value ns) h = absurd h
-  encode_length (array_over r t) (queue_value o) h = absurd h
-  encode_length (record_with ts) (number_value z) h = absurd h
-  encode_length (record_with ts) (array_value vs) h = absurd h
-  encode_length (record_with ts) (set_value ns) h = absurd h
-  encode_length (record_with ts) (queue_value o) h = absurd h
-  encode_length (component_of k) w h = absurd h
+  encode_length _ _ h = absurd h
 
   fields_length : (ts : FieldTypes) (fs : FieldValues) → HaveTypes ts fs → length (encode_fields fs) ≡ cells_in ts
   fields_length no_field_types no_field_values h = refl
-  fields_length no_field_types (more_field_values y v fs) h = absurd h
-  fields_length (more_field_types x t ts) no_field_values h = absurd h
   fields_length (more_field_types x t ts) (more_field_values y v fs) h =
       let a = encode_length t v h.1 in
       let b = fields_length ts fs h.2 in
       let c = length-append (encode v) (encode_fields fs) in
       omega (arith, a, b, c)
+  fields_length _ _ h = absurd h
 
 -- ---- the cells of a part
 
@@ -97,7 +75,7 @@ element_part t (suc n) (more_values v vs) (suc i) h less =
     subst (λ o. PartAt t (element_at vs i) (encode v ++ encode_all vs) o) (let z : length (encode v) + i * cells_of t ≡ suc i * cells_of t = omega (arith, e, m) in z)
     (part_further t (element_at vs i) (encode v) (encode_all vs) (i * cells_of t) (element_part t n vs i h.1 (omega arith)))
 
-some_chosen : (a b : Chosen) → Some a ≡ Some b → a ≡ b
+pub some_chosen : (a b : Chosen) → Some a ≡ Some b → a ≡ b
 some_chosen a b e = cc
 
 field_part : (ts : FieldTypes) (fs : FieldValues) (x : Name) (c : Chosen) → HaveTypes ts fs → field_chosen ts x ≡ Some c → PartAt c.1 (field_at fs x) (encode_fields fs) c.0
@@ -133,14 +111,7 @@ one_part (set_over r) w x c h e = absurd (cc)
 one_part (component_of k) w x c h e = absurd (cc)
 one_part (record_with ts) w (the_element n) c h e = absurd (cc)
 one_part (array_over r t) w (the_field x) c h e = absurd (cc)
-one_part (record_with ts) (number_value z) (the_field x) c h e = absurd h
-one_part (record_with ts) (array_value vs) (the_field x) c h e = absurd h
-one_part (record_with ts) (set_value ns) (the_field x) c h e = absurd h
-one_part (record_with ts) (queue_value o) (the_field x) c h e = absurd h
-one_part (array_over r t) (number_value z) (the_element n) c h e = absurd h
-one_part (array_over r t) (record_value fs) (the_element n) c h e = absurd h
-one_part (array_over r t) (set_value ns) (the_element n) c h e = absurd h
-one_part (array_over r t) (queue_value o) (the_element n) c h e = absurd h
+one_part _ _ _ c h e = absurd h
 
 -- a part of a part
 part_in_part : (u v : Ty) (w x : Value) (ys : List ℤ) (o n : ℕ) → PartAt u w ys o → PartAt v x (encode w) n → PartAt v x ys (o + n)

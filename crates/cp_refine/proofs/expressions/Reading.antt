@@ -49,18 +49,15 @@ part_lies m t w a cs c h e =
 pub calls_frames : (r : Tables) (l : Layouts) (m : Memory) (cs : List Call) (fs : List Frame) → CallsHold r l m cs fs → length cs ≡ length fs
 calls_frames r l m [] [] h = refl
 calls_frames r l m (c ∷ cs) (f ∷ fs) h = ap suc (calls_frames r l m cs fs h.2)
-calls_frames r l m [] (f ∷ fs) h = absurd h
-calls_frames r l m (c ∷ cs) [] h = absurd h
+calls_frames r l m _ _ h = absurd h
 
-frame_same : (f g : Frame) → Some f ≡ Some g → f ≡ g
+pub frame_same : (f g : Frame) → Some f ≡ Some g → f ≡ g
 frame_same f g e = cc
 
 -- the call and the frame that have as many below them
 pub held_above : (r : Tables) (l : Layouts) (m : Memory) (cs : List Call) (fs : List Frame) (below : ℕ) (f : Frame) (x : Name) (t : Ty) → CallsHold r l m cs fs → frame_above fs below ≡ Some f → look x (l.frames f.routine).variables ≡ Some t →
     LiesAt m t (value_held (content_of x (call_above cs below).environment)) (Local (f.base + cell_named (l.frames f.routine) x))
 held_above r l m [] [] below f x t h e k = absurd (cc)
-held_above r l m [] (g ∷ fs) below f x t h e k = absurd h
-held_above r l m (c ∷ cs) [] below f x t h e k = absurd h
 held_above r l m (c ∷ cs) (g ∷ fs) below f x t h e k =
     subst (λ n. LiesAt m t (value_held (content_of x (if n == below then c else call_above cs below).environment)) (Local (f.base + cell_named (l.frames f.routine) x))) (sym (calls_frames r l m cs fs h.2))
     (go (length fs == below) (λ d. held_above r l m cs fs below f x t h.2 d k) e)
@@ -70,6 +67,7 @@ held_above r l m (c ∷ cs) (g ∷ fs) below f x t h e k =
         let same = frame_same g f d in
         subst (λ (y : Frame). LiesAt m t (value_held (content_of x c.environment)) (Local (y.base + cell_named (l.frames y.routine) x))) same (h.1.variables x t (subst (λ (y : Frame). look x (l.frames y.routine).variables ≡ Some t) (sym same) k))
     go false ih d = ih d
+held_above r l m _ _ below f x t h e k = absurd h
 
 -- ---- places
 

@@ -13,8 +13,8 @@ use Rattle.cp_store.specs.Places.{origin_address, referred}
 use Rattle.cp_tree.specs.Syntax.{Routine, Program}
 use Rattle.cp_meaning.specs.Names.{Name, temporary, result_name}
 use Rattle.cp_meaning.specs.Types.{Range, Ty, ordinal, queue_type, set_over, array_over, record_with, component_of}
-use Rattle.cp_meaning.specs.Scopes.{Meaning, constant_meaning, type_meaning, local_variable, permanent_variable, routine_meaning, standard_meaning, find, since}
-use Rattle.cp_meaning.specs.State.{Holder, in_call, in_component, Place, Content, holds, refers, knows, Component, Call}
+use Rattle.cp_meaning.specs.Scopes.{Meaning, local_variable, permanent_variable, routine_meaning, find, since}
+use Rattle.cp_meaning.specs.State.{Holder, in_call, in_component, Place, Content, refers, Component, Call}
 use Rattle.cp_meaning.specs.Places.{View, Target, content_of, call_above, environment_of, this_call, plain_place, referred as refers_to, result_type, target_meant, target_named}
 use Rattle.cp_meaning.specs.Declarations.{routine_in}
 use Rattle.cp_meaning.specs.Systems.{system_of}
@@ -27,19 +27,14 @@ use Rattle.cp_resolved.specs.Resolved.{RoutineIs}
 use Rattle.cp_refine.specs.Represents.{further, frame_above, InFrame, BeginsAt, PlaceAt, CallIs, CallHolds}
 use Rattle.cp_refine.specs.Agrees.{TargetAgrees, BegunAgrees, Few, Sees}
 use Rattle.cp_refine.proofs.expressions.Reading.{calls_frames, AllLie, place_lies}
-
--- sums that a machine word numbers
-pub onward_is : (n k : ℕ) → n + k < 2 ^ 64 → onward n k ≡ n + k
-onward_is n k few = omega (arith, few)
+use Rattle.cp_refine.proofs.expressions.Members.{not_equal as differ}
+use Rattle.cp_refine.proofs.expressions.SetCells.{no_further as further_none}
+use Rattle.cp_store.proofs.Reaches.{onward_exact as onward_is}
 
 -- from an address that is there one moves by no cells
 pub moved_none : (m : Memory) (a : Address) (t : ℕ) → Few m → HasCells m a t → moved a 0 ≡ further a 0
 moved_none m (Permanent n) t few h = ap Permanent (onward_is n 0 (let p = few.permanents in omega (arith, p, h)))
 moved_none m (Local n) t few h = ap Local (onward_is n 0 (let p = few.cells in omega (arith, p, h)))
-
-further_none : (a : Address) → further a 0 ≡ a
-further_none (Permanent n) = ap Permanent (let e : n + 0 ≡ n = omega arith in e)
-further_none (Local n) = ap Local (let e : n + 0 ≡ n = omega arith in e)
 
 -- ---- places of frames below are places of all frames
 
@@ -50,13 +45,6 @@ above_less (g ∷ fs) below f e = go (length fs == below) refl (λ d. above_less
     go : (b : Bool) → (length fs == below) ≡ b → (frame_above fs below ≡ Some f → below < length fs) → (if b then Some g else frame_above fs below) ≡ Some f → below < suc (length fs)
     go true s ih d = let w = eqb-true (length fs) below s in omega (arith, w)
     go false s ih d = let w = ih d in omega (arith, w)
-
-differ : (a b : ℕ) → (a ≡ b → ⊥) → (a == b) ≡ false
-differ a b d = go (a == b) refl
-  where
-    go : (c : Bool) → (a == b) ≡ c → (a == b) ≡ false
-    go true e = absurd (d (eqb-true a b e))
-    go false e = e
 
 begins_more : (r : Tables) (l : Layouts) (f : Frame) (fs : List Frame) (h : Holder) (x : Name) (t : Ty) (a : Address) → BeginsAt r l fs h x t a → BeginsAt r l (f ∷ fs) h x t a
 begins_more r l f fs (in_component n) x t a b = b
@@ -114,10 +102,8 @@ module _ (g : Ground) (p : Program) (l : Layouts) (comps : List Component) (c : 
       }
 
   referred_plain : (o : Option Content) (q : Place) → ((y : Place) → o ≡ Some (refers y) → ⊥) → refers_to o q ≡ q
-  referred_plain None q never = refl
-  referred_plain (Some (holds w)) q never = refl
-  referred_plain (Some (knows n)) q never = refl
   referred_plain (Some (refers y)) q never = absurd (never y refl)
+  referred_plain _ q never = refl
 
   local_agrees : (x : Name) (t : Ty) → (look x (l.frames f.routine).variables ≡ Some t) ⊎ (look x (l.frames f.routine).references ≡ Some t) →
       TargetAgrees g.tables l (f ∷ fs) (Ok (target_meant v x (Some (local_variable t)))) t (plain_address m f (code.place ((l.frames f.routine).origins x) 0 code.no_indices))
@@ -180,10 +166,6 @@ module _ (g : Ground) (p : Program) (l : Layouts) (comps : List Component) (c : 
       (ap result_type same, local_place result_name (result_type (l.meanings f.routine).result) (rout.own_result x d))
 
   meant_agrees : (x : Name) (o : Option Meaning) → find x c.scope ≡ o → BegunAgrees g.tables l (f ∷ fs) m f (target_meant v x o) (begun_form (here p l f.routine) x o)
-  meant_agrees x None e = tt
-  meant_agrees x (Some (constant_meaning b z)) e = tt
-  meant_agrees x (Some (type_meaning t)) e = tt
-  meant_agrees x (Some (standard_meaning t)) e = tt
   meant_agrees x (Some (local_variable t)) e = local_agrees x t (rout.frame.locals x t (subst (λ s. find x s ≡ Some (local_variable t)) call_is.scope e))
   meant_agrees x (Some (routine_meaning y)) e = result_agrees x y e (is_own (here p l f.routine) x) refl
   meant_agrees x (Some (permanent_variable (component_of k))) e = part_agrees (target_meant v x (Some (permanent_variable (component_of k)))) x k (is_parameter x (system_of p (l.owners f.routine)).parameters)
@@ -192,6 +174,7 @@ module _ (g : Ground) (p : Program) (l : Layouts) (comps : List Component) (c : 
   meant_agrees x (Some (permanent_variable queue_type)) e = permanent_agrees x queue_type (rout.permanents x queue_type (subst (λ s. find x s ≡ Some (permanent_variable queue_type)) call_is.scope e) refl)
   meant_agrees x (Some (permanent_variable (set_over n))) e = permanent_agrees x (set_over n) (rout.permanents x (set_over n) (subst (λ s. find x s ≡ Some (permanent_variable (set_over n))) call_is.scope e) refl)
   meant_agrees x (Some (permanent_variable (record_with ts))) e = permanent_agrees x (record_with ts) (rout.permanents x (record_with ts) (subst (λ s. find x s ≡ Some (permanent_variable (record_with ts))) call_is.scope e) refl)
+  meant_agrees x _ e = tt
 
   -- what a process sees is what its frame has: the premise of the induction over expressions
   pub sees : Sees g.tables l (f ∷ fs) v m f (here p l f.routine)

@@ -67,7 +67,7 @@ bounded (pos a) (negsuc b) k h = absurd (below_nothing (int_le (pos a) (pos k)) 
     below_nothing false e = cc
 bounded (negsuc a) (negsuc b) k h = absurd (cc)
 
-same_truth : (x y : Bool) → (x ≡ true → y ≡ true) → (y ≡ true → x ≡ true) → x ≡ y
+pub same_truth : (x y : Bool) → (x ≡ true → y ≡ true) → (y ≡ true → x ≡ true) → x ≡ y
 same_truth true y f g = sym (f refl)
 same_truth false true f g = g refl
 same_truth false false f g = refl

@@ -4,11 +4,11 @@ use Rattle.std.specs.Prelude.{ℤ, pos, negsuc, ◌&&◌, Result, Ok, Err, unsig
 use Rattle.std.proofs.lemmas.Bool.{cases_lt}
 use Rattle.std.proofs.lemmas.Int.{ints}
 use Rattle.cp_tree.specs.declared.expression.Relation.{Relation}
-use Rattle.cp_tree.specs.declared.expression.Relation.TheVariants.{Equal, NotEqual, Less, Greater, AtMost, AtLeast, In}
+use Rattle.cp_tree.specs.declared.expression.Relation.TheVariants.{Equal, NotEqual, In}
 use Rattle.cp_tree.specs.declared.expression.Addition.{Addition}
 use Rattle.cp_tree.specs.declared.expression.Addition.TheVariants.{Plus, Minus, Or}
 use Rattle.cp_tree.specs.declared.expression.Multiplication.{Multiplication}
-use Rattle.cp_tree.specs.declared.expression.Multiplication.TheVariants.{Times, Div, Mod, And}
+use Rattle.cp_tree.specs.declared.expression.Multiplication.TheVariants.{And}
 use Rattle.cp_slots.specs.Code as code
 use Rattle.cp_slots.specs.declared.place.SetOperation.{SetOperation}
 use Rattle.cp_slots.specs.declared.place.SetOperation.TheVariants.{Union, Difference, Intersection}
@@ -22,31 +22,26 @@ use Rattle.cp_store.specs.Sets as sets
 use Rattle.cp_store.specs.Values as cells
 use Rattle.cp_store.specs.Values.{then_with}
 use Rattle.cp_meaning.specs.Outcome.{Outcome, out_of_range, ◌>>=◌}
-use Rattle.cp_meaning.specs.Types.{Ty, ordinal, set_over, queue_type, array_over, record_with, component_of, Range, all_integers, all_booleans, all_characters, natural_of, is_within}
+use Rattle.cp_meaning.specs.Types.{Ty, ordinal, set_over, Range, all_integers, all_booleans, all_characters, natural_of, is_within}
 use Rattle.cp_meaning.specs.Values.{Value, number_value, array_value, record_value, set_value, queue_value, number_of, is_member, with_member}
 use Rattle.cp_meaning.specs.Operations.{Typed, truth, set_of_members, is_among, related_values, added_values, multiplied_values}
 use Rattle.cp_meaning.specs.Expressions.{with_member_checked}
-use Rattle.cp_resolved.specs.Compiled.{Form, as_ordinal, as_set, as_place, as_component, Formed, compared_forms, added_forms, multiplied_forms, with_member_form}
+use Rattle.cp_resolved.specs.Compiled.{Form, as_ordinal, as_set, Formed, compared_forms, added_forms, multiplied_forms, with_member_form}
 use Rattle.cp_resolved.specs.Encoded.{bits_of, AreMembers, HasType}
 use Rattle.cp_refine.specs.Agrees.{OrdinalAgrees, SetAgrees, FormAgrees, Few}
 use Rattle.cp_refine.specs.Named.{error_of}
 use Rattle.cp_refine.specs.PlainValues.{plain_value, plain_set, plain_address}
 use Rattle.cp_refine.specs.Represents.{LiesAt}
 use Rattle.cp_refine.proofs.expressions.Members.{bits_are, none_above, equal_bits, joined, set_with, bits_joined, members_joined}
-use Rattle.cp_refine.proofs.expressions.Numbers.{truth_agrees}
 use Rattle.cp_refine.proofs.expressions.SetCells.{set_lies}
-use Rattle.cp_refine.proofs.expressions.Values.{FormOk}
+use Rattle.cp_refine.proofs.expressions.Values.{FormOk, by_truth}
 
 -- ---- sets
 
 -- the value of a type of sets is a set
 pub members_of_type : (t : Ty) (ns : List ℕ) → HasType t (set_value ns) → AreMembers 0 ns
 members_of_type (set_over r) ns h = h
-members_of_type (ordinal r) ns h = absurd h
-members_of_type queue_type ns h = absurd h
-members_of_type (array_over r t) ns h = absurd h
-members_of_type (record_with ts) ns h = absurd h
-members_of_type (component_of k) ns h = absurd h
+members_of_type _ ns h = absurd h
 
 -- what is shown of two sets, and of the run error of one of them
 two_sets : {A : Type 0} (G : Outcome Typed → Result A slots.ErrorName → Type 0) (t u : Ty) (F : Typed → Typed → Outcome Typed) (C : SetValue → SetValue → Result A slots.ErrorName) (o p : Outcome Typed) (r q : Result SetValue slots.ErrorName) →
@@ -57,17 +52,13 @@ two_sets G t u F C (Err e) p (Err d) q failed step h k = failed e d h
 two_sets G t u F C (Err e) p (Ok s) q failed step h k = absurd h
 two_sets G t u F C (Ok x) p (Err d) q failed step h k = absurd h
 two_sets G t u F C (Ok x) (Err e) (Ok s) (Err d) failed step h k = failed e d k
-two_sets G t u F C (Ok x) (Err e) (Ok s) (Ok z) failed step h k = absurd k
-two_sets G t u F C (Ok x) (Ok y) (Ok s) (Err d) failed step h k = absurd k
 two_sets G t u F C (Ok x) (Ok y) (Ok s) (Ok z) failed step h k =
     subst (λ (w : SetValue). G (F x y) (C w z)) (ap set_with (sym h.1.3))
     (subst (λ (w : SetValue). G (F x y) (C (set_with (bits_of h.1.0)) w)) (ap set_with (sym k.1.3))
     (step x y h.1.0 k.1.0 h.1.1 k.1.1 (members_of_type t h.1.0 h.1.2) (members_of_type u k.1.0 k.1.2)))
+two_sets G t u F C (Ok x) _ (Ok s) _ failed step h k = absurd k
 
 -- ---- tests
-
-by_truth : (x y : Bool) → x ≡ y → OrdinalAgrees (Ok (truth x)) (ordinal all_booleans) (Ok (cells.truth y))
-by_truth x y e = subst (λ (b : Bool). OrdinalAgrees (Ok (truth x)) (ordinal all_booleans) (Ok (cells.truth b))) e (truth_agrees x)
 
 test_step : (q : Relation) (x y : Value) (a b : List ℕ) (c : Bool) → x ≡ set_value a → y ≡ set_value b → related_values q (set_value a) (set_value b) ≡ c → OrdinalAgrees (Ok (truth (related_values q x y))) (ordinal all_booleans) (Ok (cells.truth c))
 test_step q x y a b c e d same =
@@ -89,13 +80,12 @@ member_step t u (Err e) p (Err d) q h k = h
 member_step t u (Err e) p (Ok z) q h k = absurd h
 member_step t u (Ok x) p (Err d) q h k = absurd h
 member_step t u (Ok x) (Err e) (Ok z) (Err d) h k = k
-member_step t u (Ok x) (Err e) (Ok z) (Ok s) h k = absurd k
-member_step t u (Ok x) (Ok y) (Ok z) (Err d) h k = absurd k
 member_step t u (Ok x) (Ok y) (Ok z) (Ok s) h k =
     subst (λ (w : SetValue). OrdinalAgrees (Ok (truth (related_values In x.value y.value))) (ordinal all_booleans) (Ok (cells.truth (sets.is_member w z)))) (ap set_with (sym k.1.3))
     (subst (λ (w : Value). OrdinalAgrees (Ok (truth (related_values In w y.value))) (ordinal all_booleans) (Ok (cells.truth (sets.is_member (set_with (bits_of k.1.0)) z)))) (sym h.1)
     (subst (λ (w : Value). OrdinalAgrees (Ok (truth (related_values In (number_value z) w))) (ordinal all_booleans) (Ok (cells.truth (sets.is_member (set_with (bits_of k.1.0)) z)))) (sym k.1.1)
     (by_truth (is_among z k.1.0) (sets.is_member (set_with (bits_of k.1.0)) z) (among_bits z k.1.0 (members_of_type u k.1.0 k.1.2)))))
+member_step t u (Ok x) _ (Ok z) _ h k = absurd k
 
 -- ---- combinations
 
@@ -137,11 +127,10 @@ added_member t (Err e) p (Err d) q h k = h
 added_member t (Err e) p (Ok s) q h k = absurd h
 added_member t (Ok ns) p (Err d) q h k = absurd h
 added_member t (Ok ns) (Err e) (Ok s) (Err d) h k = k
-added_member t (Ok ns) (Err e) (Ok s) (Ok z) h k = absurd k
-added_member t (Ok ns) (Ok x) (Ok s) (Err d) h k = absurd k
 added_member t (Ok ns) (Ok x) (Ok s) (Ok z) h k =
     subst (λ (w : SetValue). MembersAgree (with_member_checked ns x) (sets.with_element w z)) (ap set_with (sym h.1))
     (subst (λ (w : Value). MembersAgree (if is_within all_characters (number_of w) then Ok (with_member ns (natural_of (number_of w))) else Err out_of_range) (sets.with_element (set_with (bits_of ns)) z)) (sym k.1) (with_one ns z h.0))
+added_member t (Ok ns) _ (Ok s) _ h k = absurd k
 
 -- ---- on slots
 
@@ -153,20 +142,11 @@ module _ (m : Memory) (f : Frame) where
   sets_related NotEqual t u a b o p h k =
       two_sets (λ w c. OrdinalAgrees w (ordinal all_booleans) c) t u (λ x y. Ok (truth (related_values NotEqual x.value y.value))) (λ s z. Ok (sets.compared false s z)) o p (plain_set m f a) (plain_set m f b) (λ e d i. i)
       (λ x y i j e d c g. test_step NotEqual x.value y.value i j (not (bits_of i == bits_of j)) e d (ap not (equal_bits i j c g))) h k
-  sets_related Less t u a b o p h k = tt
-  sets_related Greater t u a b o p h k = tt
-  sets_related AtMost t u a b o p h k = tt
-  sets_related AtLeast t u a b o p h k = tt
-  sets_related In t u a b o p h k = tt
+  sets_related _ t u a b o p h k = tt
 
   pub member : (q : Relation) (t u : Ty) (a : code.Expression) (b : code.SetExpression) (o p : Outcome Typed) → OrdinalAgrees o t (plain_value m f a) → SetAgrees p u (plain_set m f b) → FormOk m f (o >>= λ x. p >>= λ y. Ok (truth (related_values q x.value y.value))) (compared_forms q (as_ordinal a) (as_set b))
   member In t u a b o p h k = member_step t u o p (plain_value m f a) (plain_set m f b) h k
-  member Equal t u a b o p h k = tt
-  member NotEqual t u a b o p h k = tt
-  member Less t u a b o p h k = tt
-  member Greater t u a b o p h k = tt
-  member AtMost t u a b o p h k = tt
-  member AtLeast t u a b o p h k = tt
+  member _ t u a b o p h k = tt
 
   pub sets_added : (op : Addition) (x y : Formed) (a b : code.SetExpression) (o p : Outcome Typed) → SetAgrees o x.ty (plain_set m f a) → SetAgrees p y.ty (plain_set m f b) → FormOk m f (o >>= λ x. p >>= λ y. added_values op x.value y.value) (added_forms op x y (as_set a) (as_set b))
   sets_added Plus x y a b o p h k = tt
@@ -181,9 +161,7 @@ module _ (m : Memory) (f : Frame) where
   sets_multiplied And x y a b o p h k =
       two_sets (λ w c. SetAgrees w (set_over all_integers) c) x.ty y.ty (λ v w. multiplied_values And v.value w.value) (λ s z. Ok (sets.combined Intersection s z)) o p (plain_set m f a) (plain_set m f b) (λ e d i. i)
       (λ v w i j e d c g. combined_step Intersection (multiplied_values And) v.value w.value i j e d refl c g) h k
-  sets_multiplied Times x y a b o p h k = tt
-  sets_multiplied Div x y a b o p h k = tt
-  sets_multiplied Mod x y a b o p h k = tt
+  sets_multiplied _ x y a b o p h k = tt
 
   -- a variable of a set type
   pub set_loaded : Few m → (q : Range) (p : code.Place) (w : Value) (a : Address) → plain_address m f p ≡ Ok a → LiesAt m (set_over q) w a → SetAgrees (Ok (record { ty = set_over q; value = w })) (set_over q) (plain_set m f (code.load_set p))
@@ -203,9 +181,7 @@ module _ (m : Memory) (f : Frame) where
     where
       some_set : (x y : code.SetExpression) → Some x ≡ Some y → x ≡ y
       some_set x y e = cc
-  member_added b c (as_set d) t o p h k is = absurd (cc)
-  member_added b c (as_place d) t o p h k is = absurd (cc)
-  member_added b c (as_component d) t o p h k is = absurd (cc)
+  member_added b c x t o p h k is = absurd (cc)
 
   -- all members of a constructor
   pub set_constructed : (c : code.SetExpression) (o : Outcome (List ℕ)) → MembersAgree o (plain_set m f c) → SetAgrees (o >>= λ ns. Ok (set_of_members ns)) (set_over all_integers) (plain_set m f c)

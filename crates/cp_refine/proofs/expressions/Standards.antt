@@ -7,33 +7,31 @@ use Rattle.cp_slots.specs.Code as code
 use Rattle.cp_store.specs.declared.error.ErrorName as slots
 use Rattle.cp_store.specs.declared.error.ErrorName.TheVariants.{Range as Outside}
 use Rattle.cp_store.specs.declared.memory.Address.{Address}
-use Rattle.cp_store.specs.declared.memory.Address.TheVariants.{Permanent, Local}
 use Rattle.cp_store.specs.declared.memory.Frame.{Frame}
 use Rattle.cp_store.specs.Memory.{Memory, cell_at}
 use Rattle.cp_store.specs.Places.{loaded}
 use Rattle.cp_store.specs.Values as cells
 use Rattle.cp_store.specs.Values.{then_with}
 use Rattle.cp_meaning.specs.Outcome.{Outcome, ◌>>=◌, out_of_range}
-use Rattle.cp_meaning.specs.Types.{Base, integers, booleans, characters, enumerated, Range, Ty, ordinal, queue_type, all_integers, all_booleans, all_characters, is_within}
+use Rattle.cp_meaning.specs.Types.{Base, integers, characters, Range, Ty, ordinal, queue_type, all_integers, all_booleans, all_characters, is_within}
 use Rattle.cp_meaning.specs.Values.{Value, number_value, array_value, record_value, set_value, queue_value, number_of, waiting_in}
 use Rattle.cp_meaning.specs.Scopes.{Standard, succ_function, pred_function, chr_function, ord_function, abs_function, empty_function, delay_procedure, continue_procedure, display_procedure}
 use Rattle.cp_meaning.specs.Operations.{Typed, truth, signed_value, range_of_base, in_base, standard_value, fitting}
 use Rattle.cp_resolved.specs.Compiled.{Form, as_ordinal, as_set, as_place, as_component, Formed, is_integer, applied_ordinal, applied_place, applied_form_of, applied_form, integer_form}
 use Rattle.cp_resolved.specs.Encoded.{encode, flag_of, HasType}
 use Rattle.cp_refine.specs.PlainValues.{plain_value, plain_address}
-use Rattle.cp_refine.specs.Represents.{further, BlockAt, LiesAt}
+use Rattle.cp_refine.specs.Represents.{BlockAt, LiesAt}
 use Rattle.cp_refine.specs.Agrees.{OrdinalAgrees, PlaceAgrees, FormAgrees}
 use Rattle.cp_refine.proofs.expressions.Numbers.{fits_narrowed, truth_agrees}
 use Rattle.cp_refine.proofs.expressions.Values.{FormOk, integer_range}
+use Rattle.cp_refine.proofs.expressions.SetCells.{no_further as further_none}
 
 -- ---- ranges of bases
 
 -- a base is that of its range
 pub base_again : (b : Base) → range_of_base (range_of_base b).base ≡ range_of_base b
 base_again integers = refl
-base_again booleans = refl
-base_again characters = refl
-base_again (enumerated at xs) = refl
+base_again _ = refl
 
 -- one operand, with its type
 typed_agrees : (t u : Ty) (F : Typed → Outcome Typed) (C : ℤ → Result ℤ slots.ErrorName) (o : Outcome Typed) (r : Result ℤ slots.ErrorName) →
@@ -42,8 +40,7 @@ typed_agrees t u F C (Ok x) (Ok a) step h =
     subst (λ (s : Ty). OrdinalAgrees (F (record { ty = s; value = x.value })) u (C a)) (sym h.0)
     (subst (λ (w : Value). OrdinalAgrees (F (record { ty = t; value = w })) u (C a)) (sym h.1) (step a h.2))
 typed_agrees t u F C (Err e) (Err d) step h = h
-typed_agrees t u F C (Ok x) (Err d) step h = absurd h
-typed_agrees t u F C (Err e) (Ok a) step h = absurd h
+typed_agrees t u F C _ _ step h = absurd h
 
 -- ---- succ, pred and chr
 
@@ -72,9 +69,7 @@ predecessor_same b z h =
 
 small : (b : Base) (z : ℤ) → is_within (range_of_base b) z ≡ true → is_within all_integers (range_of_base b).high ≡ true → is_within all_integers z ≡ true
 small integers z h k = h
-small booleans z h k = grind (arith, ints)
-small characters z h k = grind (arith, ints)
-small (enumerated at xs) z h k = grind (arith, ints)
+small x z h k = grind (arith, ints)
 
 absolute_is : (z : ℤ) → (if int_lt z (pos 0) then neg_ℤ z else z) ≡ pos (unsigned_abs z)
 absolute_is z = grind (arith, ints)
@@ -83,10 +78,6 @@ absolute_same : (z : ℤ) → OrdinalAgrees (fitting (if int_lt z (pos 0) then n
 absolute_same z = subst (λ (y : ℤ). OrdinalAgrees (fitting y) (ordinal all_integers) (cells.absolute z)) (sym (absolute_is z)) (fits_narrowed (pos (unsigned_abs z)))
 
 -- ---- empty
-
-further_none : (a : Address) → further a 0 ≡ a
-further_none (Permanent n) = let e : n + 0 ≡ n = omega arith in cc
-further_none (Local n) = let e : n + 0 ≡ n = omega arith in cc
 
 -- a queue is its flag
 queue_lies : (m : Memory) (w : Value) (a : Address) → LiesAt m queue_type w a → (o : Option ℕ) × (w ≡ queue_value o) × (cell_at m a ≡ flag_of o)
@@ -109,8 +100,7 @@ empty_same m (Ok x) (Ok a) h =
     go None = truth_agrees true
     go (Some r) = truth_agrees false
 empty_same m (Err e) (Err d) h = h
-empty_same m (Ok x) (Err d) h = absurd h
-empty_same m (Err e) (Ok a) h = absurd h
+empty_same m _ _ h = absurd h
 
 -- ---- signs and functions as they stand in expressions
 
@@ -138,15 +128,13 @@ module _ (m : Memory) (f : Frame) where
   applied_number succ_function (ordinal r) b c o e i = typed_agrees (ordinal r) (ordinal (range_of_base r.base)) (standard_value succ_function) (cells.successor (range_of_base r.base).high) o (plain_value m f c) (λ z h. successor_same r.base z h) i
   applied_number pred_function (ordinal r) b c o e i = typed_agrees (ordinal r) (ordinal (range_of_base r.base)) (standard_value pred_function) (cells.predecessor (range_of_base r.base).low) o (plain_value m f c) (λ z h. predecessor_same r.base z h) i
   applied_number chr_function (ordinal r) true c o e i = typed_agrees (ordinal r) (ordinal all_characters) (standard_value chr_function) (cells.ranged (pos 0) (pos 127)) o (plain_value m f c) (λ z h. based characters z (is_within all_characters z) refl) i
-  applied_number chr_function (ordinal r) false c o e i = tt
   applied_number ord_function (ordinal r) b c o e i = ord_ok r c o i (is_within all_integers (range_of_base r.base).high) refl
   applied_number abs_function (ordinal r) true c o e i = typed_agrees (ordinal r) (ordinal all_integers) (standard_value abs_function) cells.absolute o (plain_value m f c) (λ z h. absolute_same z) i
-  applied_number abs_function (ordinal r) false c o e i = tt
   applied_number empty_function (ordinal r) b c o e i = tt
   applied_number delay_procedure (ordinal r) b c o e i = tt
   applied_number continue_procedure (ordinal r) b c o e i = tt
   applied_number display_procedure (ordinal r) b c o e i = tt
-  applied_number s t b c o e i = tt
+  applied_number _ _ _ c o e i = tt
 
   applied_queue : (s : Standard) (t : Ty) (p : code.Place) (o : Outcome Typed) → PlaceAgrees m o t (plain_address m f p) → FormOk m f (o >>= standard_value s) (applied_place s t p)
   applied_queue empty_function queue_type p o i = empty_same m o (plain_address m f p) i

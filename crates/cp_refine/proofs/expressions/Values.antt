@@ -1,5 +1,5 @@
 -- Expressions give the same on names and on slots.
-use Rattle.std.proofs.Common.{◌≡◌, Bool, true, false, not, Option, Some, None, ap, sym, refl, subst}
+use Rattle.std.proofs.Common.{◌≡◌, Bool, true, not, Option, Some, None, ap, sym, refl, subst}
 use Rattle.std.specs.Prelude.{ℤ, ◌+ℤ◌, ◌-ℤ◌, ◌*ℤ◌, int_le, int_lt, Result, Ok, Err}
 use Rattle.std.specs.Ordering.{int_eq}
 use Rattle.std.proofs.lemmas.Int.{ints}
@@ -15,7 +15,7 @@ use Rattle.cp_store.specs.Memory.{Memory}
 use Rattle.cp_store.specs.Values as cells
 use Rattle.cp_store.specs.Values.{then_with}
 use Rattle.cp_meaning.specs.Outcome.{Outcome, ◌>>=◌}
-use Rattle.cp_meaning.specs.Types.{Ty, ordinal, set_over, queue_type, array_over, record_with, component_of, Base, integers, booleans, characters, enumerated, all_integers, all_booleans, is_within}
+use Rattle.cp_meaning.specs.Types.{Ty, ordinal, Base, integers, booleans, characters, enumerated, all_integers, all_booleans, is_within}
 use Rattle.cp_meaning.specs.Values.{Value, number_value}
 use Rattle.cp_meaning.specs.Operations.{Typed, truth, same_integer, related_numbers, related_values, added_values, multiplied_values, range_of_base}
 use Rattle.cp_slots.specs.Code as code
@@ -45,11 +45,7 @@ integer_range (ordinal r) z e h = go r.base e h
     go booleans e h = absurd (cc)
     go characters e h = absurd (cc)
     go (enumerated at xs) e h = absurd (cc)
-integer_range queue_type z e h = absurd h
-integer_range (set_over r) z e h = absurd h
-integer_range (array_over r t) z e h = absurd h
-integer_range (record_with ts) z e h = absurd h
-integer_range (component_of k) z e h = absurd h
+integer_range _ z e h = absurd h
 
 pub truth_range : (t : Ty) (z : ℤ) → is_boolean t ≡ true → HasType t (number_value z) → is_within all_booleans z ≡ true
 truth_range (ordinal r) z e h = go r.base e h
@@ -59,11 +55,7 @@ truth_range (ordinal r) z e h = go r.base e h
     go integers e h = absurd (cc)
     go characters e h = absurd (cc)
     go (enumerated at xs) e h = absurd (cc)
-truth_range queue_type z e h = absurd h
-truth_range (set_over r) z e h = absurd h
-truth_range (array_over r t) z e h = absurd h
-truth_range (record_with ts) z e h = absurd h
-truth_range (component_of k) z e h = absurd h
+truth_range _ z e h = absurd h
 
 -- ---- one operand, and two
 
@@ -71,8 +63,7 @@ pub one_agrees : (t u : Ty) (F : Typed → Outcome Typed) (C : ℤ → Result �
     ((x : Typed) (a : ℤ) → x.value ≡ number_value a → HasType t (number_value a) → OrdinalAgrees (F x) u (C a)) → OrdinalAgrees o t r → OrdinalAgrees (o >>= F) u (then_with r C)
 one_agrees t u F C (Ok x) (Ok a) step h = step x a h.1 h.2
 one_agrees t u F C (Err e) (Err d) step h = h
-one_agrees t u F C (Ok x) (Err d) step h = absurd h
-one_agrees t u F C (Err e) (Ok a) step h = absurd h
+one_agrees t u F C _ _ step h = absurd h
 
 pub two_agree : (t u w : Ty) (F : Typed → Typed → Outcome Typed) (C : ℤ → ℤ → Result ℤ slots.ErrorName) (o : Outcome Typed) (r : Result ℤ slots.ErrorName) (p : Outcome Typed) (q : Result ℤ slots.ErrorName) →
     ((x y : Typed) (a b : ℤ) → x.value ≡ number_value a → y.value ≡ number_value b → HasType t (number_value a) → HasType u (number_value b) → OrdinalAgrees (F x y) w (C a b)) →
@@ -82,7 +73,7 @@ two_agree t u w F C o r p q step h k = one_agrees t w (λ x. p >>= λ y. F x y) 
 -- ---- the operations
 
 -- each relation of ordinals is its comparison
-by_truth : (x y : Bool) → x ≡ y → OrdinalAgrees (Ok (truth x)) (ordinal all_booleans) (Ok (cells.truth y))
+pub by_truth : (x y : Bool) → x ≡ y → OrdinalAgrees (Ok (truth x)) (ordinal all_booleans) (Ok (cells.truth y))
 by_truth x y e = subst (λ (b : Bool). OrdinalAgrees (Ok (truth x)) (ordinal all_booleans) (Ok (cells.truth b))) e (truth_agrees x)
 
 relation_step : (r : Relation) (x y : Value) (a b : ℤ) (C : ℤ) → x ≡ number_value a → y ≡ number_value b → OrdinalAgrees (Ok (truth (related_numbers r a b))) (ordinal all_booleans) (Ok C) → OrdinalAgrees (Ok (truth (related_values r x y))) (ordinal all_booleans) (Ok C)
@@ -114,9 +105,7 @@ module _ (m : Memory) (f : Frame) where
   added_agree Plus t u true y a b o p ints truths h k = two_agree t u (ordinal all_integers) _ _ o (plain_value m f a) p (plain_value m f b) (λ v w i j e d _ _. values_step (added_values Plus) (ordinal all_integers) v.value w.value i j _ e d (fits_narrowed (i +ℤ j))) h k
   added_agree Minus t u true y a b o p ints truths h k = two_agree t u (ordinal all_integers) _ _ o (plain_value m f a) p (plain_value m f b) (λ v w i j e d _ _. values_step (added_values Minus) (ordinal all_integers) v.value w.value i j _ e d (fits_narrowed (i -ℤ j))) h k
   added_agree Or t u x true a b o p ints truths h k = two_agree t u (ordinal all_booleans) _ _ o (plain_value m f a) p (plain_value m f b) (λ v w i j e d q r. values_step (added_values Or) (ordinal all_booleans) v.value w.value i j _ e d (or_same i j (truth_range t i (truths refl).0 q) (truth_range u j (truths refl).1 r))) h k
-  added_agree Plus t u false y a b o p ints truths h k = tt
-  added_agree Minus t u false y a b o p ints truths h k = tt
-  added_agree Or t u x false a b o p ints truths h k = tt
+  added_agree _ t u _ _ a b o p ints truths h k = tt
 
   pub multiplied_agree : (op : Multiplication) (t u : Ty) (x y : Bool) (a b : code.Expression) (o p : Outcome Typed) → (x ≡ true → (is_integer t ≡ true) × (is_integer u ≡ true)) → (y ≡ true → (is_boolean t ≡ true) × (is_boolean u ≡ true)) →
       OrdinalAgrees o t (plain_value m f a) → OrdinalAgrees p u (plain_value m f b) → FormOk m f (o >>= λ x. p >>= λ y. multiplied_values op x.value y.value) (multiplied_ordinals op x y a b)
@@ -124,7 +113,4 @@ module _ (m : Memory) (f : Frame) where
   multiplied_agree Div t u true y a b o p ints truths h k = two_agree t u (ordinal all_integers) _ _ o (plain_value m f a) p (plain_value m f b) (λ v w i j e d _ _. values_step (multiplied_values Div) (ordinal all_integers) v.value w.value i j _ e d (quotient_same i j)) h k
   multiplied_agree Mod t u true y a b o p ints truths h k = two_agree t u (ordinal all_integers) _ _ o (plain_value m f a) p (plain_value m f b) (λ v w i j e d q r. values_step (multiplied_values Mod) (ordinal all_integers) v.value w.value i j _ e d (remainder_same i j (integer_range u j (ints refl).1 r))) h k
   multiplied_agree And t u x true a b o p ints truths h k = two_agree t u (ordinal all_booleans) _ _ o (plain_value m f a) p (plain_value m f b) (λ v w i j e d q r. values_step (multiplied_values And) (ordinal all_booleans) v.value w.value i j _ e d (and_same i j (truth_range t i (truths refl).0 q) (truth_range u j (truths refl).1 r))) h k
-  multiplied_agree Times t u false y a b o p ints truths h k = tt
-  multiplied_agree Div t u false y a b o p ints truths h k = tt
-  multiplied_agree Mod t u false y a b o p ints truths h k = tt
-  multiplied_agree And t u x false a b o p ints truths h k = tt
+  multiplied_agree _ t u _ _ a b o p ints truths h k = tt

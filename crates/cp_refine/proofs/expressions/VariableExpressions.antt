@@ -15,8 +15,8 @@ use Rattle.cp_slots.specs.Tables.{Tables}
 use Rattle.cp_store.specs.declared.memory.Frame.{Frame}
 use Rattle.cp_store.specs.Memory.{Memory}
 use Rattle.cp_meaning.specs.Outcome.{Outcome, ◌>>=◌}
-use Rattle.cp_meaning.specs.Types.{Ty, ordinal, set_over, queue_type, array_over, record_with, component_of, Base, integers, characters, all_integers, is_within}
-use Rattle.cp_meaning.specs.Scopes.{Scope, Meaning, constant_meaning, type_meaning, local_variable, permanent_variable, routine_meaning, standard_meaning, Standard, succ_function, pred_function, chr_function, ord_function, abs_function, empty_function, find}
+use Rattle.cp_meaning.specs.Types.{Ty, ordinal, queue_type, Base, integers, characters, all_integers, is_within}
+use Rattle.cp_meaning.specs.Scopes.{Scope, Meaning, constant_meaning, standard_meaning, Standard, succ_function, pred_function, chr_function, ord_function, abs_function, empty_function, find}
 use Rattle.cp_meaning.specs.Operations.{Typed, signed_value, range_of_base}
 use Rattle.cp_meaning.specs.Places.{View, Target, value_at}
 use Rattle.cp_meaning.specs.Expressions.{value, factor_value, first_value, target_value, named_value, name_of, result_called, routine_called, variable_in, variable_in_factor}
@@ -30,6 +30,7 @@ use Rattle.cp_refine.specs.Remaining.{AreKept}
 use Rattle.cp_refine.proofs.expressions.Expressions.{designator_ok}
 use Rattle.cp_refine.proofs.calls.Kept.{kept_left}
 use Rattle.cp_refine.proofs.expressions.Values.{then_some, form_is}
+use Rattle.cp_resolved.proofs.forms.GivenArguments.{loaded_place as place_loaded}
 
 -- ---- what is no variable has the form of an ordinal or of a set
 
@@ -52,28 +53,12 @@ compared_not Less (as_ordinal a) (as_ordinal b) = λ i. i
 compared_not Greater (as_ordinal a) (as_ordinal b) = λ i. i
 compared_not AtMost (as_ordinal a) (as_ordinal b) = λ i. i
 compared_not AtLeast (as_ordinal a) (as_ordinal b) = λ i. i
-compared_not In (as_ordinal a) (as_ordinal b) = tt
 compared_not In (as_ordinal a) (as_set b) = λ i. i
-compared_not Equal (as_ordinal a) (as_set b) = tt
-compared_not NotEqual (as_ordinal a) (as_set b) = tt
-compared_not Less (as_ordinal a) (as_set b) = tt
-compared_not Greater (as_ordinal a) (as_set b) = tt
-compared_not AtMost (as_ordinal a) (as_set b) = tt
-compared_not AtLeast (as_ordinal a) (as_set b) = tt
 compared_not Equal (as_set a) (as_set b) = λ i. i
 compared_not NotEqual (as_set a) (as_set b) = λ i. i
-compared_not Less (as_set a) (as_set b) = tt
-compared_not Greater (as_set a) (as_set b) = tt
-compared_not AtMost (as_set a) (as_set b) = tt
-compared_not AtLeast (as_set a) (as_set b) = tt
-compared_not In (as_set a) (as_set b) = tt
 compared_not q (as_ordinal a) (as_place b) = tt
-compared_not q (as_ordinal a) (as_component b) = tt
 compared_not q (as_set a) (as_ordinal b) = tt
-compared_not q (as_set a) (as_place b) = tt
-compared_not q (as_set a) (as_component b) = tt
-compared_not q (as_place a) b = tt
-compared_not q (as_component a) b = tt
+compared_not _ _ _ = tt
 
 added_not : (op : Addition) (x y : Formed) (a b : Form) → NotPlace (added_forms op x y a b)
 added_not op x y (as_ordinal a) (as_ordinal b) = go op _ _
@@ -85,17 +70,10 @@ added_not op x y (as_ordinal a) (as_ordinal b) = go op _ _
     go Plus false t = tt
     go Minus false t = tt
     go Or n false = tt
-added_not Plus x y (as_set a) (as_set b) = tt
 added_not Minus x y (as_set a) (as_set b) = λ i. i
 added_not Or x y (as_set a) (as_set b) = λ i. i
-added_not op x y (as_ordinal a) (as_set b) = tt
-added_not op x y (as_ordinal a) (as_place b) = tt
-added_not op x y (as_ordinal a) (as_component b) = tt
 added_not op x y (as_set a) (as_ordinal b) = tt
-added_not op x y (as_set a) (as_place b) = tt
-added_not op x y (as_set a) (as_component b) = tt
-added_not op x y (as_place a) b = tt
-added_not op x y (as_component a) b = tt
+added_not _ x y _ _ = tt
 
 multiplied_not : (op : Multiplication) (x y : Formed) (a b : Form) → NotPlace (multiplied_forms op x y a b)
 multiplied_not op x y (as_ordinal a) (as_ordinal b) = go op _ _
@@ -109,37 +87,18 @@ multiplied_not op x y (as_ordinal a) (as_ordinal b) = go op _ _
     go Div false t = tt
     go Mod false t = tt
     go And n false = tt
-multiplied_not Times x y (as_set a) (as_set b) = tt
-multiplied_not Div x y (as_set a) (as_set b) = tt
-multiplied_not Mod x y (as_set a) (as_set b) = tt
 multiplied_not And x y (as_set a) (as_set b) = λ i. i
-multiplied_not op x y (as_ordinal a) (as_set b) = tt
-multiplied_not op x y (as_ordinal a) (as_place b) = tt
-multiplied_not op x y (as_ordinal a) (as_component b) = tt
 multiplied_not op x y (as_set a) (as_ordinal b) = tt
-multiplied_not op x y (as_set a) (as_place b) = tt
-multiplied_not op x y (as_set a) (as_component b) = tt
-multiplied_not op x y (as_place a) b = tt
-multiplied_not op x y (as_component a) b = tt
+multiplied_not _ x y _ _ = tt
 
 signed_not : (s : Sign) (x : Formed) (b : Bool) (f : Form) → NotPlace (signed_ordinal (Some s) x b f)
 signed_not sign.Plus x true (as_ordinal c) = λ i. i
 signed_not sign.Minus x true (as_ordinal c) = λ i. i
-signed_not sign.Plus x true (as_set c) = tt
-signed_not sign.Plus x true (as_place c) = tt
-signed_not sign.Plus x true (as_component c) = tt
-signed_not sign.Minus x true (as_set c) = tt
-signed_not sign.Minus x true (as_place c) = tt
-signed_not sign.Minus x true (as_component c) = tt
-signed_not sign.Plus x false f = tt
-signed_not sign.Minus x false f = tt
+signed_not _ x _ _ = tt
 
 negated_not : (b : Bool) (f : Form) → NotPlace (not_form_of b f)
 negated_not true (as_ordinal c) = λ i. i
-negated_not true (as_set c) = tt
-negated_not true (as_place c) = tt
-negated_not true (as_component c) = tt
-negated_not false f = tt
+negated_not _ _ = tt
 
 constant_not : (b : Base) (z : ℤ) → NotPlace (constant_form b z)
 constant_not b z = go (is_within (range_of_base b) z)
@@ -150,11 +109,7 @@ constant_not b z = go (is_within (range_of_base b) z)
 
 call_not : (h : Here) (at : ℕ) (t : Ty) → NotPlace (call_form h at t)
 call_not h at (ordinal r) = λ i. i
-call_not h at queue_type = tt
-call_not h at (set_over r) = tt
-call_not h at (array_over r t) = tt
-call_not h at (record_with ts) = tt
-call_not h at (component_of k) = tt
+call_not h at _ = tt
 
 -- ---- an expression that is a name
 
@@ -216,20 +171,14 @@ module _ (v : View) (h : Here) where
 
   mutual
     pub variable_is : (e : Expression) (d : Designator) → variable_in e ≡ Some d → IsName v h e d no_expressions
-    variable_is (related at a q b) d k = absurd (cc)
-    variable_is (alone at (sum at2 (Some s) t ts)) d k = absurd (cc)
     variable_is (alone at (sum at2 None t (more_terms op u us))) d k = absurd (cc)
-    variable_is (alone at (sum at2 None (term at3 c (more_factors op b bs)) no_terms)) d k = absurd (cc)
     variable_is (alone at (sum at2 None (term at3 c no_factors) no_terms)) d k = lone at at2 at3 c d no_expressions (factor_is c d k)
+    variable_is x d k = absurd (cc)
 
     factor_is : (c : Factor) (d : Designator) → variable_in_factor c ≡ Some d → IsNamedFactor v h c d no_expressions
     factor_is (named at x no_expressions) d k = subst (λ y. IsNamedFactor v h (named at x no_expressions) y no_expressions) (designator_is x d k) (own_factor at x no_expressions)
-    factor_is (named at x (more_expressions e es)) d k = absurd (cc)
     factor_is (group at e) d k = in_group at e d no_expressions (variable_is e d k)
-    factor_is (number at n) d k = absurd (cc)
-    factor_is (character at n) d k = absurd (cc)
-    factor_is (negated at c) d k = absurd (cc)
-    factor_is (set_of at es) d k = absurd (cc)
+    factor_is x d k = absurd (cc)
 
   -- ---- by its form
 
@@ -299,8 +248,7 @@ applied_place_not s t p = tt
 applied_not : (s : Standard) (x : Formed) (f : Form) → NotPlace (applied_form_of s x f)
 applied_not s x (as_ordinal c) = applied_ordinal_not s x.ty (is_integer x.ty) c
 applied_not s x (as_place p) = applied_place_not s x.ty p
-applied_not s x (as_set b) = tt
-applied_not s x (as_component c) = tt
+applied_not s x _ = tt
 
 -- the value of a variable
 abbrev pub of_variable : View → Outcome Target → Outcome Typed
@@ -314,11 +262,7 @@ place_name : (v : View) (h : Here) (at : ℕ) (d : Designator) (argument : Outco
 place_name v h at d argument w true m z e i = absurd (never (call_form h at (result_called (routine_called h.program h.scope d))) z (call_not h at (result_called (routine_called h.program h.scope d))) e i)
 place_name v h at d argument w false (Some (constant_meaning b n)) z e i = absurd (never (constant_form b n) z (constant_not b n) e i)
 place_name v h at d argument w false (Some (standard_meaning s)) z e i = then_some (IsVariableName v h at d argument false (Some (standard_meaning s)) z) w (applied_form s) z e (λ x ex k. absurd (never (applied_form s x) z (applied_not s x x.form) k i))
-place_name v h at d argument w false (Some (type_meaning t)) z e i = (refl, e)
-place_name v h at d argument w false (Some (local_variable t)) z e i = (refl, e)
-place_name v h at d argument w false (Some (permanent_variable t)) z e i = (refl, e)
-place_name v h at d argument w false (Some (routine_meaning r)) z e i = (refl, e)
-place_name v h at d argument w false None z e i = (refl, e)
+place_name v h at d argument w false _ z e i = (refl, e)
 
 -- the form of a variable alone, which has no arguments and is no call
 plain_name : (h : Here) (at : ℕ) (d : Designator) (m : Option Meaning) (z : Formed) (p : code.Place) → named_form h at d false m (designator_form h d) None ≡ Some z → place_form z.form ≡ Some p → then_form (designator_form h d) valued_form ≡ Some z
@@ -328,19 +272,7 @@ plain_name h at d (Some (constant_meaning b n)) z p e k = absurd (go (is_within 
     go true e = (let w : None ≡ Some p = subst (λ (x : Formed). place_form x.form ≡ Some p) (sym (form_is e)) k in cc)
     go false e = cc
 plain_name h at d (Some (standard_meaning s)) z p e k = absurd (cc)
-plain_name h at d (Some (type_meaning t)) z p e k = e
-plain_name h at d (Some (local_variable t)) z p e k = e
-plain_name h at d (Some (permanent_variable t)) z p e k = e
-plain_name h at d (Some (routine_meaning r)) z p e k = e
-plain_name h at d None z p e k = e
-
-place_loaded : (p : code.Place) (t : Ty) → place_form (loaded_form p t) ≡ Some p
-place_loaded p (ordinal r) = refl
-place_loaded p queue_type = refl
-place_loaded p (set_over r) = refl
-place_loaded p (array_over r t) = refl
-place_loaded p (record_with ts) = refl
-place_loaded p (component_of k) = refl
+plain_name h at d _ z p e k = e
 
 place_of_place : (f : Form) (p : code.Place) → f ≡ as_place p → place_form f ≡ Some p
 place_of_place f p e = ap place_form e
@@ -395,11 +327,7 @@ module _ (r : Tables) (l : Layouts) (fs : List Frame) (v : View) (m : Memory) (f
 
 no_component : (p : code.Place) (t : Ty) (c : code.ComponentPlace) → loaded_form p t ≡ as_component c → ⊥
 no_component p (ordinal r) c e = cc
-no_component p queue_type c e = cc
-no_component p (set_over r) c e = cc
-no_component p (array_over r t) c e = cc
-no_component p (record_with ts) c e = cc
-no_component p (component_of k) c e = cc
+no_component p x c e = cc
 
 -- a component that is named alone
 pub component_found : (v : View) (h : Here) (e : Expression) (d : Designator) (z : Formed) (c : code.ComponentPlace) → variable_in e ≡ Some d → expression_form h e ≡ Some z → z.form ≡ as_component c →
@@ -429,11 +357,7 @@ no_arguments : (h k : Here) (at : ℕ) (d : Designator) (es : Expressions) (targ
 no_arguments h k at d es target w true m z e i u = absurd (never (call_form h at (result_called (routine_called h.program h.scope d))) z (call_not h at (result_called (routine_called h.program h.scope d))) e i)
 no_arguments h k at d es target w false (Some (constant_meaning b n)) z e i u = absurd (never (constant_form b n) z (constant_not b n) e i)
 no_arguments h k at d es target w false (Some (standard_meaning s)) z e i u = then_some (es ≡ no_expressions) w (applied_form s) z e (λ x ex j. absurd (never (applied_form s x) z (applied_not s x x.form) j i))
-no_arguments h k at d es target w false (Some (type_meaning t)) z e i u = none_given es u
-no_arguments h k at d es target w false (Some (local_variable t)) z e i u = none_given es u
-no_arguments h k at d es target w false (Some (permanent_variable t)) z e i u = none_given es u
-no_arguments h k at d es target w false (Some (routine_meaning r)) z e i u = none_given es u
-no_arguments h k at d es target w false None z e i u = none_given es u
+no_arguments h k at d es target w false _ z e i u = none_given es u
 
 -- a component is named alone
 pub component_named : (v : View) (h k : Here) (e : Expression) (z : Formed) → expression_form h e ≡ Some z → IsPlace z.form → k.scope ≡ h.scope → IsUsed k e → (d : Designator) × (variable_in e ≡ Some d)

@@ -14,7 +14,7 @@ use Rattle.cp_store.specs.declared.memory.Address.{Address}
 use Rattle.cp_store.specs.declared.memory.Frame.{Frame}
 use Rattle.cp_store.specs.Memory.{Memory, moved}
 use Rattle.cp_store.specs.Places as places
-use Rattle.cp_store.specs.Places.{ToValue, ToSet, ToElement, ToAddress, origin_address, loaded, value_at, set_at, address_at, element_at, indexed_at}
+use Rattle.cp_store.specs.Places.{ToValue, ToSet, ToElement, ToAddress, origin_address, loaded, value_at, set_at, address_at, element_at}
 use Rattle.cp_store.specs.Sets as sets
 use Rattle.cp_store.specs.Values.{then_with, ranged, truth, is_true, negated, absolute, successor, predecessor, calculated, combined, compared}
 use Rattle.cp_refine.specs.PlainValues.{plain_value, plain_set, plain_address, plain_indexed, ViewsAgree}

@@ -1,7 +1,6 @@
 -- Entering a monitor: who is inside on names is the holder on slots.
-use Rattle.std.proofs.Common.{◌≡◌, ◌≢◌, ◌∙◌, ℕ, zero, suc, ◌<◌, ◌⊎◌, inl, inr, Bool, true, false, not, ◌==◌, if◌then◌else◌, List, [], ◌∷◌, ◌++◌, Option, Some, None, ap, sym, refl, subst, arith, length, length-set, eq-eqb}
+use Rattle.std.proofs.Common.{◌≡◌, ◌≢◌, ◌∙◌, ℕ, zero, suc, ◌<◌, ◌⊎◌, inl, inr, Bool, true, false, not, if◌then◌else◌, List, [], ◌∷◌, ◌++◌, Option, Some, None, ap, sym, refl, subst, arith, length, length-set, eq-eqb}
 use Rattle.std.specs.Prelude.{◌&&◌, ◌||◌, slice_index_or, slice_set}
-use Rattle.std.proofs.lemmas.Bool.{eqb-true}
 use Rattle.cp_tree.specs.Syntax.{Program}
 use Rattle.cp_slots.specs.declared.tables.ComponentKind.{ComponentKind}
 use Rattle.cp_slots.specs.declared.tables.ComponentKind.TheVariants as kind
@@ -11,13 +10,14 @@ use Rattle.cp_machine.specs.declared.process.Status.TheVariants as status
 use Rattle.cp_machine.specs.Machine.{Machine, Monitor, Thread, thread_at, monitor_at, no_monitor, with_thread}
 use Rattle.cp_machine.specs.Kernel.{entered_by}
 use Rattle.cp_meaning.specs.State as named
-use Rattle.cp_meaning.specs.State.{Component, no_component, unstarted, ready, at_gate, delayed, Status, Process, no_process, State, Call, CallKind, entry_routine, is_entry_kind, is_inside, has_entry, waits_at}
+use Rattle.cp_meaning.specs.State.{Component, no_component, ready, at_gate, Status, Process, no_process, State, is_inside, has_entry, waits_at}
 use Rattle.cp_meaning.specs.Kernel.{after, is_anybody_inside, with_line, line_of}
 use Rattle.cp_meaning.specs.Readings.{first_inside, holder_of}
 use Rattle.cp_resolved.specs.Layouts.{Layouts}
 use Rattle.cp_resolved.specs.Stands.{Ground}
 use Rattle.cp_refine.specs.Represents.{Runs, StatusIs, ProcessIs, MonitorIs, Represents}
 use Rattle.cp_refine.proofs.control.Moving.{set_here, set_there, same_or_other, moved, inside_same}
+use Rattle.cp_refine.proofs.expressions.Members.{not_equal as differs}
 
 -- ---- who is inside
 
@@ -87,13 +87,6 @@ pub and_false : (b : Bool) → (b && false) ≡ false
 and_false true = refl
 and_false false = refl
 
-pub differs : (a b : ℕ) → (a ≡ b → ⊥) → (a == b) ≡ false
-differs a b d = go (a == b) refl
-  where
-    go : (c : Bool) → (a == b) ≡ c → (a == b) ≡ false
-    go true e = absurd (d (eqb-true a b e))
-    go false e = e
-
 -- ---- a monitor's number is its own
 
 abbrev pub OwnNumbers : Ground → Type 0
@@ -110,8 +103,6 @@ module _ (g : Ground) (s s2 : State) (m m2 : Machine) (n j : ℕ) (own : OwnNumb
   monitor_here = ap (λ ms. slice_index_or ms j no_monitor) changed ∙ set_here m.monitors j y no_monitor known
 
   pub monitors_change : (k : ℕ) (c : ComponentKind) → (component_at g.tables k).kind ≡ c → MonitorIs s m k c → MonitorIs s2 m2 k c
-  monitors_change k (kind.Process i) e h = tt
-  monitors_change k kind.Class e h = tt
   monitors_change k (kind.Monitor i) e h = go (same_or_other k n)
     where
       go : (k ≡ n) ⊎ (k ≢ n) → MonitorIs s2 m2 k (kind.Monitor i)
@@ -123,6 +114,7 @@ module _ (g : Ground) (s s2 : State) (m m2 : Machine) (n j : ℕ) (own : OwnNumb
           let other : i ≢ j = (λ w. d (own k n i e (is ∙ ap kind.Monitor (sym w)))) in
           let there : monitor_at m2 i ≡ monitor_at m i = ap (λ ms. slice_index_or ms i no_monitor) changed ∙ set_there m.monitors j i y no_monitor other in
           (ap (λ (x : Monitor). x.line) there ∙ (h.0 ∙ sym (lines_there k d)), ap (λ (x : Monitor). x.holder) there ∙ (h.1 ∙ sym (holders_there k d)))
+  monitors_change k _ e h = tt
 
 -- of the components only the line changes
 line_keeps : {A : Type 0} (s : State) (n : ℕ) → n < length s.components → (read : Component → A) (line : List ℕ) → ((c : Component) → read (record c { line = line }) ≡ read c) → (i : ℕ) → read (named.component_at (with_line s.components n line) i) ≡ read (named.component_at s.components i)

@@ -11,7 +11,7 @@ use Rattle.cp_machine.specs.Machine.{Machine, Monitor, no_monitor, monitor_at}
 use Rattle.cp_meaning.specs.Kernel as meaning
 use Rattle.cp_meaning.specs.Readings.{first_inside}
 use Rattle.cp_meaning.specs.State as named
-use Rattle.cp_meaning.specs.State.{at_gate, has_entry, Gates, first_gates, any_gates, ComponentStatus, uninitialised, initialising, initialised, State}
+use Rattle.cp_meaning.specs.State.{at_gate, has_entry, Gates, first_gates, any_gates, ComponentStatus, uninitialised, State}
 use Rattle.cp_resolved.specs.Layouts.{Layouts}
 use Rattle.cp_resolved.specs.Stands.{Ground}
 use Rattle.cp_refine.specs.Named.{gates_of}
@@ -21,18 +21,13 @@ use Rattle.cp_refine.proofs.gates.Gates.{OwnNumbers, goes_in}
 -- ---- what is pending is no part of anything else
 
 begun_kept : (s : State) (o : Option ℕ) (k : ComponentKind) (u : ComponentStatus) → HasBegun (record s { pending = o }) k u → HasBegun s k u
-begun_kept s o (kind.Process j) u b = b
 begun_kept s o (kind.Monitor j) uninitialised b = b
-begun_kept s o (kind.Monitor j) initialising b = b
-begun_kept s o (kind.Monitor j) initialised b = b
 begun_kept s o kind.Class uninitialised b = b
-begun_kept s o kind.Class initialising b = b
-begun_kept s o kind.Class initialised b = b
+begun_kept s o _ _ b = b
 
 monitor_kept : (s : State) (m : Machine) (o u : Option ℕ) (n : ℕ) (k : ComponentKind) → MonitorIs s m n k → MonitorIs (record s { pending = o }) (record m { pending = u }) n k
 monitor_kept s m o u n (kind.Process j) h = h
-monitor_kept s m o u n (kind.Monitor j) h = h
-monitor_kept s m o u n kind.Class h = h
+monitor_kept s m o u n _ h = h
 
 pub pending_is : (g : Ground) (p : Program) (l : Layouts) (s : State) (m : Machine) (o u : Option ℕ) → PendingIs g o u → Represents g p l s m → Represents g p l (record s { pending = o }) (record m { pending = u })
 pending_is g p l s m o u e rep =

@@ -29,8 +29,7 @@ is_a_monitor (c ∷ cs) n k d h = go c.kind refl k h (λ j less. is_a_monitor cs
     go : (a : SystemKind) → c.kind ≡ a → (k : ℕ) → k < length (monitor_first a n (monitors_from (suc n) cs)) → ((j : ℕ) → j < length (monitors_from (suc n) cs) → IsAMonitor cs (suc n) j d) → IsAMonitor (c ∷ cs) n k d
     go system_kind.Monitor e zero h each = record { place = 0; there = omega arith; is = ap (λ b. slice_index_or (monitor_first b n (monitors_from (suc n) cs)) 0 d) e ∙ (let b : n ≡ n + 0 = omega arith in b); kind = e }
     go system_kind.Monitor e (suc k) h each = further (n ∷ monitors_from (suc n) cs) (ap (λ b. monitor_first b n (monitors_from (suc n) cs)) e) (suc k) k refl (each k (omega (arith, h)))
-    go system_kind.Class e k h each = further (monitors_from (suc n) cs) (ap (λ b. monitor_first b n (monitors_from (suc n) cs)) e) k k refl (each k h)
-    go system_kind.Process e k h each = further (monitors_from (suc n) cs) (ap (λ b. monitor_first b n (monitors_from (suc n) cs)) e) k k refl (each k h)
+    go _ e k h each = further (monitors_from (suc n) cs) (ap (λ b. monitor_first b n (monitors_from (suc n) cs)) e) k k refl (each k h)
 
 -- different numbers are of different monitors
 pub one_number : (cs : List Component) (n j k d : ℕ) → j < length (monitors_from n cs) → k < length (monitors_from n cs) → slice_index_or (monitors_from n cs) j d ≡ slice_index_or (monitors_from n cs) k d → j ≡ k

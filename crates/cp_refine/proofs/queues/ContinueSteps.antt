@@ -26,7 +26,7 @@ use Rattle.cp_meaning.specs.Types.{queue_type}
 use Rattle.cp_meaning.specs.Values.{Value, queue_value, waiting_in}
 use Rattle.cp_meaning.specs.Scopes.{Meaning, standard_meaning, continue_procedure, find}
 use Rattle.cp_meaning.specs.State as named
-use Rattle.cp_meaning.specs.State.{Holder, in_component, Place, ready, CallKind, entry_routine, Call, current, callers, Item, statement_item, return, Process, State}
+use Rattle.cp_meaning.specs.State.{Holder, in_component, Place, ready, CallKind, entry_routine, Call, current, callers, Item, statement_item, Process, State}
 use Rattle.cp_meaning.specs.Places.{View, Target, this_component, content_of, value_held}
 use Rattle.cp_meaning.specs.Kernel as meaning
 use Rattle.cp_meaning.specs.Kernel.{Stepped}
@@ -173,12 +173,11 @@ module _ (g : Ground) (p : Program) (l : Layouts) (s : State) (m : Machine) (q a
   by_target : Ends.slot ≡ None → (next : Option ℕ) → (t : Outcome Target) → ((x : Target) → t ≡ Ok x → x.place.holder ≡ in_component n) → (r : Result Address slots.ErrorName) → TargetAgrees g.tables l (frames_of thread.frame es) t queue_type r →
       StepIs g p l q line (settled p s q (t >>= λ x. Ok (continued_from view entry_routine (xs ++ ys) x.place))) (statements.with_value r (statements.fault m q line) (slot_calls.continue_at g.tables m q next es))
   by_target procedure next (Err b) own (Err f) h = fails g p l s m q at item_here mid es xs ys k line b f h
-  by_target procedure next (Err b) own (Ok a) h = absurd h
-  by_target procedure next (Ok x) own (Err f) h = absurd h
   by_target procedure next (Ok x) own (Ok a) h =
       let same : x.place ≡ record { holder = in_component n; name = x.place.name; choices = x.place.choices } = ap (λ (w : Holder). place_with x.place w) (own x refl) in
       subst (λ (w : Place). StepIs g p l q line (settled p s q (Ok (continued_from view entry_routine (xs ++ ys) w))) (slot_calls.continue_at g.tables m q next es a)) (sym same)
       (in_queue procedure x.place a (subst (λ (w : Place). PlaceAt g.tables l (frames_of thread.frame es) w queue_type a) same h.1) next)
+  by_target procedure next _ own _ h = absurd h
 
   module _ (standard : find (name_of d) (l.meanings thread.frame.routine).scope ≡ Some (standard_meaning continue_procedure)) where
     -- what the item does

@@ -3,7 +3,7 @@ use Rattle.std.proofs.Common.{◌≡◌, ◌≢◌, ◌∙◌, ℕ, ◌^◌, ◌
 use Rattle.std.specs.Prelude.{pos, slice_set}
 use Rattle.cp_tree.specs.Syntax.{Program}
 use Rattle.cp_slots.specs.declared.tables.ComponentKind.TheVariants as kind
-use Rattle.cp_slots.specs.Tables.{Tables, component_at}
+use Rattle.cp_slots.specs.Tables.{component_at}
 use Rattle.cp_store.specs.declared.memory.Frame.{Frame}
 use Rattle.cp_machine.specs.declared.process.Entry.{Entry}
 use Rattle.cp_machine.specs.declared.process.Entry.TheVariants.{Rest, Successor, Return, InitEnd}
@@ -16,7 +16,7 @@ use Rattle.cp_meaning.specs.Names.{Name, same_name}
 use Rattle.cp_meaning.specs.Types.{Range, Ty, ordinal, queue_type}
 use Rattle.cp_meaning.specs.Values.{Value, queue_value, Choice}
 use Rattle.cp_meaning.specs.State as named
-use Rattle.cp_meaning.specs.State.{in_component, Place, ready, delayed, Status, CallKind, own_statement, initial_statement, entry_routine, Call, callers, Item, statement_item, function_call, start_item, until, successor, return, init_end, end, Process, no_process, State, has_entry, is_inside}
+use Rattle.cp_meaning.specs.State.{ready, delayed, Status, own_statement, initial_statement, entry_routine, Call, callers, Item, statement_item, function_call, start_item, until, return, Process, no_process, State, has_entry, is_inside}
 use Rattle.cp_meaning.specs.Kernel as meaning
 use Rattle.cp_meaning.specs.LocalRules.{after_return}
 use Rattle.cp_meaning.specs.Readings.{first_inside}
@@ -34,6 +34,7 @@ use Rattle.cp_refine.proofs.control.Moving.{set_here, set_there}
 use Rattle.cp_refine.proofs.queues.Resumed as resumed
 use Rattle.cp_refine.proofs.calls.Returning.{Returns, MayLeave, call, calls_were, process_back, thread_back, left_free, outside, let_in_freed, first_waits_kept}
 use Rattle.cp_refine.proofs.assignments.Writing.{ComponentsApart}
+use Rattle.cp_machine.proofs.Keeping.{end_fits as fits_end}
 
 -- ---- the end of the entry
 
@@ -44,10 +45,7 @@ no_return g h first last (statement_item t ∷ xs) ys i = no_return g h i.1 last
 no_return g h first last (function_call at d es ∷ xs) ys i = no_return g h i.1 last xs ys i.5
 no_return g h first last (start_item t ∷ xs) ys i = no_return g h i.1 last xs ys i.5
 no_return g h first last (until ss e ∷ xs) ys i = no_return g h i.1 last xs ys i.5
-no_return g h first last (successor at n z d b t ∷ xs) ys i = absurd i.3
-no_return g h first last (return o ∷ xs) ys i = absurd i.3
-no_return g h first last (init_end m ∷ xs) ys i = absurd i.3
-no_return g h first last (end ∷ xs) ys i = absurd i.3
+no_return g h first last _ ys i = absurd i.3
 
 -- the end of the entry is on top of the rest of the stack, and what follows it on names comes after its return
 pub record EndsWith (g : Ground) (p : Program) (l : Layouts) (f : Frame) (cs : List Call) (items : List Item) (es : List Entry) : Type 0 where
@@ -107,18 +105,9 @@ ends_with g p l f c cs items (Return caller slot monitor ∷ es) entry h =
 ends_with g p l f c cs items (InitEnd caller n ∷ es) entry h = absurd (let w : entry_routine ≡ initial_statement = sym entry ∙ (innermost c h.0 cs h.1 h.3 ∙ h.5) in cc)
 
 frames_end : (f : Frame) (es : List Entry) → frames_of f (from_end es) ≡ frames_of f es
-frames_end f [] = refl
 frames_end f (Rest at ∷ es) = frames_end f es
 frames_end f (Successor at z last ∷ es) = frames_end f es
-frames_end f (Return caller slot monitor ∷ es) = refl
-frames_end f (InitEnd caller n ∷ es) = refl
-
-fits_end : (r : Tables) (f : Frame) (es : List Entry) → StackFits r f es → StackFits r f (from_end es)
-fits_end r f [] h = h
-fits_end r f (Rest at ∷ es) h = fits_end r f es h.1
-fits_end r f (Successor at z last ∷ es) h = fits_end r f es h.1
-fits_end r f (Return caller slot monitor ∷ es) h = h
-fits_end r f (InitEnd caller n ∷ es) h = h
+frames_end f _ = refl
 
 -- what has to be known of a process that continues in an entry procedure of the monitor
 pub record MayContinue (g : Ground) (p : Program) (l : Layouts) (s : State) (m : Machine) (q n j : ℕ) (es : List Entry) : Type 0 where
@@ -138,9 +127,6 @@ pub record MayContinue (g : Ground) (p : Program) (l : Layouts) (s : State) (m :
 module _ (g : Ground) (p : Program) (l : Layouts) (s : State) (m : Machine) (q : ℕ) (es : List Entry) (k : Goes g p l s m q es) (n j : ℕ) (may : MayContinue g p l s m q n j es)
     (c : Call) (cs : List Call) (calls_are : (named.process_at s.processes q).calls ≡ c ∷ cs) (entry : c.kind ≡ entry_routine) (component : c.component ≡ n)
     (items : List Item) (stack : StackIs g p l (thread_at m.threads q).frame (named.process_at s.processes q).calls items es) where
-  abbrev before : Process
-  before = named.process_at s.processes q
-
   abbrev thread : Thread
   thread = thread_at m.threads q
 

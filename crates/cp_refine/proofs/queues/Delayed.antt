@@ -15,7 +15,7 @@ use Rattle.cp_meaning.specs.Names.{Name, same_name}
 use Rattle.cp_meaning.specs.Types.{Ty, queue_type}
 use Rattle.cp_meaning.specs.Values.{Value, queue_value, Choice, part_at}
 use Rattle.cp_meaning.specs.State as named
-use Rattle.cp_meaning.specs.State.{Holder, in_call, in_component, Place, ComponentStatus, uninitialised, initialising, initialised, unstarted, ready, delayed, Status, Item, Process, no_process, State, has_entry, is_inside, waits_at}
+use Rattle.cp_meaning.specs.State.{Holder, in_call, in_component, Place, ComponentStatus, uninitialised, unstarted, ready, delayed, Status, Item, Process, no_process, State, has_entry, is_inside, waits_at}
 use Rattle.cp_meaning.specs.Kernel as meaning
 use Rattle.cp_meaning.specs.Places.{View, value_at}
 use Rattle.cp_meaning.specs.Readings.{first_inside}
@@ -24,12 +24,13 @@ use Rattle.cp_resolved.specs.Encoded.{Chosen, chosen_at}
 use Rattle.cp_resolved.specs.Stands.{Ground}
 use Rattle.cp_refine.specs.Represents.{further, StackIs, ProcessIs, CallsHold, MonitorIs, HasBegun, BeginsAt, PlaceAt, frames_of, own_memory, Represents}
 use Rattle.cp_refine.proofs.control.Control.{Goes}
-use Rattle.cp_refine.proofs.gates.Gates.{OwnNumbers, OthersOutside, none_left, monitors_change, and_false, differs}
+use Rattle.cp_refine.proofs.gates.Gates.{OwnNumbers, OthersOutside, none_left, monitors_change, and_false}
 use Rattle.cp_refine.proofs.gates.LettingIn.{FirstWaits, lets_in}
 use Rattle.cp_refine.proofs.control.Moving.{set_here, set_there, same_or_other, inside_same}
 use Rattle.cp_refine.proofs.queues.QueueWriting.{old, components_after, permanents_after, line_same, count_same, components_stand, IsWritten, written_value, old_written, queue_kept, cell, there_named}
 use Rattle.cp_refine.proofs.calls.Returning.{let_in_freed, first_waits_kept}
 use Rattle.cp_refine.proofs.assignments.Writing.{ComponentsApart}
+use Rattle.cp_refine.proofs.expressions.Members.{not_equal as differs}
 
 -- what has to be known of the monitor in whose queue the process is to wait
 pub record MayDelay (g : Ground) (l : Layouts) (s : State) (m : Machine) (q n j : ℕ) : Type 0 where
@@ -112,11 +113,8 @@ module _ (g : Ground) (p : Program) (l : Layouts) (s : State) (m : Machine) (q :
         go (inl d) e = let a : (named.process_at s.processes q).status ≡ unstarted = subst (λ i. (named.process_at s.processes i).status ≡ unstarted) d e in let w = k.was in cc
         go (inr d) e = b (ap (λ (x : Process). x.status) (there_process r d) ∙ e)
     begun i (kind.Monitor r) uninitialised b = b
-    begun i (kind.Monitor r) initialising b = b
-    begun i (kind.Monitor r) initialised b = b
     begun i kind.Class uninitialised b = b
-    begun i kind.Class initialising b = b
-    begun i kind.Class initialised b = b
+    begun i _ _ b = b
 
     -- ---- monitors
 

@@ -29,7 +29,7 @@ use Rattle.cp_meaning.specs.Types.{queue_type}
 use Rattle.cp_meaning.specs.Values.{Value, queue_value, part_at, waiting_in}
 use Rattle.cp_meaning.specs.Scopes.{Meaning, standard_meaning, delay_procedure, find}
 use Rattle.cp_meaning.specs.State as named
-use Rattle.cp_meaning.specs.State.{Holder, in_component, Place, Item, statement_item, State, current}
+use Rattle.cp_meaning.specs.State.{Holder, in_component, Place, Item, statement_item, State}
 use Rattle.cp_meaning.specs.Kernel as meaning
 use Rattle.cp_meaning.specs.Kernel.{Stepped}
 use Rattle.cp_meaning.specs.Move.{delays, Doing}
@@ -168,12 +168,11 @@ module _ (g : Ground) (p : Program) (l : Layouts) (s : State) (m : Machine) (q a
   by_target : (t : Outcome Target) → ((x : Target) → t ≡ Ok x → x.place.holder ≡ in_component n) → (r : Result Address slots.ErrorName) → TargetAgrees g.tables l (frames_of thread.frame es) t queue_type r →
       StepIs g p l q line (settled p s q (t >>= λ x. delayed_in view q (xs ++ ys) x.place)) (statements.with_value r (statements.fault m q line) (calls.delay_at g.tables m q line (rest_of mid es)))
   by_target (Err b) own (Err c) h = fails g p l s m q at item_here mid es xs ys k line b c h
-  by_target (Err b) own (Ok a) h = absurd h
-  by_target (Ok x) own (Err c) h = absurd h
   by_target (Ok x) own (Ok a) h =
       let same : x.place ≡ record { holder = in_component n; name = x.place.name; choices = x.place.choices } = ap (λ (w : Holder). place_with x.place w) (own x refl) in
       subst (λ (w : Place). StepIs g p l q line (settled p s q (delayed_in view q (xs ++ ys) w)) (calls.delay_at g.tables m q line (rest_of mid es) a)) (sym same)
       (in_queue x.place a (subst (λ (w : Place). PlaceAt g.tables l (frames_of thread.frame es) w queue_type a) same h.1))
+  by_target _ own _ h = absurd h
 
   module _ (standard : find (name_of d) (l.meanings thread.frame.routine).scope ≡ Some (standard_meaning delay_procedure)) where
     -- what the item does

@@ -7,7 +7,7 @@ use Rattle.cp_machine.specs.declared.process.Entry.{Entry}
 use Rattle.cp_machine.specs.Machine.{Machine, thread_at}
 use Rattle.cp_machine.specs.Memory.{memory_at}
 use Rattle.cp_meaning.specs.Outcome.{Outcome, out_of_range, ◌>>=◌}
-use Rattle.cp_meaning.specs.Types.{Ty, ordinal, queue_type, set_over, array_over, record_with, component_of, natural_of, is_within}
+use Rattle.cp_meaning.specs.Types.{Ty, queue_type, array_over, natural_of, is_within}
 use Rattle.cp_meaning.specs.Values.{the_element, number_of}
 use Rattle.cp_meaning.specs.Scopes.{Meaning, permanent_variable, find}
 use Rattle.cp_meaning.specs.State.{in_component, Item, State, current}
@@ -38,11 +38,7 @@ element_holder v (array_over q u) t w z e = go (is_within q z) e
     go : (b : Bool) → (if b then Ok (record { place = with_choice t.place (the_element (natural_of (z +ℤ neg_ℤ q.low))); ty = u }) else Err out_of_range) ≡ Ok w → w.place.holder ≡ t.place.holder
     go true e = sym (ap (λ (x : Target). x.place.holder) (target_is _ w e))
     go false e = absurd (cc)
-element_holder v (ordinal r) t w z e = sym (ap (λ (x : Target). x.place.holder) (target_is t w e))
-element_holder v queue_type t w z e = sym (ap (λ (x : Target). x.place.holder) (target_is t w e))
-element_holder v (set_over r) t w z e = sym (ap (λ (x : Target). x.place.holder) (target_is t w e))
-element_holder v (record_with ts) t w z e = sym (ap (λ (x : Target). x.place.holder) (target_is t w e))
-element_holder v (component_of k) t w z e = sym (ap (λ (x : Target). x.place.holder) (target_is t w e))
+element_holder v _ t w z e = sym (ap (λ (x : Target). x.place.holder) (target_is t w e))
 
 chosen_holder : (v : View) (c : Selector) (t w : Target) → chosen v c t ≡ Ok w → w.place.holder ≡ t.place.holder
 chosen_holder v (field i) t w e = sym (ap (λ (x : Target). x.place.holder) (target_is _ w e))

@@ -9,7 +9,7 @@ use Rattle.cp_meaning.specs.Values.{Value, number_value, array_value, record_val
 use Rattle.cp_resolved.specs.Layouts.{cells_of}
 use Rattle.cp_resolved.specs.Encoded.{HasType, AllHave, HaveTypes, Chosen, further_chosen, field_chosen, one_chosen, then_chosen, chosen_at}
 use Rattle.cp_refine.proofs.control.Moving.{same_or_other}
-use Rattle.cp_refine.proofs.expressions.Parts.{one_part}
+use Rattle.cp_refine.proofs.expressions.Parts.{one_part, some_chosen as chosen_is}
 
 -- ---- one choice
 
@@ -20,11 +20,9 @@ element_written t (suc n) (more_values w vs) zero v h less = refl
 element_written t (suc n) (more_values w vs) (suc i) v h less = element_written t n vs i v h.1 (omega arith)
 
 element_other : (vs : Values) (i j : ℕ) (v : Value) → j ≢ i → element_at (with_element vs i v) j ≡ element_at vs j
-element_other no_values i j v d = refl
 element_other (more_values w vs) zero zero v d = absurd (d refl)
-element_other (more_values w vs) zero (suc j) v d = refl
-element_other (more_values w vs) (suc i) zero v d = refl
 element_other (more_values w vs) (suc i) (suc j) v d = element_other vs i j v (λ e. d (ap suc e))
+element_other _ _ _ v d = refl
 
 field_written : (ts : FieldTypes) (fs : FieldValues) (x : Name) (c : Chosen) (v : Value) → HaveTypes ts fs → field_chosen ts x ≡ Some c → field_at (with_field fs x v) x ≡ v
 field_written no_field_types fs x c v h e = absurd (cc)
@@ -64,14 +62,7 @@ one_written (set_over r) w x c v h e = absurd (cc)
 one_written (component_of n) w x c v h e = absurd (cc)
 one_written (record_with ts) w (the_element n) c v h e = absurd (cc)
 one_written (array_over r t) w (the_field x) c v h e = absurd (cc)
-one_written (record_with ts) (number_value z) (the_field x) c v h e = absurd h
-one_written (record_with ts) (array_value vs) (the_field x) c v h e = absurd h
-one_written (record_with ts) (set_value ns) (the_field x) c v h e = absurd h
-one_written (record_with ts) (queue_value o) (the_field x) c v h e = absurd h
-one_written (array_over r t) (number_value z) (the_element n) c v h e = absurd h
-one_written (array_over r t) (record_value fs) (the_element n) c v h e = absurd h
-one_written (array_over r t) (set_value ns) (the_element n) c v h e = absurd h
-one_written (array_over r t) (queue_value o) (the_element n) c v h e = absurd h
+one_written _ _ _ c v h e = absurd h
 
 -- the same choice, or one whose part stays
 one_other : (t : Ty) (w : Value) (x z : Choice) (c d : Chosen) (v : Value) → one_chosen t x ≡ Some c → one_chosen t z ≡ Some d → HasType t w → (x ≡ z) ⊎ (part_of (with_one_part w x v) z ≡ part_of w z)
@@ -85,10 +76,6 @@ one_other (array_over r t) (array_value vs) (the_element n) (the_element k) c d 
     go : (k ≡ n) ⊎ (k ≢ n) → (the_element n ≡ the_element k) ⊎ (element_at (with_element vs n v) k ≡ element_at vs k)
     go (inl s) = inl (ap the_element (sym s))
     go (inr s) = inr (element_other vs n k v s)
-one_other (ordinal r) w x z c d v e f h = absurd (cc)
-one_other queue_type w x z c d v e f h = absurd (cc)
-one_other (set_over r) w x z c d v e f h = absurd (cc)
-one_other (component_of n) w x z c d v e f h = absurd (cc)
 one_other (record_with ts) w (the_element n) z c d v e f h = absurd (cc)
 one_other (record_with ts) w x (the_element n) c d v e f h = absurd (cc)
 one_other (array_over r t) w (the_field x) z c d v e f h = absurd (cc)
@@ -101,6 +88,7 @@ one_other (array_over r t) (number_value n) (the_element i) (the_element k) c d 
 one_other (array_over r t) (record_value fs) (the_element i) (the_element k) c d v e f h = absurd h
 one_other (array_over r t) (set_value ns) (the_element i) (the_element k) c d v e f h = absurd h
 one_other (array_over r t) (queue_value o) (the_element i) (the_element k) c d v e f h = absurd h
+one_other y w x z c d v e f h = absurd (cc)
 
 -- ---- all choices
 
@@ -109,9 +97,6 @@ pub record Leads (t : Ty) (x : Choice) (cs : List Choice) (c : Chosen) : Type 0 
   pub one : one_chosen t x ≡ Some first
   pub offset : ℕ
   pub rest : chosen_at first.1 cs ≡ Some (offset, c.1)
-
-chosen_is : (a b : Chosen) → Some a ≡ Some b → a ≡ b
-chosen_is a b e = cc
 
 type_of : (n c : Chosen) (j : ℕ) → Some (j + n.0, n.1) ≡ Some c → n.1 ≡ c.1
 type_of n c j s = ap (λ (b : Chosen). b.1) (chosen_is (j + n.0, n.1) c s)

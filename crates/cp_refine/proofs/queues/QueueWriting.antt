@@ -7,8 +7,7 @@ use Rattle.cp_tree.specs.Syntax.{Program}
 use Rattle.cp_slots.specs.declared.tables.ComponentKind.{ComponentKind}
 use Rattle.cp_slots.specs.Tables.{component_at}
 use Rattle.cp_store.specs.declared.memory.Address.{Address}
-use Rattle.cp_store.specs.declared.memory.Address.TheVariants.{Permanent, Local}
-use Rattle.cp_store.specs.Inside.{HasCells}
+use Rattle.cp_store.specs.declared.memory.Address.TheVariants.{Permanent}
 use Rattle.cp_store.specs.Memory.{Memory, cell_at, put_number}
 use Rattle.cp_machine.specs.declared.state.Phase.TheVariants as phase
 use Rattle.cp_machine.specs.Machine.{Machine, phase_at}
@@ -26,17 +25,9 @@ use Rattle.cp_refine.proofs.control.Moving.{set_here, set_there, same_or_other}
 use Rattle.cp_refine.proofs.expressions.Parts.{encode_length, part_stands}
 use Rattle.cp_refine.proofs.queues.QueueParts.{part_written, part_other}
 use Rattle.cp_refine.proofs.assignments.Rewriting.{Outside, NewAt, part_new}
-use Rattle.cp_refine.proofs.assignments.Writing.{WritesCell, ComponentsApart, put_writes, lies_kept, content_here, content_there}
+use Rattle.cp_refine.proofs.assignments.Writing.{WritesCell, ComponentsApart, put_writes, lies_kept, content_here, content_there, further_apart as no_cell, has_same as still_there}
 
 -- ---- one cell
-
-still_there : (m m2 : Memory) (a : Address) (z : ℤ) (b : Address) (cells : ℕ) → WritesCell m m2 a z → HasCells m b cells → HasCells m2 b cells
-still_there m m2 a z (Permanent n) cells w h = let e = w.permanents in omega (arith, e, h)
-still_there m m2 a z (Local n) cells w h = let e = w.cells in omega (arith, e, h)
-
-no_cell : (a : Address) (k n : ℕ) → k ≢ n → further a k ≢ further a n
-no_cell (Permanent j) k n d e = (let s : j + k ≡ j + n = cc in d (omega (arith, s)))
-no_cell (Local j) k n d e = (let s : j + k ≡ j + n = cc in d (omega (arith, s)))
 
 -- the variable has the queue at its part
 queue_lies : (m m2 : Memory) (t : Ty) (v : Value) (b : Address) (cs : List Choice) (offset : ℕ) (o : Option ℕ) → WritesCell m m2 (further b offset) (flag_of o) → LiesAt m t v b → chosen_at t cs ≡ Some (offset, queue_type) → LiesAt m2 t (with_part v cs (queue_value o)) b

@@ -3,21 +3,21 @@ use Rattle.std.proofs.Common.{◌≡◌, ◌∙◌, ℕ, ◌+◌, ℤ, Bool, tru
 use Rattle.cp_tree.specs.Syntax.{Expression, no_expressions, Designator, designator, Selectors, no_selectors, more_selectors, Selector, field, index}
 use Rattle.cp_slots.specs.Code as code
 use Rattle.cp_meaning.specs.Names.{Name}
-use Rattle.cp_meaning.specs.Types.{Base, Ty, ordinal, queue_type, set_over, array_over, record_with, component_of, FieldTypes, is_within}
+use Rattle.cp_meaning.specs.Types.{Base, Ty, ordinal, queue_type, array_over, record_with, component_of, FieldTypes, is_within}
 use Rattle.cp_meaning.specs.Values.{the_field}
 use Rattle.cp_meaning.specs.Places.{View}
 use Rattle.cp_meaning.specs.Operations.{range_of_base}
 use Rattle.cp_meaning.specs.Scopes.{Meaning, constant_meaning, type_meaning, local_variable, permanent_variable, routine_meaning, standard_meaning, find}
 use Rattle.cp_meaning.specs.Expressions.{name_of, variable_in}
 use Rattle.cp_meaning.specs.Lifting.{is_call, is_call_meant, last_field}
-use Rattle.cp_resolved.specs.Compiled.{Form, as_ordinal, as_place, as_component, Formed, loaded_form, then_form, Designated, a_variable, some_components, a_component, part_of_form, valued_form, constant_form, named_form, begun_form, with_field_form, with_element_form, with_index_form, ordinal_form, chosen_form, selected_form, designator_form, expression_form}
+use Rattle.cp_resolved.specs.Compiled.{Form, as_ordinal, as_place, as_component, Formed, loaded_form, then_form, Designated, a_variable, a_component, part_of_form, valued_form, constant_form, named_form, begun_form, with_field_form, with_element_form, with_index_form, ordinal_form, chosen_form, selected_form, designator_form, expression_form}
 use Rattle.cp_resolved.specs.Encoded.{Chosen, field_chosen, then_chosen}
 use Rattle.cp_resolved.specs.Formed.{HasQueue}
 use Rattle.cp_resolved.specs.Layouts.{Here}
 use Rattle.cp_resolved.specs.Standing.{is_indexed, is_free, IsFit}
 use Rattle.cp_resolved.proofs.declarations.StandingParts.{free_part}
-use Rattle.cp_resolved.proofs.forms.Typing.{second_true}
 use Rattle.cp_refine.proofs.expressions.VariableExpressions.{IsName, variable_is}
+use Rattle.cp_resolved.proofs.frames.LeastCells.{right_true as second_true}
 
 -- ---- parts of what has no queues
 
@@ -41,24 +41,14 @@ then_free None make g each = tt
 then_free (Some d) make g each = each d g
 
 with_field_free : (d : Designated) (x : Name) → DesignatedFree d → FormFree (with_field_form d x)
-with_field_free (a_component c k) x g = tt
-with_field_free (some_components first r k) x g = tt
 with_field_free (a_variable (code.place o n is) (record_with ts)) x g = some_free (field_chosen ts x) (λ c. Some (part_of_form (code.place o n is) c)) (λ c e. field_free ts x c g e)
 with_field_free (a_variable p (ordinal r)) x g = tt
-with_field_free (a_variable p queue_type) x g = tt
-with_field_free (a_variable p (set_over r)) x g = tt
-with_field_free (a_variable p (array_over r t)) x g = tt
-with_field_free (a_variable p (component_of k)) x g = tt
+with_field_free _ x g = tt
 
 with_element_free : (h : Here) (d : Designated) (c : code.Expression) → DesignatedFree d → FormFree (with_element_form h d c)
-with_element_free h (a_component b k) c g = tt
-with_element_free h (some_components first r k) c g = tt
 with_element_free h (a_variable (code.place o n is) (array_over r t)) c g = second_true (is_indexed r t) (is_free t) g
 with_element_free h (a_variable p (ordinal r)) c g = tt
-with_element_free h (a_variable p queue_type) c g = tt
-with_element_free h (a_variable p (set_over r)) c g = tt
-with_element_free h (a_variable p (record_with ts)) c g = tt
-with_element_free h (a_variable p (component_of k)) c g = tt
+with_element_free h _ c g = tt
 
 chosen_free : (h : Here) (c : Selector) (d : Designated) → DesignatedFree d → FormFree (chosen_form h c d)
 chosen_free h (field i) d g = with_field_free d i.name g
@@ -107,17 +97,12 @@ no_constant b z p e = go (is_within (range_of_base b) z) e
 valued_queue : (o : Option Designated) (p : code.Place) → IsQueue p (then_form o valued_form) → (spot : code.Place) × (o ≡ Some (a_variable spot queue_type))
 valued_queue (Some (a_variable q t)) p e = (let same : t ≡ queue_type = form_type t (loaded_form q t) p e in (q, ap (λ u. Some (a_variable q u)) same))
 valued_queue (Some (a_component c k)) p e = absurd (let bad : component_of k ≡ queue_type = form_type (component_of k) (as_component c) p e in cc)
-valued_queue (Some (some_components first r k)) p e = absurd (cc)
-valued_queue None p e = absurd (cc)
+valued_queue x p e = absurd (cc)
 
 named_queue : (h : Here) (at : ℕ) (d : Designator) (m : Option Meaning) (p : code.Place) → IsQueue p (named_form h at d false m (designator_form h d) None) → (spot : code.Place) × (designator_form h d ≡ Some (a_variable spot queue_type))
 named_queue h at d (Some (constant_meaning b z)) p e = absurd (no_constant b z p e)
 named_queue h at d (Some (standard_meaning q)) p e = absurd (cc)
-named_queue h at d (Some (type_meaning t)) p e = valued_queue (designator_form h d) p e
-named_queue h at d (Some (local_variable t)) p e = valued_queue (designator_form h d) p e
-named_queue h at d (Some (permanent_variable t)) p e = valued_queue (designator_form h d) p e
-named_queue h at d (Some (routine_meaning r)) p e = valued_queue (designator_form h d) p e
-named_queue h at d None p e = valued_queue (designator_form h d) p e
+named_queue h at d _ p e = valued_queue (designator_form h d) p e
 
 pub queue_permanent : (h : Here) → ((x : Name) → IsFit (find x h.scope)) → (e : Expression) (d : Designator) → variable_in e ≡ Some d → is_call h.scope d ≡ false → HasQueue h e → (t : Ty) × (find (name_of d) h.scope ≡ Some (permanent_variable t))
 queue_permanent h fit e d is call q =

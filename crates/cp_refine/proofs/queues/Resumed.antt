@@ -17,18 +17,19 @@ use Rattle.cp_meaning.specs.Names.{Name, same_name}
 use Rattle.cp_meaning.specs.Types.{Ty, queue_type}
 use Rattle.cp_meaning.specs.Values.{Value, queue_value, Choice, part_at}
 use Rattle.cp_meaning.specs.State as named
-use Rattle.cp_meaning.specs.State.{Holder, in_call, in_component, Place, Component, ComponentStatus, uninitialised, initialising, initialised, unstarted, ready, at_gate, delayed, ended, Status, Process, no_process, State, has_entry, is_inside, waits_at}
+use Rattle.cp_meaning.specs.State.{Holder, in_call, in_component, Place, Component, ComponentStatus, uninitialised, unstarted, ready, at_gate, delayed, ended, Status, Process, no_process, State, has_entry, waits_at}
 use Rattle.cp_meaning.specs.Places.{View, content_of, value_held, environment_of, value_at}
 use Rattle.cp_meaning.specs.Readings.{first_inside}
 use Rattle.cp_resolved.specs.Layouts.{Layouts, look}
 use Rattle.cp_resolved.specs.Encoded.{chosen_at}
 use Rattle.cp_resolved.specs.Stands.{Ground}
 use Rattle.cp_refine.specs.Represents.{further, LiesAt, StatusIs, ProcessIs, MonitorIs, HasBegun, BeginsAt, PlaceAt, all_permanents, Represents}
-use Rattle.cp_refine.proofs.gates.Gates.{OwnNumbers, all_outside, only_one, monitors_change, differs}
+use Rattle.cp_refine.proofs.gates.Gates.{OwnNumbers, all_outside, only_one, monitors_change}
 use Rattle.cp_refine.proofs.control.Moving.{set_here, set_there, same_or_other, inside_same}
 use Rattle.cp_refine.proofs.queues.QueueWriting.{old, components_after, permanents_after, old_lies, line_same, count_same, components_stand, variables_after, IsWritten, written_value, old_written, queue_kept, cell, there_named}
 use Rattle.cp_refine.proofs.expressions.Reading.{part_lies}
 use Rattle.cp_refine.proofs.assignments.Writing.{ComponentsApart}
+use Rattle.cp_refine.proofs.expressions.Members.{not_equal as differs}
 
 -- ---- the first that passes a test
 
@@ -164,11 +165,8 @@ module _ (g : Ground) (p : Program) (l : Layouts) (s : State) (m : Machine) (rep
       by_cell a e true d = (let w = delayed_process r a less e in absurd (never (waits_here r w.0 less w.1 (e ∙ ap status.Delayed (eqb-true a at d)))))
 
       go : (w : slot_status.Status) → (thread_at m.threads r).status ≡ w → is_delayed_at at w ≡ false
-      go status.Unstarted e = refl
-      go status.Ready e = refl
-      go (status.AtGate i) e = refl
       go (status.Delayed a) e = by_cell a e (a == at) refl
-      go status.Ended e = refl
+      go _ e = refl
 
   -- ---- who is found in the queue
 
@@ -186,13 +184,9 @@ module _ (g : Ground) (p : Program) (l : Layouts) (s : State) (m : Machine) (rep
       (λ i h other. not_waiting i h (λ f. other (let same : queue_value (Some i) ≡ queue_value (Some r) = sym f ∙ e in cc)))
 
   begun_same : (c : ComponentKind) (w : ComponentStatus) → HasBegun (record s { components = emptied }) c w → HasBegun s c w
-  begun_same (kind.Process i) w b = b
   begun_same (kind.Monitor i) uninitialised b = b
-  begun_same (kind.Monitor i) initialising b = b
-  begun_same (kind.Monitor i) initialised b = b
   begun_same kind.Class uninitialised b = b
-  begun_same kind.Class initialising b = b
-  begun_same kind.Class initialised b = b
+  begun_same _ _ b = b
 
   process_is : (a b : ℕ) → queue_value (Some a) ≡ queue_value (Some b) → a ≡ b
   process_is a b e = cc
@@ -226,9 +220,8 @@ module _ (g : Ground) (p : Program) (l : Layouts) (s : State) (m : Machine) (rep
     never_here r e = let none : queue_value None ≡ queue_value (Some r) = sym nobody ∙ e in cc
 
     monitor_kept : (i : ℕ) (c : ComponentKind) → MonitorIs s m i c → MonitorIs (record s { components = emptied }) memory_after i c
-    monitor_kept i (kind.Process k) h = tt
-    monitor_kept i kind.Class h = tt
     monitor_kept i (kind.Monitor k) h = (h.0 ∙ sym (lines_same i), h.1)
+    monitor_kept i _ h = tt
 
     pub emptied_none : Represents g p l (record s { components = emptied }) memory_after
     emptied_none =
@@ -309,11 +302,8 @@ module _ (g : Ground) (p : Program) (l : Layouts) (s : State) (m : Machine) (rep
         go (inl d) e = let f : before.status ≡ unstarted = subst (λ i. (named.process_at s.processes i).status ≡ unstarted) d e in let w = was in cc
         go (inr d) e = b (ap (λ (x : Process). x.status) (there_process a d) ∙ e)
     begun_on i (kind.Monitor a) uninitialised b = b
-    begun_on i (kind.Monitor a) initialising b = b
-    begun_on i (kind.Monitor a) initialised b = b
     begun_on i kind.Class uninitialised b = b
-    begun_on i kind.Class initialising b = b
-    begun_on i kind.Class initialised b = b
+    begun_on i _ _ b = b
 
     monitor_here : MonitorIs s m n (kind.Monitor j)
     monitor_here = subst (MonitorIs s m n) is (rep.monitors n there_component)

@@ -55,9 +55,8 @@ module _ (p : Program) (l : Layouts) (f : Traits) (known : RoutinesKnown p l f) 
   first_stands (q ∷ line) s m h = all_ready s.processes q h
 
   one_stands : (line : List ℕ) (s : State) (m : ℕ) → All s.processes → All (one_in line s m).processes
-  one_stands [] s m h = h
   one_stands (q ∷ []) s m h = all_ready s.processes q h
-  one_stands (q ∷ r ∷ line) s m h = h
+  one_stands _ s m h = h
 
   let_in_stands : (g : Gates) (s : State) (m : ℕ) → All s.processes → All (let_in g s m).processes
   let_in_stands first_gates s m h = first_stands (line_of s m) s m h
@@ -102,10 +101,7 @@ module _ (p : Program) (l : Layouts) (f : Traits) (known : RoutinesKnown p l f) 
 
     starting_as_stands : (r : ℕ) (status : Status) (c : ℕ) (e : Environment) → All (starting_as p s pid d r status c e).state.processes
     starting_as_stands r unstarted c e = all_set (moved_to ready s pid d).processes r _ (moved_stands ready tt) (λ less. begun_stands c (component_at d.components c).system (does.systems c))
-    starting_as_stands r ready c e = old
-    starting_as_stands r (at_gate m) c e = old
-    starting_as_stands r (delayed m) c e = old
-    starting_as_stands r ended c e = old
+    starting_as_stands r _ c e = old
 
     starting_stands : (o : Option ℕ) (c : ℕ) (e : Environment) → All (starting p s pid d o c e).state.processes
     starting_stands None c e = moved_stands ready tt
@@ -139,9 +135,8 @@ module _ (p : Program) (l : Layouts) (f : Traits) (known : RoutinesKnown p l f) 
   all_more x ps h k (suc q) less = k q (omega arith)
 
   own_stands : (cs : List Component) (ps : List Process) → (component_at cs 0).system ≡ (component_at (first_components p) 0).system → All ps → All (own_begun p cs ps)
-  own_stands [] ps e h = h
-  own_stands (c ∷ cs) [] e h = h
   own_stands (c ∷ cs) (x ∷ ps) e h = all_more (begun 0 (system_of p c.system)) ps (begun_stands 0 c.system e) (λ q less. h (suc q) (omega arith))
+  own_stands _ _ e h = h
 
   opening_stands : (g : Gates) → All (opening p g).processes
   opening_stands g =

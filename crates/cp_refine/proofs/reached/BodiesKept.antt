@@ -5,14 +5,14 @@ use Rattle.cp_tree.specs.declared.constant.Identifier.{Identifier}
 use Rattle.cp_tree.specs.declared.statement.Direction.{Direction}
 use Rattle.cp_tree.specs.declared.declaration.SystemKind.{SystemKind}
 use Rattle.cp_tree.specs.declared.declaration.SystemKind.TheVariants as system_kind
-use Rattle.cp_tree.specs.Syntax.{Expressions, Designator, Start, Statement, empty, assign, invoke, block, if_then, if_else, case_of, while_do, repeat_until, for_do, cycle, init, Arms, no_arms, more_arms, arm, Program, Statements}
+use Rattle.cp_tree.specs.Syntax.{Expressions, Designator, Start, Statement, assign, invoke, block, if_then, if_else, case_of, while_do, repeat_until, for_do, cycle, Arms, no_arms, more_arms, arm, Program, Statements}
 use Rattle.cp_meaning.specs.Names.{Name, temporary, result_name}
 use Rattle.cp_meaning.specs.Outcome.{Outcome, ◌>>=◌}
 use Rattle.cp_meaning.specs.Values.{Value, number_value, queue_value, number_of, waiting_in}
 use Rattle.cp_meaning.specs.Scopes.{Meaning, constant_meaning, type_meaning, local_variable, permanent_variable, routine_meaning, standard_meaning, delay_procedure, continue_procedure, display_procedure, Scope, find}
 use Rattle.cp_meaning.specs.Declarations.{RoutineMeaning}
 use Rattle.cp_meaning.specs.Systems.{system_of}
-use Rattle.cp_meaning.specs.State.{Holder, in_call, in_component, Place, Environment, Component, component_at, no_component, CallKind, own_statement, initial_statement, local_routine, entry_routine, Call, callers, is_entry_kind, has_entry, Item, statement_item, function_call, start_item, until, successor, return, init_end, end}
+use Rattle.cp_meaning.specs.State.{Holder, in_call, in_component, Place, Environment, Component, component_at, no_component, CallKind, initial_statement, local_routine, entry_routine, Call, callers, is_entry_kind, has_entry, Item, statement_item, function_call, start_item, until, successor, return, init_end, end}
 use Rattle.cp_meaning.specs.Steps.{first_components}
 use Rattle.cp_meaning.specs.Places.{View, Target, target_named, value_at, stored, this_call, this_component, plain_place, component_there, with_environment, with_call_environment, with_environment_of}
 use Rattle.cp_meaning.specs.Operations.{same_integer, is_true, checked}
@@ -39,9 +39,7 @@ fit_append l n ns (function_call at d es ∷ xs) items h k = (h.0, fit_append l 
 fit_append l n ns (start_item t ∷ xs) items h k = (h.0, fit_append l n ns xs items h.1 k)
 fit_append l n ns (until ss e ∷ xs) items h k = (h.0, fit_append l n ns xs items h.1 k)
 fit_append l n ns (successor at i z d b s ∷ xs) items h k = (h.0, fit_append l n ns xs items h.1 k)
-fit_append l n ns (return o ∷ xs) items h k = absurd h.0
-fit_append l n ns (init_end m ∷ xs) items h k = absurd h.0
-fit_append l n ns (end ∷ xs) items h k = absurd h.0
+fit_append l n ns _ items h k = absurd h.0
 
 -- ---- environments of calls are no part of this
 
@@ -51,10 +49,9 @@ fit_if p l f false xs ys ns h k = k
 
 pub fit_environment : (p : Program) (l : Layouts) (f : Traits) (cs : List Call) (ns : List ℕ) (below : ℕ) (e : Environment) → CallsFit l f cs ns → CallsFit l f (with_call_environment cs below e) ns
 fit_environment p l f [] [] below e h = tt
-fit_environment p l f [] (n ∷ ns) below e h = absurd h
-fit_environment p l f (c ∷ cs) [] below e h = absurd h
 fit_environment p l f (c ∷ cs) (n ∷ ns) below e h =
     fit_if p l f (length cs == below) (with_environment c e ∷ cs) (c ∷ with_call_environment cs below e) (n ∷ ns) (record { scope = h.0.scope; kind = h.0.kind }, h.1, h.2) (h.0, h.1, fit_environment p l f cs ns below e h.2)
+fit_environment p l f _ _ below e h = absurd h
 
 fit_holder : (p : Program) (l : Layouts) (f : Traits) (v : View) (ns : List ℕ) (h : Holder) (e : Environment) → CallsFit l f v.calls ns → CallsFit l f (with_environment_of v h e).calls ns
 fit_holder p l f v ns (in_call below) e k = fit_environment p l f v.calls ns below e k
@@ -119,8 +116,6 @@ module _ (l : Layouts) (f : Traits) (cs : List Component) where
   -- a routine that is not quiet is executed below an open entry call of its component
   loud_kind : (c : Call) (calls : List Call) (n : ℕ) (ns : List ℕ) (k : CallKind) → c.kind ≡ k → CallsFit l f (c ∷ calls) (n ∷ ns) → Descends cs ((k, c.component) ∷ frames calls) → f.quiet n ≡ false → LoudBelow calls ns → has_entry c.component (c ∷ calls) ≡ true
   loud_kind c calls n ns entry_routine e fits order loud below = ap (λ (k : CallKind). (is_entry_kind k && c.component == c.component) || has_entry c.component calls) e ∙ ap (λ (b : Bool). b || has_entry c.component calls) (eq-eqb c.component c.component refl)
-  loud_kind c calls n ns initial_statement e fits order loud below = never_loud n (subst (λ k. KindFits f k n) e fits.0.kind).1 loud
-  loud_kind c calls n ns own_statement e fits order loud below = never_loud n (subst (λ k. KindFits f k n) e fits.0.kind).1 loud
   loud_kind c [] n ns local_routine e fits order loud below = absurd order
   loud_kind c (d ∷ calls) n [] local_routine e fits order loud below = absurd fits.2
   loud_kind c (d ∷ calls) n (m ∷ ns) local_routine e fits order loud below =
@@ -130,6 +125,7 @@ module _ (l : Layouts) (f : Traits) (cs : List Component) where
       not_quiet : (b : Bool) → f.quiet m ≡ b → f.quiet m ≡ false
       not_quiet false h = h
       not_quiet true h = never_loud n (subst (λ k. QuietAbove f k n (m ∷ ns)) e fits.1 h) loud
+  loud_kind c calls n ns _ e fits order loud below = never_loud n (subst (λ k. KindFits f k n) e fits.0.kind).1 loud
 
   pub loud_entry : (c : Call) (calls : List Call) (n : ℕ) (ns : List ℕ) → CallsFit l f (c ∷ calls) (n ∷ ns) → Descends cs (frames (c ∷ calls)) → f.quiet n ≡ false → has_entry c.component (c ∷ calls) ≡ true
   loud_entry c [] n ns fits order loud = loud_kind c [] n ns c.kind refl fits order loud tt
@@ -270,9 +266,8 @@ module _ (p : Program) (l : Layouts) (f : Traits) (known : RoutinesKnown p l f) 
   initialised_fits d items e rest = outcome_if p l f (is_uninitialised (component_at cs d).status) _ _ (let k = known.initials d in initial_fits d items e (k.entry, k.quiet) rest) tt
 
   started_fits : (k : SystemKind) (d : ℕ) (items : List Item) (e : Environment) → ItemsFit l (n ∷ ns) items → Fits (started_as k v d (system_of p (component_at cs d).system) items e)
-  started_fits system_kind.Class d items e rest = initialised_fits d items e rest
-  started_fits system_kind.Monitor d items e rest = initialised_fits d items e rest
   started_fits system_kind.Process d items e rest = items_fit v items (starts d e) alike rest tt
+  started_fits _ d items e rest = initialised_fits d items e rest
 
   start_fits : (t : Start) (items : List Item) → ItemsFit l (n ∷ ns) items → Fits (started v t items)
   start_fits t items rest =
@@ -293,8 +288,7 @@ module _ (p : Program) (l : Layouts) (f : Traits) (known : RoutinesKnown p l f) 
 
   leaving_fits : (k : SystemKind) (m : ℕ) (xs : List Call) → MoveFits xs (leaving_move k m)
   leaving_fits system_kind.Monitor m xs = tt
-  leaving_fits system_kind.Class m xs = tt
-  leaving_fits system_kind.Process m xs = tt
+  leaving_fits _ m xs = tt
 
   return_fits : (b : Bool) (k : SystemKind) (m : ℕ) (xs : List Call) → MoveFits xs (if b then leaving_move k m else stays)
   return_fits true k m xs = leaving_fits k m xs
@@ -322,9 +316,6 @@ module _ (p : Program) (l : Layouts) (f : Traits) (known : RoutinesKnown p l f) 
   fewer (x ∷ xs) h = h.2
 
   continued_fits : (k : CallKind) (items : List Item) (q : Place) → c.kind ≡ k → FramesFit (frames (c ∷ calls)) items → ItemsFit l (n ∷ ns) items → DoingFits p l f (continued_from v k items q)
-  continued_fits own_statement items q e g rest = items_fit v items stays alike rest tt
-  continued_fits initial_statement items q e g rest = items_fit v items stays alike rest tt
-  continued_fits local_routine items q e g rest = items_fit v items stays alike rest tt
   continued_fits entry_routine items q e g rest =
       let a = alike_stored v q (queue_value None) alike in
       record {
@@ -332,6 +323,7 @@ module _ (p : Program) (l : Layouts) (f : Traits) (known : RoutinesKnown p l f) 
         systems = a.still_systems;
         moves = tt;
       }
+  continued_fits _ items q e g rest = items_fit v items stays alike rest tt
 
   -- ---- statements
 
@@ -374,7 +366,6 @@ module _ (p : Program) (l : Layouts) (f : Traits) (known : RoutinesKnown p l f) 
   invoke_fits at d es items w g rest = invoked_fits at (find (name_of d) c.scope) d es items (ap (find (name_of d)) (sym scope_is)) w g rest
 
   does_fits : (t : Statement) (items : List Item) → IsWithin body t → FramesFit (frames (c ∷ calls)) items → ItemsFit l (n ∷ ns) items → Fits (does v pid t items)
-  does_fits (empty at) items w g rest = becomes_fit v items alike rest
   does_fits (assign at d e) items w g rest = bind_fits p l f (value v e) _ (λ x. bind_fits p l f (target_value v d) _ (λ t. assigned_fits t x.value _ (λ u a. becomes_fit u items a rest)))
   does_fits (invoke at d es) items w g rest = invoke_fits at d es items w g rest
   does_fits (block at ss) items w g rest = becomes_fit v _ alike (of_all ss items (λ t h. inside t (block at ss) h w) rest)
@@ -390,7 +381,7 @@ module _ (p : Program) (l : Layouts) (f : Traits) (known : RoutinesKnown p l f) 
       bind_fits p l f (value v e) _ (λ x. bind_fits p l f (value v b) _ (λ y.
       outcome_if p l f (is_beyond d (number_of x.value) (number_of y.value)) _ _ (becomes_fit v items alike rest) (next_fits at i _ d _ t items (e, b, w) (inside t (for_do at i e d b t) refl w) rest)))
   does_fits (cycle at ss) items w g rest = becomes_fit v _ alike (all_and ss (λ (s : Scope). items_of s (cycle at ss)) items (λ t h. inside t (cycle at ss) h w) (statement_stands scope body (cycle at ss) w) rest)
-  does_fits (init at ts) items w g rest = becomes_fit v items alike rest
+  does_fits _ items w g rest = becomes_fit v items alike rest
 
   -- ---- items
 

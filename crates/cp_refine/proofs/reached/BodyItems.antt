@@ -1,8 +1,8 @@
 -- The items of a statement that stands in a body stand in it too.
 use Rattle.std.proofs.Common.{ℕ, inl, inr, Bool, true, false, List, [], ◌∷◌, ◌++◌, refl, subst, append_assoc}
-use Rattle.cp_tree.specs.Syntax.{Expression, alone, related, Sum, sum, Terms, no_terms, more_terms, Term, term, Factors, no_factors, more_factors, Factor, number, character, named, group, negated, set_of, Expressions, no_expressions, more_expressions, Designator, designator, Selectors, no_selectors, more_selectors, Selector, field, index, Start, Statement, empty, assign, invoke, block, if_then, if_else, case_of, while_do, repeat_until, for_do, cycle, init, Statements, no_statements, more_statements}
+use Rattle.cp_tree.specs.Syntax.{Expression, alone, related, Sum, sum, Terms, no_terms, more_terms, Term, term, Factors, no_factors, more_factors, Factor, named, group, negated, set_of, Expressions, no_expressions, more_expressions, Designator, designator, Selectors, no_selectors, more_selectors, Selector, field, index, Start, Statement, empty, assign, invoke, block, if_then, if_else, case_of, while_do, repeat_until, for_do, cycle, init, Statements, no_statements, more_statements}
 use Rattle.cp_meaning.specs.Scopes.{Scope}
-use Rattle.cp_meaning.specs.State.{Item, statement_item, function_call, start_item, until, successor, return, init_end, end}
+use Rattle.cp_meaning.specs.State.{Item, statement_item, function_call, start_item, until}
 use Rattle.cp_meaning.specs.Lifting.{own_call, is_call, expression_calls, sum_calls, terms_calls, term_calls, factors_calls, factor_calls, expressions_calls, designator_calls, selectors_calls, selector_calls, start_items, items_of, items_of_all, until_items}
 use Rattle.cp_refine.specs.Bodies.{IsAmong, IsWithin, listed, IsAmongItems, IsAmongStarts, OwnStands, ItemStands, AllStand}
 use Rattle.cp_refine.specs.Remaining.{calls_before}
@@ -17,13 +17,7 @@ AreCalls (i ∷ items) = ⊥
 calls_append : (xs ys : List Item) → AreCalls xs → AreCalls ys → AreCalls (xs ++ ys)
 calls_append [] ys h k = k
 calls_append (function_call at d es ∷ xs) ys h k = calls_append xs ys h k
-calls_append (statement_item t ∷ xs) ys h k = absurd h
-calls_append (start_item t ∷ xs) ys h k = absurd h
-calls_append (until ss e ∷ xs) ys h k = absurd h
-calls_append (successor at i z d b s ∷ xs) ys h k = absurd h
-calls_append (return o ∷ xs) ys h k = absurd h
-calls_append (init_end m ∷ xs) ys h k = absurd h
-calls_append (end ∷ xs) ys h k = absurd h
+calls_append _ ys h k = absurd h
 
 own_are : (b : Bool) (at : ℕ) (d : Designator) (es : Expressions) → AreCalls (own_call b at d es)
 own_are true at d es = tt
@@ -49,13 +43,12 @@ mutual
   factors_are s (more_factors op f fs) = calls_append (factor_calls s f) (factors_calls s fs) (factor_are s f) (factors_are s fs)
 
   factor_are : (s : Scope) (f : Factor) → AreCalls (factor_calls s f)
-  factor_are s (number at n) = tt
-  factor_are s (character at c) = tt
   factor_are s (named at d es) =
       calls_append (designator_calls s d ++ expressions_calls s es) (own_call (is_call s d) at d es) (calls_append (designator_calls s d) (expressions_calls s es) (designator_are s d) (expressions_are s es)) (own_are (is_call s d) at d es)
   factor_are s (group at e) = expression_are s e
   factor_are s (negated at f) = factor_are s f
   factor_are s (set_of at es) = expressions_are s es
+  factor_are s _ = tt
 
   expressions_are : (s : Scope) (es : Expressions) → AreCalls (expressions_calls s es)
   expressions_are s no_expressions = tt
@@ -82,13 +75,7 @@ stand_append s body (x ∷ xs) ys h k = (h.0, stand_append s body xs ys h.1 k)
 calls_stand : (s : Scope) (body : Statements) (i : Item) (xs : List Item) → OwnStands body i → AreCalls xs → ((j : Item) → IsAmongItems j xs → IsAmongItems j (calls_before s i)) → AllStand s body xs
 calls_stand s body i [] own h among = tt
 calls_stand s body i (function_call at d es ∷ xs) own h among = ((i, own, among (function_call at d es) (inl refl)), calls_stand s body i xs own h (λ j k. among j (inr k)))
-calls_stand s body i (statement_item t ∷ xs) own h among = absurd h
-calls_stand s body i (start_item t ∷ xs) own h among = absurd h
-calls_stand s body i (until ss e ∷ xs) own h among = absurd h
-calls_stand s body i (successor at x z d b u ∷ xs) own h among = absurd h
-calls_stand s body i (return o ∷ xs) own h among = absurd h
-calls_stand s body i (init_end m ∷ xs) own h among = absurd h
-calls_stand s body i (end ∷ xs) own h among = absurd h
+calls_stand s body i _ own h among = absurd h
 
 led : (s : Scope) (body : Statements) (i : Item) → OwnStands body i → AreCalls (calls_before s i) → ItemStands s body i → AllStand s body (calls_before s i ++ i ∷ [])
 led s body i own calls here = stand_append s body (calls_before s i) (i ∷ []) (calls_stand s body i (calls_before s i) own calls (λ j k. k)) (here, tt)

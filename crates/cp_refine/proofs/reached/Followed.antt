@@ -1,7 +1,7 @@
 -- In each reached state the next step of a ready process is one by the rules.
 use Rattle.std.proofs.Common.{◌≡◌, ◌∙◌, ℕ, ◌<◌, List, [], ◌∷◌, ◌++◌, Option, Some, None, ap, sym, refl, subst, arith, length}
 use Rattle.cp_tree.specs.Read.{IsRead}
-use Rattle.cp_tree.specs.Syntax.{Tree, Program, Expressions, no_expressions, more_expressions, Designator, Statement, empty, assign, invoke, block, if_then, if_else, case_of, while_do, repeat_until, for_do, cycle, init}
+use Rattle.cp_tree.specs.Syntax.{Tree, Program, Expressions, no_expressions, more_expressions, Designator, Statement, invoke, init}
 use Rattle.cp_layout.specs.Laid.{plain, laid}
 use Rattle.cp_slots.specs.Tables.{Tables}
 use Rattle.cp_machine.specs.declared.process.Entry.{Entry}
@@ -15,9 +15,9 @@ use Rattle.cp_refine.specs.Followed.{IsInvoked, StatementFollows, ItemsFollow, S
 use Rattle.cp_meaning.specs.Names.{temporary}
 use Rattle.cp_meaning.specs.Places.{View}
 use Rattle.cp_meaning.specs.Readings.{is_ready}
-use Rattle.cp_meaning.specs.Scopes.{Meaning, constant_meaning, type_meaning, local_variable, permanent_variable, routine_meaning, standard_meaning, Standard, succ_function, pred_function, chr_function, ord_function, abs_function, empty_function, delay_procedure, continue_procedure, display_procedure, find}
+use Rattle.cp_meaning.specs.Scopes.{Meaning, standard_meaning, Standard, delay_procedure, continue_procedure, display_procedure, find}
 use Rattle.cp_meaning.specs.State as named
-use Rattle.cp_meaning.specs.State.{ready, Item, statement_item, function_call, start_item, until, successor, return, init_end, end, Gates, State}
+use Rattle.cp_meaning.specs.State.{ready, Item, statement_item, function_call, start_item, Gates, State}
 use Rattle.cp_meaning.specs.Steps.{view_of, IsReached, at_first, by_step, by_admission, by_forgetting}
 use Rattle.cp_resolved.specs.Layouts.{Layouts, Here, here}
 use Rattle.cp_resolved.specs.Resolving.{AreTablesOf}
@@ -75,47 +75,24 @@ module _ (t : Tree) (r : Tables) (l : Layouts) (prepared : Prepared t r l) (s : 
       standard_so display_procedure no_expressions k is rules own = absurd own
       standard_so delay_procedure no_expressions k is rules own = absurd own
       standard_so continue_procedure no_expressions k is rules own = absurd own
-      standard_so succ_function es' k is rules own = absurd own
-      standard_so pred_function es' k is rules own = absurd own
-      standard_so chr_function es' k is rules own = absurd own
-      standard_so ord_function es' k is rules own = absurd own
-      standard_so abs_function es' k is rules own = absurd own
-      standard_so empty_function es' k is rules own = absurd own
+      standard_so _ es' k is rules own = absurd own
 
       invoked_so : (w : Option Meaning) (es' : Expressions) → (k : Takes (statement_item (invoke token d es'))) → find (name_of d) this.scope ≡ w → InvokeKnown g this w d es' → InvokedBy g this at token w d es' mid → IsInvoked s view w d es'
       invoked_so (Some (standard_meaning f)) es' k is rules own = standard_so f es' k is rules own
-      invoked_so None es' k is rules own = call_follows t r l prepared s known m ready fits reach q going at mid es xs ys token (statement_item (invoke token d es')) k d es' None own rules k.kept
-      invoked_so (Some (constant_meaning b z)) es' k is rules own = call_follows t r l prepared s known m ready fits reach q going at mid es xs ys token (statement_item (invoke token d es')) k d es' None own rules k.kept
-      invoked_so (Some (type_meaning u)) es' k is rules own = call_follows t r l prepared s known m ready fits reach q going at mid es xs ys token (statement_item (invoke token d es')) k d es' None own rules k.kept
-      invoked_so (Some (local_variable u)) es' k is rules own = call_follows t r l prepared s known m ready fits reach q going at mid es xs ys token (statement_item (invoke token d es')) k d es' None own rules k.kept
-      invoked_so (Some (permanent_variable u)) es' k is rules own = call_follows t r l prepared s known m ready fits reach q going at mid es xs ys token (statement_item (invoke token d es')) k d es' None own rules k.kept
-      invoked_so (Some (routine_meaning y)) es' k is rules own = call_follows t r l prepared s known m ready fits reach q going at mid es xs ys token (statement_item (invoke token d es')) k d es' None own rules k.kept
+      invoked_so _ es' k is rules own = call_follows t r l prepared s known m ready fits reach q going at mid es xs ys token (statement_item (invoke token d es')) k d es' None own rules k.kept
 
     statement_so : (u : Statement) → (k : Takes (statement_item u)) → StatementKnown g this u → StatementFollows s view u
     statement_so (invoke token d es') k rules =
         subst (λ (w : Option Meaning). IsInvoked s view w d es') (sym (ap (find (name_of d)) (scope_is g p l s m q at (statement_item (invoke token d es')) mid es xs ys k)))
         (invoked_so token d (find (name_of d) this.scope) es' k refl rules k.own)
     statement_so (init token ts) k rules = absurd k.own
-    statement_so (empty token) k rules = tt
-    statement_so (assign token d e) k rules = tt
-    statement_so (block token ss) k rules = tt
-    statement_so (if_then token e u) k rules = tt
-    statement_so (if_else token e u w) k rules = tt
-    statement_so (case_of token e arms b) k rules = tt
-    statement_so (while_do token e u) k rules = tt
-    statement_so (repeat_until token ss e) k rules = tt
-    statement_so (for_do token i e d f u) k rules = tt
-    statement_so (cycle token ss) k rules = tt
+    statement_so _ k rules = tt
 
     item_so : (i : Item) → Takes i → ItemKnown g this i → ItemsFollow s view (i ∷ xs ++ ys)
     item_so (statement_item u) k rules = statement_so u k rules
     item_so (function_call token d args) k rules = call_follows t r l prepared s known m ready fits reach q going at mid es xs ys token (function_call token d args) k d args (Some (temporary token)) k.own rules k.kept
     item_so (start_item x) k rules = start_follows t r l prepared s known m ready fits reach states q going at mid es xs ys x k rules
-    item_so (until ss e) k rules = tt
-    item_so (successor token i z d b u) k rules = tt
-    item_so (return o) k rules = tt
-    item_so (init_end n) k rules = tt
-    item_so end k rules = tt
+    item_so _ k rules = tt
 
   by_stack : (es : List Entry) → (thread_at m.threads q).stack ≡ es → StackIs g p l (thread_at m.threads q).frame (named.process_at s.processes q).calls (named.process_at s.processes q).items es → StepFollows p s q
   by_stack [] e is = subst (ItemsFollow s view) (sym is.2) tt

@@ -1,22 +1,20 @@
 -- What a ready process does next is as the rules want it: it stands in the body of a routine whose scope is that of the call.
 use Rattle.std.proofs.Common.{◌≡◌, ◌∙◌, ◌⊎◌, inl, inr, ℕ, ◌-◌, ◌+◌, ◌<◌, true, false, List, [], ◌∷◌, length, Option, Some, None, ap, sym, refl, subst}
 use Rattle.cp_tree.specs.declared.declaration.SystemKind.TheVariants as system_kind
-use Rattle.cp_tree.specs.Syntax.{Expression, Expressions, no_expressions, more_expressions, Designator, Start, Statement, empty, assign, invoke, block, if_then, if_else, case_of, while_do, repeat_until, for_do, cycle, init, Statements, no_statements, more_statements, Arms, no_arms, more_arms, arm, Program, Tree}
+use Rattle.cp_tree.specs.Syntax.{Expression, Expressions, no_expressions, more_expressions, Designator, Start, Statement, assign, invoke, block, if_then, if_else, case_of, while_do, repeat_until, for_do, cycle, init, Statements, no_statements, more_statements, Arms, no_arms, more_arms, arm, Program, Tree}
 use Rattle.cp_slots.specs.Code as code
 use Rattle.cp_slots.specs.Tables.{Tables}
-use Rattle.cp_store.specs.declared.memory.Frame.{Frame}
-use Rattle.cp_store.specs.Memory.{Memory}
 use Rattle.cp_machine.specs.Machine.{Machine, thread_at}
 use Rattle.cp_lawful.specs.Accepted.{IsAccepted}
 use Rattle.cp_meaning.specs.Names.{Name}
 use Rattle.cp_meaning.specs.Types as named
-use Rattle.cp_meaning.specs.Types.{Ty, Base, Range, ordinal}
+use Rattle.cp_meaning.specs.Types.{Ty, Base}
 use Rattle.cp_meaning.specs.Places.{result_type}
-use Rattle.cp_meaning.specs.Scopes.{Meaning, constant_meaning, type_meaning, local_variable, permanent_variable, routine_meaning, standard_meaning, succ_function, pred_function, chr_function, ord_function, abs_function, empty_function, delay_procedure, continue_procedure, display_procedure, Scope, find}
+use Rattle.cp_meaning.specs.Scopes.{Meaning, standard_meaning, delay_procedure, continue_procedure, display_procedure, Scope, find}
 use Rattle.cp_meaning.specs.Declarations.{Parameter, RoutineMeaning}
 use Rattle.cp_meaning.specs.Expressions.{name_of, routine_called, variable_in}
 use Rattle.cp_meaning.specs.State as state
-use Rattle.cp_meaning.specs.State.{ready, Call, current, Item, statement_item, function_call, start_item, until, successor, return, init_end, end, Gates, State}
+use Rattle.cp_meaning.specs.State.{current, Item, statement_item, function_call, start_item, until, successor, return, init_end, end, Gates, State}
 use Rattle.cp_meaning.specs.Systems.{declared, program_system, own_meaning, system_of}
 use Rattle.cp_meaning.specs.Readings.{is_ready}
 use Rattle.cp_resolved.specs.Compiled.{a_component, designator_form}
@@ -50,6 +48,7 @@ use Rattle.cp_refine.proofs.calls.FunctionParameters.{called_values}
 use Rattle.cp_refine.proofs.steps.Going.{Going, going}
 use Rattle.cp_refine.proofs.reached.NextInReached.{Executed, executed}
 use Rattle.cp_refine.proofs.queues.QueuesKnown.{queue_permanent}
+use Rattle.cp_refine.proofs.expressions.ComponentsSeen.{top_call as held_routine}
 
 -- ---- what holds of each statement holds of one
 
@@ -74,10 +73,7 @@ module _ (P : Statement → Type 0) where
   part_in t (repeat_until at ss e) k h = among t ss h.1 k
   part_in t (for_do at i e d f u) k h = subst (EachIn P) (sym k) h.1
   part_in t (cycle at ss) k h = among t ss h.1 k
-  part_in t (empty at) k h = absurd k
-  part_in t (assign at d e) k h = absurd k
-  part_in t (invoke at d es) k h = absurd k
-  part_in t (init at ts) k h = absurd k
+  part_in t _ k h = absurd k
 
   within_in : (body : Statements) (t : Statement) → EachOf P body → IsWithin body t → EachIn P t
   within_in body _ h (listed t k) = among t body h k
@@ -94,37 +90,25 @@ start_in P t (u ∷ us) h (inr k) = start_in P t us h.1 k
 -- ---- types and arguments
 
 movable_free : (t : Ty) → is_standing t ≡ true → IsMovable t → is_free t ≡ true
-movable_free (named.ordinal r) h m = h
 movable_free named.queue_type h m = absurd m
-movable_free (named.set_over r) h m = h
-movable_free (named.record_with ts) h m = h
 movable_free (named.component_of k) h m = absurd m
 movable_free (named.array_over r named.queue_type) h m = absurd m
 movable_free (named.array_over r (named.component_of k)) h m = absurd m
-movable_free (named.array_over r (named.ordinal q)) h m = h
-movable_free (named.array_over r (named.set_over q)) h m = h
-movable_free (named.array_over r (named.array_over q t)) h m = h
-movable_free (named.array_over r (named.record_with ts)) h m = h
+movable_free _ h m = h
 
 result_free : (o : Option Ty) → IsFreeResult o → is_free (result_type o) ≡ true
 result_free None h = refl
 result_free (Some t) h = h
 
 variables_given : (h : Here) (qs : List Parameter) (es : Expressions) → AreVariables h qs es → VariablesGiven h qs es
-variables_given h [] es v = tt
-variables_given h (q ∷ qs) no_expressions v = tt
 variables_given h (q ∷ qs) (more_expressions e es) v = ((λ var. (let x : IsVariable h (variable_in e) = v.0 var in (x.designator, x.is, x.no_call))), variables_given h qs es v.1)
+variables_given h _ _ v = tt
 
 values_given : (h : Here) (qs : List Parameter) (es : Expressions) → Each (λ (q : Parameter). q.is_var ≡ false) qs → VariablesGiven h qs es
-values_given h [] es v = tt
-values_given h (q ∷ qs) no_expressions v = tt
 values_given h (q ∷ qs) (more_expressions e es) v = ((λ var. absurd (let bad : false ≡ true = sym v.0 ∙ var in cc)), values_given h qs es v.1)
+values_given h _ _ v = tt
 
 -- ---- the routine of the frame
-
-held_routine : (r : Tables) (l : Layouts) (m : Memory) (cs : List Call) (f : Frame) (fs : List Frame) → CallsHold r l m cs (f ∷ fs) → CallIs r l (current cs) f
-held_routine r l m [] f fs h = absurd h
-held_routine r l m (c ∷ cs) f fs h = h.0
 
 -- an entry is one of a class or monitor, in the body of routine n, with the scope of which routine k is executed
 abbrev pub EntriesKnown : Program → Layouts → Type 0
@@ -193,9 +177,7 @@ module _ (t : Tree) (r : Tables) (read : IsRead t.program) (ok : IsAccepted t) (
 
     few : (b : Base) → IsListed (tokens_of p) b → HasFewConstants g b
     few (named.enumerated at xs) e = subst (λ (ys : List Name). constants_before p at + (length ys - 1) < 65536) (sym e) (few_constants t read ok at)
-    few named.integers e = tt
-    few named.booleans e = tt
-    few named.characters e = tt
+    few _ e = tt
 
     -- ---- calls
 
@@ -211,18 +193,7 @@ module _ (t : Tree) (r : Tables) (read : IsRead t.program) (ok : IsAccepted t) (
     invoke_known at (Some (standard_meaning display_procedure)) d no_expressions is w x = invoke_call at d no_expressions w x
     invoke_known at (Some (standard_meaning delay_procedure)) d no_expressions is w x = invoke_call at d no_expressions w x
     invoke_known at (Some (standard_meaning continue_procedure)) d no_expressions is w x = invoke_call at d no_expressions w x
-    invoke_known at (Some (standard_meaning succ_function)) d es is w x = invoke_call at d es w x
-    invoke_known at (Some (standard_meaning pred_function)) d es is w x = invoke_call at d es w x
-    invoke_known at (Some (standard_meaning chr_function)) d es is w x = invoke_call at d es w x
-    invoke_known at (Some (standard_meaning ord_function)) d es is w x = invoke_call at d es w x
-    invoke_known at (Some (standard_meaning abs_function)) d es is w x = invoke_call at d es w x
-    invoke_known at (Some (standard_meaning empty_function)) d es is w x = invoke_call at d es w x
-    invoke_known at (Some (constant_meaning b z)) d es is w x = invoke_call at d es w x
-    invoke_known at (Some (type_meaning u)) d es is w x = invoke_call at d es w x
-    invoke_known at (Some (local_variable u)) d es is w x = invoke_call at d es w x
-    invoke_known at (Some (permanent_variable u)) d es is w x = invoke_call at d es w x
-    invoke_known at (Some (routine_meaning q)) d es is w x = invoke_call at d es w x
-    invoke_known at None d es is w x = invoke_call at d es w x
+    invoke_known at _ d es is w x = invoke_call at d es w x
 
     function_known : (at : ℕ) (d : Designator) (es : Expressions) → ItemStands (scope_of l n) (body_of l n) (function_call at d es) → CallIsKnown this d es
     function_known at d es w =
@@ -243,26 +214,13 @@ module _ (t : Tree) (r : Tables) (read : IsRead t.program) (ok : IsAccepted t) (
         free v good (inl h) = movable_free v good h
         free v good (inr e) = ap is_free e ∙ result_free (l.meanings k).result typed.result
     statement_known (invoke at d es) w x = invoke_known at (find (name_of d) this.scope) d es refl w x
-    statement_known (empty at) w x = tt
-    statement_known (block at ss) w x = tt
-    statement_known (if_then at e u) w x = tt
-    statement_known (if_else at e u v) w x = tt
-    statement_known (case_of at e as' b) w x = tt
-    statement_known (while_do at e u) w x = tt
-    statement_known (repeat_until at ss e) w x = tt
-    statement_known (for_do at i e d e2 u) w x = tt
-    statement_known (cycle at ss) w x = tt
-    statement_known (init at ts) w x = tt
+    statement_known _ w x = tt
 
     pub item_known : (i : Item) → ItemStands (scope_of l n) (body_of l n) i → ItemKnown g this i
     item_known (statement_item u) w = statement_known u w (within_one Known (body_of l n) u each w)
     item_known (function_call at d es) w = function_known at d es w
     item_known (start_item x) w = λ part c form. number_below t read ok c (start_in (statements.StartKnown (tokens_of p) this) x w.1 (within_one Known (body_of l n) (init w.0 w.1) each w.2).1 w.3 part c form)
-    item_known (until ss e) w = tt
-    item_known (successor at i z d b u) w = tt
-    item_known (return o) w = tt
-    item_known (init_end m) w = tt
-    item_known end w = tt
+    item_known _ w = tt
 
   -- ---- reached states
 

@@ -1,13 +1,13 @@
 -- Of every tree that was read and breaks no rule: what the rules of the language say of calls, `delay` and `continue` in the bodies of its routines.
 use Rattle.std.proofs.Common.{◌≡◌, ◌∙◌, inl, inr, ℕ, Bool, true, false, List, [], ◌∷◌, Option, Some, None, ap, sym, refl, subst}
 use Rattle.std.specs.Prelude.{not}
-use Rattle.cp_tree.specs.Syntax.{Expressions, Designator, Start, Statement, empty, assign, invoke, block, if_then, if_else, case_of, while_do, repeat_until, for_do, cycle, init, Statements, no_statements, more_statements, Arms, no_arms, more_arms, arm, Program, Tree}
+use Rattle.cp_tree.specs.Syntax.{Expressions, Designator, Start, Statement, assign, invoke, block, if_then, if_else, case_of, while_do, repeat_until, for_do, cycle, init, Statements, no_statements, more_statements, Arms, no_arms, more_arms, arm, Program, Tree}
 use Rattle.cp_tree.specs.Read.{IsRead}
 use Rattle.cp_lawful.specs.Accepted.{IsAccepted}
 use Rattle.cp_meaning.specs.Declarations.{RoutineMeaning}
 use Rattle.cp_meaning.specs.Expressions.{name_of, routine_called}
-use Rattle.cp_meaning.specs.Scopes.{Meaning, constant_meaning, type_meaning, local_variable, permanent_variable, routine_meaning, standard_meaning, delay_procedure, continue_procedure, Scope, find}
-use Rattle.cp_meaning.specs.State.{component_at, Item, statement_item, function_call, start_item, until, successor, return, init_end, end}
+use Rattle.cp_meaning.specs.Scopes.{Meaning, routine_meaning, standard_meaning, delay_procedure, continue_procedure, Scope, find}
+use Rattle.cp_meaning.specs.State.{component_at, Item, statement_item, function_call, start_item, until, successor}
 use Rattle.cp_meaning.specs.Steps.{first_components}
 use Rattle.cp_resolved.specs.Layouts.{Layouts}
 use Rattle.cp_resolved.specs.TreeLayouts.{layouts_of}
@@ -19,6 +19,7 @@ use Rattle.cp_resolved.proofs.statements.StatementsJudged.{InvokeSaid, StartsSai
 use Rattle.cp_refine.specs.Bodies.{IsAmong, IsAmongArms, IsPartOf, IsWithin, listed, inside, IsAmongItems, IsAmongStarts, OwnStands, ItemStands}
 use Rattle.cp_refine.specs.Remaining.{calls_before}
 use Rattle.cp_refine.specs.RoutinesKnown.{Traits, scope_of, body_of, CalledAs, Callee, Initial, RoutinesKnown}
+use Rattle.cp_machine.proofs.CallOutcomes.{not_true as of_quiet}
 
 -- ---- traits
 
@@ -30,18 +31,9 @@ quiet_of : (b : Bool) → b ≡ false → not b ≡ true
 quiet_of false e = refl
 quiet_of true e = absurd (let bad : true ≡ false = e in cc)
 
-of_quiet : (b : Bool) → not b ≡ true → b ≡ false
-of_quiet false e = refl
-of_quiet true e = absurd (let bad : false ≡ true = e in cc)
-
 called_as : (t : Tree) (n k : ℕ) (m : Option Meaning) → IsCalledAs t.program n k m → CalledAs (traits t) n k m
 called_as t n k (Some (routine_meaning y)) h = (h.0, λ e. quiet_of (waits_at t.program k) (h.1 (of_quiet (waits_at t.program n) e)))
-called_as t n k (Some (constant_meaning b z)) h = h
-called_as t n k (Some (type_meaning u)) h = h
-called_as t n k (Some (local_variable u)) h = h
-called_as t n k (Some (permanent_variable u)) h = h
-called_as t n k (Some (standard_meaning q)) h = h
-called_as t n k None h = h
+called_as t n k _ h = h
 
 -- ---- all routines
 
@@ -107,10 +99,7 @@ module _ (t : Tree) (read : IsRead t.program) (ok : IsAccepted t) where
     part_said t (repeat_until at ss e) k h = among_said t ss h.0 k
     part_said t (for_do at i e d g u) k h = subst IsSaid (sym k) h.1
     part_said t (cycle at ss) k h = among_said t ss h k
-    part_said t (empty at) k h = absurd k
-    part_said t (assign at d e) k h = absurd k
-    part_said t (invoke at d es) k h = absurd k
-    part_said t (init at ts) k h = absurd k
+    part_said t _ k h = absurd k
 
     within_said : (body : Statements) (t : Statement) → IsBodySaid body → IsWithin body t → IsSaid t
     within_said body _ h (listed t k) = among_said t body h k
@@ -124,40 +113,27 @@ module _ (t : Tree) (read : IsRead t.program) (ok : IsAccepted t) where
     start_said t (u ∷ us) h (inr k) = start_said t us h.1 k
 
     statement_said : (t : Statement) → IsSaid t → AreCallsSaid (calls_before scope (statement_item t))
-    statement_said (empty at) h = tt
     statement_said (assign at d e) h = h
     statement_said (invoke at d es) h = h.1
-    statement_said (block at ss) h = tt
     statement_said (if_then at e t) h = h.0
     statement_said (if_else at e t u) h = h.0
     statement_said (case_of at e as' b) h = h.0
     statement_said (while_do at e t) h = h.0
-    statement_said (repeat_until at ss e) h = tt
     statement_said (for_do at i e d g t) h = h.0
-    statement_said (cycle at ss) h = tt
-    statement_said (init at ts) h = tt
+    statement_said _ h = tt
 
     before_said : (body : Statements) (i : Item) → IsBodySaid body → OwnStands body i → AreCallsSaid (calls_before scope i)
     before_said body (statement_item t) h k = statement_said t (within_said body t h k)
     before_said body (start_item t) h k = start_said t k.1 (within_said body (init k.0 k.1) h k.2) k.3
     before_said body (until ss e) h k = (within_said body (repeat_until k.0 ss e) h k.1).1
     before_said body (successor at i z d b t) h k = tt
-    before_said body (function_call at d es) h k = absurd k
-    before_said body (return o) h k = absurd k
-    before_said body (init_end m) h k = absurd k
-    before_said body end h k = absurd k
+    before_said body _ h k = absurd k
 
     call_said : (at : ℕ) (d : Designator) (es : Expressions) (items : List Item) → AreCallsSaid items → IsAmongItems (function_call at d es) items → IsFunctionSaid d
     call_said at d es [] h k = absurd k
     call_said at d es (function_call n c fs ∷ items) h (inl e) = subst IsFunctionSaid (let same : function_call n c fs ≡ function_call at d es = sym e in cc) h.0
     call_said at d es (function_call n c fs ∷ items) h (inr k) = call_said at d es items h.1 k
-    call_said at d es (statement_item t ∷ items) h k = absurd h
-    call_said at d es (start_item t ∷ items) h k = absurd h
-    call_said at d es (until ss e ∷ items) h k = absurd h
-    call_said at d es (successor n i z c b t ∷ items) h k = absurd h
-    call_said at d es (return o ∷ items) h k = absurd h
-    call_said at d es (init_end m ∷ items) h k = absurd h
-    call_said at d es (end ∷ items) h k = absurd h
+    call_said at d es _ h k = absurd h
 
     function_said : (body : Statements) (at : ℕ) (d : Designator) (es : Expressions) → IsBodySaid body → ItemStands scope body (function_call at d es) → IsFunctionSaid d
     function_said body at d es h k = call_said at d es (calls_before scope k.0) (before_said body k.0 h k.1) k.2

@@ -1,22 +1,15 @@
 -- What a process does next in a reached state: it stands in the body of a routine, `continue` in that of an entry procedure.
-use Rattle.std.proofs.Common.{◌≡◌, ◌∙◌, ℕ, ◌<◌, true, false, List, [], ◌∷◌, ◌++◌, length, Option, Some, None, ap, sym, refl, subst}
+use Rattle.std.proofs.Common.{◌≡◌, ◌∙◌, ℕ, ◌<◌, true, false, List, [], ◌∷◌, length, Some, None, ap, sym, refl, subst}
 use Rattle.cp_tree.specs.Syntax.{Designator, Expressions, invoke, Program, Tree}
-use Rattle.cp_store.specs.declared.memory.Frame.{Frame}
-use Rattle.cp_machine.specs.declared.process.Entry.{Entry}
-use Rattle.cp_machine.specs.declared.process.Entry.TheVariants.{Rest, Successor, Return, InitEnd}
-use Rattle.cp_machine.specs.Stack.{from_end}
 use Rattle.cp_meaning.specs.Expressions.{name_of}
 use Rattle.cp_meaning.specs.Scopes.{standard_meaning, continue_procedure, find}
-use Rattle.cp_meaning.specs.State.{CallKind, own_statement, initial_statement, local_routine, entry_routine, Call, current, Item, statement_item, function_call, start_item, until, successor, return, init_end, end, unstarted, ready, delayed, process_at, Gates, State, has_entry, Status}
+use Rattle.cp_meaning.specs.State.{CallKind, local_routine, entry_routine, Call, current, Item, statement_item, function_call, start_item, until, successor, return, init_end, end, unstarted, ready, delayed, process_at, Gates, State, has_entry, Status}
 use Rattle.cp_meaning.specs.Steps.{IsReached}
 use Rattle.cp_lawful.specs.Accepted.{IsAccepted}
 use Rattle.cp_lawful.proofs.Accepting.{well_formed}
 use Rattle.cp_meaning.proofs.Frames.{frames, ItemsFit as FramesFit}
 use Rattle.cp_meaning.proofs.OwnershipLemmas.{reached}
-use Rattle.cp_resolved.specs.Layouts.{Layouts, here}
-use Rattle.cp_resolved.specs.Stands.{Ground, result_cell}
-use Rattle.cp_refine.specs.Remaining.{ItemsAre}
-use Rattle.cp_refine.specs.Represents.{StackIs}
+use Rattle.cp_resolved.specs.Layouts.{Layouts}
 use Rattle.cp_refine.specs.RoutinesKnown.{Traits, scope_of, RoutinesKnown, KindFits, CallsFit, ItemsFit}
 use Rattle.cp_refine.proofs.reached.BodiesInReached.{WaitsInside, AllStand, reached_in_bodies}
 use Rattle.cp_refine.proofs.HoldsInReached.{HoldsInReached, reached_stands}
@@ -39,28 +32,6 @@ returns_nothing l m n ns fs (until ss e ∷ items) none g h = returns_nothing l 
 returns_nothing l m n ns fs (successor at i z d b t ∷ items) none g h = returns_nothing l m n ns fs items none g h.1
 
 -- ---- on slots
-
-nothing_after : (g : Ground) (h : _) (first last : Option ℕ) (xs ys : List Item) → ItemsAre g h first xs last → ReturnsNothing (xs ++ ys) → ReturnsNothing ys
-nothing_after g h first last [] ys i r = r
-nothing_after g h first last (statement_item t ∷ xs) ys i r = nothing_after g h i.1 last xs ys i.5 r
-nothing_after g h first last (function_call at d es ∷ xs) ys i r = nothing_after g h i.1 last xs ys i.5 r
-nothing_after g h first last (start_item t ∷ xs) ys i r = nothing_after g h i.1 last xs ys i.5 r
-nothing_after g h first last (until ss e ∷ xs) ys i r = nothing_after g h i.1 last xs ys i.5 r
-nothing_after g h first last (successor at n z d b t ∷ xs) ys i r = absurd i.3
-nothing_after g h first last (return o ∷ xs) ys i r = absurd i.3
-nothing_after g h first last (init_end m ∷ xs) ys i r = absurd i.3
-nothing_after g h first last (end ∷ xs) ys i r = absurd i.3
-
--- where an entry call ends without a result, its end has no cell for one
-pub no_slot : (g : Ground) (p : Program) (l : Layouts) (f : Frame) (c : Call) (cs : List Call) (items : List Item) (es entries : List Entry) (caller : Frame) (slot monitor : Option ℕ) → c.kind ≡ entry_routine → StackIs g p l f (c ∷ cs) items es → ReturnsNothing items → from_end es ≡ Return caller slot monitor ∷ entries → slot ≡ None
-no_slot g p l f c cs items [] entries caller slot monitor entry h r e = absurd cc
-no_slot g p l f c cs items (Rest at ∷ es) entries caller slot monitor entry h r e = no_slot g p l f c cs h.1 es entries caller slot monitor entry h.4 (nothing_after g (here p l f.routine) (Some at) None h.0 h.1 h.3 (subst ReturnsNothing h.2 r)) e
-no_slot g p l f c cs items (Successor at z last ∷ es) entries caller slot monitor entry h r e =
-    no_slot g p l f c cs h.2 es entries caller slot monitor entry h.5 (nothing_after g (here p l f.routine) h.4.next None h.1 h.2 h.4.after (subst (λ (i : Item). ReturnsNothing (i ∷ (h.1 ++ h.2))) h.4.same (subst ReturnsNothing h.3 r))) e
-no_slot g p l f c cs items (Return frame cell monitor' ∷ es) entries caller slot monitor entry h r e =
-    let same : cell ≡ slot = (let w : Return frame cell monitor' ∷ es ≡ Return caller slot monitor ∷ entries = e in cc) in
-    sym same ∙ (h.6.0 ∙ ap (λ o. result_cell (here p l frame.routine) o) (subst ReturnsNothing h.5 r))
-no_slot g p l f c cs items (InitEnd frame component ∷ es) entries caller slot monitor entry h r e = absurd cc
 
 -- ---- reached states
 
@@ -105,9 +76,8 @@ module _ (t : Tree) (ok : IsAccepted t) (l : Layouts) (f : Traits) (known : Rout
 
   entry_kind : (k : CallKind) (n : ℕ) → KindFits f k n → f.entry n ≡ true → k ≡ entry_routine
   entry_kind entry_routine n h e = refl
-  entry_kind own_statement n h e = absurd (let bad : true ≡ false = sym e ∙ h.0 in cc)
   entry_kind local_routine n h e = absurd (let bad : true ≡ false = sym e ∙ h in cc)
-  entry_kind initial_statement n h e = absurd (let bad : true ≡ false = sym e ∙ h.0 in cc)
+  entry_kind x n h e = absurd (let bad : true ≡ false = sym e ∙ h.0 in cc)
 
   -- `continue` is executed in an entry procedure
   pub continues_in_entry : (q at : ℕ) (d : Designator) (es : Expressions) (items : List Item) → q < length s.processes → (process_at s.processes q).status ≡ ready → (process_at s.processes q).items ≡ statement_item (invoke at d es) ∷ items →

@@ -23,12 +23,11 @@ IsOuterKind own_statement = ⊥
 
 -- what is entered or initialised is of an earlier type than the process itself
 pub lies_lower : (cs : List Component) (me : ℕ) (k : CallKind) (n : ℕ) (calls : List Call) → IsOuterKind k → Descends cs ((k, n) ∷ frames calls) → ((c : Call) (more : List Call) → calls ≡ c ∷ more → CallsDescend cs me calls) → system_at cs n < system_at cs me
-lies_lower cs me own_statement n calls o h b = absurd o
-lies_lower cs me local_routine n calls o h b = absurd o
 lies_lower cs me entry_routine n [] o h b = absurd h
 lies_lower cs me initial_statement n [] o h b = absurd h
 lies_lower cs me entry_routine n (d ∷ calls) o h b = let w = lies_below cs me d calls (b d calls refl) in let a = h.0 in omega (arith, w, a)
 lies_lower cs me initial_statement n (d ∷ calls) o h b = let w = lies_below cs me d calls (b d calls refl) in let a = h.0 in omega (arith, w, a)
+lies_lower cs me _ n calls o h b = absurd o
 
 -- below an entry call of a component is no other one of it
 pub one_entry : (cs : List Component) (n : ℕ) (calls : List Call) → Descends cs ((entry_routine, n) ∷ frames calls) → has_entry n calls ≡ false
@@ -42,9 +41,7 @@ none_open cs n c calls h less = entry-frames n (c ∷ calls) ∙ no_entry_below 
 -- what runs in a class or monitor is below an open entry call of it, or initialises it
 pub entered_or_initial : (cs : List Component) (f : Frame) (fs : List Frame) → Descends cs (f ∷ fs) → ((component_at cs f.1).kind ≡ system_kind.Process → ⊥) → (entry_in f.1 (f ∷ fs) ≡ true) ⊎ (initial_in f.1 (f ∷ fs) ≡ true)
 entered_or_initial cs (own_statement, n) [] h never = absurd (never h)
-entered_or_initial cs (local_routine, n) [] h never = absurd h
-entered_or_initial cs (entry_routine, n) [] h never = absurd h
-entered_or_initial cs (initial_statement, n) [] h never = absurd h
+entered_or_initial cs _ [] h never = absurd h
 entered_or_initial cs (own_statement, n) (g ∷ fs) h never = absurd h.0
 entered_or_initial cs (local_routine, n) (g ∷ fs) h never = subst (λ k. (entry_in k (g ∷ fs) ≡ true) ⊎ (initial_in k (g ∷ fs) ≡ true)) (sym h.0) (entered_or_initial cs g fs h.1 (λ e. never (subst (λ k. (component_at cs k).kind ≡ system_kind.Process) (sym h.0) e)))
 entered_or_initial cs (entry_routine, n) (g ∷ fs) h never = inl (rw (eq-eqb n n refl) refl)

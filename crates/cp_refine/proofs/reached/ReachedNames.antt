@@ -1,38 +1,17 @@
 -- What a component names in a reached state, but for processes, is of an earlier type.
-use Rattle.std.proofs.Common.{◌≡◌, ◌∙◌, ℕ, zero, suc, ◌<◌, ◌≤◌, ◌==◌, Bool, true, false, ◌&&◌, if◌then◌else◌, List, [], ◌∷◌, ◌++◌, Option, Some, None, ap, ap₂, sym, refl, subst, eqb-true, arith, length}
-use Rattle.std.proofs.lemmas.Slice.Eq.{bytes_eq-Decides}
+use Rattle.std.proofs.Common.{◌≡◌, ◌∙◌, ℕ, zero, suc, ◌<◌, ◌≤◌, ◌==◌, Bool, true, false, if◌then◌else◌, List, [], ◌∷◌, ◌++◌, Option, Some, ap, sym, refl, subst, eqb-true, arith, length}
 use Rattle.cp_tree.specs.declared.declaration.SystemKind.TheVariants as system_kind
 use Rattle.cp_tree.specs.Syntax.{Program}
-use Rattle.cp_meaning.specs.Components.{PathStep, Path, step_down, same_element, same_path}
-use Rattle.cp_meaning.specs.Names.{same_name}
-use Rattle.cp_meaning.specs.State.{Component, component_at, Content, holds, refers, knows, Holder, in_call, in_component, Place, Call, current, State}
+use Rattle.cp_meaning.specs.Components.{PathStep, Path, step_down, same_path}
+use Rattle.cp_meaning.specs.State.{Component, component_at, Content, knows, Holder, in_call, in_component, Place, Call, current, State}
 use Rattle.cp_meaning.specs.Places.{View, content_of, component_with, element_chosen, around_of, component_known, component_by, component_there}
 use Rattle.cp_meaning.specs.Steps.{first_components, IsReached}
 use Rattle.cp_meaning.specs.WellFormed.{IsWellFormed}
 use Rattle.cp_meaning.specs.State.{Gates}
 use Rattle.cp_meaning.proofs.Frames.{system_at}
 use Rattle.cp_meaning.proofs.OwnershipLemmas.{reached}
-
-element_told : (o q : Option ℕ) → same_element o q ≡ true → o ≡ q
-element_told None None h = refl
-element_told None (Some m) h = cc
-element_told (Some n) None h = cc
-element_told (Some n) (Some m) h = ap Some (eqb-true n m h)
-
-three : (a b c : Bool) → (a && b && c) ≡ true → (a ≡ true) × (b ≡ true) × (c ≡ true)
-three true true true h = (refl, refl, refl)
-three true true false h = cc
-three true false c h = cc
-three false b c h = cc
-
-path_told : (a b : Path) → same_path a b ≡ true → a ≡ b
-path_told [] [] h = refl
-path_told [] (t ∷ b) h = cc
-path_told (s ∷ a) [] h = cc
-path_told (s ∷ a) (t ∷ b) h =
-    let parts = three (same_name s.name t.name) (same_element s.element t.element) (same_path a b) h in
-    let same : s ≡ t = ap₂ (λ x o. (let r : PathStep = record { name = x; element = o } in r)) ((bytes_eq-Decides s.name t.name).0 parts.0) (element_told s.element t.element parts.1) in
-    ap₂ (λ u us. u ∷ us) same (path_told a b parts.2)
+use Rattle.cp_resolved.proofs.components.Contained.{path_told}
+use Rattle.cp_meaning.proofs.LocalLaw.{within as not_process_within}
 
 -- the component that is found has the path
 pub found_path : (path : Path) (cs : List Component) → component_with path cs < length cs → (component_at cs (component_with path cs)).path ≡ path
@@ -48,11 +27,6 @@ past_kind : (cs : List Component) (n : ℕ) → length cs ≤ n → (component_a
 past_kind [] n le = refl
 past_kind (c ∷ cs) zero le = absurd (omega arith)
 past_kind (c ∷ cs) (suc n) le = past_kind cs n (omega arith)
-
-pub not_process_within : (cs : List Component) (n : ℕ) → ((component_at cs n).kind ≡ system_kind.Process → ⊥) → n < length cs
-not_process_within [] n h = absurd (h refl)
-not_process_within (c ∷ cs) zero h = omega arith
-not_process_within (c ∷ cs) (suc n) h = let less = not_process_within cs n h in omega arith
 
 module _ (p : Program) (ok : IsWellFormed p) (g : Gates) (s : State) (before : IsReached p g s) (calls : List Call) (c : ℕ) (is : (current calls).component ≡ c) (there : c < length s.components) where
   abbrev base : List Component
@@ -81,9 +55,7 @@ module _ (p : Program) (ok : IsWellFormed p) (g : Gates) (s : State) (before : I
       let old = (reached p ok g s before).0 in
       let lower = old.earlier n d q.name f (λ w. never (old.tree.kind d ∙ w)) in
       rw (old.tree.system d, old.tree.system c) (subst (λ j. system_at base d < system_at base j) e lower)
-  known_there n q (Some (holds w)) h e f never = contained_there n q (element_chosen q.choices) _ e (ap (λ k. component_with (step_down (around_of view k) q.name (element_chosen q.choices)) cs) h) never
-  known_there n q (Some (refers r)) h e f never = contained_there n q (element_chosen q.choices) _ e (ap (λ k. component_with (step_down (around_of view k) q.name (element_chosen q.choices)) cs) h) never
-  known_there n q None h e f never = contained_there n q (element_chosen q.choices) _ e (ap (λ k. component_with (step_down (around_of view k) q.name (element_chosen q.choices)) cs) h) never
+  known_there n q _ h e f never = contained_there n q (element_chosen q.choices) _ e (ap (λ k. component_with (step_down (around_of view k) q.name (element_chosen q.choices)) cs) h) never
 
   by_holder : (q : Place) (h : Holder) → q.holder ≡ h → ((component_at cs (component_by view q h)).kind ≡ system_kind.Process → ⊥) → system_at cs (component_by view q h) < system_at cs c
   by_holder q (in_call b) e never = absurd (never past)

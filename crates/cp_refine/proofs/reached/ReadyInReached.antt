@@ -59,30 +59,23 @@ pub record ReadyInReached (g : Ground) (p : Program) (s : State) (m : Machine) :
 process_told : (a : SystemKind) (k : ComponentKind) (j : ℕ) → SameKind a k → k ≡ kind.Process j → a ≡ system_kind.Process
 process_told system_kind.Process k j h e = refl
 process_told system_kind.Monitor (kind.Monitor i) j h e = absurd cc
-process_told system_kind.Monitor (kind.Process i) j h e = absurd h
-process_told system_kind.Monitor kind.Class j h e = absurd h
 process_told system_kind.Class kind.Class j h e = absurd cc
-process_told system_kind.Class (kind.Process i) j h e = absurd h
-process_told system_kind.Class (kind.Monitor i) j h e = absurd h
+process_told _ _ j h e = absurd h
 
 monitor_told : (a : SystemKind) (k : ComponentKind) (j : ℕ) → SameKind a k → k ≡ kind.Monitor j → a ≡ system_kind.Monitor
 monitor_told system_kind.Monitor k j h e = refl
 monitor_told system_kind.Process (kind.Process i) j h e = absurd cc
-monitor_told system_kind.Process (kind.Monitor i) j h e = absurd h
-monitor_told system_kind.Process kind.Class j h e = absurd h
 monitor_told system_kind.Class kind.Class j h e = absurd cc
-monitor_told system_kind.Class (kind.Process i) j h e = absurd h
-monitor_told system_kind.Class (kind.Monitor i) j h e = absurd h
+monitor_told _ _ j h e = absurd h
 
 started_phase : (k : ComponentKind) (u : ComponentStatus) (f : Phase) → ((j : ℕ) → k ≡ kind.Process j → ⊥) → PhaseIs k u f → u ≢ uninitialised → is_uninitialised f ≡ false
 started_phase (kind.Process j) u f never h other = absurd (never j refl)
 started_phase k uninitialised f never h other = absurd (other refl)
 started_phase (kind.Monitor j) initialising phase.Initialising never h other = refl
 started_phase (kind.Monitor j) initialised phase.Initialised never h other = refl
-started_phase (kind.Monitor j) u f never h other = absurd h
 started_phase kind.Class initialising phase.Initialising never h other = refl
 started_phase kind.Class initialised phase.Initialised never h other = refl
-started_phase kind.Class u f never h other = absurd h
+started_phase _ u f never h other = absurd h
 
 module _ (t : Tree) (r : Tables) (l : Layouts) (c : Gates) (s : State) (m : Machine) (ok : IsAccepted t) (stands : Stands (ground_of t r) t l) (typed : IsTyped r) (simulates : Simulates t r l c s m) where
   abbrev p : Program
@@ -138,11 +131,8 @@ module _ (t : Tree) (r : Tables) (l : Layouts) (c : Gates) (s : State) (m : Mach
   started : (k : ComponentKind) (u : ComponentStatus) → ((j : ℕ) → k ≡ kind.Process j → ⊥) → u ≢ uninitialised → HasBegun s k u
   started (kind.Process j) u never other = absurd (never j refl)
   started (kind.Monitor j) uninitialised never other = absurd (other refl)
-  started (kind.Monitor j) initialising never other = tt
-  started (kind.Monitor j) initialised never other = tt
   started kind.Class uninitialised never other = absurd (other refl)
-  started kind.Class initialising never other = tt
-  started kind.Class initialised never other = tt
+  started _ _ never other = tt
 
   -- what is no process in the tables is none on names
   not_process : (n : ℕ) → n < length r.components → ((j : ℕ) → (component_at r n).kind ≡ kind.Process j → ⊥) → IsProcess s n → ⊥

@@ -18,7 +18,7 @@ use Rattle.cp_meaning.specs.Types.{queue_type}
 use Rattle.cp_meaning.specs.Declarations.{Parameter}
 use Rattle.cp_meaning.specs.Systems.{system_of}
 use Rattle.cp_meaning.specs.State as named
-use Rattle.cp_meaning.specs.State.{in_component, Place, Environment, ComponentStatus, uninitialised, initialising, initialised, unstarted, ready, delayed, Status, Call, Process, no_process, State, has_entry, is_inside, waits_at}
+use Rattle.cp_meaning.specs.State.{in_component, Place, Environment, ComponentStatus, uninitialised, unstarted, ready, delayed, Status, Call, Process, no_process, State, has_entry, is_inside, waits_at}
 use Rattle.cp_meaning.specs.Places.{View, value_at}
 use Rattle.cp_meaning.specs.Kernel.{begun}
 use Rattle.cp_resolved.specs.Layouts.{Layouts}
@@ -104,18 +104,14 @@ module _ (g : Ground) (p : Program) (l : Layouts) (s : State) (m : Machine) (rep
           f (sym itself ∙ (ap (λ k. (process_at g.tables k).component) same ∙ begins.component))
       go (inr other) u = b (ap (λ (x : Process). x.status) (there_process a other) ∙ u)
   begun_before i less f (kind.Monitor a) z uninitialised b = b
-  begun_before i less f (kind.Monitor a) z initialising b = b
-  begun_before i less f (kind.Monitor a) z initialised b = b
   begun_before i less f kind.Class z uninitialised b = b
-  begun_before i less f kind.Class z initialising b = b
-  begun_before i less f kind.Class z initialised b = b
+  begun_before i less f _ z _ b = b
 
   monitors_stand : (i : ℕ) (c : ComponentKind) → MonitorIs s m i c → MonitorIs state_begun machine_begun i c
-  monitors_stand i (kind.Process a) h = tt
-  monitors_stand i kind.Class h = tt
   monitors_stand i (kind.Monitor a) h =
       let outside : is_inside i before ≡ is_inside i new_process = ap (λ (cs : List Call). has_entry i cs && not (waits_at i before.status)) still.0 in
       (h.0 ∙ sym (line_same g p l s m rep mem d qs can e xs bs given same_status i), h.1 ∙ sym (inside_same i r new_process s.processes (sym outside) there))
+  monitors_stand i _ h = tt
 
   abbrev old_view : View → View
   old_view v = record { program = v.program; calls = v.calls; components = s.components }

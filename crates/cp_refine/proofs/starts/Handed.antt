@@ -26,8 +26,8 @@ use Rattle.cp_refine.specs.Parameters.{AreDifferent}
 use Rattle.cp_refine.specs.Represents.{LiesAt, BeginsAt, PlaceAt, PhaseIs, HasBegun, ComponentIs, all_permanents, Represents}
 use Rattle.cp_refine.proofs.starts.Handing.{CanHand, Hands, handed_memory, handed_bindings, hands_all, variables_handed, parts_handed, others_handed, not_found}
 use Rattle.cp_refine.proofs.control.Moving.{set_here, set_there, same_or_other}
-use Rattle.cp_refine.proofs.calls.NewFrame.{content_second}
 use Rattle.cp_refine.proofs.expressions.Parts.{encode_length}
+use Rattle.cp_meaning.proofs.OwnLocal.{nothing_append as content_second}
 
 -- what has to be known of the component whose parameters are bound
 pub record CanStart (g : Ground) (l : Layouts) (s : State) (m : Machine) (mem : Memory) (d : ℕ) (qs : List Parameter) : Type 0 where

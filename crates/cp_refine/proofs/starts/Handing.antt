@@ -4,12 +4,12 @@ use Rattle.std.specs.Prelude.{pos, slice_index_or}
 use Rattle.std.proofs.lemmas.Slice.Eq.{bytes_eq-Decides}
 use Rattle.cp_slots.specs.declared.place.Argument.{Argument}
 use Rattle.cp_store.specs.declared.argument.Bound.{Bound}
-use Rattle.cp_store.specs.declared.argument.Bound.TheVariants.{Scalar, Set, Copy, Reference, Component}
+use Rattle.cp_store.specs.declared.argument.Bound.TheVariants.{Copy, Reference, Component}
 use Rattle.cp_store.specs.declared.memory.Address.TheVariants.{Permanent, Local}
 use Rattle.cp_store.specs.Arguments.{put_value, bound_in_component, put_binding, bindings_after}
 use Rattle.cp_store.specs.Memory.{Memory, onward}
 use Rattle.cp_meaning.specs.Names.{Name, same_name}
-use Rattle.cp_meaning.specs.Types.{Ty, ordinal, queue_type, set_over, array_over, record_with, component_of}
+use Rattle.cp_meaning.specs.Types.{Ty, component_of}
 use Rattle.cp_meaning.specs.Values.{Value}
 use Rattle.cp_meaning.specs.Declarations.{Parameter}
 use Rattle.cp_meaning.specs.State.{Content, holds, refers, knows, Environment}
@@ -23,26 +23,21 @@ use Rattle.cp_refine.specs.Given.{IsValue, Keeps, IsApartFrom, IsOutside, IsHand
 use Rattle.cp_refine.specs.Parameters.{IsOther, AreDifferent}
 use Rattle.cp_refine.specs.Represents.{LiesAt}
 use Rattle.cp_refine.proofs.control.Moving.{set_here, set_there}
-use Rattle.cp_refine.proofs.calls.NewFrame.{content_first, content_second, others_named}
+use Rattle.cp_refine.proofs.calls.NewFrame.{content_first, others_named}
 use Rattle.cp_refine.proofs.expressions.Parts.{encode_length}
-use Rattle.cp_refine.proofs.expressions.Seeing.{onward_is}
+use Rattle.cp_meaning.proofs.OwnLocal.{nothing_append as content_second}
+use Rattle.cp_store.proofs.Reaches.{onward_exact as onward_is}
 
 -- a value is bound to no number, and a component to no cell
 no_binding : (m : Memory) (ns : List ℕ) (n : ℕ) (b : Bound) → IsValue m b → put_binding ns n b ≡ ns
-no_binding m ns n (Scalar z) h = refl
-no_binding m ns n (Set s) h = refl
-no_binding m ns n (Copy from size) h = refl
 no_binding m ns n (Reference a) h = absurd h
 no_binding m ns n (Component c) h = absurd h
+no_binding m ns n _ h = refl
 
 -- what has a value is no component
 pub value_parameter : (lay : SystemLayout) (t : Ty) (x : Name) (w : Value) → SystemParameterIs lay t x → HasType t w → look x lay.variables ≡ Some t
 value_parameter lay (component_of k) x w h typed = absurd typed
-value_parameter lay (ordinal r) x w h typed = h
-value_parameter lay queue_type x w h typed = h
-value_parameter lay (set_over r) x w h typed = h
-value_parameter lay (array_over r t) x w h typed = h
-value_parameter lay (record_with ts) x w h typed = h
+value_parameter lay _ x w h typed = h
 
 -- what the layout of a component's system type says, and how its cells and numbers lie
 pub record CanHand (lay : SystemLayout) (m : Memory) (bindings : List ℕ) (base own : ℕ) : Type 0 where
@@ -71,28 +66,22 @@ module _ (lay : SystemLayout) (m : Memory) (bindings : List ℕ) (base own : ℕ
   permanent_is a b e = cc
 
   keeps : (n : Memory) (ns : List ℕ) → Hands n ns → (b : Bound) → IsValue m b → IsOutside base own b → Keeps m n b
-  keeps n ns i (Scalar z) h out = tt
-  keeps n ns i (Set s) h out = tt
   keeps n ns i (Copy (Local from) size) h out = λ k less. ap (λ xs. slice_index_or xs (from + k) (pos 0)) i.cells
   keeps n ns i (Copy (Permanent from) size) h out = λ k less. i.outside (from + k) (side k less out)
     where
       side : (k : ℕ) → k < size → (from + size ≤ base) ⊎ (base + own ≤ from) → (from + k < base) ⊎ (base + own ≤ from + k)
       side k less (inl o) = inl (omega (arith, less, o))
       side k less (inr o) = inr (omega (arith, o))
-  keeps n ns i (Reference a) h out = tt
-  keeps n ns i (Component c) h out = tt
+  keeps n ns i _ h out = tt
 
   source_apart : (slot cells : ℕ) (b : Bound) → slot + cells ≤ own → IsOutside base own b → IsApartFrom (Permanent (base + slot)) cells b
-  source_apart slot cells (Scalar z) fits out = tt
-  source_apart slot cells (Set s) fits out = tt
   source_apart slot cells (Copy (Local from) size) fits out = λ j k less fewer e. absurd (cc)
   source_apart slot cells (Copy (Permanent from) size) fits out = λ j k less fewer e. side j k less fewer (permanent_is (base + slot + j) (from + k) e) out
     where
       side : (j k : ℕ) → j < cells → k < size → base + slot + j ≡ from + k → (from + size ≤ base) ⊎ (base + own ≤ from) → ⊥
       side j k less fewer e (inl o) = omega (arith, less, fewer, e, o)
       side j k less fewer e (inr o) = omega (arith, less, fewer, e, o, fits)
-  source_apart slot cells (Reference a) fits out = tt
-  source_apart slot cells (Component c) fits out = tt
+  source_apart slot cells _ fits out = tt
 
   -- ---- one parameter
 
@@ -197,28 +186,24 @@ module _ (lay : SystemLayout) (m : Memory) (bindings : List ℕ) (base own : ℕ
       side : (j : ℕ) → j < cells_of q.ty → cell_of q + j ≡ base + lay.slots x + i → (lay.slots x + cells_of t ≤ lay.slots q.name) ⊎ (lay.slots q.name + cells_of q.ty ≤ lay.slots x) → ⊥
       side j small e (inl o) = omega (arith, small, e, less, o)
       side j small e (inr o) = omega (arith, small, e, less, o)
-  free_cell x t i q (refers y) b known less other h is = tt
-  free_cell x t i q (knows y) b known less other h is = tt
+  free_cell x t i q _ b known less other h is = tt
 
   free_cells : (x : Name) (t : Ty) (i : ℕ) (qs : List Parameter) (e : Environment) (xs : List Argument) (bs : List Bound) → look x lay.variables ≡ Some t → i < cells_of t → IsOther x qs → SystemParametersAre lay qs → Given qs e xs bs → AreFreeCells qs e (base + lay.slots x + i)
-  free_cells x t i [] e xs bs known less other h is = tt
-  free_cells x t i (q ∷ qs) [] xs bs known less other h is = tt
   free_cells x t i (q ∷ qs) (d ∷ e) [] bs known less other h is = absurd is
   free_cells x t i (q ∷ qs) (d ∷ e) (y ∷ xs) [] known less other h is = absurd is
   free_cells x t i (q ∷ qs) (d ∷ e) (y ∷ xs) (b ∷ bs) known less other h is = (free_cell x t i q d.1 b known less other.0 h.0 is.2, free_cells x t i qs e xs bs known less other.1 h.1 is.3)
+  free_cells x t i _ _ xs bs known less other h is = tt
 
   free_number : (x : Name) (t : Ty) (q : Parameter) (c : Content) (b : Bound) → look x lay.parts ≡ Some t → same_name x q.name ≡ false → SystemParameterIs lay q.ty q.name → IsHanded m base own q c b → IsFreeNumber q c (base + lay.slots x)
   free_number x t q (knows y) (Component d) known other h is = λ e. can.different x q.name t (component_of is.0) other known (subst (λ u. SystemParameterIs lay u q.name) is.1 h) (omega (arith, e))
   free_number x t q (knows y) b known other h is = absurd is
-  free_number x t q (holds w) b known other h is = tt
-  free_number x t q (refers y) b known other h is = tt
+  free_number x t q _ b known other h is = tt
 
   free_numbers : (x : Name) (t : Ty) (qs : List Parameter) (e : Environment) (xs : List Argument) (bs : List Bound) → look x lay.parts ≡ Some t → IsOther x qs → SystemParametersAre lay qs → Given qs e xs bs → AreFreeNumbers qs e (base + lay.slots x)
-  free_numbers x t [] e xs bs known other h is = tt
-  free_numbers x t (q ∷ qs) [] xs bs known other h is = tt
   free_numbers x t (q ∷ qs) (d ∷ e) [] bs known other h is = absurd is
   free_numbers x t (q ∷ qs) (d ∷ e) (y ∷ xs) [] known other h is = absurd is
   free_numbers x t (q ∷ qs) (d ∷ e) (y ∷ xs) (b ∷ bs) known other h is = (free_number x t q d.1 b known other.0 h.0 is.2, free_numbers x t qs e xs bs known other.1 h.1 is.3)
+  free_numbers x t _ _ xs bs known other h is = tt
 
   pub record AllHanded (qs : List Parameter) (e : Environment) (n n2 : Memory) (ns ns2 : List ℕ) : Type 0 where
     pub hands : Hands n2 ns2
@@ -241,12 +226,6 @@ module _ (lay : SystemLayout) (m : Memory) (bindings : List ℕ) (base own : ℕ
 
   pub all_handed : (qs : List Parameter) (e : Environment) (xs : List Argument) (bs : List Bound) (n : Memory) (ns : List ℕ) → Hands n ns → SystemParametersAre lay qs → AreDifferent qs → Given qs e xs bs → AllHanded qs e n (bound_in_component n base xs bs) ns (bindings_after ns base xs bs)
   all_handed [] [] [] [] n ns i h d is = record { hands = i; cell = λ k free. refl; number = λ k free. refl; lies = tt }
-  all_handed [] [] [] (b ∷ bs) n ns i h d is = absurd is
-  all_handed [] [] (x ∷ xs) bs n ns i h d is = absurd is
-  all_handed [] (c ∷ e) xs bs n ns i h d is = absurd is
-  all_handed (q ∷ qs) [] xs bs n ns i h d is = absurd is
-  all_handed (q ∷ qs) (c ∷ e) [] bs n ns i h d is = absurd is
-  all_handed (q ∷ qs) (c ∷ e) (x ∷ xs) [] n ns i h d is = absurd is
   all_handed (q ∷ qs) (c ∷ e) (x ∷ xs) (b ∷ bs) n ns i h d is =
       let one = one_handed q c.1 b x.slot n ns is.1 i h.0 is.2 in
       let n2 : Memory = put_value n (Permanent (onward base x.slot)) b in
@@ -258,6 +237,7 @@ module _ (lay : SystemLayout) (m : Memory) (bindings : List ℕ) (base own : ℕ
         number = λ k free. more.number k free.1 ∙ one.number k free.0;
         lies = (stays_handed q c.1 b qs e xs bs n2 (bound_in_component n2 base xs bs) ns2 (bindings_after ns2 base xs bs) h.0 is.2 d.0 h.1 is.3 more one.lies, more.lies);
       }
+  all_handed _ _ _ _ n ns i h d is = absurd is
 
   -- ---- a parameter by its name
 
@@ -274,9 +254,6 @@ module _ (lay : SystemLayout) (m : Memory) (bindings : List ℕ) (base own : ℕ
 
   found : (x : Name) (u : Ty) (qs : List Parameter) (e : Environment) (xs : List Argument) (bs : List Bound) (n : Memory) (ns : List ℕ) → Given qs e xs bs → SystemParametersAre lay qs → AllLie n ns qs e → look x (parameter_variables qs) ≡ Some u → Found x u e n ns
   found x u [] e xs bs n ns is h a k = absurd (cc)
-  found x u (q ∷ qs) [] xs bs n ns is h a k = absurd is
-  found x u (q ∷ qs) (d ∷ e) [] bs n ns is h a k = absurd is
-  found x u (q ∷ qs) (d ∷ e) (y ∷ xs) [] n ns is h a k = absurd is
   found x u (q ∷ qs) (d ∷ e) (y ∷ xs) (b ∷ bs) n ns is h a k = go (same_name x q.name) refl (found x u qs e xs bs n ns is.3 h.1 a.1) k
     where
       go : (w : Bool) → same_name x q.name ≡ w → (look x (parameter_variables qs) ≡ Some u → Found x u e n ns) → (if w then Some q.ty else look x (parameter_variables qs)) ≡ Some u → Found x u (d ∷ e) n ns
@@ -305,18 +282,16 @@ module _ (lay : SystemLayout) (m : Memory) (bindings : List ℕ) (base own : ℕ
             known = w.known;
             given = w.given;
           }
+  found x u (q ∷ qs) _ _ _ n ns is h a k = absurd is
 
   pub not_found : (x : Name) (qs : List Parameter) (e : Environment) (xs : List Argument) (bs : List Bound) → Given qs e xs bs → look x (parameter_variables qs) ≡ None → content_of x e ≡ None
   not_found x [] [] xs bs is k = refl
-  not_found x [] (d ∷ e) xs bs is k = absurd is
-  not_found x (q ∷ qs) [] xs bs is k = absurd is
-  not_found x (q ∷ qs) (d ∷ e) [] bs is k = absurd is
-  not_found x (q ∷ qs) (d ∷ e) (y ∷ xs) [] is k = absurd is
   not_found x (q ∷ qs) (d ∷ e) (y ∷ xs) (b ∷ bs) is k = go (same_name x q.name) refl (not_found x qs e xs bs is.3) k
     where
       go : (w : Bool) → same_name x q.name ≡ w → (look x (parameter_variables qs) ≡ None → content_of x e ≡ None) → (if w then Some q.ty else look x (parameter_variables qs)) ≡ None → content_of x (d ∷ e) ≡ None
       go true s ih k = absurd (cc)
       go false s ih k = ap (λ (v : Bool). if v then Some d.1 else content_of x e) (ap (same_name x) is.0 ∙ s) ∙ ih k
+  not_found x _ _ _ _ is k = absurd is
 
   type_is : (a b : Ty) → Some a ≡ Some b → a ≡ b
   type_is a b e = cc

@@ -16,7 +16,7 @@ use Rattle.cp_machine.specs.Fits.{StackFits, ThreadFits}
 use Rattle.cp_machine.specs.Machine.{Machine, Thread, is_uninitialised, phase_at, thread_at, with_thread}
 use Rattle.cp_machine.specs.Step.{take_top, step_at}
 use Rattle.cp_meaning.specs.State as named
-use Rattle.cp_meaning.specs.State.{ready, Component, ComponentStatus, uninitialised, initialising, initialised, CallKind, initial_statement, Call, callers, Item, init_end, Process, State, has_entry, is_entry_kind, waits_at}
+use Rattle.cp_meaning.specs.State.{ready, ComponentStatus, uninitialised, initialised, CallKind, Call, callers, Item, init_end, Process, State, has_entry, is_entry_kind, waits_at}
 use Rattle.cp_meaning.specs.LocalRules.{takes, finished}
 use Rattle.cp_meaning.specs.Steps.{view_of, step_of, settled}
 use Rattle.cp_resolved.specs.Layouts.{Layouts}
@@ -95,11 +95,10 @@ module _ (g : Ground) (p : Program) (l : Layouts) (s : State) (m : Machine) (q :
       }
 
   inside_kept : (i : ℕ) (c : ComponentKind) → MonitorIs s m i c → MonitorIs (record s { processes = slice_set s.processes q process_back }) (with_thread m q thread_back) i c
-  inside_kept i (kind.Process j) h = tt
-  inside_kept i kind.Class h = tt
   inside_kept i (kind.Monitor j) h =
       let entry : has_entry i calls_around ≡ has_entry i before.calls = sym (ap (has_entry i) calls_were ∙ ap (λ (c : CallKind). (is_entry_kind c && call.component == i) || has_entry i calls_around) stack_before.5) in
       (h.0, h.1 ∙ sym (inside_same i q process_back s.processes (ap (λ b. b && true) entry ∙ sym (ap (λ u. has_entry i before.calls && not (waits_at i u)) k.was)) k.there))
+  inside_kept i _ h = tt
 
   back : Represents g p l (record s { processes = slice_set s.processes q process_back }) (with_thread m q thread_back)
   back =
@@ -122,19 +121,15 @@ module _ (g : Ground) (p : Program) (l : Layouts) (s : State) (m : Machine) (q :
   -- the component has begun
   phase_agrees : (c : ComponentKind) → PhaseIs c initialised phase.Initialised
   phase_agrees (kind.Process j) = tt
-  phase_agrees (kind.Monitor j) = tt
-  phase_agrees kind.Class = tt
+  phase_agrees _ = tt
 
   has_begun : (c : ComponentKind) → ((j : ℕ) → c ≡ kind.Process j → ⊥) → (u : ComponentStatus) (f : Phase) → PhaseIs c u f → is_uninitialised f ≡ false → HasBegun (record s { processes = slice_set s.processes q process_back }) c u
   has_begun (kind.Process j) never u f h b = absurd (never j refl)
-  has_begun (kind.Monitor j) never initialising f h b = tt
-  has_begun (kind.Monitor j) never initialised f h b = tt
   has_begun (kind.Monitor j) never uninitialised phase.Uninitialised h b = absurd (cc)
   has_begun (kind.Monitor j) never uninitialised f h b = absurd h
-  has_begun kind.Class never initialising f h b = tt
-  has_begun kind.Class never initialised f h b = tt
   has_begun kind.Class never uninitialised phase.Uninitialised h b = absurd (cc)
   has_begun kind.Class never uninitialised f h b = absurd h
+  has_begun _ never _ f h b = tt
 
   pub initial_end_step : (line : ℕ) → StepIs g p l q line (step_of p s q) (step_at g.tables m q)
   initial_end_step line =

@@ -6,7 +6,7 @@ use Rattle.cp_tree.specs.Syntax.{Program}
 use Rattle.cp_slots.specs.declared.place.Argument.{Argument}
 use Rattle.cp_slots.specs.Tables.{component_at, routine_at}
 use Rattle.cp_store.specs.declared.argument.Bound.{Bound}
-use Rattle.cp_store.specs.declared.argument.Bound.TheVariants.{Scalar, Set, Copy, Reference, Component}
+use Rattle.cp_store.specs.declared.argument.Bound.TheVariants.{Copy, Reference, Component}
 use Rattle.cp_store.specs.declared.memory.Address.TheVariants.{Permanent, Local}
 use Rattle.cp_store.specs.declared.memory.Frame.{Frame}
 use Rattle.cp_store.specs.Memory.{Memory}
@@ -23,7 +23,7 @@ use Rattle.cp_meaning.specs.Values.{Value}
 use Rattle.cp_meaning.specs.Declarations.{Parameter, RoutineMeaning}
 use Rattle.cp_meaning.specs.Systems.{system_of}
 use Rattle.cp_meaning.specs.State as named
-use Rattle.cp_meaning.specs.State.{Content, holds, refers, knows, Environment, ready, initial_statement, Call, Item, init_end, Process, State, has_entry}
+use Rattle.cp_meaning.specs.State.{Content, holds, knows, Environment, ready, initial_statement, Call, Item, init_end, Process, State}
 use Rattle.cp_meaning.specs.Lifting.{items_of_all}
 use Rattle.cp_resolved.specs.Layouts.{Layouts, here, cell_named}
 use Rattle.cp_resolved.specs.Resolved.{first_values, initial_meaning}
@@ -48,20 +48,16 @@ pub record HasMore (m m2 : Memory) : Type 0 where
   pub more : length m.cells ≤ length m2.cells
 
 more_value : (m m2 : Memory) (b : Bound) → HasMore m m2 → IsValue m b → IsValue m2 b
-more_value m m2 (Scalar z) i h = tt
-more_value m m2 (Set s) i h = tt
 more_value m m2 (Copy (Permanent from) size) i h = subst (λ xs. from + size ≤ length xs) (sym i.permanents) h
 more_value m m2 (Copy (Local from) size) i h = let a = i.more in omega (arith, a, h)
 more_value m m2 (Reference a) i h = absurd h
 more_value m m2 (Component n) i h = absurd h
+more_value m m2 _ i h = tt
 
 less_keeps : (m m2 m3 : Memory) (b : Bound) → HasMore m m2 → IsValue m b → Keeps m2 m3 b → Keeps m m3 b
-less_keeps m m2 m3 (Scalar z) i h kept = tt
-less_keeps m m2 m3 (Set s) i h kept = tt
 less_keeps m m2 m3 (Copy (Permanent from) size) i h kept = λ k less. kept k less ∙ ap (λ xs. slice_index_or xs (from + k) (pos 0)) i.permanents
 less_keeps m m2 m3 (Copy (Local from) size) i h kept = λ k less. kept k less ∙ i.cells (from + k) (omega (arith, h, less))
-less_keeps m m2 m3 (Reference a) i h kept = tt
-less_keeps m m2 m3 (Component n) i h kept = tt
+less_keeps m m2 m3 _ i h kept = tt
 
 more_gives : (m m2 : Memory) (t : Ty) (w : Value) (b : Bound) → HasMore m m2 → GivesValue m t w b → GivesValue m2 t w b
 more_gives m m2 t w b i h =

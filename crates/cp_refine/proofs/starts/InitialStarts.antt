@@ -33,7 +33,7 @@ use Rattle.cp_meaning.specs.Outcome.{Outcome, ◌>>=◌, init_twice}
 use Rattle.cp_meaning.specs.Declarations.{Parameter}
 use Rattle.cp_meaning.specs.Systems.{system_of}
 use Rattle.cp_meaning.specs.State as named
-use Rattle.cp_meaning.specs.State.{in_component, Place, Environment, ComponentStatus, uninitialised, initialising, initialised, Item, start_item, Process, State}
+use Rattle.cp_meaning.specs.State.{Environment, ComponentStatus, uninitialised, initialising, initialised, Item, start_item, Process, State}
 use Rattle.cp_meaning.specs.Places.{View, Target, component_there}
 use Rattle.cp_meaning.specs.Kernel.{Stepped}
 use Rattle.cp_meaning.specs.Calls.{bound, initial, is_uninitialised, initialised_in, started_as, started_at}
@@ -174,22 +174,16 @@ module _ (g : Ground) (p : Program) (l : Layouts) (s : State) (m : Machine) (q a
 
       phase_agrees : (c : ComponentKind) → PhaseIs c initialising phase.Initialising
       phase_agrees (kind.Process r) = tt
-      phase_agrees (kind.Monitor j) = tt
-      phase_agrees kind.Class = tt
+      phase_agrees _ = tt
 
       begun_same : (c : ComponentKind) (w : ComponentStatus) → HasBegun state_started c w → HasBegun state_in c w
-      begun_same (kind.Process i) w b = b
       begun_same (kind.Monitor i) uninitialised b = b
-      begun_same (kind.Monitor i) initialising b = b
-      begun_same (kind.Monitor i) initialised b = b
       begun_same kind.Class uninitialised b = b
-      begun_same kind.Class initialising b = b
-      begun_same kind.Class initialised b = b
+      begun_same _ _ b = b
 
       monitor_kept : (i : ℕ) (c : ComponentKind) → MonitorIs state_in machine_in i c → MonitorIs state_started machine_started i c
-      monitor_kept i (kind.Process j) h = tt
-      monitor_kept i kind.Class h = tt
       monitor_kept i (kind.Monitor j) h = (h.0 ∙ sym (handed.line_same g p l state_in machine_in rep_in mem d (parameters_of d) can_in e as' bs given_in initialising i), h.1)
+      monitor_kept i _ h = tt
 
       started_stands : Represents g p l state_started machine_started
       started_stands =
@@ -241,11 +235,10 @@ module _ (g : Ground) (p : Program) (l : Layouts) (s : State) (m : Machine) (q a
       status_same (kind.Monitor j) uninitialised phase.Uninitialised never h = refl
       status_same (kind.Monitor j) initialising phase.Initialising never h = refl
       status_same (kind.Monitor j) initialised phase.Initialised never h = refl
-      status_same (kind.Monitor j) u w never h = absurd h
       status_same kind.Class uninitialised phase.Uninitialised never h = refl
       status_same kind.Class initialising phase.Initialising never h = refl
       status_same kind.Class initialised phase.Initialised never h = refl
-      status_same kind.Class u w never h = absurd h
+      status_same _ u w never h = absurd h
 
       inside_so : StepIs g p l q line (settled p s q (initialised_in view d (system_of p (named.component_at s.components d).system) (xs ++ ys) e)) (calls.start_inside g.tables m q line routine d as' bs rest)
       inside_so =
@@ -270,9 +263,8 @@ module _ (g : Ground) (p : Program) (l : Layouts) (s : State) (m : Machine) (q a
         StepIs g p l q line (settled p s q (o >>= λ e. started_as (named.component_at s.components d).kind view d (system_of p (named.component_at s.components d).system) (xs ++ ys) e))
         (statements.with_value b (statements.fault m q line) (λ bs. calls.started g.tables m q line (component_at g.tables d).kind routine d as' bs rest))
     by_bounds (Err e) (Err f) h = fails g p l s m q at (start_item t) mid es xs ys k line e f h
-    by_bounds (Err e) (Ok bs) h = absurd h
-    by_bounds (Ok e) (Err f) h = absurd h
     by_bounds (Ok e) (Ok bs) h = by_kind e bs h (component_at g.tables d).kind refl (named.component_at s.components d).kind (start.kinds d can_call.there)
+    by_bounds _ _ h = absurd h
 
     found_so : StepIs g p l q line (settled p s q (started_at view d (system_of p (named.component_at s.components d).system) t.arguments (xs ++ ys)))
         (statements.with_value (arguments_of m q as') (statements.fault m q line) (λ bs. calls.started g.tables m q line (component_at g.tables d).kind routine d as' bs rest))
@@ -286,11 +278,10 @@ module _ (g : Ground) (p : Program) (l : Layouts) (s : State) (m : Machine) (q a
       StepIs g p l q line (settled p s q (o >>= λ u. started_at view (component_there view u.place) (system_of p (named.component_at s.components (component_there view u.place)).system) t.arguments (xs ++ ys)))
       (statements.with_value b (statements.fault m q line) (λ component. statements.with_value (arguments_of m q as') (statements.fault m q line) (λ bs. calls.started g.tables m q line (component_at g.tables component).kind routine component as' bs (rest_of mid es))))
   by_place start place as' place_is args_are (Err e) (Err f) same h = fails g p l s m q at (start_item t) mid es xs ys k line e f h
-  by_place start place as' place_is args_are (Err e) (Ok d) same h = absurd h
-  by_place start place as' place_is args_are (Ok u) (Err f) same h = absurd h
   by_place start place as' place_is args_are (Ok u) (Ok d) same h =
       subst (λ c. StepIs g p l q line (settled p s q (started_at view c (system_of p (named.component_at s.components c).system) t.arguments (xs ++ ys))) (statements.with_value (arguments_of m q as') (statements.fault m q line) (λ bs. calls.started g.tables m q line (component_at g.tables d).kind routine d as' bs (rest_of mid es)))) (sym h)
       (found_so start as' args_are d (place, place_is, same))
+  by_place start place as' place_is args_are _ _ same h = absurd h
 
   pub start_initial_step : InitialKnown → StepIs g p l q line (step_of p s q) (step_at g.tables m q)
   start_initial_step start =

@@ -9,7 +9,7 @@ use Rattle.cp_machine.specs.declared.state.Phase.{Phase}
 use Rattle.cp_machine.specs.declared.state.Phase.TheVariants as phase
 use Rattle.cp_machine.specs.Machine.{Machine, phase_at, with_phase}
 use Rattle.cp_meaning.specs.State as named
-use Rattle.cp_meaning.specs.State.{Holder, in_call, in_component, Place, Environment, Component, no_component, ComponentStatus, uninitialised, initialising, initialised, State}
+use Rattle.cp_meaning.specs.State.{Holder, in_call, in_component, Place, Environment, Component, no_component, ComponentStatus, uninitialised, State}
 use Rattle.cp_meaning.specs.Calls.{with_status}
 use Rattle.cp_meaning.specs.Places.{View, content_of, value_held, environment_of, value_at}
 use Rattle.cp_meaning.specs.Values.{part_at}
@@ -54,13 +54,9 @@ module _ (g : Ground) (p : Program) (l : Layouts) (s : State) (m : Machine) (rep
 
   -- the processes are as they were, so what has begun is the same
   begun_same : (k : ComponentKind) (w : ComponentStatus) → HasBegun state_after k w → HasBegun s k w
-  begun_same (kind.Process j) w h = h
   begun_same (kind.Monitor j) uninitialised h = h
-  begun_same (kind.Monitor j) initialising h = h
-  begun_same (kind.Monitor j) initialised h = h
   begun_same kind.Class uninitialised h = h
-  begun_same kind.Class initialising h = h
-  begun_same kind.Class initialised h = h
+  begun_same _ _ h = h
 
   begun_before : (i : ℕ) → HasBegun state_after (component_at g.tables i).kind (named.component_at components_after i).status → HasBegun s (component_at g.tables i).kind (named.component_at s.components i).status
   begun_before i h = go (same_or_other i n) (begun_same (component_at g.tables i).kind (named.component_at components_after i).status h)
@@ -98,8 +94,7 @@ module _ (g : Ground) (p : Program) (l : Layouts) (s : State) (m : Machine) (rep
 
   monitor_after : (i : ℕ) (k : ComponentKind) → MonitorIs s m i k → MonitorIs state_after machine_after i k
   monitor_after i (kind.Monitor j) h = (h.0 ∙ sym (line_same i), h.1)
-  monitor_after i (kind.Process j) h = tt
-  monitor_after i kind.Class h = tt
+  monitor_after i _ h = tt
 
   abbrev old_view : View → View
   old_view v = record { program = v.program; calls = v.calls; components = s.components }

@@ -34,7 +34,7 @@ use Rattle.cp_meaning.specs.Outcome.{Outcome, ◌>>=◌, init_twice}
 use Rattle.cp_meaning.specs.Declarations.{Parameter}
 use Rattle.cp_meaning.specs.Systems.{system_of}
 use Rattle.cp_meaning.specs.State as named
-use Rattle.cp_meaning.specs.State.{Environment, Item, start_item, unstarted, ready, at_gate, delayed, ended, Status, Process, no_process, State}
+use Rattle.cp_meaning.specs.State.{Environment, Item, start_item, unstarted, ready, at_gate, delayed, ended, Status, Process, State}
 use Rattle.cp_meaning.specs.Places.{View, Target, component_there}
 use Rattle.cp_meaning.specs.Move.{Doing, starts}
 use Rattle.cp_meaning.specs.Kernel as meaning
@@ -192,10 +192,7 @@ module _ (g : Ground) (p : Program) (l : Layouts) (s : State) (m : Machine) (q a
           go : (u : slot_status.Status) → StatusIs g p l r (named.process_at state_on.processes r) (thread_at machine_on.threads r) unstarted u →
               StepIs g p l q line (meaning.starting_as p s q (doing e) r unstarted d e) (if is_unstarted u then record { machine = with_status (parameters_bound machine_on q (component_at g.tables d).base as' bs) r status.Ready; event = event.Kernel event_call.StartProcess } else statements.fault m q line error.InitTwice)
           go status.Unstarted h = begun
-          go status.Ready h = absurd h
-          go (status.AtGate i) h = absurd h
-          go (status.Delayed a) h = absurd h
-          go status.Ended h = absurd h
+          go _ h = absurd h
       by_status ready f h = twice (thread_at m.threads r).status h
         where
           twice : (u : slot_status.Status) → StatusIs g p l r (named.process_at state_on.processes r) (thread_at machine_on.threads r) ready u → StepIs g p l q line (record { state = s; event = meaning.fault_event init_twice }) (if is_unstarted u then record { machine = with_status (parameters_bound machine_on q (component_at g.tables d).base as' bs) r status.Ready; event = event.Kernel event_call.StartProcess } else statements.fault m q line error.InitTwice)
@@ -237,12 +234,11 @@ module _ (g : Ground) (p : Program) (l : Layouts) (s : State) (m : Machine) (q a
         StepIs g p l q line (settled p s q (o >>= λ e. started_as (named.component_at s.components d).kind view d (system_of p (named.component_at s.components d).system) (xs ++ ys) e))
         (statements.with_value b (statements.fault m q line) (λ bs. calls.started g.tables m q line (component_at g.tables d).kind routine d as' bs rest))
     by_bounds (Err e) (Err f) h = fails g p l s m q at (start_item t) mid es xs ys k line e f h
-    by_bounds (Err e) (Ok bs) h = absurd h
-    by_bounds (Ok e) (Err f) h = absurd h
     by_bounds (Ok e) (Ok bs) h =
         let is = start.process d is_found in
         subst (λ c. StepIs g p l q line (settled p s q (started_as (named.component_at s.components d).kind view d (system_of p (named.component_at s.components d).system) (xs ++ ys) e)) (calls.started g.tables m q line c routine d as' bs rest)) (sym is)
         (by_kind e bs h (named.component_at s.components d).kind (subst (λ c. SameKind (named.component_at s.components d).kind c) is (start.kinds d (start.can d is_found).there)))
+    by_bounds _ _ h = absurd h
 
     found_so : StepIs g p l q line (settled p s q (started_at view d (system_of p (named.component_at s.components d).system) t.arguments (xs ++ ys)))
         (statements.with_value (arguments_of m q as') (statements.fault m q line) (λ bs. calls.started g.tables m q line (component_at g.tables d).kind routine d as' bs rest))
@@ -256,11 +252,10 @@ module _ (g : Ground) (p : Program) (l : Layouts) (s : State) (m : Machine) (q a
       StepIs g p l q line (settled p s q (o >>= λ u. started_at view (component_there view u.place) (system_of p (named.component_at s.components (component_there view u.place)).system) t.arguments (xs ++ ys)))
       (statements.with_value b (statements.fault m q line) (λ component. statements.with_value (arguments_of m q as') (statements.fault m q line) (λ bs. calls.started g.tables m q line (component_at g.tables component).kind (l.systems k.own.system).initial component as' bs (rest_of mid es))))
   by_place start place as' place_is args_are (Err e) (Err f) same h = fails g p l s m q at (start_item t) mid es xs ys k line e f h
-  by_place start place as' place_is args_are (Err e) (Ok d) same h = absurd h
-  by_place start place as' place_is args_are (Ok u) (Err f) same h = absurd h
   by_place start place as' place_is args_are (Ok u) (Ok d) same h =
       subst (λ c. StepIs g p l q line (settled p s q (started_at view c (system_of p (named.component_at s.components c).system) t.arguments (xs ++ ys))) (statements.with_value (arguments_of m q as') (statements.fault m q line) (λ bs. calls.started g.tables m q line (component_at g.tables d).kind (l.systems k.own.system).initial d as' bs (rest_of mid es)))) (sym h)
       (found_so start as' args_are d (place, place_is, same))
+  by_place start place as' place_is args_are _ _ same h = absurd h
 
   pub start_process_step : ProcessKnown → StepIs g p l q line (step_of p s q) (step_at g.tables m q)
   start_process_step start =

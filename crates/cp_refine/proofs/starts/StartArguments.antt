@@ -19,7 +19,7 @@ use Rattle.cp_store.specs.Sets as sets
 use Rattle.cp_store.specs.Values.{then_with, ranged}
 use Rattle.cp_meaning.specs.Names.{Name}
 use Rattle.cp_meaning.specs.Outcome.{Outcome, ◌>>=◌}
-use Rattle.cp_meaning.specs.Types.{Ty, ordinal, queue_type, set_over, array_over, record_with, component_of, natural_of}
+use Rattle.cp_meaning.specs.Types.{Ty, ordinal, set_over, array_over, record_with, component_of, natural_of}
 use Rattle.cp_meaning.specs.Declarations.{Parameter}
 use Rattle.cp_meaning.specs.State as named
 use Rattle.cp_meaning.specs.State.{Content, holds, refers, knows, Environment}
@@ -67,10 +67,7 @@ value_handed m base own q (Ok (holds w)) (Ok (Copy a z)) k n = absurd n
 value_handed m base own q (Err e) (Err d) k n = k
 value_handed m base own q (Ok (refers x)) (Ok b) k n = absurd k
 value_handed m base own q (Ok (knows c)) (Ok b) k n = absurd k
-value_handed m base own q (Ok (holds w)) (Err d) k n = absurd k
-value_handed m base own q (Ok (refers x)) (Err d) k n = absurd k
-value_handed m base own q (Ok (knows c)) (Err d) k n = absurd k
-value_handed m base own q (Err e) (Ok b) k n = absurd k
+value_handed m base own q _ _ k n = absurd k
 
 scalar_no_copy : (x : Result ℤ slots.ErrorName) (low high : ℤ) → NoCopy (then_with x (λ z. then_with (ranged low high z) (λ v. Ok (Scalar v))))
 scalar_no_copy (Err e) low high = tt
@@ -109,8 +106,7 @@ module _ (r : Tables) (l : Layouts) (fs : List Frame) (v : View) (m : Memory) (f
       HandedAgrees m base own q (knows_of v k o) (then_with s (λ n. Ok (Component n)))
   component_bound q k (Ok t) (Ok n) is typed i = (k, is, of_that_system v k (component_there v t.place) (typed t refl) ∙ i)
   component_bound q k (Err e) (Err d) is typed i = i
-  component_bound q k (Ok t) (Err d) is typed i = absurd i
-  component_bound q k (Err e) (Ok n) is typed i = absurd i
+  component_bound q k _ _ is typed i = absurd i
 
   abbrev IsNamed : ℕ → Expression → Type 0
   IsNamed k e = (d : Designator) × (variable_in e ≡ Some d) × ((t : Target) → target_value v d ≡ Ok t → (named.component_at v.components (component_there v t.place)).system ≡ k)
@@ -122,22 +118,18 @@ module _ (r : Tables) (l : Layouts) (fs : List Frame) (v : View) (m : Memory) (f
       let found = component_found v h e w.0 z c w.1 formed is in
       subst (λ o. HandedAgrees m base own q (bound_variable v (knows_of v k) o) (bound_at m bindings f (value_of.Component p))) (sym w.1)
       (component_bound q k (target_value v w.0) (component_at m bindings f p) ty w.2 (component_agrees r l fs v m f h sees bindings known w.0 c found.0 p (found.2 kept) found.1 part))
-  component_given q k e (value_of.Scalar x low high) c z ty seen formed is kept w = absurd (cc)
-  component_given q k e (value_of.Set x low high) c z ty seen formed is kept w = absurd (cc)
-  component_given q k e (value_of.Copy x n) c z ty seen formed is kept w = absurd (cc)
-  component_given q k e (value_of.Reference x) c z ty seen formed is kept w = absurd (cc)
+  component_given q k e x c z ty seen formed is kept w = absurd (cc)
 
   -- an array or a record
   block_handed : (q : Parameter) (t : Ty) (o : Outcome Target) (s : Result Address slots.ErrorName) → ((w : Value) → checked q.ty w ≡ Ok w) → t ≡ q.ty → ((w : Target) (a : Address) → o ≡ Ok w → PlaceAt r l fs w.place q.ty a → IsOutside base own (Copy a (cells_of q.ty))) → TargetAgrees r l fs o t s →
       HandedAgrees m base own q (held q.ty (of_variable v o)) (then_with s (λ at. Ok (Copy at (cells_of t))))
   block_handed q t (Err e) (Err d) free same out i = i
-  block_handed q t (Err e) (Ok a) free same out i = absurd i
-  block_handed q t (Ok w) (Err d) free same out i = absurd i
   block_handed q t (Ok w) (Ok a) free same out i =
       let place = subst (λ u. PlaceAt r l fs w.place u a) same i.1 in
       subst (λ n. HandedAgrees m base own q (held q.ty (of_variable v (Ok w))) (Ok (Copy a n))) (sym (ap cells_of same))
       (subst (λ (o : Outcome Value). HandedAgrees m base own q (o >>= λ x. Ok (holds x)) (Ok (Copy a (cells_of q.ty)))) (sym (free (value_at v w.place)))
       (copy_given m q.ty (value_at v w.place) a (sees.lies w.place q.ty a place), out w a refl place))
+  block_handed q t _ _ free same out i = absurd i
 
   block_given : (q : Parameter) (t : Ty) (e : Expression) (a : ArgumentValue) (p : code.Place) → code.value_seen a ≡ code.copy p (cells_of t) → expression_form h e ≡ Some (record { ty = t; form = as_place p }) → AreKept h (expression_calls h.scope e) → ((w : Value) → checked q.ty w ≡ Ok w) → t ≡ q.ty →
       StartArgumentKnown r l fs v base own q e → HandedAgrees m base own q (held q.ty (value v e)) (bound_at m bindings f a)
@@ -151,34 +143,19 @@ module _ (r : Tables) (l : Layouts) (fs : List Frame) (v : View) (m : Memory) (f
   by_type : (q : Parameter) (u t : Ty) (form : Form) (e : Expression) (a : ArgumentValue) (c : code.ArgumentValue) → q.ty ≡ u → code.value_seen a ≡ c → expression_form h e ≡ Some (record { ty = t; form = form }) → AreKept h (expression_calls h.scope e) → StartArgumentKnown r l fs v base own q e → ValueGiven u t form c →
       HandedAgrees m base own q (bound_value v u e) (bound_at m bindings f a)
   by_type q (component_of k) t (as_component x) e a c ty seen formed kept w given = component_given q k e a x (record { ty = t; form = as_component x }) ty (seen ∙ given.1) formed refl kept (w.component k ty)
-  by_type q (component_of k) t (as_ordinal x) e a c ty seen formed kept w given = absurd given
-  by_type q (component_of k) t (as_set x) e a c ty seen formed kept w given = absurd given
-  by_type q (component_of k) t (as_place x) e a c ty seen formed kept w given = absurd given
   by_type q (ordinal n) t (as_ordinal x) e a c ty seen formed kept w given =
       value_handed m base own q (bound_value v (ordinal n) e) (bound_at m bindings f a)
       (subst (λ i. ValueAgrees m i (bound_value v (ordinal n) e) (bound_at m bindings f a)) (sym ty) (value_given r l fs v m f h sees bindings (ordinal n) t (as_ordinal x) e a c seen formed kept (subst RangeKnown ty w.range) tt given))
       (subst NoCopy (sym (scalar_bound m bindings f a x n.low n.high (seen ∙ given))) (scalar_no_copy (plain_value m f x) n.low n.high))
-  by_type q (ordinal n) t (as_set x) e a c ty seen formed kept w given = absurd given
-  by_type q (ordinal n) t (as_place x) e a c ty seen formed kept w given = absurd given
-  by_type q (ordinal n) t (as_component x) e a c ty seen formed kept w given = absurd given
   by_type q (set_over n) t (as_set x) e a c ty seen formed kept w given =
       value_handed m base own q (bound_value v (set_over n) e) (bound_at m bindings f a)
       (subst (λ i. ValueAgrees m i (bound_value v (set_over n) e) (bound_at m bindings f a)) (sym ty) (value_given r l fs v m f h sees bindings (set_over n) t (as_set x) e a c seen formed kept (subst RangeKnown ty w.range) tt given))
       (subst NoCopy (sym (set_bound m bindings f a x (natural_of n.low) (natural_of n.high) (seen ∙ given))) (set_no_copy (plain_set m f x) (natural_of n.low) (natural_of n.high)))
-  by_type q (set_over n) t (as_ordinal x) e a c ty seen formed kept w given = absurd given
-  by_type q (set_over n) t (as_place x) e a c ty seen formed kept w given = absurd given
-  by_type q (set_over n) t (as_component x) e a c ty seen formed kept w given = absurd given
   by_type q (array_over n u) t (as_place x) e a c ty seen formed kept w given =
       subst (λ i. HandedAgrees m base own q (held i (value v e)) (bound_at m bindings f a)) ty (block_given q t e a x (seen ∙ given.1) formed kept (λ y. ap (λ i. checked i y) ty) (given.0 ∙ sym ty) w)
-  by_type q (array_over n u) t (as_ordinal x) e a c ty seen formed kept w given = absurd given
-  by_type q (array_over n u) t (as_set x) e a c ty seen formed kept w given = absurd given
-  by_type q (array_over n u) t (as_component x) e a c ty seen formed kept w given = absurd given
   by_type q (record_with ts) t (as_place x) e a c ty seen formed kept w given =
       subst (λ i. HandedAgrees m base own q (held i (value v e)) (bound_at m bindings f a)) ty (block_given q t e a x (seen ∙ given.1) formed kept (λ y. ap (λ i. checked i y) ty) (given.0 ∙ sym ty) w)
-  by_type q (record_with ts) t (as_ordinal x) e a c ty seen formed kept w given = absurd given
-  by_type q (record_with ts) t (as_set x) e a c ty seen formed kept w given = absurd given
-  by_type q (record_with ts) t (as_component x) e a c ty seen formed kept w given = absurd given
-  by_type q queue_type t form e a c ty seen formed kept w given = absurd given
+  by_type q _ t _ e a c ty seen formed kept w given = absurd given
 
   start_given : (q : Parameter) (e : Expression) (a : ArgumentValue) (c : code.ArgumentValue) → code.value_seen a ≡ c → IsGiven h q e c → AreKept h (expression_calls h.scope e) → StartArgumentKnown r l fs v base own q e → HandedAgrees m base own q (bound_argument v q e) (bound_at m bindings f a)
   start_given q e a c seen given kept k = go q.is_var k.plain given.given
@@ -195,12 +172,11 @@ module _ (r : Tables) (l : Layouts) (fs : List Frame) (v : View) (m : Memory) (f
   more_bound : (places : Name → ℕ) (q : Parameter) (qs : List Parameter) (x : Argument) (xs : List Argument) (o : Outcome Content) (s : Result Bound slots.ErrorName) (p : Outcome Environment) (t : Result (List Bound) slots.ErrorName) → x.slot ≡ places q.name →
       HandedAgrees m base own q o s → BoundsAgree (Are places qs xs) p t → BoundsAgree (Are places (q ∷ qs) (x ∷ xs)) (o >>= λ c. p >>= λ rest. Ok ((q.name, c) ∷ rest)) (then_with s (λ b. then_with t (λ bs. Ok (b ∷ bs))))
   more_bound places q qs x xs (Err e) (Err d) p t at i j = i
-  more_bound places q qs x xs (Err e) (Ok b) p t at i j = absurd i
-  more_bound places q qs x xs (Ok c) (Err d) p t at i j = absurd i
   more_bound places q qs x xs (Ok c) (Ok b) (Err e) (Err d) at i j = j
   more_bound places q qs x xs (Ok c) (Ok b) (Err e) (Ok bs) at i j = absurd j
   more_bound places q qs x xs (Ok c) (Ok b) (Ok rest) (Err d) at i j = absurd j
   more_bound places q qs x xs (Ok c) (Ok b) (Ok rest) (Ok bs) at i j = (refl, at, i, j)
+  more_bound places q qs x xs _ _ p t at i j = absurd i
 
   pub start_arguments_agree : (places : Name → ℕ) (qs : List Parameter) (es : Expressions) (cs : List code.Argument) (xs : List Argument) → map code.argument_seen xs ≡ cs → AreGiven h places qs es cs → AreKept h (expressions_calls h.scope es) → StartArgumentsKnown r l fs v base own qs es →
       BoundsAgree (λ e bs. AreHanded m base own places qs e xs bs) (bound v qs es) (bounds_at m bindings f xs)
@@ -214,7 +190,4 @@ module _ (r : Tables) (l : Layouts) (fs : List Frame) (v : View) (m : Memory) (f
       (more_bound places q qs x xs (bound_argument v q e) (bound_at m bindings f x.value) (bound v qs es) (bounds_at m bindings f xs) (ap (λ (y : code.Argument). y.slot) first ∙ given.0)
       (start_given q e x.value c.value (ap (λ (y : code.Argument). y.value) first) given.1 (kept_left h (expression_calls h.scope e) (expressions_calls h.scope es) kept) k.0)
       (start_arguments_agree places qs es cs xs rest given.2 (kept_right h (expression_calls h.scope e) (expressions_calls h.scope es) kept) k.1))
-  start_arguments_agree places [] no_expressions (c ∷ cs) xs seen given kept k = absurd given
-  start_arguments_agree places [] (more_expressions e es) cs xs seen given kept k = absurd given
-  start_arguments_agree places (q ∷ qs) no_expressions cs xs seen given kept k = absurd given
-  start_arguments_agree places (q ∷ qs) (more_expressions e es) [] xs seen given kept k = absurd given
+  start_arguments_agree places _ _ _ xs seen given kept k = absurd given

@@ -1,7 +1,7 @@
 -- The arguments of a start, one by one: an argument for a component is a name, of a component of the parameter's type.
 use Rattle.std.proofs.Common.{◌≡◌, ◌∙◌, ℕ, Bool, true, false, List, [], ◌∷◌, Some, ap, sym, refl, subst}
 use Rattle.std.specs.Prelude.{map, Result, Ok, Err}
-use Rattle.cp_tree.specs.Syntax.{Expression, Expressions, no_expressions, more_expressions, Designator}
+use Rattle.cp_tree.specs.Syntax.{Expression, Expressions, more_expressions, Designator}
 use Rattle.cp_slots.specs.Code as code
 use Rattle.cp_slots.specs.Systems.{is_component, HandsOne, Hands, Names}
 use Rattle.cp_slots.specs.Tables.{Tables}
@@ -45,18 +45,12 @@ IsPlain (code.component_of c) = ⊥
 IsPlain g = Unit {0}
 
 plain_value : (x : ArgumentValue) → IsPlain (code.value_seen x) → is_component x ≡ false
-plain_value (value_of.Scalar e low high) i = refl
-plain_value (value_of.Set e low high) i = refl
-plain_value (value_of.Copy p n) i = refl
-plain_value (value_of.Reference p) i = refl
 plain_value (value_of.Component c) i = absurd i
+plain_value _ i = refl
 
 hands_plain : (r : Tables) (system started slot next : ℕ) (others : ℕ → Type 0) (x : ArgumentValue) → is_component x ≡ false → HandsOne r system started x slot next others → others next
-hands_plain r system started slot next others (value_of.Scalar e low high) i h = h
-hands_plain r system started slot next others (value_of.Set e low high) i h = h
-hands_plain r system started slot next others (value_of.Copy p n) i h = h
-hands_plain r system started slot next others (value_of.Reference p) i h = h
 hands_plain r system started slot next others (value_of.Component c) i h = absurd (let bad : true ≡ false = i in cc)
+hands_plain r system started slot next others _ i h = h
 
 abbrev IsNoComponent : Ty → Type 0
 IsNoComponent (component_of k) = ⊥
@@ -65,23 +59,11 @@ IsNoComponent u = Unit {0}
 -- a value parameter of another type gets a value
 plain_given : (u t : Ty) (form : Form) (g : code.ArgumentValue) → IsNoComponent u → ValueGiven u t form g → IsPlain g
 plain_given (ordinal n) t (as_ordinal c) g i v = subst IsPlain (sym v) tt
-plain_given (ordinal n) t (as_set c) g i v = absurd v
-plain_given (ordinal n) t (as_place c) g i v = absurd v
-plain_given (ordinal n) t (as_component c) g i v = absurd v
 plain_given (set_over n) t (as_set c) g i v = subst IsPlain (sym v) tt
-plain_given (set_over n) t (as_ordinal c) g i v = absurd v
-plain_given (set_over n) t (as_place c) g i v = absurd v
-plain_given (set_over n) t (as_component c) g i v = absurd v
 plain_given (array_over n w) t (as_place c) g i v = subst IsPlain (sym v.1) tt
-plain_given (array_over n w) t (as_ordinal c) g i v = absurd v
-plain_given (array_over n w) t (as_set c) g i v = absurd v
-plain_given (array_over n w) t (as_component c) g i v = absurd v
 plain_given (record_with ts) t (as_place c) g i v = subst IsPlain (sym v.1) tt
-plain_given (record_with ts) t (as_ordinal c) g i v = absurd v
-plain_given (record_with ts) t (as_set c) g i v = absurd v
-plain_given (record_with ts) t (as_component c) g i v = absurd v
-plain_given queue_type t form g i v = absurd v
 plain_given (component_of k) t form g i v = absurd i
+plain_given _ t _ g i v = absurd v
 
 by_value : (b : Bool) (u : Ty) (z : Formed) (g : code.ArgumentValue) → b ≡ false → GivenBy b u z g → ValueGiven u z.ty z.form g
 by_value false u z g e h = h
@@ -90,9 +72,8 @@ by_value true u z g e h = absurd (let bad : true ≡ false = e in cc)
 -- what names and slots find is one component
 pub found_there : (v : View) (o : Outcome Target) (b : Result ℕ slots.ErrorName) (x : Target) → o ≡ Ok x → ComponentAgrees v o b → b ≡ Ok (component_there v x.place)
 found_there v (Ok t) (Ok n) x e h = (let same : t ≡ x = cc in ap (λ (i : ℕ). (let o : Result ℕ slots.ErrorName = Ok i in o)) (sym h ∙ ap (λ (y : Target). component_there v y.place) same))
-found_there v (Ok t) (Err d) x e h = absurd h
-found_there v (Err d) (Ok n) x e h = absurd h
 found_there v (Err d) (Err c) x e h = absurd (cc)
+found_there v _ _ x e h = absurd h
 
 module _ (r : Tables) (l : Layouts) (fs : List Frame) (v : View) (m : Memory) (f : Frame) (h : Here) (sees : Sees r l fs v m f h) (bindings : List ℕ) (known : ComponentsKnown v f h bindings) (base own : ℕ)
     -- nothing that a name designates lies in the cells of what is started
@@ -130,13 +111,8 @@ module _ (r : Tables) (l : Layouts) (fs : List Frame) (v : View) (m : Memory) (f
   by_type q (component_of n) t (as_component z) e (value_of.Component place) c p_slot x_slot next Left Right Rest ty seen formed used kept given left right rest =
       let part : code.component_seen place ≡ z = (let y : code.component_of (code.component_seen place) ≡ code.component_of z = seen ∙ given.1 in cc) in
       (handed_component q n e ty (component_given n e (record { ty = t; form = as_component z }) z place formed refl part used kept (subst (Names r system place) left.2 right.2)), rest _ left.3 right.3)
-  by_type q (component_of n) t (as_component z) e (value_of.Scalar y low high) c p_slot x_slot next Left Right Rest ty seen formed used kept given left right rest = absurd (let bad = seen ∙ given.1 in cc)
-  by_type q (component_of n) t (as_component z) e (value_of.Set y low high) c p_slot x_slot next Left Right Rest ty seen formed used kept given left right rest = absurd (let bad = seen ∙ given.1 in cc)
-  by_type q (component_of n) t (as_component z) e (value_of.Copy y i) c p_slot x_slot next Left Right Rest ty seen formed used kept given left right rest = absurd (let bad = seen ∙ given.1 in cc)
-  by_type q (component_of n) t (as_component z) e (value_of.Reference y) c p_slot x_slot next Left Right Rest ty seen formed used kept given left right rest = absurd (let bad = seen ∙ given.1 in cc)
-  by_type q (component_of n) t (as_ordinal z) e x c p_slot x_slot next Left Right Rest ty seen formed used kept given left right rest = absurd given
-  by_type q (component_of n) t (as_set z) e x c p_slot x_slot next Left Right Rest ty seen formed used kept given left right rest = absurd given
-  by_type q (component_of n) t (as_place z) e x c p_slot x_slot next Left Right Rest ty seen formed used kept given left right rest = absurd given
+  by_type q (component_of n) t (as_component z) e x c p_slot x_slot next Left Right Rest ty seen formed used kept given left right rest = absurd (let bad = seen ∙ given.1 in cc)
+  by_type q (component_of n) t _ e x c p_slot x_slot next Left Right Rest ty seen formed used kept given left right rest = absurd given
   by_type q (ordinal n) t form e x c p_slot x_slot next Left Right Rest ty seen formed used kept given left right rest =
       (handed_plain q (ordinal n) e ty tt, rest next left (hands_plain r system started x_slot next Right x (plain_value x (subst IsPlain (sym seen) (plain_given (ordinal n) t form c tt given))) right))
   by_type q queue_type t form e x c p_slot x_slot next Left Right Rest ty seen formed used kept given left right rest =
@@ -150,8 +126,6 @@ module _ (r : Tables) (l : Layouts) (fs : List Frame) (v : View) (m : Memory) (f
 
   pub all_handed_so : (next : ℕ) (qs : List Parameter) (es : Expressions) (cs : List code.Argument) (xs : List Argument) → map code.argument_seen xs ≡ cs → AreGiven h places qs es cs → Each (λ (q : Parameter). q.is_var ≡ false) qs → AreUsed k es → AreKept h (expressions_calls h.scope es) →
       AreHanded r started places next qs → Hands r system started next xs → AreHandedSo r l fs v base own qs es
-  all_handed_so next [] es cs xs seen given plain used kept left right = tt
-  all_handed_so next (q ∷ qs) no_expressions cs xs seen given plain used kept left right = tt
   all_handed_so next (q ∷ qs) (more_expressions e es) [] xs seen given plain used kept left right = absurd given
   all_handed_so next (q ∷ qs) (more_expressions e es) (c ∷ cs) [] seen given plain used kept left right = absurd (cc)
   all_handed_so next (q ∷ qs) (more_expressions e es) (c ∷ cs) (x ∷ xs) seen given plain used kept left right =
@@ -160,3 +134,4 @@ module _ (r : Tables) (l : Layouts) (fs : List Frame) (v : View) (m : Memory) (f
       by_type q q.ty given.1.form.ty given.1.form.form e x.value c.value (places q.name) x.slot next (λ n. AreHanded r started places n qs) (λ n. Hands r system started n xs) (AreHandedSo r l fs v base own qs es) refl
       (ap (λ (y : code.Argument). y.value) first) given.1.formed used.0 (kept_left h (expression_calls h.scope e) (expressions_calls h.scope es) kept) (by_value q.is_var q.ty given.1.form c.value plain.0 given.1.given) left right
       (λ n a b. all_handed_so n qs es cs xs others given.2 plain.1 used.1 (kept_right h (expression_calls h.scope e) (expressions_calls h.scope es) kept) a b)
+  all_handed_so next _ _ cs xs seen given plain used kept left right = tt

@@ -1,14 +1,12 @@
 -- A component that is started can be handed its parameters: they lie in its own cells, apart from all others.
-use Rattle.std.proofs.Common.{◌≡◌, ◌∙◌, ℕ, ◌<◌, true, false, List, [], ◌∷◌, sym, refl, arith, length}
-use Rattle.std.proofs.lemmas.Slice.Eq.{bytes_eq-Decides}
-use Rattle.cp_tree.specs.Syntax.{Tree, Expressions, no_expressions, more_expressions}
+use Rattle.std.proofs.Common.{◌≡◌, ◌∙◌, ℕ, ◌<◌, true, false, List, ◌∷◌, sym, refl, arith, length}
+use Rattle.cp_tree.specs.Syntax.{Tree, Expressions, more_expressions}
 use Rattle.cp_slots.specs.Tables.{Tables, component_at}
 use Rattle.cp_store.specs.declared.memory.Frame.{Frame}
 use Rattle.cp_machine.specs.Fits.{MachineFits}
 use Rattle.cp_machine.specs.Machine.{Machine}
 use Rattle.cp_machine.specs.Memory.{memory_at}
 use Rattle.cp_meaning.specs.Declarations.{Parameter}
-use Rattle.cp_meaning.specs.Names.{Name, same_name}
 use Rattle.cp_meaning.specs.Places.{View}
 use Rattle.cp_meaning.specs.State.{State}
 use Rattle.cp_meaning.specs.Systems.{system_of}
@@ -23,15 +21,12 @@ use Rattle.cp_refine.proofs.expressions.DesignatedTypes.{range_known}
 use Rattle.cp_refine.proofs.steps.Executed.{systems_stand, few_permanents, few_cells, few_references}
 use Rattle.cp_refine.proofs.starts.Handed.{CanStart}
 use Rattle.cp_refine.proofs.starts.StartArguments.{StartArgumentsKnown}
+use Rattle.cp_resolved.proofs.frames.FrameCells.{itself}
 
 pub start_arguments_known : (r : Tables) (l : Layouts) (fs : List Frame) (v : View) (base own : ℕ) (qs : List Parameter) (es : Expressions) → HaveTypes qs → AreHandedSo r l fs v base own qs es → StartArgumentsKnown r l fs v base own qs es
-start_arguments_known r l fs v base own [] es typed h = tt
-start_arguments_known r l fs v base own (q ∷ qs) no_expressions typed h = tt
 start_arguments_known r l fs v base own (q ∷ qs) (more_expressions e es) typed h =
     (record { plain = typed.0; range = range_known q.ty typed.1; component = h.0.component; outside = h.0.outside }, start_arguments_known r l fs v base own qs es typed.2 h.1)
-
-itself : (x : Name) → same_name x x ≡ true
-itself x = (bytes_eq-Decides x x).1 refl
+start_arguments_known r l fs v base own _ _ typed h = tt
 
 pub can_start : (t : Tree) (r : Tables) (l : Layouts) → Prepared t r l → (s : State) (m : Machine) (q : ℕ) → MachineFits r m → q < length m.threads → (d : ℕ) → d < length r.components →
     CanStart (ground_of t r) l s m (memory_at m q) d (system_of t.program (component_at r d).system).parameters

@@ -17,12 +17,12 @@ use Rattle.cp_meaning.specs.Names.{Name, same_name}
 use Rattle.cp_meaning.specs.Declarations.{Parameter}
 use Rattle.cp_meaning.specs.Expressions.{target_value}
 use Rattle.cp_meaning.specs.Places.{View, Target, target_meant, content_of, this_component, component_with, element_chosen, around_of, component_known, component_by, component_there}
-use Rattle.cp_meaning.specs.Scopes.{Meaning, constant_meaning, type_meaning, local_variable, permanent_variable, routine_meaning, standard_meaning, find}
+use Rattle.cp_meaning.specs.Scopes.{Meaning, local_variable, permanent_variable, find}
 use Rattle.cp_meaning.specs.State as named
-use Rattle.cp_meaning.specs.State.{Component, Content, Gates, Holder, in_call, in_component, Place, State, current}
+use Rattle.cp_meaning.specs.State.{Holder, in_call, in_component, Place, State, current}
 use Rattle.cp_meaning.specs.Steps.{parameter_variables, view_of}
 use Rattle.cp_meaning.specs.Systems.{system_of}
-use Rattle.cp_meaning.specs.Types.{Ty, ordinal, queue_type, set_over, array_over, record_with, component_of}
+use Rattle.cp_meaning.specs.Types.{Ty, array_over, component_of}
 use Rattle.cp_meaning.specs.WellFormed.{HasEarlier, IsWellFormed}
 use Rattle.cp_meaning.specs.Values.{Choice}
 use Rattle.cp_resolved.specs.Compiled.{a_component, designator_form}
@@ -34,7 +34,6 @@ use Rattle.cp_refine.specs.Given.{IsOutside}
 use Rattle.cp_refine.specs.Law.{ground_of}
 use Rattle.cp_refine.specs.Prepared.{Prepared}
 use Rattle.cp_refine.specs.Represents.{further, InFrame, InComponent, BeginsAt, PlaceAt, frame_above}
-use Rattle.cp_refine.proofs.assignments.Apart.{below_or_above}
 use Rattle.cp_refine.proofs.expressions.ComponentPlaces.{ComponentsKnown, own_component}
 use Rattle.cp_refine.proofs.expressions.ComponentsNow.{components_now, current_component, executed_there, executed_system}
 use Rattle.cp_refine.proofs.expressions.DesignatedPlaces.{IsPartOf, IsOwnHolder, IsNamedAs, designated_own, name_designates, component_meant}
@@ -44,6 +43,7 @@ use Rattle.cp_refine.proofs.HoldsInReached.{HoldsInReached}
 use Rattle.cp_refine.proofs.assignments.Overlaps.{part_ends}
 use Rattle.cp_refine.proofs.reached.ReachedNames.{found_path}
 use Rattle.cp_refine.proofs.reached.ReadyInReached.{ReadyInReached}
+use Rattle.cp_refine.proofs.assignments.Writing.{side as below_or_above}
 
 -- ---- earlier system types
 
@@ -151,21 +151,7 @@ module _ (t : Tree) (r : Tables) (l : Layouts) (prepared : Prepared t r l) (s : 
         go : (w : Option Meaning) → find i.name this.scope ≡ w → IsNamedAs w n → IsLower d
         go (Some (permanent_variable (component_of j))) e same = alone j e same (is_parameter i.name (system_of p this.system).parameters) refl
         go (Some (permanent_variable (array_over z (component_of j)))) e same = from_none (array_over z (component_of j)) e (names_here.arrays i.name z j e).0
-        go (Some (permanent_variable (array_over z (ordinal j)))) e same = absurd same
-        go (Some (permanent_variable (array_over z queue_type))) e same = absurd same
-        go (Some (permanent_variable (array_over z (set_over j)))) e same = absurd same
-        go (Some (permanent_variable (array_over z (array_over j u)))) e same = absurd same
-        go (Some (permanent_variable (array_over z (record_with ts)))) e same = absurd same
-        go (Some (permanent_variable (ordinal j))) e same = absurd same
-        go (Some (permanent_variable queue_type)) e same = absurd same
-        go (Some (permanent_variable (set_over j))) e same = absurd same
-        go (Some (permanent_variable (record_with ts))) e same = absurd same
-        go (Some (local_variable u)) e same = absurd same
-        go (Some (routine_meaning z)) e same = absurd same
-        go (Some (constant_meaning b z)) e same = absurd same
-        go (Some (type_meaning u)) e same = absurd same
-        go (Some (standard_meaning z)) e same = absurd same
-        go None e same = absurd same
+        go _ e same = absurd same
 
   -- ---- places
 

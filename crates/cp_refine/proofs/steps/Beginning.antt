@@ -1,6 +1,6 @@
 -- The opening states are related, and what is read of related states is the same.
-use Rattle.std.proofs.Common.{◌≡◌, ◌∙◌, ℕ, ◌+◌, ◌<◌, List, [], ◌∷◌, Option, Some, None, ap, sym, refl, subst, arith, length}
-use Rattle.std.specs.Prelude.{slice_get, slice_index_or}
+use Rattle.std.proofs.Common.{◌≡◌, ◌∙◌, ℕ, ◌+◌, ◌<◌, List, [], Option, Some, None, ap, sym, refl, subst, arith, length}
+use Rattle.std.specs.Prelude.{slice_index_or}
 use Rattle.cp_tree.specs.declared.declaration.SystemKind.{SystemKind}
 use Rattle.cp_tree.specs.declared.declaration.SystemKind.TheVariants as system_kind
 use Rattle.cp_tree.specs.Syntax.{Tree, Program}
@@ -38,10 +38,7 @@ use Rattle.cp_refine.proofs.gates.MonitorNumbers.{is_a_monitor, one_number}
 use Rattle.cp_refine.proofs.steps.Observed.{is_ready_alike, waits_alike, pending_alike, output_alike, holder_alike, in_line_alike}
 use Rattle.cp_refine.proofs.steps.OpeningState.{processes_are, opens}
 use Rattle.cp_refine.proofs.ReachedKinds.{monitor_there}
-
-past : {A : Type 0} (xs : List A) → slice_get xs (length xs) ≡ None
-past [] = refl
-past (x ∷ xs) = past xs
+use Rattle.cp_resolved.proofs.names.Entries.{past_there as past}
 
 -- the program itself has no parameters
 own_parameters : (p : Program) → (system_of p (program_system p)).parameters ≡ []
@@ -49,9 +46,8 @@ own_parameters p = ap (λ (o : Option SystemMeaning). (or_own (own_meaning (decl
 
 monitor_tells : (r : Tables) (p : Program) (n : ℕ) (a : SystemKind) (c : ComponentKind) → resolved.KindIs r p n a c → a ≡ system_kind.Monitor → (j : ℕ) × (c ≡ kind.Monitor j) × (slice_index_or (monitors_of (opening p first_gates)) j (length r.components) ≡ n)
 monitor_tells r p n system_kind.Monitor (kind.Monitor j) h e = (j, refl, h)
-monitor_tells r p n system_kind.Process c h e = absurd (cc)
-monitor_tells r p n system_kind.Class c h e = absurd (cc)
 monitor_tells r p n system_kind.Monitor c h e = absurd h
+monitor_tells r p n x c h e = absurd (cc)
 
 module _ (t : Tree) (r : Tables) (l : Layouts) (g : Gates) (prepared : Prepared t r l) where
   abbrev p : Program

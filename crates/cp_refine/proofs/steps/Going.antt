@@ -14,13 +14,11 @@ use Rattle.cp_resolved.specs.Stands.{Ground}
 use Rattle.cp_refine.specs.Remaining.{ItemIs, ItemsAre}
 use Rattle.cp_refine.specs.Represents.{StatusIs, StackIs, CallsHold, Represents, own_memory, frames_of}
 use Rattle.cp_refine.proofs.control.Control.{Taken}
+use Rattle.cp_meaning.proofs.LineLaw.{some_is as some_number}
 
-ready_is : (u : Status) → is_ready u ≡ true → u ≡ ready
+pub ready_is : (u : Status) → is_ready u ≡ true → u ≡ ready
 ready_is ready h = refl
 ready_is u h = absurd (cc)
-
-some_number : (a b : ℕ) → Some a ≡ Some b → a ≡ b
-some_number a b e = cc
 
 -- ready on both sides, with what stands for the rest of its items and for its calls
 pub record Going (g : Ground) (p : Program) (l : Layouts) (s : State) (m : Machine) (q : ℕ) : Type 0 where
@@ -41,10 +39,7 @@ module _ (g : Ground) (p : Program) (l : Layouts) (s : State) (m : Machine) (q :
 
       go : (u : slot_status.Status) → (thread_at m.threads q).status ≡ u → StatusIs g p l q (named.process_at s.processes q) (thread_at m.threads q) ready u → Going g p l s m q
       go status.Ready e h = record { rep = rep; there = there; many = subst (λ n. q < n) rep.process_count there; was = was; was_slot = e; stack = h.stack; calls = h.calls }
-      go status.Unstarted e h = absurd h
-      go (status.AtGate j) e h = absurd h
-      go (status.Delayed c) e h = absurd h
-      go status.Ended e h = absurd h
+      go _ e h = absurd h
 
   -- what a process does whose control stack begins with an item
   pub record TakesOne (at : ℕ) (es : List Entry) : Type 0 where

@@ -1,10 +1,10 @@
 -- After a run error or a full output the machine is as it was.
-use Rattle.std.proofs.Common.{◌≡◌, ℕ, Bool, true, false, if◌then◌else◌, ◌==◌, List, [], ◌∷◌, Option, Some, None, length, refl}
+use Rattle.std.proofs.Common.{◌≡◌, ℕ, Bool, true, false, if◌then◌else◌, ◌==◌, List, ◌∷◌, Option, Some, None, length, refl}
 use Rattle.std.specs.Prelude.{Result, Ok, Err, ℤ, pos, slice_index_or}
 use Rattle.std.specs.Ordering.{int_eq}
 use Rattle.cp_slots.specs.Tables.{Tables, item_at, component_at}
 use Rattle.cp_slots.specs.declared.item.Action.{Action}
-use Rattle.cp_slots.specs.declared.item.Action.TheVariants.{Empty, Assign, AssignSet, Copy, Block, If, Case, While, Until, For, Cycle, Call, Start, Delay, Continue, Display}
+use Rattle.cp_slots.specs.declared.item.Action.TheVariants.{Assign, AssignSet, Copy, If, Case, While, Until, For, Call, Start, Delay, Continue, Display}
 use Rattle.cp_slots.specs.declared.item.Item.{Item}
 use Rattle.cp_slots.specs.declared.place.Argument.{Argument}
 use Rattle.cp_slots.specs.declared.place.PlaceOrigin.{PlaceOrigin}
@@ -19,7 +19,7 @@ use Rattle.cp_store.specs.declared.memory.Frame.{Frame}
 use Rattle.cp_store.specs.Sets as sets
 use Rattle.cp_store.specs.Values.{is_true, ranged}
 use Rattle.cp_machine.specs.declared.process.Entry.{Entry}
-use Rattle.cp_machine.specs.declared.process.Entry.TheVariants.{Rest, Successor, Return, InitEnd}
+use Rattle.cp_machine.specs.declared.process.Entry.TheVariants.{Rest, Successor, Return}
 use Rattle.cp_machine.specs.declared.shown.Shown.{Shown}
 use Rattle.cp_machine.specs.declared.state.TheConstants.{MOST_SHOWN}
 use Rattle.cp_machine.specs.Calls as calls
@@ -73,8 +73,7 @@ module _ (m : Machine) (pid : ℕ) where
   module _ (r : Tables) where
     entered_so : (k : ComponentKind) (routine component : ℕ) (arguments : List Argument) (bounds : List Bound) (result : Option ℕ) (rest : List Entry) → Kept (calls.called_in r m pid k routine component arguments bounds result rest)
     entered_so (kind.Monitor monitor) routine component arguments bounds result rest h = absurd (cc)
-    entered_so kind.Class routine component arguments bounds result rest h = absurd (cc)
-    entered_so (kind.Process number) routine component arguments bounds result rest h = absurd (cc)
+    entered_so x routine component arguments bounds result rest h = absurd (cc)
 
     called_so : (line : ℕ) (is_entry : Bool) (routine component : ℕ) (arguments : List Argument) (bounds : List Bound) (result : Option ℕ) (rest : List Entry) → Kept (calls.called_by r m pid line is_entry routine component arguments bounds result rest)
     called_so line false routine component arguments bounds result rest = λ h. absurd (cc)
@@ -86,15 +85,13 @@ module _ (m : Machine) (pid : ℕ) where
 
     started_so : (line : ℕ) (k : ComponentKind) (routine component : ℕ) (arguments : List Argument) (bounds : List Bound) (rest : List Entry) → Kept (calls.started r m pid line k routine component arguments bounds rest)
     started_so line (kind.Process q) routine component arguments bounds rest = either_so (is_unstarted (thread_at m.threads q).status) _ _ (λ h. absurd (cc)) (fault_so line error.InitTwice)
-    started_so line (kind.Monitor monitor) routine component arguments bounds rest = inside_so line routine component arguments bounds rest
-    started_so line kind.Class routine component arguments bounds rest = inside_so line routine component arguments bounds rest
+    started_so line _ routine component arguments bounds rest = inside_so line routine component arguments bounds rest
 
     -- ---- `delay`, `continue` and the ends of calls
 
     delayed_so : (line cell : ℕ) (k : ComponentKind) (rest : List Entry) → Kept (calls.delayed_in m pid line cell k rest)
     delayed_so line cell (kind.Monitor monitor) rest = either_so (is_true (slice_index_or m.permanents cell (pos 0))) _ _ (fault_so line error.QueueInUse) (λ h. absurd (cc))
-    delayed_so line cell kind.Class rest = λ h. absurd (cc)
-    delayed_so line cell (kind.Process number) rest = λ h. absurd (cc)
+    delayed_so line cell x rest = λ h. absurd (cc)
 
     delay_so : (line : ℕ) (rest : List Entry) (a : Address) → Kept (calls.delay_at r m pid line rest a)
     delay_so line rest (address.Permanent cell) = delayed_so line cell (component_at r (thread_at m.threads pid).frame.component).kind rest
@@ -117,20 +114,17 @@ continue_goes r m pid next es (address.Local cell) = refl
 
 module _ (r : Tables) (m : Machine) (pid : ℕ) where
   taken_so : (at : ℕ) (item : Item) (a : Action) (es : List Entry) → Kept m pid (act r m pid at item a es)
-  taken_so at item Empty es = λ h. absurd (cc)
   taken_so at item (Assign target value low high) es =
       value_so m pid (value_of m pid value) item.line _ (λ v. value_so m pid (address_of m pid target) item.line _ (λ a. value_so m pid (ranged low high v) item.line _ (λ w. local_so m pid _)))
   taken_so at item (AssignSet target value low high) es =
       value_so m pid (set_of m pid value) item.line _ (λ v. value_so m pid (address_of m pid target) item.line _ (λ a. value_so m pid (sets.ranged low high v) item.line _ (λ w. local_so m pid _)))
   taken_so at item (Copy target source size) es = value_so m pid (address_of m pid source) item.line _ (λ from. value_so m pid (address_of m pid target) item.line _ (λ to. local_so m pid _))
-  taken_so at item (Block list) es = λ h. absurd (cc)
   taken_so at item (If test list other) es = value_so m pid (value_of m pid test) item.line _ (λ v. local_so m pid _)
   taken_so at item (Case selector arms) es = value_so m pid (value_of m pid selector) item.line _ (λ v. value_so m pid (statements.arm_for v arms.items) item.line _ (λ list. local_so m pid _))
   taken_so at item (While test list again) es = value_so m pid (value_of m pid test) item.line _ (λ v. local_so m pid _)
   taken_so at item (Until test list again) es = value_so m pid (value_of m pid test) item.line _ (λ v. local_so m pid _)
   taken_so at item (For variable low high first last down list) es =
       value_so m pid (value_of m pid first) item.line _ (λ a. value_so m pid (value_of m pid last) item.line _ (λ b. from_so m pid item.line at variable low high down list item.next es a b))
-  taken_so at item (Cycle list) es = λ h. absurd (cc)
   taken_so at item (Call routine component is_entry arguments result) es =
       value_so m pid (component_of m pid component) item.line _ (λ n. value_so m pid (arguments_of m pid arguments.items) item.line _ (λ bounds. called_so m pid r item.line is_entry routine n arguments.items bounds result (rest_of item.next es)))
   taken_so at item (Start component routine arguments) es =
@@ -138,13 +132,13 @@ module _ (r : Tables) (m : Machine) (pid : ℕ) where
   taken_so at item (Delay place) es = value_so m pid (address_of m pid place) item.line _ (delay_so m pid r item.line (rest_of item.next es))
   taken_so at item (Continue place) es = value_so m pid (address_of m pid place) item.line _ (λ a h. absurd (let goes = continue_goes r m pid item.next es a in cc))
   taken_so at item (Display value kind) es = value_so m pid (value_of m pid value) item.line _ (λ v. shown_so m pid (rest_of item.next es) (statements.shown_as kind v))
+  taken_so at item x es = λ h. absurd (cc)
 
   top_so : (es : List Entry) → Kept m pid (take_top r m pid es)
-  top_so [] = λ h. absurd (cc)
   top_so (Rest at ∷ es) = taken_so at (item_at r at) (item_at r at).action es
   top_so (Successor at z last ∷ es) = succeeded_so m pid at (item_at r at) (item_at r at).action es z last
   top_so (Return caller result monitor ∷ es) = returned_so m pid r caller result monitor es
-  top_so (InitEnd caller component ∷ es) = λ h. absurd (cc)
+  top_so x = λ h. absurd (cc)
 
 pub machine_as_before : MachineAsBeforeLaw
 machine_as_before r m pid = top_so r m pid (thread_at m.threads pid).stack

@@ -9,9 +9,9 @@ use Rattle.cp_machine.specs.declared.process.Status as slot_status
 use Rattle.cp_machine.specs.declared.process.Status.TheVariants as status
 use Rattle.cp_machine.specs.Fits.{LinesFit}
 use Rattle.cp_machine.specs.Machine as slot_machine
-use Rattle.cp_machine.specs.Machine.{Machine, Thread, thread_at, no_thread, monitor_at, is_ready_status, is_at_gate, in_line_of}
+use Rattle.cp_machine.specs.Machine.{Machine, Thread, thread_at, monitor_at, is_ready_status, is_at_gate, in_line_of}
 use Rattle.cp_meaning.specs.State as named
-use Rattle.cp_meaning.specs.State.{unstarted, ready, at_gate, delayed, ended, Status, Process, no_process, State}
+use Rattle.cp_meaning.specs.State.{unstarted, ready, at_gate, delayed, ended, Status, Process, State}
 use Rattle.cp_meaning.specs.Values.{is_member}
 use Rattle.cp_meaning.specs.Kernel.{line_of}
 use Rattle.cp_meaning.specs.Readings as readings
@@ -40,12 +40,11 @@ module _ (g : Ground) (p : Program) (l : Layouts) where
   -- two lists of processes of which each is waiting or not alike
   any_same : (ps : List Process) (ts : List Thread) → length ps ≡ length ts → ((q : ℕ) → q < length ps → readings.is_waiting (named.process_at ps q).status ≡ slot_machine.is_waiting (thread_at ts q).status) → readings.is_one_waiting ps ≡ list_any (λ t. slot_machine.is_waiting t.status) ts
   any_same [] [] e h = refl
-  any_same [] (t ∷ ts) e h = absurd (omega (arith, e))
-  any_same (x ∷ ps) [] e h = absurd (omega (arith, e))
   any_same (x ∷ ps) (t ∷ ts) e h =
       let a = h 0 (omega arith) in
       let b = any_same ps ts (omega (arith, e)) (λ q less. h (suc q) (omega arith)) in
       ap (λ c. c || readings.is_one_waiting ps) a ∙ ap (λ c. slot_machine.is_waiting t.status || c) b
+  any_same x y e h = absurd (omega (arith, e))
 
   member_same : (q : ℕ) (line : List ℕ) → is_member q line ≡ list_any (eqb q) line
   member_same q [] = refl

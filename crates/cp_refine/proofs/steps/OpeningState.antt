@@ -1,6 +1,6 @@
 -- The state in which a run begins on names is what the machine begins with.
-use Rattle.std.proofs.Common.{◌≡◌, ◌∙◌, ℕ, zero, suc, ◌+◌, ◌<◌, ◌≤◌, List, [], ◌∷◌, Option, Some, None, ap, sym, refl, subst, arith, length, length-set}
-use Rattle.std.specs.Prelude.{map, replicate, slice_get, slice_index_or, slice_set}
+use Rattle.std.proofs.Common.{◌≡◌, ◌∙◌, ℕ, zero, suc, ◌+◌, ◌<◌, ◌≤◌, List, [], ◌∷◌, Some, None, ap, sym, refl, subst, arith, length, length-set}
+use Rattle.std.specs.Prelude.{map, replicate, slice_index_or, slice_set}
 use Rattle.std.proofs.lemmas.List.{get_or-map, length-map}
 use Rattle.cp_tree.specs.declared.declaration.SystemKind.{SystemKind}
 use Rattle.cp_tree.specs.declared.declaration.SystemKind.TheVariants as system_kind
@@ -9,7 +9,7 @@ use Rattle.cp_slots.specs.declared.tables.ComponentKind.{ComponentKind}
 use Rattle.cp_slots.specs.declared.tables.ComponentKind.TheVariants as kind
 use Rattle.cp_slots.specs.Systems.{IsItself, IsTyped}
 use Rattle.cp_slots.specs.Tables as tables
-use Rattle.cp_slots.specs.Tables.{Tables, component_at, process_at}
+use Rattle.cp_slots.specs.Tables.{component_at, process_at}
 use Rattle.cp_store.specs.declared.memory.Address.TheVariants.{Permanent}
 use Rattle.cp_machine.specs.declared.process.Status.TheVariants as status
 use Rattle.cp_machine.specs.declared.state.Phase.TheVariants as phase
@@ -19,10 +19,10 @@ use Rattle.cp_machine.specs.Opening.{unstarted_thread}
 use Rattle.cp_meaning.specs.Names.{Name}
 use Rattle.cp_meaning.specs.Types.{Ty}
 use Rattle.cp_meaning.specs.Values.{Value, queue_value, part_at}
-use Rattle.cp_meaning.specs.Systems.{SystemMeaning, system_of, or_own, own_meaning, declared, program_system}
+use Rattle.cp_meaning.specs.Systems.{system_of, program_system}
 use Rattle.cp_meaning.specs.Components.{Listed, listed, listed_variables, components_of}
 use Rattle.cp_meaning.specs.State as named
-use Rattle.cp_meaning.specs.State.{Holder, in_call, in_component, Place, Environment, uninitialised, ComponentStatus, Component, no_component, Status, unstarted, ready, delayed, Process, no_process, Gates, first_gates, State}
+use Rattle.cp_meaning.specs.State.{Holder, in_component, Place, Environment, uninitialised, Component, no_component, unstarted, delayed, Process, no_process, Gates, first_gates, State}
 use Rattle.cp_meaning.specs.Places.{View, content_of, value_held, environment_of, value_at}
 use Rattle.cp_meaning.specs.Kernel.{after, begun}
 use Rattle.cp_meaning.specs.Readings.{first_inside}
@@ -38,23 +38,15 @@ use Rattle.cp_refine.proofs.starts.Begun.{CanBegin, begun_runs}
 use Rattle.cp_refine.proofs.expressions.LeastValues.{IsFree, part_free, append_free, least_of_free, content_free}
 use Rattle.cp_refine.proofs.control.Moving.{set_here, set_there}
 use Rattle.cp_refine.proofs.expressions.Parts.{encode_length}
+use Rattle.cp_meaning.proofs.Exclusion.{program_kind as own_kind}
 
 -- ---- lists
 
-past : {A : Type 0} (xs : List A) → slice_get xs (length xs) ≡ None
-past [] = refl
-past (x ∷ xs) = past xs
-
 repeated : {A : Type 0} (n i : ℕ) (a : A) → slice_index_or (replicate n a) i a ≡ a
-repeated zero i a = refl
-repeated (suc n) zero a = refl
 repeated (suc n) (suc i) a = repeated n i a
+repeated _ _ a = refl
 
 -- ---- processes on names
-
--- the program itself is a process
-own_kind : (p : Program) → (system_of p (program_system p)).kind ≡ system_kind.Process
-own_kind p = ap (λ (o : Option SystemMeaning). (or_own (own_meaning (declared p) p) o).kind) (past (declared p).systems)
 
 abbrev more_components : Program → List Component
 more_components p = map (first_component p) (listed_variables (listed p (program_system p)) [] (system_of p (program_system p)).variables)
@@ -207,8 +199,7 @@ module _ (g : Ground) (t : Tree) (l : Layouts) (c : Gates) (can : CanOpen g t l)
 
   phase_here : (k : ComponentKind) → PhaseIs k uninitialised phase.Uninitialised
   phase_here (kind.Process q) = tt
-  phase_here (kind.Monitor j) = tt
-  phase_here kind.Class = tt
+  phase_here _ = tt
 
   image_lies : (u : Ty) (w : Value) (at : ℕ) → HasType u w → StandsAt g.tables.permanents at (encode w) → LiesAt (all_permanents machine) u w (Permanent at)
   image_lies u w at h s =
@@ -221,14 +212,13 @@ module _ (g : Ground) (t : Tree) (l : Layouts) (c : Gates) (can : CanOpen g t l)
 
   -- only the program itself has begun, and it has no parameters
   none_begun : (n : ℕ) → n < length g.tables.components → (k : ComponentKind) → (component_at g.tables n).kind ≡ k → (x : Name) (u : Ty) → look x (l.systems (component_at g.tables n).system).parts ≡ Some u → HasBegun state k uninitialised → ⊥
-  none_begun n h (kind.Monitor j) e x u d b = b
-  none_begun n h kind.Class e x u d b = b
   none_begun n h (kind.Process (suc q)) e x u d b = b (all_unstarted 1 (more_components p) q).status
   none_begun n h (kind.Process zero) e x u d b =
       let itself : (process_at g.tables 0).component ≡ n = subst (λ k. IsItself g.tables k n) e (can.typed.components n h).itself in
       let zero_is : n ≡ 0 = sym itself ∙ own_component in
       let system : (component_at g.tables n).system ≡ program_system p = ap (λ i. (component_at g.tables i).system) zero_is ∙ own_system in
       can.plain x u (subst (λ k. look x (l.systems k).parts ≡ Some u) system d)
+  none_begun n h _ e x u d b = b
 
   component_opens : (n : ℕ) → n < length (first_components p) → ComponentIs g p l state machine n
   component_opens n h =
@@ -247,11 +237,10 @@ module _ (g : Ground) (t : Tree) (l : Layouts) (c : Gates) (can : CanOpen g t l)
   -- ---- monitors and queues
 
   monitor_opens : (n : ℕ) (k : ComponentKind) → MonitorIs state machine n k
-  monitor_opens n (kind.Process q) = tt
-  monitor_opens n kind.Class = tt
   monitor_opens n (kind.Monitor j) =
       let none = repeated g.tables.monitors j no_monitor in
       (ap (λ (w : Monitor). w.line) none ∙ sym (line_here n), ap (λ (w : Monitor). w.holder) none ∙ sym (ap after (nobody_in n 1 (more_components p))))
+  monitor_opens n _ = tt
 
   nobody_delayed : (q n : ℕ) → (named.process_at (own_process ∷ more_processes p) q).status ≡ delayed n → ⊥
   nobody_delayed zero n e = cc

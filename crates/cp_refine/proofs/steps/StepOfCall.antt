@@ -26,13 +26,13 @@ use Rattle.cp_meaning.specs.Declarations.{Parameter, RoutineMeaning}
 use Rattle.cp_meaning.specs.Expressions.{name_of, routine_called, target_value}
 use Rattle.cp_refine.specs.Followed.{AreArguments, HasEntries, IsCallable, IsCall}
 use Rattle.cp_meaning.specs.Lifting.{designator_calls, expressions_calls}
-use Rattle.cp_meaning.specs.Scopes.{Meaning, constant_meaning, type_meaning, local_variable, permanent_variable, routine_meaning, standard_meaning, find}
+use Rattle.cp_meaning.specs.Scopes.{Meaning, routine_meaning, find}
 use Rattle.cp_meaning.specs.State as named
 use Rattle.cp_meaning.specs.State.{Place, Item, statement_item, function_call, State, has_entry}
 use Rattle.cp_meaning.specs.Steps.{view_of, step_of}
 use Rattle.cp_meaning.specs.Systems.{system_of}
 use Rattle.cp_meaning.specs.Types as types
-use Rattle.cp_meaning.specs.Types.{Ty, ordinal, queue_type, set_over, array_over, record_with}
+use Rattle.cp_meaning.specs.Types.{Ty}
 use Rattle.cp_resolved.specs.Compiled.{a_component, designator_form}
 use Rattle.cp_resolved.specs.Layouts.{Layouts, Here, here, cell_named}
 use Rattle.cp_resolved.specs.Stands.{Ground, AreGiven, CallItem, CalleeIs, result_cell}
@@ -54,27 +54,22 @@ use Rattle.cp_refine.proofs.calls.Kept.{kept_left}
 use Rattle.cp_refine.proofs.expressions.DesignatedTypes.{range_known}
 use Rattle.cp_refine.proofs.steps.Executed.{executes}
 use Rattle.cp_refine.proofs.steps.Found.{action_fits_here, action_names, found_of}
-use Rattle.cp_refine.proofs.expressions.FreeParts.{free_standing}
 use Rattle.cp_refine.proofs.steps.Going.{Going}
 use Rattle.cp_refine.proofs.HoldsInReached.{HoldsInReached}
 use Rattle.cp_refine.proofs.reached.ReadyInReached.{ReadyInReached}
 use Rattle.cp_refine.proofs.control.Running.{Executes}
 use Rattle.cp_refine.proofs.steps.StepOfStatement.{below_fits}
 use Rattle.cp_refine.proofs.reached.SystemKinds.{kind_is, process_type}
+use Rattle.cp_resolved.proofs.agreeing.AgreeingTypes.{free_standing}
 
 no_component : (u : Ty) → is_free u ≡ true → IsNoComponent u
 no_component (types.component_of k) h = absurd (cc)
-no_component (ordinal r) h = tt
-no_component queue_type h = tt
-no_component (set_over r) h = tt
-no_component (array_over r u) h = tt
-no_component (record_with ts) h = tt
+no_component _ h = tt
 
 arguments_known : (h : Here) (qs : List Parameter) (es : Expressions) → HaveValues qs → VariablesGiven h qs es → ArgumentsKnown h qs es
-arguments_known h [] es v k = tt
-arguments_known h (q ∷ qs) no_expressions v k = tt
 arguments_known h (q ∷ qs) (more_expressions e es) v k =
     (record { variable = k.0; range = λ plain. (range_known q.ty (free_standing q.ty v.0), no_component q.ty v.0) }, arguments_known h qs es v.1 k.1)
+arguments_known h _ _ v k = tt
 
 -- no parameter of a routine is a component
 value_type : (u : Ty) (k : ℕ) → u ≡ types.component_of k → is_free u ≡ true → ⊥
@@ -96,12 +91,7 @@ leads_to v (Err d) b h x e = absurd (cc)
 -- an entry is named by its component
 entry_named : (h : Here) (d : Designator) (w : Option Meaning) (part : code.ComponentPlace) (b : Bool) (number : ℕ) → CalleeIs h d w part b number → b ≡ true → designator_form h d ≡ Some (a_component part (h.layouts.owners number))
 entry_named h d (Some (routine_meaning r)) part b number c e = absurd (let bad : false ≡ true = sym c.1 ∙ e in cc)
-entry_named h d (Some (constant_meaning x z)) part b number c e = c.0
-entry_named h d (Some (type_meaning u)) part b number c e = c.0
-entry_named h d (Some (local_variable u)) part b number c e = c.0
-entry_named h d (Some (permanent_variable u)) part b number c e = c.0
-entry_named h d (Some (standard_meaning u)) part b number c e = c.0
-entry_named h d None part b number c e = c.0
+entry_named h d _ part b number c e = c.0
 
 module _ (t : Tree) (r : Tables) (l : Layouts) (prepared : Prepared t r l) (s : State) (known : HoldsInReached t.program s) (m : Machine) (ready : ReadyInReached (ground_of t r) t.program s m) (fits : MachineFits r m) (reach : Reaches r m) (q : ℕ) (going : Going (ground_of t r) t.program l s m q) (at : ℕ) (mid : Option ℕ) (es : List Entry) (xs ys : List Item) where
   abbrev g : Ground
@@ -191,12 +181,7 @@ module _ (t : Tree) (r : Tables) (l : Layouts) (prepared : Prepared t r l) (s : 
 
       callable : (w : Option Meaning) → CalleeIs this d w ci.part ci.is_entry ci.number → IsCallable (view_of p s q) w d
       callable (Some (routine_meaning y)) c = tt
-      callable (Some (constant_meaning b z)) c = entry_follows c.1
-      callable (Some (type_meaning u)) c = entry_follows c.1
-      callable (Some (local_variable u)) c = entry_follows c.1
-      callable (Some (permanent_variable u)) c = entry_follows c.1
-      callable (Some (standard_meaning u)) c = entry_follows c.1
-      callable None c = entry_follows c.1
+      callable _ c = entry_follows c.1
 
       pub call_follows : IsCall (view_of p s q) d args
       call_follows =

@@ -1,7 +1,7 @@
 -- The step of a process whose control stack begins with an item, of whatever kind the item is.
 use Rattle.std.proofs.Common.{◌≡◌, ◌∙◌, ℕ, List, ◌++◌, Option, Some, None, ap, sym, refl}
 use Rattle.std.specs.Prelude.{slice_index}
-use Rattle.cp_tree.specs.Syntax.{Tree, Program, Expressions, no_expressions, more_expressions, Designator, Statement, empty, assign, invoke, block, if_then, if_else, case_of, while_do, repeat_until, for_do, cycle, init}
+use Rattle.cp_tree.specs.Syntax.{Tree, Program, Expressions, more_expressions, Designator, Statement, empty, assign, invoke, block, if_then, if_else, case_of, while_do, repeat_until, for_do, cycle, init}
 use Rattle.cp_slots.specs.Tables.{Tables}
 use Rattle.cp_machine.specs.declared.process.Entry.{Entry}
 use Rattle.cp_machine.specs.Fits.{MachineFits}
@@ -10,8 +10,8 @@ use Rattle.cp_machine.specs.Reach.{Reaches}
 use Rattle.cp_machine.specs.Step.{step_at}
 use Rattle.cp_meaning.specs.Expressions.{name_of}
 use Rattle.cp_meaning.specs.Places.{this_component}
-use Rattle.cp_meaning.specs.Scopes.{Meaning, constant_meaning, type_meaning, local_variable, permanent_variable, routine_meaning, standard_meaning, Standard, succ_function, pred_function, chr_function, ord_function, abs_function, empty_function, delay_procedure, continue_procedure, display_procedure, find}
-use Rattle.cp_meaning.specs.State.{Item, statement_item, function_call, start_item, until, successor, return, init_end, end, State}
+use Rattle.cp_meaning.specs.Scopes.{Meaning, constant_meaning, type_meaning, local_variable, permanent_variable, routine_meaning, standard_meaning, Standard, delay_procedure, continue_procedure, display_procedure, find}
+use Rattle.cp_meaning.specs.State.{Item, statement_item, function_call, start_item, until, State}
 use Rattle.cp_meaning.specs.Steps.{view_of, step_of, at_item}
 use Rattle.cp_resolved.specs.Layouts.{Layouts, Here, here}
 use Rattle.cp_resolved.specs.Stands.{Ground, InvokedBy}
@@ -58,15 +58,7 @@ module _ (t : Tree) (r : Tables) (l : Layouts) (prepared : Prepared t r l) (s : 
         continue_so t r l prepared s known m ready fits reach q going at mid es xs ys token d e more k rules.0
         (states.continues q (record { there = going.there; ready_now = going.was; token = token; name = d; arguments = more_expressions e more; items = xs ++ ys; next = k.items; standard = ap (find (name_of d)) (scope_is g p l s m q at (statement_item (invoke token d (more_expressions e more))) mid es xs ys k) ∙ is }))
         (λ i h w. states.delayed (this_component (view_of p s q)) i h w) is rules.1
-    standard_so display_procedure no_expressions k is rules own = absurd own
-    standard_so delay_procedure no_expressions k is rules own = absurd own
-    standard_so continue_procedure no_expressions k is rules own = absurd own
-    standard_so succ_function es' k is rules own = absurd own
-    standard_so pred_function es' k is rules own = absurd own
-    standard_so chr_function es' k is rules own = absurd own
-    standard_so ord_function es' k is rules own = absurd own
-    standard_so abs_function es' k is rules own = absurd own
-    standard_so empty_function es' k is rules own = absurd own
+    standard_so _ _ k is rules own = absurd own
 
     invoked_so : (w : Option Meaning) (es' : Expressions) → Takes (statement_item (invoke token d es')) → find (name_of d) this.scope ≡ w → InvokeKnown g this w d es' → InvokedBy g this at token w d es' mid → Steps token
     invoked_so (Some (standard_meaning f)) es' k is rules own = standard_so f es' k is rules own
@@ -100,7 +92,4 @@ module _ (t : Tree) (r : Tables) (l : Layouts) (prepared : Prepared t r l) (s : 
   item_so (function_call token d args) k rules = function_so t r l prepared s known m ready fits reach q going at mid es xs ys token d args k rules
   item_so (start_item x) k rules = start_so t r l prepared s known m ready fits reach states q going at mid es xs ys x k rules
   item_so (until ss e) k rules = until_so t r l prepared s m q at fits going.many mid es xs ys ss e k
-  item_so (successor token i z d b u) k rules = absurd k.own
-  item_so (return o) k rules = absurd k.own
-  item_so (init_end n) k rules = absurd k.own
-  item_so end k rules = absurd k.own
+  item_so _ k rules = absurd k.own

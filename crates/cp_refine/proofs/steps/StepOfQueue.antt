@@ -28,7 +28,7 @@ use Rattle.cp_meaning.specs.State.{Place, in_component, delayed, entry_routine, 
 use Rattle.cp_meaning.specs.Steps.{view_of, step_of}
 use Rattle.cp_meaning.specs.Systems.{system_of}
 use Rattle.cp_meaning.specs.Types.{Ty, queue_type}
-use Rattle.cp_meaning.specs.Values.{Value, number_value, array_value, record_value, set_value, queue_value, waiting_in}
+use Rattle.cp_meaning.specs.Values.{Value, queue_value, waiting_in}
 use Rattle.cp_resolved.specs.Layouts.{Layouts, Here, here}
 use Rattle.cp_resolved.specs.Compiled.{as_place, expression_form}
 use Rattle.cp_resolved.specs.Stands.{Ground, InvokedBy, QueueItem, result_cell, ResultGoes}
@@ -73,10 +73,7 @@ no_result h (Some x) (Some u) e w = absurd (cc)
 -- the value of a queue in which a process waits
 queue_from : (w : Value) (i : ℕ) → waiting_in w ≡ Some i → w ≡ queue_value (Some i)
 queue_from (queue_value o) i e = ap queue_value e
-queue_from (number_value z) i e = absurd (cc)
-queue_from (array_value vs) i e = absurd (cc)
-queue_from (record_value vs) i e = absurd (cc)
-queue_from (set_value ns) i e = absurd (cc)
+queue_from x i e = absurd (cc)
 
 module _ (t : Tree) (r : Tables) (l : Layouts) (prepared : Prepared t r l) (s : State) (known : HoldsInReached t.program s) (m : Machine) (ready : ReadyInReached (ground_of t r) t.program s m) (fits : MachineFits r m) (reach : Reaches r m) (q : ℕ) (going : Going (ground_of t r) t.program l s m q) (at : ℕ) (mid : Option ℕ) (es : List Entry) (xs ys : List Item)
     (token : ℕ) (d : Designator) (e : Expression) (more : Expressions) (k : Taken (ground_of t r) t.program l s m q at (statement_item (invoke token d (more_expressions e more))) mid es xs ys) (rules : QueueKnown (here t.program l (thread_at m.threads q).frame.routine) e) where

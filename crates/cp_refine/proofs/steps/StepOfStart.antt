@@ -90,9 +90,8 @@ record Led (t : Tree) (s : State) (q n : ℕ) (o : Outcome Target) : Type 0 wher
 
 led : (t : Tree) (s : State) (q n : ℕ) (o : Outcome Target) (b : Result ℕ slots.ErrorName) → b ≡ Ok n → ComponentAgrees (view_of t.program s q) o b → Led t s q n o
 led t s q n (Ok u) (Ok c) e h = record { target = u; is = refl; component = h ∙ (cc) }
-led t s q n (Ok u) (Err d) e h = absurd h
-led t s q n (Err d) (Ok c) e h = absurd h
 led t s q n (Err d) (Err c) e h = absurd (cc)
+led t s q n _ _ e h = absurd h
 
 module _ (t : Tree) (r : Tables) (l : Layouts) (prepared : Prepared t r l) (s : State) (known : HoldsInReached t.program s) (m : Machine) (ready : ReadyInReached (ground_of t r) t.program s m) (fits : MachineFits r m) (reach : Reaches r m) (states : StateKnown t r l s m) (q : ℕ) (going : Going (ground_of t r) t.program l s m q) (at : ℕ) (mid : Option ℕ) (es : List Entry) (xs ys : List Item)
     (x : Start) (k : Taken (ground_of t r) t.program l s m q at (start_item x) mid es xs ys) (rules : StartKnown (here t.program l (thread_at m.threads q).frame.routine) x) where

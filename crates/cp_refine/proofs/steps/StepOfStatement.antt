@@ -13,7 +13,7 @@ use Rattle.cp_machine.specs.Fits.{StackFits, MachineFits}
 use Rattle.cp_machine.specs.Machine.{Machine, thread_at}
 use Rattle.cp_machine.specs.Memory.{memory_at}
 use Rattle.cp_machine.specs.Step.{step_at}
-use Rattle.cp_meaning.specs.Types.{Base, integers, booleans, characters, enumerated, ordinal}
+use Rattle.cp_meaning.specs.Types.{Base, enumerated, ordinal}
 use Rattle.cp_meaning.specs.Scopes.{standard_meaning, display_procedure, find}
 use Rattle.cp_meaning.specs.Expressions.{name_of}
 use Rattle.cp_meaning.specs.State.{Item, statement_item, until, State}
@@ -101,10 +101,8 @@ module _ (t : Tree) (r : Tables) (l : Layouts) (prepared : Prepared t r l) (s : 
   -- ---- what is displayed
 
   few_constants : (b : Base) → HasFewConstants g b → FewConstants g b
-  few_constants integers h = tt
-  few_constants booleans h = tt
-  few_constants characters h = tt
   few_constants (enumerated a cs) h = h
+  few_constants _ h = tt
 
   pub display_so : (token : ℕ) (d : Designator) (e : Expression) (more : Expressions) → (k : Takes (statement_item (invoke token d (more_expressions e more)))) → find (name_of d) this.scope ≡ Some (standard_meaning display_procedure) → DisplayKnown g this e → Steps token
   display_so token d e more k standard known =

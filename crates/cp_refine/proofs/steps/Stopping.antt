@@ -3,9 +3,9 @@ use Rattle.std.proofs.Common.{◌≡◌, ℕ, Bool, true, false, ◌==◌, Optio
 use Rattle.std.specs.Prelude.{Ok, Err}
 use Rattle.cp_tree.specs.Syntax.{Program}
 use Rattle.cp_meaning.specs.Kernel.{output_room, kernel_step, starting_as, starting, displaying, process_of}
-use Rattle.cp_meaning.specs.Move.{Move, stays, enters, leaves, delays, continues, starts, shows, ends, Doing}
+use Rattle.cp_meaning.specs.Move.{Move, starts, shows, Doing}
 use Rattle.cp_meaning.specs.Outcome.{Outcome}
-use Rattle.cp_meaning.specs.State.{Environment, Status, unstarted, ready, at_gate, delayed, ended, process_at, Shown, State}
+use Rattle.cp_meaning.specs.State.{Environment, Status, unstarted, ready, process_at, Shown, State}
 use Rattle.cp_meaning.specs.Kernel as kernel
 use Rattle.cp_meaning.specs.LocalRules.{takes}
 use Rattle.cp_meaning.specs.Steps.{view_of, settled}
@@ -17,10 +17,7 @@ module _ (p : Program) (s : State) (pid : ℕ) where
 
   started_so : (d : Doing) (r : ℕ) (status : Status) (c : ℕ) (e : Environment) → Kept (starting_as p s pid d r status c e)
   started_so d r unstarted c e h = absurd (cc)
-  started_so d r ready c e h = refl
-  started_so d r (at_gate m) c e h = refl
-  started_so d r (delayed m) c e h = refl
-  started_so d r ended c e h = refl
+  started_so d r _ c e h = refl
 
   starting_so : (d : Doing) (o : Option ℕ) (c : ℕ) (e : Environment) → Kept (starting p s pid d o c e)
   starting_so d None c e h = absurd (cc)
@@ -31,14 +28,9 @@ module _ (p : Program) (s : State) (pid : ℕ) where
   displayed_so false d x h = absurd (cc)
 
   kernel_so : (d : Doing) (m : Move) → Kept (kernel_step p s pid d m)
-  kernel_so d stays h = absurd (cc)
-  kernel_so d (enters m) h = absurd (cc)
-  kernel_so d (leaves m) h = absurd (cc)
-  kernel_so d (delays m) h = absurd (cc)
-  kernel_so d (continues m o) h = absurd (cc)
   kernel_so d (starts c e) h = starting_so d (process_of c (kernel.moved_to ready s pid d).processes) c e h
   kernel_so d (shows x) h = displayed_so (length s.output == output_room) d x h
-  kernel_so d ends h = absurd (cc)
+  kernel_so d x h = absurd (cc)
 
   settled_so : (o : Outcome Doing) → Kept (settled p s pid o)
   settled_so (Ok d) h = kernel_so d d.move h

@@ -30,8 +30,7 @@ HasFit o = (x : Name) → IsFit (find x o.meaning.scope)
 all_fit : (k : Tokens) (p : Program) (xs : List Place) (os : List Opening) → AreAgreed k p xs os → Each HasFit os
 all_fit k p [] [] h = tt
 all_fit k p (x ∷ xs) (o ∷ os) h = (h.0.fit, all_fit k p xs os h.1)
-all_fit k p [] (o ∷ os) h = absurd h
-all_fit k p (x ∷ xs) [] h = absurd h
+all_fit k p _ _ h = absurd h
 
 each_at : (P : Opening → Type 0) (os : List Opening) (n : ℕ) (o : Opening) → Each P os → slice_get os n ≡ Some o → P o
 each_at P [] n o h e = absurd (let bad : None ≡ Some o = e in cc)

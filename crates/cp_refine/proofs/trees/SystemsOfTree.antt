@@ -5,8 +5,7 @@ use Rattle.cp_meaning.specs.Calls.{least_of}
 use Rattle.cp_meaning.specs.Declarations.{Variable, Parameter}
 use Rattle.cp_meaning.specs.Names.{Name, same_name}
 use Rattle.cp_meaning.specs.Places.{content_of}
-use Rattle.cp_meaning.specs.State.{Content, holds, Environment}
-use Rattle.cp_meaning.specs.Values.{least}
+use Rattle.cp_meaning.specs.State.{Environment}
 use Rattle.cp_meaning.specs.Steps.{parameter_variables, first_environment}
 use Rattle.cp_meaning.specs.Systems.{system_of}
 use Rattle.cp_meaning.specs.Types.{Ty, has_components}
@@ -18,7 +17,9 @@ use Rattle.cp_resolved.specs.Standing.{is_standing, IsStandingVariable}
 use Rattle.cp_resolved.specs.TreeLayouts.{components_among, layouts_of}
 use Rattle.cp_resolved.proofs.frames.FrameCells.{same_is}
 use Rattle.cp_resolved.proofs.agreeing.ScopeVariables.{Among, among_left, look_among, among_look, components_append, among_all}
-use Rattle.cp_refine.specs.Parameters.{IsOther, AreDifferent}
+use Rattle.cp_refine.specs.Parameters.{AreDifferent}
+use Rattle.cp_refine.proofs.calls.NewFrame.{others_named as is_other}
+use Rattle.cp_resolved.proofs.systems.SystemKnown.{least_none as none_least}
 
 -- ---- different names
 
@@ -33,14 +34,6 @@ different_left (v ∷ vs) ws d = (missing_left v.name vs ws d.0, different_left 
         go : (b : Bool) → (if b then Some v.ty else look x (vs ++ ws)) ≡ None → (look x (vs ++ ws) ≡ None → look x vs ≡ None) → (if b then Some v.ty else look x vs) ≡ None
         go true e rest = absurd (let bad : Some v.ty ≡ None = e in cc)
         go false e rest = rest e
-
-is_other : (x : Name) (qs : List Parameter) → look x (parameter_variables qs) ≡ None → IsOther x qs
-is_other x [] h = tt
-is_other x (q ∷ qs) h = go (same_name x q.name) refl h (is_other x qs)
-  where
-    go : (b : Bool) → same_name x q.name ≡ b → (if b then Some q.ty else look x (parameter_variables qs)) ≡ None → (look x (parameter_variables qs) ≡ None → IsOther x qs) → (same_name x q.name ≡ false) × IsOther x qs
-    go true e h rest = absurd (let bad : Some q.ty ≡ None = h in cc)
-    go false e h rest = (e, rest h)
 
 pub parameters_different : (qs : List Parameter) → framed.AreDifferent (parameter_variables qs) → AreDifferent qs
 parameters_different [] d = tt
@@ -60,18 +53,6 @@ none_of_two x (b ∷ d) e h k = go (same_name x b.0) h (λ i. none_of_two x d e 
     go : (c : Bool) → (if c then Some b.1 else content_of x d) ≡ None → (content_of x d ≡ None → content_of x (d ++ e) ≡ None) → (if c then Some b.1 else content_of x (d ++ e)) ≡ None
     go true i rest = absurd (let bad : Some b.1 ≡ None = i in cc)
     go false i rest = rest i
-
-none_least : (x : Name) (vs : List Variable) → look x (components_among false vs) ≡ None → content_of x (least_of vs) ≡ None
-none_least x [] h = refl
-none_least x (v ∷ vs) h = go (has_components v.ty) h (none_least x vs)
-  where
-    here : (b : Bool) → (if b then Some v.ty else look x (components_among false vs)) ≡ None → (look x (components_among false vs) ≡ None → content_of x (least_of vs) ≡ None) → (c : Content) → (if b then Some c else content_of x (least_of vs)) ≡ None
-    here true e rest c = absurd (let bad : Some v.ty ≡ None = e in cc)
-    here false e rest c = rest e
-
-    go : (b : Bool) → look x (if b then components_among false vs else v ∷ components_among false vs) ≡ None → (look x (components_among false vs) ≡ None → content_of x (least_of vs) ≡ None) → content_of x (if b then least_of vs else (v.name, holds (least v.ty)) ∷ least_of vs) ≡ None
-    go true e rest = rest e
-    go false e rest = here (same_name x v.name) e rest (holds (least v.ty))
 
 none_right : (x : Name) (vs ws : List Variable) → look x (vs ++ ws) ≡ None → (look x vs ≡ None) × (look x ws ≡ None)
 none_right x [] ws h = (refl, h)

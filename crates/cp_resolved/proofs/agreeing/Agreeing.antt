@@ -7,7 +7,7 @@ use Rattle.std.proofs.lemmas.Bool.Decides.{Decides-eqb}
 use Rattle.cp_scope.specs.declared.fault.CheckFault.{CheckFault}
 use Rattle.cp_scope.specs.declared.types.Meaning.{Meaning}
 use Rattle.cp_scope.specs.Judged.{Judged, both, ◌>>=◌, faults}
-use Rattle.cp_scope.specs.Scopes.{Names, Scope, Scopes, Heading, Shape, array_shape, record_shape, system_shape, heading_shape, body_shape, Shapes, shape_in, as_array, as_heading, heading_at, member_at, through_seal, look_in, or_else, look_outer, look, with_shape, with_name, sealed, add, enter, keep}
+use Rattle.cp_scope.specs.Scopes.{Names, Scope, Scopes, Shape, Shapes, shape_in, through_seal, look_in, or_else, look_outer, look, with_shape, with_name, sealed, enter}
 use Rattle.cp_scope.specs.Scopes as checker
 use Rattle.cp_meaning.specs.Names.{Name}
 use Rattle.cp_resolved.specs.Tokens.{IsOther}
@@ -28,10 +28,9 @@ good_then P Q (Err (e ∷ es)) f h k = tt
 pub good_both : {A B : Type 0} (P : A → Type 0) (Q : B → Type 0) (j : Judged A) (k : Judged B) → Good P j → Good Q k → Good (λ (q : A × B). P q.0 × Q q.1) (both j k)
 good_both P Q (Ok a) (Ok b) h g = (h, g)
 good_both P Q (Ok a) (Err []) h g = absurd g
-good_both P Q (Ok a) (Err (e ∷ es)) h g = tt
 good_both P Q (Err []) k h g = absurd h
 good_both P Q (Err (e ∷ es)) (Ok b) h g = tt
-good_both P Q (Err (e ∷ es)) (Err gs) h g = tt
+good_both P Q _ _ h g = tt
 
 pub good_if : {A : Type 0} (P : A → Type 0) (b : Bool) (x : A) (f : CheckFault) (fs : List CheckFault) → (b ≡ true → P x) → Good P (if b then Ok x else Err (f ∷ fs))
 good_if P true x f fs h = h refl
@@ -55,10 +54,6 @@ pub none_right : {A : Type 0} (xs ys : List A) → xs ++ ys ≡ [] → ys ≡ []
 none_right [] ys h = h
 none_right (x ∷ xs) ys h = absurd (let bad : x ∷ (xs ++ ys) ≡ [] = h in cc)
 
-pub none_first : {A B : Type 0} (j : Judged A) (f : A → Judged B) → faults (j >>= f) ≡ [] → faults j ≡ []
-none_first (Ok x) f h = refl
-none_first (Err fs) f h = h
-
 pub none_of_both : {A B : Type 0} (j : Judged A) (k : Judged B) → faults (both j k) ≡ [] → (faults j ≡ []) × (faults k ≡ [])
 none_of_both (Ok a) (Ok b) h = (refl, refl)
 none_of_both (Ok a) (Err gs) h = (refl, h)
@@ -66,9 +61,6 @@ none_of_both (Err fs) (Ok b) h = (h, refl)
 none_of_both (Err fs) (Err gs) h = (none_left fs gs h, none_right fs gs h)
 
 -- ---- names
-
-pub itself : (x : List ℕ) → bytes_eq x x ≡ true
-itself x = (bytes_eq-Decides x x).1 refl
 
 pub is_itself : (x y : List ℕ) → bytes_eq x y ≡ true → x ≡ y
 is_itself x y h = (bytes_eq-Decides x y).0 h

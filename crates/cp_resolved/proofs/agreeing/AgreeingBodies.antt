@@ -44,8 +44,9 @@ use Rattle.cp_resolved.proofs.agreeing.AgreeingWritten.{each_left, each_right}
 use Rattle.cp_resolved.proofs.agreeing.AgreeingParts.{StepResult, step_then, step_same, name_result, local_kind, parts_agree, parts_stand}
 use Rattle.cp_resolved.proofs.declarations.ParametersRead.{Reads, name_read, parts_read, longer_routine}
 use Rattle.cp_resolved.proofs.agreeing.RoutinesSeen.{body_entry}
-use Rattle.cp_resolved.proofs.agreeing.AgreeingRoutines.{none_before, none_after, heading_none, heading_agrees, Announced, announced_agrees, announcing}
+use Rattle.cp_resolved.proofs.agreeing.AgreeingRoutines.{none_after, heading_none, heading_agrees, Announced, announced_agrees, announcing}
 use Rattle.cp_resolved.proofs.declarations.EntriesAllowed.{entry_allowed}
+use Rattle.cp_lawful.proofs.Once.{none_before}
 
 pub record Uses (j : Judged Use) : Type 0 where
   pub value : Use

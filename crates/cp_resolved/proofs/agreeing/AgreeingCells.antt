@@ -8,14 +8,15 @@ use Rattle.cp_scope.specs.declared.shape.ArrayShape.{ArrayShape}
 use Rattle.cp_scope.specs.declared.shape.Census.{Census}
 use Rattle.cp_scope.specs.Counts.{times}
 use Rattle.cp_scope.specs.Scopes as checker
-use Rattle.cp_scope.specs.Scopes.{Names, Shapes, shape_in, shape_cells, count_of, both_census, element_census, array_census, variable_census, census_from, census, no_census}
+use Rattle.cp_scope.specs.Scopes.{Names, shape_in, shape_cells, count_of, both_census, element_census, array_census, variable_census, census_from, census, no_census}
 use Rattle.cp_meaning.specs.Types as named
 use Rattle.cp_meaning.specs.Types.{Ty, FieldTypes, natural_of, length_of_range}
 use Rattle.cp_resolved.specs.Layouts.{cells_of, cells_in}
 use Rattle.cp_resolved.specs.Standing.{is_indexed, is_free, are_free}
 use Rattle.cp_resolved.specs.Typed.{Tokens, Written, RangeIs, TypeIs, FieldsAre}
 use Rattle.cp_resolved.proofs.agreeing.AgreeingNames.{array_is}
-use Rattle.cp_resolved.proofs.counts.FewCells.{left_of, right_of, not_negative}
+use Rattle.cp_resolved.proofs.counts.FewCells.{left_of, not_negative}
+use Rattle.cp_resolved.proofs.frames.LeastCells.{right_true as right_of}
 
 -- ---- counts, which stop just past the greatest limit
 
@@ -56,12 +57,10 @@ module _ (w : Written) where
   counted v = checker.cells_of v w.shapes
 
   cells_are : (t : Ty) (v : ValueType) → TypeIs w t v → counted v ≡ cells_of t
-  cells_are (named.ordinal q) v h = ap counted h.is
   cells_are named.queue_type v h = ap counted h
-  cells_are (named.set_over q) v h = ap counted h.is
   cells_are (named.array_over q t) v h = ap counted h.is ∙ ap shape_cells (array_is (shape_in h.token w.shapes) h.shape h.there) ∙ h.takes
   cells_are (named.record_with ts) v h = ap counted h.is ∙ ap shape_cells h.there
-  cells_are (named.component_of n) v h = ap counted h.is
+  cells_are _ v h = ap counted h.is
 
   -- an array that is not too large
   pub array_takes : (q : named.Range) (r : Range) (t : Ty) (v : ValueType) → RangeIs w.tokens q r → int_le q.low q.high ≡ true → TypeIs w t v → nat_lt 8192 (times (count_of r) (counted v)) ≡ false → times (count_of r) (counted v) ≡ length_of_range q * cells_of t
@@ -72,21 +71,17 @@ module _ (w : Written) where
   -- ---- records
 
   element_takes : (t : Ty) (a : ArrayShape) (v : ValueType) → is_free t ≡ true → TypeIs w t v → (element_census a v w.shapes).cells ≡ a.cells
-  element_takes (named.ordinal q) a v f h = ap (λ u. (element_census a u w.shapes).cells) h.is
   element_takes named.queue_type a v f h = ap (λ u. (element_census a u w.shapes).cells) h
-  element_takes (named.set_over q) a v f h = ap (λ u. (element_census a u w.shapes).cells) h.is
-  element_takes (named.array_over q t) a v f h = ap (λ u. (element_census a u w.shapes).cells) h.is
-  element_takes (named.record_with ts) a v f h = ap (λ u. (element_census a u w.shapes).cells) h.is
   element_takes (named.component_of n) a v f h = absurd (let bad : false ≡ true = f in cc)
+  element_takes _ a v f h = ap (λ u. (element_census a u w.shapes).cells) h.is
 
   variable_takes : (t : Ty) (v : ValueType) → is_free t ≡ true → TypeIs w t v → (variable_census v w.shapes).cells ≡ cells_of t
-  variable_takes (named.ordinal q) v f h = ap (λ u. (variable_census u w.shapes).cells) h.is
   variable_takes named.queue_type v f h = absurd (let bad : false ≡ true = f in cc)
-  variable_takes (named.set_over q) v f h = ap (λ u. (variable_census u w.shapes).cells) h.is
   variable_takes (named.array_over q t) v f h =
       ap (λ u. (variable_census u w.shapes).cells) h.is ∙ ap (λ o. (array_census o w.shapes).cells) h.there ∙ element_takes t h.shape h.shape.element (right_of (is_indexed q t) (is_free t) f) h.belongs ∙ h.takes
   variable_takes (named.record_with ts) v f h = ap (λ u. (variable_census u w.shapes).cells) h.is ∙ ap shape_cells h.there
   variable_takes (named.component_of n) v f h = absurd (let bad : false ≡ true = f in cc)
+  variable_takes _ v f h = ap (λ u. (variable_census u w.shapes).cells) h.is
 
   fields_take : (ts : FieldTypes) (ds : Names) (total : Census) → are_free ts ≡ true → FieldsAre w ts ds → (census_from total ds w.shapes).cells ≤ 8192 → (census_from total ds w.shapes).cells ≡ total.cells + cells_in ts
   unfolding census_from

@@ -1,5 +1,5 @@
 -- Constants that break no rule: the checker and the scope give them the same base and value.
-use Rattle.std.proofs.Common.{◌≡◌, ℕ, zero, suc, ◌-◌, ◌≤◌, ℤ, pos, negsuc, neg_ℤ, true, false, List, [], length, Option, Some, None, refl, sym, ap, subst, ◌∙◌, arith}
+use Rattle.std.proofs.Common.{◌≡◌, ℕ, zero, ◌-◌, ◌≤◌, ℤ, pos, negsuc, neg_ℤ, true, false, List, [], length, Option, Some, None, refl, sym, ap, subst, ◌∙◌, arith}
 use Rattle.std.specs.Prelude.{FitsSigned}
 use Rattle.std.specs.Int.{int_wrapping_neg, w64}
 use Rattle.std.proofs.lemmas.Int.{wrapping_neg_is, int_wrap_fits}
@@ -41,8 +41,7 @@ use Rattle.cp_resolved.proofs.agreeing.AgreeingNames.{IsKnown}
 
 opposite_small : (z : ℤ) → IsSmall z → IsSmall (neg_ℤ z)
 opposite_small (pos zero) h = omega arith
-opposite_small (pos (suc n)) h = omega (arith, h)
-opposite_small (negsuc n) h = omega (arith, h)
+opposite_small x h = omega (arith, h)
 
 fits_small : (z : ℤ) → IsSmall z → FitsSigned w64 z
 fits_small (pos n) h = search (arith, h)
@@ -57,9 +56,7 @@ small_within (negsuc n) h = search (arith, h)
 
 integers_within : (c : named.Base) (z : ℤ) → is_integer_base c ≡ true → IsSmall z → is_within (range_of_base c) z ≡ true
 integers_within named.integers z e h = small_within z h
-integers_within named.booleans z e h = absurd (let bad : false ≡ true = e in cc)
-integers_within named.characters z e h = absurd (let bad : false ≡ true = e in cc)
-integers_within (named.enumerated at xs) z e h = absurd (let bad : false ≡ true = e in cc)
+integers_within x z e h = absurd (let bad : false ≡ true = e in cc)
 
 -- ---- bases
 
@@ -71,9 +68,6 @@ module _ (tokens : Tokens) where
   same_enumeration m n xs ys e f h = ap (named.enumerated m) (e ∙ ap tokens.constants h ∙ sym f) ∙ ap (λ k. named.enumerated k ys) h
 
   pub base_same : (c d : named.Base) (a b : check_base.Base) → BaseIs tokens c a → BaseIs tokens d b → same_base a b ≡ true → c ≡ d
-  base_same named.integers named.integers a b h i e = refl
-  base_same named.booleans named.booleans a b h i e = refl
-  base_same named.characters named.characters a b h i e = refl
   base_same (named.enumerated m xs) (named.enumerated n ys) a b h i e =
       same_enumeration m n xs ys h.2 i.2 ((Decides-eqb m n).0 (other_base (base.Enumeration m (pos (length xs - 1))) (base.Enumeration n (pos (length ys - 1))) a b h.0 i.0 e))
   base_same named.integers named.booleans a b h i e = absurd (let bad : same_base base.Integer base.Boolean ≡ true = other_base base.Integer base.Boolean a b h i e in cc)
@@ -88,6 +82,7 @@ module _ (tokens : Tokens) where
   base_same (named.enumerated m xs) named.integers a b h i e = absurd (let bad : same_base (base.Enumeration m (pos (length xs - 1))) base.Integer ≡ true = other_base _ base.Integer a b h.0 i e in cc)
   base_same (named.enumerated m xs) named.booleans a b h i e = absurd (let bad : same_base (base.Enumeration m (pos (length xs - 1))) base.Boolean ≡ true = other_base _ base.Boolean a b h.0 i e in cc)
   base_same (named.enumerated m xs) named.characters a b h i e = absurd (let bad : same_base (base.Enumeration m (pos (length xs - 1))) base.Char ≡ true = other_base _ base.Char a b h.0 i e in cc)
+  base_same _ _ a b h i e = refl
 
   -- ---- constants
 
@@ -114,24 +109,13 @@ module _ (tokens : Tokens) where
 
   constant_number : (b : check_base.Base) (v : ℤ) (o : Option scopes.Meaning) → ConstantIs tokens b v o → IsFit o → NumberIs (meant.constant_meant o) (record { base = b; value = v })
   constant_number b v (Some (scopes.constant_meaning c z)) h f = record { base = h.0; value = h.1; small = f; within = h.2 }
-  constant_number b v (Some (scopes.type_meaning t)) h f = absurd h
-  constant_number b v (Some (scopes.local_variable t)) h f = absurd h
-  constant_number b v (Some (scopes.permanent_variable t)) h f = absurd h
-  constant_number b v (Some (scopes.routine_meaning r)) h f = absurd h
-  constant_number b v (Some (scopes.standard_meaning q)) h f = absurd h
-  constant_number b v None h f = absurd h
+  constant_number b v _ h f = absurd h
 
 module _ (tokens : Tokens) where
   named_number : (at : ℕ) (s : Scopes) (m : scopes.Scope) (x : Name) (o : Option (Option Meaning)) → IsKnown tokens s m x o → Good (NumberIs tokens (meant.constant_meant (find x m))) (names.found at o >>= constants.to_constant at)
-  named_number at s m x None h = tt
   named_number at s m x (Some None) h = absurd h
   named_number at s m x (Some (Some (meaning.Constant b v))) h = constant_number tokens b v (find x m) h.means h.fit
-  named_number at s m x (Some (Some (meaning.Kind v))) h = tt
-  named_number at s m x (Some (Some (meaning.Variable v))) h = tt
-  named_number at s m x (Some (Some (meaning.Parameter v))) h = tt
-  named_number at s m x (Some (Some (meaning.Reference v))) h = tt
-  named_number at s m x (Some (Some (meaning.Routine n))) h = tt
-  named_number at s m x (Some (Some (meaning.Predeclared q))) h = tt
+  named_number at s m x _ h = tt
 
   kind_number : (at : ℕ) (s : Scopes) (m : scopes.Scope) (c : ConstantKind) → IsSmallConstant c → ((x : Name) → IsKnown tokens s m x (look x s)) → Good (NumberIs tokens (meant.constant_of_kind m c)) (constants.constant_kind s at c)
   unfolding constants.named names.visible

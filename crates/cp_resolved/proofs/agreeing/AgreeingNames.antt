@@ -9,7 +9,7 @@ use Rattle.cp_scope.specs.declared.types.Meaning.TheVariants as meaning
 use Rattle.cp_scope.specs.declared.types.Parameter as check_parameter
 use Rattle.cp_scope.specs.declared.shape.ArrayShape.{ArrayShape}
 use Rattle.cp_scope.specs.Types.{is_open}
-use Rattle.cp_scope.specs.Scopes.{as_member, with_pending, without_pending, reserve, settle, is_among, Names, Scope, Scopes, Heading, Shape, array_shape, record_shape, system_shape, heading_shape, body_shape, Shapes, shape_in, as_array, as_heading, heading_at, member_at, through_seal, look_in, or_else, look_outer, look, with_shape, with_name, sealed, add, enter, keep}
+use Rattle.cp_scope.specs.Scopes.{as_member, settle, Names, Scope, Scopes, Heading, Shape, array_shape, record_shape, system_shape, heading_shape, body_shape, Shapes, shape_in, as_array, as_heading, heading_at, member_at, through_seal, or_else, look_outer, look, with_shape, with_name, add, keep}
 use Rattle.cp_scope.specs.Scopes as checker
 use Rattle.cp_tree.specs.Syntax.{Program}
 use Rattle.cp_meaning.specs.Names.{Name}
@@ -27,7 +27,8 @@ use Rattle.cp_resolved.specs.Tokens.{AreDifferent}
 use Rattle.cp_resolved.specs.Typed.{Tokens, SystemThere, IsValueParameter, Written, TypeIs, FieldsAre, AreParameters, HeadingIs, IsMarked, VariableIs, KindIs, RoutineIs, MeaningIs}
 use Rattle.cp_resolved.specs.Limited.{IsLimitedMeaning, AreLimited}
 use Rattle.cp_resolved.proofs.counts.FewCells.{few_free, few_standing}
-use Rattle.cp_resolved.proofs.agreeing.Agreeing.{itself, is_itself, unknown, find_last, new_names, inner_look, look_is, More, with_more, with_there, with_other, AreFree, free_others}
+use Rattle.cp_resolved.proofs.agreeing.Agreeing.{is_itself, unknown, find_last, new_names, inner_look, look_is, More, with_more, with_there, with_other, AreFree, free_others}
+use Rattle.cp_lawful.proofs.Once.{itself}
 
 -- the heading of a routine is written
 pub record HeadingThere (n : ℕ) (ss : Shapes) : Type 0 where
@@ -42,16 +43,12 @@ pub heading_more : (n : ℕ) (ss ts : Shapes) → More ss ts → HeadingThere n 
 heading_more n ss ts m h = record { heading = h.heading; body = h.body; there = m n (heading_shape h.heading h.body) h.there }
 
 pub array_is : (o : Option Shape) (a : ArrayShape) → as_array o ≡ Some a → o ≡ Some (array_shape a)
-array_is None a h = absurd (let bad : None ≡ Some a = h in cc)
 array_is (Some (array_shape b)) a h = ap (λ (c : Option ArrayShape). go c) h
   where
     go : Option ArrayShape → Option Shape
     go None = None
     go (Some c) = Some (array_shape c)
-array_is (Some (record_shape f n)) a h = absurd (let bad : None ≡ Some a = h in cc)
-array_is (Some (system_shape m e c u)) a h = absurd (let bad : None ≡ Some a = h in cc)
-array_is (Some (heading_shape e n)) a h = absurd (let bad : None ≡ Some a = h in cc)
-array_is (Some (body_shape u)) a h = absurd (let bad : None ≡ Some a = h in cc)
+array_is x a h = absurd (let bad : None ≡ Some a = h in cc)
 
 module _ (tokens : Tokens) where
   abbrev pub W : Shapes → Written
@@ -59,15 +56,13 @@ module _ (tokens : Tokens) where
 
   mutual
     pub type_more : (ss ts : Shapes) → More ss ts → (t : Ty) (v : ValueType) → TypeIs (W ss) t v → TypeIs (W ts) t v
-    type_more ss ts m (named.ordinal q) v h = h
-    type_more ss ts m named.queue_type v h = h
-    type_more ss ts m (named.set_over q) v h = h
     type_more ss ts m (named.array_over q t) v h =
         record { token = h.token; is = h.is; shape = h.shape; there = ap as_array (m h.token (array_shape h.shape) (array_is (shape_in h.token ss) h.shape h.there)); range = h.range; takes = h.takes; few = h.few; belongs = type_more ss ts m t h.shape.element h.belongs }
     type_more ss ts m (named.record_with us) v h =
         record { token = h.token; is = h.is; fields = h.fields; there = m h.token (record_shape h.fields (cells_in us)) h.there; visible = h.visible; each = fields_more ss ts m us h.fields.names h.each; few = h.few }
     type_more ss ts m (named.component_of n) v h =
         record { kind = h.kind; is = h.is; own = h.own; only = h.only; there = record { names = h.there.names; heading = h.there.heading; census = h.there.census; need = h.there.need; there = m (tokens.systems n) (system_shape h.there.names h.there.heading h.there.census h.there.need) h.there.there } }
+    type_more ss ts m _ v h = h
 
     pub fields_more : (ss ts : Shapes) → More ss ts → (us : FieldTypes) (ds : Names) → FieldsAre (W ss) us ds → FieldsAre (W ts) us ds
     fields_more ss ts m named.no_field_types ds h = h
@@ -76,21 +71,12 @@ module _ (tokens : Tokens) where
 
   kind_more : (ss ts : Shapes) → More ss ts → (v : ValueType) (o : Option scopes.Meaning) → KindIs (W ss) v o → KindIs (W ts) v o
   kind_more ss ts m v (Some (scopes.type_meaning t)) h = type_more ss ts m t v h
-  kind_more ss ts m v (Some (scopes.constant_meaning b z)) h = absurd h
-  kind_more ss ts m v (Some (scopes.local_variable t)) h = absurd h
-  kind_more ss ts m v (Some (scopes.permanent_variable t)) h = absurd h
-  kind_more ss ts m v (Some (scopes.routine_meaning r)) h = absurd h
-  kind_more ss ts m v (Some (scopes.standard_meaning f)) h = absurd h
-  kind_more ss ts m v None h = absurd h
+  kind_more ss ts m v _ h = absurd h
 
   variable_more : (ss ts : Shapes) → More ss ts → (v : ValueType) (o : Option scopes.Meaning) → VariableIs (W ss) v o → VariableIs (W ts) v o
   variable_more ss ts m v (Some (scopes.local_variable t)) h = (type_more ss ts m t v h.0, h.1)
   variable_more ss ts m v (Some (scopes.permanent_variable t)) h = (type_more ss ts m t v h.0, h.1)
-  variable_more ss ts m v (Some (scopes.type_meaning t)) h = absurd h
-  variable_more ss ts m v (Some (scopes.constant_meaning b z)) h = absurd h
-  variable_more ss ts m v (Some (scopes.routine_meaning r)) h = absurd h
-  variable_more ss ts m v (Some (scopes.standard_meaning f)) h = absurd h
-  variable_more ss ts m v None h = absurd h
+  variable_more ss ts m v _ h = absurd h
 
   -- a routine that is visible has its heading written
   abbrev pub IsThere : Shapes → Meaning → Type 0
@@ -99,18 +85,12 @@ module _ (tokens : Tokens) where
 
   there_more : (ss ts : Shapes) → More ss ts → (c : Meaning) → IsThere ss c → IsThere ts c
   there_more ss ts m (meaning.Routine n) h = heading_more n ss ts m h
-  there_more ss ts m (meaning.Constant b z) h = tt
-  there_more ss ts m (meaning.Kind v) h = tt
-  there_more ss ts m (meaning.Variable v) h = tt
-  there_more ss ts m (meaning.Parameter v) h = tt
-  there_more ss ts m (meaning.Reference v) h = tt
-  there_more ss ts m (meaning.Predeclared q) h = tt
+  there_more ss ts m _ h = tt
 
   pub parameters_more : (ss ts : Shapes) → More ss ts → (as' : List check_parameter.Parameter) (qs : List Parameter) → AreParameters (W ss) as' qs → AreParameters (W ts) as' qs
   parameters_more ss ts m [] [] h = tt
   parameters_more ss ts m (a ∷ as') (q ∷ qs) h = (record { passed = h.0.passed; belongs = type_more ss ts m q.ty a.value_type h.0.belongs; handed = h.0.handed }, parameters_more ss ts m as' qs h.1)
-  parameters_more ss ts m [] (q ∷ qs) h = absurd h
-  parameters_more ss ts m (a ∷ as') [] h = absurd h
+  parameters_more ss ts m _ _ h = absurd h
 
   pub heading_is_more : (ss ts : Shapes) → More ss ts → (d : Heading) (o : Option RoutineMeaning) → HeadingIs (W ss) d o → HeadingIs (W ts) d o
   heading_is_more ss ts m d None h = h
@@ -118,38 +98,22 @@ module _ (tokens : Tokens) where
 
   routine_since : (ss ts : Shapes) → More ss ts → (d : Heading) (x : Name) (m k : scopes.Scope) (o : Option scopes.Meaning) → since x m ≡ since x k → RoutineIs (W ss) d x m o → RoutineIs (W ts) d x k o
   routine_since ss ts i d x m k (Some (scopes.routine_meaning r)) e h = subst (λ (t : scopes.Scope). HeadingIs (W ts) d (Some (routine_in t r))) e (heading_is_more ss ts i d (Some (routine_in (since x m) r)) h)
-  routine_since ss ts i d x m k (Some (scopes.type_meaning t)) e h = absurd h
-  routine_since ss ts i d x m k (Some (scopes.constant_meaning b z)) e h = absurd h
-  routine_since ss ts i d x m k (Some (scopes.local_variable t)) e h = absurd h
-  routine_since ss ts i d x m k (Some (scopes.permanent_variable t)) e h = absurd h
-  routine_since ss ts i d x m k (Some (scopes.standard_meaning f)) e h = absurd h
-  routine_since ss ts i d x m k None e h = absurd h
+  routine_since ss ts i d x m k _ e h = absurd h
 
   -- more may be written, and the scope may be another that has the same for the name
   meaning_moved : (s t : Scopes) (x : Name) (m k : scopes.Scope) (c : Meaning) (o : Option scopes.Meaning) → More s.shapes t.shapes → since x m ≡ since x k → IsThere s.shapes c → MeaningIs (W s.shapes) s x m c o → MeaningIs (W t.shapes) t x k c o
-  meaning_moved s t x m k (meaning.Constant b z) o more e i h = h
   meaning_moved s t x m k (meaning.Kind v) o more e i h = kind_more s.shapes t.shapes more v o h
   meaning_moved s t x m k (meaning.Variable v) o more e i h = variable_more s.shapes t.shapes more v o h
   meaning_moved s t x m k (meaning.Parameter v) o more e i h = variable_more s.shapes t.shapes more v o h
   meaning_moved s t x m k (meaning.Reference v) o more e i h = variable_more s.shapes t.shapes more v o h
   meaning_moved s t x m k (meaning.Routine n) o more e i h =
       subst (λ (d : Heading). RoutineIs (W t.shapes) d x k o) (sym (heading_kept n s.shapes t.shapes more i)) (routine_since s.shapes t.shapes more (heading_at n s) x m k o e h)
-  meaning_moved s t x m k (meaning.Predeclared q) o more e i h = h
+  meaning_moved s t x m k _ o more e i h = h
 
   marked_more : (ss ts : Shapes) → More ss ts → (c : Meaning) (o : Option scopes.Meaning) → IsMarked ss c o → IsMarked ts c o
   marked_more ss ts m (meaning.Routine n) (Some (scopes.routine_meaning r)) h = record { token = h.token; heading = h.heading; there = m n (heading_shape h.heading r.body.at) h.there }
-  marked_more ss ts m (meaning.Routine n) (Some (scopes.constant_meaning b z)) h = absurd h
-  marked_more ss ts m (meaning.Routine n) (Some (scopes.type_meaning t)) h = absurd h
-  marked_more ss ts m (meaning.Routine n) (Some (scopes.local_variable t)) h = absurd h
-  marked_more ss ts m (meaning.Routine n) (Some (scopes.permanent_variable t)) h = absurd h
-  marked_more ss ts m (meaning.Routine n) (Some (scopes.standard_meaning q)) h = absurd h
-  marked_more ss ts m (meaning.Routine n) None h = absurd h
-  marked_more ss ts m (meaning.Constant b z) o h = tt
-  marked_more ss ts m (meaning.Kind v) o h = tt
-  marked_more ss ts m (meaning.Variable v) o h = tt
-  marked_more ss ts m (meaning.Parameter v) o h = tt
-  marked_more ss ts m (meaning.Reference v) o h = tt
-  marked_more ss ts m (meaning.Predeclared q) o h = tt
+  marked_more ss ts m (meaning.Routine n) _ h = absurd h
+  marked_more ss ts m _ o h = tt
 
   -- ---- a name that the checker has
 
@@ -194,9 +158,8 @@ module _ (tokens : Tokens) where
   Stacked looked s m below = (x : Name) → IsStacked s m below x (looked x)
 
   stacked_more_of : (s t : Scopes) (m below : scopes.Scope) (x : Name) (o : Option (Option Meaning)) → More s.shapes t.shapes → IsStacked s m below x o → IsStacked t m below x o
-  stacked_more_of s t m below x None more h = h
-  stacked_more_of s t m below x (Some None) more h = h
   stacked_more_of s t m below x (Some (Some c)) more h = known_moved s t m m x c more refl refl h
+  stacked_more_of s t m below x _ more h = h
 
   -- the same names, where more is written
   pub stacked_more : (f g : Name → Option (Option Meaning)) (s t : Scopes) (m below : scopes.Scope) → More s.shapes t.shapes → ((x : Name) → g x ≡ f x) → Stacked f s m below → Stacked g t m below
@@ -221,11 +184,7 @@ module _ (tokens : Tokens) where
 
   type_other : (x n : Name) (d : scopes.Meaning) (m : scopes.Scope) → bytes_eq x n ≡ false → type_named m x ≡ type_named ((n, d) ∷ m) x
   type_other x n (scopes.type_meaning t) m h = ap (λ (b : Bool). if b then t else type_named m x) (sym h)
-  type_other x n (scopes.constant_meaning b z) m h = refl
-  type_other x n (scopes.local_variable t) m h = refl
-  type_other x n (scopes.permanent_variable t) m h = refl
-  type_other x n (scopes.routine_meaning r) m h = refl
-  type_other x n (scopes.standard_meaning q) m h = refl
+  type_other x n _ m h = refl
 
   pub new_known : (t : Scopes) (m : scopes.Scope) (n : Name) (c : Meaning) (d : scopes.Meaning) → New t n c d → Known t ((n, d) ∷ m) n c
   new_known t m n c d h = record { means = subst (MeaningIs (W t.shapes) t n ((n, d) ∷ m) c) (find_first n d m) (h.means m); marked = subst (IsMarked t.shapes c) (find_first n d m) h.marked; there = h.there; fit = subst IsFit (find_first n d m) h.fit }
@@ -234,9 +193,7 @@ module _ (tokens : Tokens) where
   fit_limited (scopes.type_meaning t) h = few_standing t h
   fit_limited (scopes.local_variable t) h = few_free t h
   fit_limited (scopes.permanent_variable t) h = few_standing t h
-  fit_limited (scopes.constant_meaning b z) h = tt
-  fit_limited (scopes.routine_meaning r) h = tt
-  fit_limited (scopes.standard_meaning q) h = tt
+  fit_limited _ h = tt
 
   known_limited : (s : Scopes) (m : scopes.Scope) (n : Name) (c : Meaning) (d : scopes.Meaning) → Known s ((n, d) ∷ m) n c → IsLimitedMeaning d
   known_limited s m n c d h = fit_limited d (subst IsFit (sym (find_first n d m)) h.fit)
@@ -272,15 +229,9 @@ module _ (tokens : Tokens) where
   IsTypeKnown s m x (Some (Some c)) = Unit {0}
 
   type_known_more : (s t : Scopes) (m : scopes.Scope) (x : Name) (o : Option (Option Meaning)) → More s.shapes t.shapes → IsTypeKnown s m x o → IsTypeKnown t m x o
-  type_known_more s t m x None more h = tt
   type_known_more s t m x (Some None) more h = h
   type_known_more s t m x (Some (Some (meaning.Kind v))) more h = (type_more s.shapes t.shapes more (type_named m x) v h.0, h.1)
-  type_known_more s t m x (Some (Some (meaning.Constant b z))) more h = tt
-  type_known_more s t m x (Some (Some (meaning.Variable v))) more h = tt
-  type_known_more s t m x (Some (Some (meaning.Parameter v))) more h = tt
-  type_known_more s t m x (Some (Some (meaning.Reference v))) more h = tt
-  type_known_more s t m x (Some (Some (meaning.Routine n))) more h = tt
-  type_known_more s t m x (Some (Some (meaning.Predeclared q))) more h = tt
+  type_known_more s t m x _ more h = tt
 
   -- in a heading: what the name of its routine stands for outside
   abbrev pub OwnIs : Option Name → Scopes → scopes.Scope → Type 0
@@ -358,24 +309,6 @@ module _ (tokens : Tokens) where
           entries = entries_more s t more (λ k j y g. ap (λ (ss : Shapes). as_member y (shape_in (tokens.systems k) ss)) (sym e) ∙ g) h.entries;
           starts = starts_more s t more (λ k d. ap (shape_in (tokens.systems k)) e) h.starts;
         }
-
-    pending_names : (c : Scope) (n : List ℕ) → (with_pending c n).names ≡ c.names
-    pending_names c n = go (is_among n c.pending)
-      where
-        go : (b : Bool) → (let e : Scope = (if b then c else record { names = c.names; pending = c.pending ++ n ∷ []; is_sealed = c.is_sealed }) in e.names) ≡ c.names
-        go true = refl
-        go false = refl
-
-    pending_open : (c : Scope) (n : List ℕ) → (with_pending c n).is_sealed ≡ c.is_sealed
-    pending_open c n = go (is_among n c.pending)
-      where
-        go : (b : Bool) → (let e : Scope = (if b then c else record { names = c.names; pending = c.pending ++ n ∷ []; is_sealed = c.is_sealed }) in e.is_sealed) ≡ c.is_sealed
-        go true = refl
-        go false = refl
-
-    pub agree_reserved : (b : Bool) (but : Option Name) (s : Scopes) (m below : scopes.Scope) (ks : List ℕ) (n : Name) → Agree b but s m below ks → Agree b but (reserve s n) m below ks
-    unfolding reserve
-    agree_reserved b but s m below ks n h = agree_same b but s (reserve s n) m below ks refl (pending_names s.inner n) (pending_open s.inner n) refl h
 
     pub agree_settled : (b : Bool) (but : Option Name) (s : Scopes) (m below : scopes.Scope) (ks : List ℕ) → Agree b but s m below ks → Agree b but (settle s) m below ks
     unfolding settle

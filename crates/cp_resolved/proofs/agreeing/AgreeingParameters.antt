@@ -17,13 +17,8 @@ use Rattle.cp_resolved.proofs.agreeing.Agreeing.{new_names}
 use Rattle.cp_resolved.proofs.declarations.Reserving.{AreFresh, AreOthers, fresh_after}
 
 pub free_handed : (b : Bool) (t : Ty) → is_free t ≡ true → IsHanded b t
-free_handed true t h = h
-free_handed false (named.ordinal r) h = h
-free_handed false named.queue_type h = h
-free_handed false (named.set_over r) h = h
-free_handed false (named.array_over r t) h = h
-free_handed false (named.record_with ts) h = h
 free_handed false (named.component_of n) h = tt
+free_handed _ _ h = h
 
 -- the same parameter for each name
 abbrev pub copies : check_parameter.Parameter → List Identifier → List check_parameter.Parameter
@@ -33,8 +28,7 @@ copies a (n ∷ ns) = a ∷ copies a ns
 pub parameters_both : (w : Written) (as' bs : List check_parameter.Parameter) (qs rs : List Parameter) → AreParameters w as' qs → AreParameters w bs rs → AreParameters w (as' ++ bs) (qs ++ rs)
 parameters_both w [] bs [] rs h g = g
 parameters_both w (a ∷ as') bs (q ∷ qs) rs h g = (h.0, parameters_both w as' bs qs rs h.1 g)
-parameters_both w [] bs (q ∷ qs) rs h g = absurd h
-parameters_both w (a ∷ as') bs [] rs h g = absurd h
+parameters_both w _ bs _ rs h g = absurd h
 
 pub copies_are : (w : Written) (a : check_parameter.Parameter) (u : Ty) (b : Bool) (ns : List Identifier) → a.is_var ≡ b → TypeIs w u a.value_type → IsHanded b u → AreParameters w (copies a ns) (meant.parameters_named (meant.names_of ns) u b)
 copies_are w a u b [] p t h = tt

@@ -3,13 +3,13 @@ use Rattle.std.proofs.Common.{◌≡◌, ℕ, Bool, true, false, ◌&&◌, List,
 use Rattle.cp_tree.specs.declared.constant.Identifier.{Identifier}
 use Rattle.cp_tree.specs.declared.declaration.SystemKind.{SystemKind}
 use Rattle.cp_tree.specs.Syntax as syntax
-use Rattle.cp_tree.specs.Syntax.{Program, ConstantDefinition, TypeDefinition, VariableGroup, Part, Group, ParameterGroup}
+use Rattle.cp_tree.specs.Syntax.{Program, ConstantDefinition, TypeDefinition, VariableGroup, Part}
 use Rattle.cp_scope.specs.declared.types.ValueType.{ValueType}
 use Rattle.cp_scope.specs.declared.types.Meaning.{Meaning}
 use Rattle.cp_scope.specs.declared.types.Meaning.TheVariants as meaning
 use Rattle.cp_scope.specs.Types.{is_open}
 use Rattle.cp_scope.specs.Judged.{Judged, ◌>>=◌, faults}
-use Rattle.cp_scope.specs.Scopes.{Scope, Scopes, Shapes, look, is_among, add, reserve, settle}
+use Rattle.cp_scope.specs.Scopes.{Scope, Scopes, Shapes, is_among, add, settle}
 use Rattle.cp_scope.specs.Scopes as checker
 use Rattle.cp_check.specs.declared.constant.ConstantNumber.{ConstantNumber}
 use Rattle.cp_check.specs.declared.types.Spot.{Spot}
@@ -31,50 +31,40 @@ use Rattle.cp_resolved.specs.Layouts.{cells_in}
 use Rattle.cp_resolved.specs.Standing.{are_few, is_indexed, is_free, are_free, is_standing}
 use Rattle.cp_resolved.specs.Tokens.{all_tokens, type_tokens, part_tokens}
 use Rattle.cp_resolved.specs.Typed.{Tokens, TypeIs, is_plain, are_plain, MayStand}
-use Rattle.cp_resolved.proofs.agreeing.Agreeing.{Appends, appends_none, appends_same, appends_then, Good, Sound, good_sound, none_left, none_right, none_first, More, more_same, more_trans}
+use Rattle.cp_resolved.proofs.agreeing.Agreeing.{Appends, appends_none, appends_same, appends_then, Sound, good_sound, none_left, none_right, More, more_same, more_trans}
 use Rattle.cp_resolved.proofs.agreeing.AgreeingNames.{W, New, Agree, sees, agree_same, agree_settled, agree_added}
 use Rattle.cp_resolved.proofs.agreeing.AgreeingConstants.{NumberIs, constant_number_of}
 use Rattle.cp_resolved.proofs.agreeing.AgreeingTypes.{StandsAt, standing_at, IsFew, TypedAs}
 use Rattle.cp_resolved.proofs.agreeing.AgreeingWritten.{each_left, each_right, type_agrees}
 use Rattle.cp_resolved.proofs.declarations.Reserving.{named_all, all_filled, Pends, ReservedIn, AreAmong, AreFresh, AreOthers, one_reserved, all_reserved, pending_fresh, fresh_after, with_inner, NameReserved, name_reserved, NamesReserved, names_reserved}
 use Rattle.cp_resolved.proofs.agreeing.Agreeing as agreeing
+use Rattle.cp_resolved.proofs.frames.LeastCells.{right_true}
+use Rattle.cp_lawful.proofs.Once.{no_first as none_first}
 
 -- ---- types that are plain
 
 two_true : (a b c d : Bool) → (a && b) ≡ true → (a ≡ true → c ≡ true) → (b ≡ true → d ≡ true) → (c && d) ≡ true
 two_true true true c d h f g = ap (λ e. e && d) (f refl) ∙ g refl
-two_true true false c d h f g = absurd (let bad : false ≡ true = h in cc)
-two_true false b c d h f g = absurd (let bad : false ≡ true = h in cc)
-
-right_true : (a b : Bool) → (a && b) ≡ true → b ≡ true
-right_true true b h = h
-right_true false b h = absurd (let bad : false ≡ true = h in cc)
+two_true x y c d h f g = absurd (let bad : false ≡ true = h in cc)
 
 mutual
   pub free_plain : (t : Ty) → is_free t ≡ true → is_plain t ≡ true
-  free_plain (named.ordinal r) h = refl
-  free_plain named.queue_type h = refl
-  free_plain (named.set_over r) h = refl
   free_plain (named.array_over r t) h = free_plain t (right_true (is_indexed r t) (is_free t) h)
   free_plain (named.record_with ts) h = all_plain ts (right_true (are_few (cells_in ts)) (are_free ts) h)
   free_plain (named.component_of n) h = h
+  free_plain _ h = refl
 
   all_plain : (ts : FieldTypes) → are_free ts ≡ true → are_plain ts ≡ true
   all_plain named.no_field_types h = refl
   all_plain (named.more_field_types x t ts) h = two_true (is_free t) (are_free ts) (is_plain t) (are_plain ts) h (free_plain t) (all_plain ts)
 
 pub standing_may : (t : Ty) → is_standing t ≡ true → MayStand t
-standing_may (named.ordinal r) h = refl
-standing_may named.queue_type h = refl
-standing_may (named.set_over r) h = refl
 standing_may (named.record_with ts) h = free_plain (named.record_with ts) h
 standing_may (named.component_of n) h = tt
 standing_may (named.array_over r (named.component_of n)) h = tt
-standing_may (named.array_over r named.queue_type) h = refl
-standing_may (named.array_over r (named.ordinal q)) h = refl
-standing_may (named.array_over r (named.set_over q)) h = refl
 standing_may (named.array_over r (named.array_over q t)) h = free_plain (named.array_over q t) (right_true (is_indexed r (named.array_over q t)) (is_free (named.array_over q t)) h)
 standing_may (named.array_over r (named.record_with ts)) h = free_plain (named.record_with ts) (right_true (is_indexed r (named.record_with ts)) (is_free (named.record_with ts)) h)
+standing_may _ h = refl
 
 module _ (tokens : Tokens) (p : Program) where
   -- from scopes to those after declarations
@@ -360,9 +350,8 @@ module _ (tokens : Tokens) (p : Program) where
   part_stands : (b : Bool) (q : Spot) (kind : Ty → scopes.Meaning) → Kind b q kind → (s : Scopes) (o : Block) (below : scopes.Scope) (ks : List ℕ) (d : Part) → (part_step q s d).faults ≡ [] → IsSmallPart d → Each (IsFew tokens) (in_part d) → s.inner.pending ≡ [] → Agree tokens p b None s o.scope below (part_tokens d ks) →
       Each (IsVariableAt q) o.variables → Each (IsVariableAt q) (meant.part_in kind o d).variables
   unfolding part_step
-  part_stands b q kind how s o below ks (syntax.constants at ds) e small few empty h vs = vs
-  part_stands b q kind how s o below ks (syntax.types at ds) e small few empty h vs = vs
   part_stands b q kind how s o below ks (syntax.variables at gs) e small few empty h vs = variables_stand b q kind how s o below ks gs e small few empty h vs
+  part_stands b q kind how s o below ks _ e small few empty h vs = vs
 
   pub parts_stand : (b : Bool) (q : Spot) (kind : Ty → scopes.Meaning) → Kind b q kind → (s : Scopes) (o : Block) (below : scopes.Scope) (ks : List ℕ) (ds : List Part) → (part_steps q s ds).faults ≡ [] → Each IsSmallPart ds → Each (IsFew tokens) (each_in in_part ds) → s.inner.pending ≡ [] → Agree tokens p b None s o.scope below (all_tokens part_tokens ds ks) →
       Each (IsVariableAt q) o.variables → Each (IsVariableAt q) (meant.parts_in kind o ds).variables

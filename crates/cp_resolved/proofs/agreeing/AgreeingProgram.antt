@@ -13,7 +13,7 @@ use Rattle.cp_scope.specs.declared.types.Meaning.TheVariants as meaning
 use Rattle.cp_scope.specs.declared.count.Use.{Use}
 use Rattle.cp_scope.specs.Counts.{no_use}
 use Rattle.cp_scope.specs.Judged.{Judged, ◌>>=◌, faults}
-use Rattle.cp_scope.specs.Scopes.{Names, Scopes, shape_in, look_outer, look_in, add, settle, enter, start}
+use Rattle.cp_scope.specs.Scopes.{Names, Scopes, shape_in, look_outer, add, settle, enter, start}
 use Rattle.cp_scope.specs.Scopes as checker
 use Rattle.cp_check.specs.declared.types.Spot.TheVariants as spot
 use Rattle.cp_check.specs.Types.{Step, Typed, typed}
@@ -38,15 +38,16 @@ use Rattle.cp_resolved.specs.Small.{Each, IsSmallDefinition, IsSmallProgramPart,
 use Rattle.cp_resolved.specs.Standing.{IsFit, IsStandingVariable, IsStandingParameter}
 use Rattle.cp_resolved.specs.Tokens.{AreDifferent, all_tokens, routine_tokens, definition_tokens, program_part_tokens, program_tokens}
 use Rattle.cp_resolved.specs.Typed.{Tokens, SystemThere, IsSystemParameter, RangeIs, TypeIs, predeclared_of, MeaningIs, IsMarked}
-use Rattle.cp_resolved.proofs.agreeing.Agreeing.{appends_none, none_left, none_right, none_first, AreFree}
+use Rattle.cp_resolved.proofs.agreeing.Agreeing.{appends_none, none_left, none_right, AreFree}
 use Rattle.cp_resolved.proofs.agreeing.AgreeingNames.{W, IsThere, IsKnown, Agree}
 use Rattle.cp_resolved.proofs.agreeing.AgreeingTypes.{IsFew, standing_at}
 use Rattle.cp_resolved.proofs.agreeing.AgreeingWritten.{each_left, each_right}
 use Rattle.cp_resolved.proofs.agreeing.AgreeingParts.{StepResult, step_then, step_same, NamesResult, name_result, type_reached, kind_declared, constants_agree, permanent_kind, variables_agree, variables_stand}
-use Rattle.cp_resolved.proofs.agreeing.AgreeingRoutines.{none_before, none_after}
+use Rattle.cp_resolved.proofs.agreeing.AgreeingRoutines.{none_after}
 use Rattle.cp_resolved.proofs.agreeing.AgreeingBodies.{all_heard, place_agreed, routines_agree}
 use Rattle.cp_resolved.proofs.agreeing.AgreeingSystems.{agreed_append, IsNumbered, system_agrees}
 use Rattle.cp_resolved.proofs.agreeing.VariablesAmongNames.{Declares, declares_more, variables_declare, Counted, AreCounted, all_counted, last_counted}
+use Rattle.cp_lawful.proofs.Once.{no_first as none_first, none_before}
 
 module _ (tokens : Tokens) (p : Program) where
   -- ---- system types by their numbers
@@ -231,13 +232,12 @@ module _ (tokens : Tokens) (p : Program) where
 
   always_found : (x : Name) (ds : Names) (es : scopes.Scope) → AllAlways ds es → AlwaysFound (checker.find x ds) (find x es)
   always_found x [] [] h = refl
-  always_found x [] (e ∷ es) h = absurd h
-  always_found x (d ∷ ds) [] h = absurd h
   always_found x (d ∷ ds) (e ∷ es) h = subst (λ (y : Name). AlwaysFound (checker.find x (d ∷ ds)) (if bytes_eq x y then Some e.1 else find x es)) h.0 (go (bytes_eq x d.0) (always_found x ds es h.2))
     where
       go : (b : Bool) → AlwaysFound (checker.find x ds) (find x es) → AlwaysFound (if b then Some d.1 else checker.find x ds) (if b then Some e.1 else find x es)
       go true rest = always_some d.1 e.1 h.1
       go false rest = rest
+  always_found x _ _ h = absurd h
 
   kind_always : (t : named.Ty) (v : ValueType) → ((s : Scopes) → TypeIs (W tokens s.shapes) t v) → IsFit (Some (scopes.type_meaning t)) → Always (meaning.Kind v) (Some (scopes.type_meaning t))
   kind_always t v h f = record { means = λ s x m. h s; marked = λ s. tt; there = λ s. tt; fit = f }

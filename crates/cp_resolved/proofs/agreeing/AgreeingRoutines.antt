@@ -14,7 +14,7 @@ use Rattle.cp_scope.specs.declared.types.Meaning.TheVariants as meaning
 use Rattle.cp_scope.specs.declared.types.Parameter as check_parameter
 use Rattle.cp_scope.specs.Types.{is_ordinal, parameter_of}
 use Rattle.cp_scope.specs.Judged.{Judged, ◌>>=◌, faults}
-use Rattle.cp_scope.specs.Scopes.{Names, parameters_in, Scope, Scopes, Shapes, Shape, heading_shape, body_shape, shape_in, look_in, or_else, look_outer, look, with_shape, with_name, sealed, add, enter, Around, last_of, leave, add_around, keep, settle, census}
+use Rattle.cp_scope.specs.Scopes.{Names, parameters_in, Scope, Scopes, Shapes, Shape, heading_shape, shape_in, look_in, or_else, look_outer, look, with_name, sealed, enter, Around, last_of, add_around, keep, settle}
 use Rattle.cp_scope.specs.Scopes as checker
 use Rattle.cp_check.specs.declared.types.Holding.{Holding}
 use Rattle.cp_check.specs.declared.types.Holding.TheVariants as holds
@@ -37,16 +37,13 @@ use Rattle.cp_resolved.specs.Openings.{with_routine}
 use Rattle.cp_resolved.specs.Small.{Each}
 use Rattle.cp_resolved.specs.Standing.{is_free, IsFit, IsFreeParameter}
 use Rattle.cp_resolved.specs.Typed.{Tokens, TypeIs, IsOrdinalResult, ResultIs, AreParameters, HeadingIs, RoutineIs, IsMarked}
-use Rattle.cp_resolved.proofs.agreeing.Agreeing.{Good, good_then, good_sound, none_left, none_right, none_first, itself, is_itself, new_names, look_last, look_is, look_entered, find_last, inner_look, More, more_same, more_trans, with_more, with_there, appends_none}
+use Rattle.cp_resolved.proofs.agreeing.Agreeing.{Good, good_then, good_sound, none_left, none_right, is_itself, new_names, look_last, look_is, look_entered, find_last, inner_look, More, more_same, more_trans, with_more, with_there, appends_none}
 use Rattle.cp_resolved.proofs.agreeing.AgreeingNames.{W, heading_is_more, IsTypeKnown, IsStacked, New, Known, IsKnown, is_known_moved, stacked_more, find_first, find_other, since_other, last_or, Agree, sees, fits, agree_kept}
 use Rattle.cp_resolved.proofs.agreeing.AgreeingTypes.{Held, held_named, KindOf, IsOrdinal, ordinal_of, type_seen, known_type}
 use Rattle.cp_resolved.proofs.agreeing.AgreeingParameters.{free_handed, copies, parameters_both, copies_are, names_read, shapes_added}
 use Rattle.cp_resolved.proofs.agreeing.AgreeingParts.{free_plain, StepResult, step_then, step_same, names_result, all_declared}
 use Rattle.cp_resolved.proofs.declarations.Reserving.{AreFresh, pending_fresh}
-
-pub none_before : {A : Type 0} (fs : List CheckFault) (j : Judged A) → faults (after_faults fs j) ≡ [] → fs ≡ []
-none_before [] j h = refl
-none_before (f ∷ fs) j h = absurd (let bad : f ∷ (fs ++ faults j) ≡ [] = h in cc)
+use Rattle.cp_lawful.proofs.Once.{itself, no_first as none_first, none_before}
 
 pub none_after : {A : Type 0} (fs : List CheckFault) (j : Judged A) → faults (after_faults fs j) ≡ [] → after_faults fs j ≡ j
 none_after [] j h = refl
@@ -61,12 +58,8 @@ module _ (tokens : Tokens) (p : Program) where
 
   admitted_good : (ss : Shapes) (at : ℕ) (h : Holding) (t : Ty) (v : ValueType) → TypeIs (W tokens ss) t v → Held h t → Good (PlainType ss t) (headings.admitted at h v)
   admitted_good ss at holds.Plain t v b k = record { belongs = b; free = k.free refl }
-  admitted_good ss at holds.Queue t v b k = tt
-  admitted_good ss at holds.Queues t v b k = tt
   admitted_good ss at (holds.Component system_kind.Class) t v b k = tt
-  admitted_good ss at (holds.Component system_kind.Monitor) t v b k = tt
-  admitted_good ss at (holds.Component system_kind.Process) t v b k = tt
-  admitted_good ss at (holds.Components j) t v b k = tt
+  admitted_good ss at _ t v b k = tt
 
   parameter_good : (s : Scopes) (m : scopes.Scope) (g : Group) → Good (KindOf tokens s.shapes (meant.type_named m g.type_name.name)) (typing.type_named s g.type_name.at g.type_name.name) → Good (PlainType s.shapes (meant.type_named m g.type_name.name)) (headings.parameter_type s g)
   unfolding headings.parameter_type
@@ -220,10 +213,7 @@ module _ (tokens : Tokens) (p : Program) where
 
   returned_good : (ss : Shapes) (at : ℕ) (h : Holding) (t : Ty) (v : ValueType) → TypeIs (W tokens ss) t v → Held h t → Good (PlainType ss t) (headings.returned at h v)
   returned_good ss at holds.Plain t v b k = record { belongs = b; free = k.free refl }
-  returned_good ss at holds.Queue t v b k = tt
-  returned_good ss at holds.Queues t v b k = tt
-  returned_good ss at (holds.Component j) t v b k = tt
-  returned_good ss at (holds.Components j) t v b k = tt
+  returned_good ss at _ t v b k = tt
 
   result_good : (s : Scopes) (m : scopes.Scope) (i : Identifier) → Good (KindOf tokens s.shapes (meant.type_named m i.name)) (typing.type_named s i.at i.name) → Good (λ o. IsResult s.shapes o (Some (meant.type_named m i.name))) (headings.result_type s i)
   unfolding headings.result_type
@@ -238,11 +228,7 @@ module _ (tokens : Tokens) (p : Program) where
   ordinal_result ss t (types.Ordinal r) h e =
       let o : IsOrdinal (W tokens ss) t r = ordinal_of (W tokens ss) t r h.belongs in
       subst (λ (u : Ty). IsOrdinalResult tokens (types.Ordinal r) (Some u)) (sym o.is) (record { range = r; is = refl; belongs = o.range })
-  ordinal_result ss t types.Queue h e = absurd (let bad : false ≡ true = e in cc)
-  ordinal_result ss t (types.Set r) h e = absurd (let bad : false ≡ true = e in cc)
-  ordinal_result ss t (types.Array n) h e = absurd (let bad : false ≡ true = e in cc)
-  ordinal_result ss t (types.Record n) h e = absurd (let bad : false ≡ true = e in cc)
-  ordinal_result ss t (types.Component k n) h e = absurd (let bad : false ≡ true = e in cc)
+  ordinal_result ss t x h e = absurd (let bad : false ≡ true = e in cc)
 
   judged_ordinal : (at : ℕ) (v : ValueType) → headings.result_faults at (Some v) ≡ [] → is_ordinal v ≡ true
   judged_ordinal at v e = go (is_ordinal v) e
@@ -253,26 +239,20 @@ module _ (tokens : Tokens) (p : Program) where
 
   result_is : (ss : Shapes) (at : ℕ) (o : Option ValueType) (q : Option Ty) → IsResult ss o q → headings.result_faults at o ≡ [] → ((r : meant.RoutineMeaning) → r.result ≡ q → ResultIs tokens o (Some r))
   result_is ss at None None h e r i = i
-  result_is ss at None (Some t) h e r i = absurd h
   result_is ss at (Some v) (Some t) h e r i = subst (IsOrdinalResult tokens v) (sym i) (ordinal_result ss t v h (judged_ordinal at v e))
-  result_is ss at (Some v) None h e r i = absurd h
+  result_is ss at _ _ h e r i = absurd h
 
   -- an ordinal whose bounds are values of its base
   bounded_type : (ss : Shapes) (t : Ty) (v : ValueType) → PlainType ss t v → is_ordinal v ≡ true → framed.IsOrdinal t
   bounded_type ss t (types.Ordinal r) h e =
       let o : IsOrdinal (W tokens ss) t r = ordinal_of (W tokens ss) t r h.belongs in
       subst framed.IsOrdinal (sym o.is) (subst (λ (u : Ty). is_free u ≡ true) o.is h.free)
-  bounded_type ss t types.Queue h e = absurd (let bad : false ≡ true = e in cc)
-  bounded_type ss t (types.Set r) h e = absurd (let bad : false ≡ true = e in cc)
-  bounded_type ss t (types.Array n) h e = absurd (let bad : false ≡ true = e in cc)
-  bounded_type ss t (types.Record n) h e = absurd (let bad : false ≡ true = e in cc)
-  bounded_type ss t (types.Component k n) h e = absurd (let bad : false ≡ true = e in cc)
+  bounded_type ss t x h e = absurd (let bad : false ≡ true = e in cc)
 
   bounded_result : (ss : Shapes) (at : ℕ) (o : Option ValueType) (q : Option Ty) → IsResult ss o q → headings.result_faults at o ≡ [] → framed.IsOrdinalResult q
   bounded_result ss at None None h e = tt
-  bounded_result ss at None (Some t) h e = absurd h
   bounded_result ss at (Some v) (Some t) h e = bounded_type ss t v h (judged_ordinal at v e)
-  bounded_result ss at (Some v) None h e = absurd h
+  bounded_result ss at _ _ h e = absurd h
 
   -- ---- headings
 

@@ -32,7 +32,7 @@ use Rattle.cp_meaning.specs.Names.{Name}
 use Rattle.cp_meaning.specs.Types as named
 use Rattle.cp_meaning.specs.Types.{Ty}
 use Rattle.cp_meaning.specs.Scopes as scopes
-use Rattle.cp_meaning.specs.Scopes.{find, since, seen_inside}
+use Rattle.cp_meaning.specs.Scopes.{find, seen_inside}
 use Rattle.cp_meaning.specs.Declarations as meant
 use Rattle.cp_meaning.specs.Declarations.{Block}
 use Rattle.cp_meaning.specs.Systems.{SystemMeaning, with_routines, system_in, system_of}
@@ -45,23 +45,23 @@ use Rattle.cp_resolved.specs.Small.{Each, IsSmallSystem}
 use Rattle.cp_resolved.specs.Standing.{is_element, is_standing, IsStandingVariable, IsStandingParameter}
 use Rattle.cp_resolved.specs.Tokens.{all_tokens, routine_tokens, system_tokens}
 use Rattle.cp_resolved.specs.Typed.{Tokens, SystemThere, IsValueParameter, IsSystemParameter, Written, TypeIs, IsHanded, AreParameters, HeadingIs, RoutineIs}
-use Rattle.cp_resolved.proofs.agreeing.Agreeing.{Good, good_then, good_sound, none_left, none_right, none_first, look_entered, inner_look, More, more_same, more_trans, with_more, with_there, with_other, free_others, appends_none}
+use Rattle.cp_resolved.proofs.agreeing.Agreeing.{Good, good_then, good_sound, none_left, none_right, look_entered, inner_look, More, more_same, more_trans, with_more, with_there, with_other, free_others, appends_none}
 use Rattle.cp_resolved.proofs.agreeing.AgreeingNames.{W, HeadingThere, heading_kept, heading_more, heading_is_more, parameters_more, AreStarts, New, Known, IsKnown, is_known_moved, IsStacked, AreEntries, Agree, sees, sees_of, fit_of, agree_returned}
 use Rattle.cp_resolved.proofs.agreeing.AgreeingTypes.{Held, held_named, IsFew, KindOf, type_named}
 use Rattle.cp_resolved.proofs.agreeing.AgreeingWritten.{each_left, each_right}
 use Rattle.cp_resolved.proofs.agreeing.AgreeingParameters.{free_handed, copies, parameters_both, copies_are, names_read, shapes_added}
 use Rattle.cp_resolved.proofs.declarations.ParametersRead.{parts_read, longer_read}
 use Rattle.cp_resolved.proofs.agreeing.AgreeingParts.{standing_may, StepResult, step_then, step_same, names_result, all_declared, permanent_kind, parts_agree, parts_stand}
-use Rattle.cp_resolved.proofs.agreeing.AgreeingRoutines.{none_before, none_after, AreRead}
+use Rattle.cp_resolved.proofs.agreeing.AgreeingRoutines.{none_after, AreRead}
 use Rattle.cp_resolved.proofs.agreeing.AgreeingBodies.{Uses, loud_uses, all_heard, place_agreed, RoutinesResult, routines_agree}
 use Rattle.cp_resolved.proofs.agreeing.VariablesAmongNames.{Declares, declares_more, parts_declare, Counted, closed_counted}
 use Rattle.cp_resolved.proofs.declarations.Reserving.{AreFresh, pending_fresh}
+use Rattle.cp_lawful.proofs.Once.{no_first as none_first, none_before}
 
 pub agreed_append : (tokens : Tokens) (p : Program) (xs ys : List Place) (os qs : List Opening) → AreAgreed tokens p xs os → AreAgreed tokens p ys qs → AreAgreed tokens p (xs ++ ys) (os ++ qs)
 agreed_append tokens p [] ys [] qs h g = g
 agreed_append tokens p (x ∷ xs) ys (o ∷ os) qs h g = (h.0, agreed_append tokens p xs ys os qs h.1 g)
-agreed_append tokens p [] ys (o ∷ os) qs h g = absurd h
-agreed_append tokens p (x ∷ xs) ys [] qs h g = absurd h
+agreed_append tokens p _ ys _ qs h g = absurd h
 
 seen_limited : (m : scopes.Scope) → AreLimited m → AreLimited (seen_inside m)
 seen_limited [] h = tt
@@ -77,20 +77,14 @@ module _ (tokens : Tokens) (p : Program) where
   component_good : (at : ℕ) (o k : SystemKind) (P : ValueType → Type 0) (v : ValueType) → P v → Good P (systems_of.component_admitted at o k v)
   component_good at system_kind.Class system_kind.Class P v h = h
   component_good at system_kind.Class system_kind.Monitor P v h = h
-  component_good at system_kind.Class system_kind.Process P v h = tt
-  component_good at system_kind.Monitor system_kind.Class P v h = tt
   component_good at system_kind.Monitor system_kind.Monitor P v h = h
-  component_good at system_kind.Monitor system_kind.Process P v h = tt
-  component_good at system_kind.Process system_kind.Class P v h = tt
   component_good at system_kind.Process system_kind.Monitor P v h = h
-  component_good at system_kind.Process system_kind.Process P v h = tt
+  component_good at _ _ P v h = tt
 
   admitted_good : (at : ℕ) (o : SystemKind) (h : Holding) (P : ValueType → Type 0) (v : ValueType) → P v → Good P (systems_of.admitted at o h v)
   admitted_good at o holds.Plain P v k = k
-  admitted_good at o holds.Queue P v k = tt
-  admitted_good at o holds.Queues P v k = tt
   admitted_good at o (holds.Component j) P v k = component_good at o j P v k
-  admitted_good at o (holds.Components j) P v k = tt
+  admitted_good at o _ P v k = tt
 
   parameter_good : (o : SystemKind) (s : Scopes) (m : scopes.Scope) (g : Group) → IsKnown tokens s m g.type_name.name (look g.type_name.name s) → Good (KindOf tokens s.shapes (meant.type_named m g.type_name.name)) (systems_of.parameter_type o s g)
   unfolding systems_of.parameter_type
@@ -104,12 +98,9 @@ module _ (tokens : Tokens) (p : Program) where
     pub handed : IsHanded false t
 
   element_handed : (t : Ty) → is_element t ≡ true → (t ≡ named.queue_type → ⊥) → IsHanded false t
-  element_handed (named.ordinal r) h q = h
   element_handed named.queue_type h q = absurd (q refl)
-  element_handed (named.set_over r) h q = h
-  element_handed (named.array_over r t) h q = h
-  element_handed (named.record_with ts) h q = h
   element_handed (named.component_of n) h q = tt
+  element_handed _ h q = h
 
   no_queue : (s : Scopes) (t : Ty) (v : ValueType) (j : SystemKind) → TypeIs (W tokens s.shapes) t v → typing.holding s v ≡ holds.Component j → t ≡ named.queue_type → ⊥
   no_queue s t v j i e q =
@@ -118,10 +109,8 @@ module _ (tokens : Tokens) (p : Program) where
 
   admitted_handed : (at : ℕ) (o : SystemKind) (s : Scopes) (t : Ty) (v : ValueType) (h : Holding) → typing.holding s v ≡ h → TypeIs (W tokens s.shapes) t v → Held h t → Good (HandedType s.shapes t) (systems_of.admitted at o h v)
   admitted_handed at o s t v holds.Plain e i k = record { belongs = i; handed = free_handed false t (k.free refl) }
-  admitted_handed at o s t v holds.Queue e i k = tt
-  admitted_handed at o s t v holds.Queues e i k = tt
   admitted_handed at o s t v (holds.Component j) e i k = component_good at o j (HandedType s.shapes t) v (record { belongs = i; handed = element_handed t (k.element tt) (no_queue s t v j i e) })
-  admitted_handed at o s t v (holds.Components j) e i k = tt
+  admitted_handed at o s t v _ e i k = tt
 
   parameter_handed : (o : SystemKind) (s : Scopes) (m : scopes.Scope) (g : Group) → IsKnown tokens s m g.type_name.name (look g.type_name.name s) → Good (HandedType s.shapes (meant.type_named m g.type_name.name)) (systems_of.parameter_type o s g)
   unfolding systems_of.parameter_type
@@ -308,12 +297,7 @@ module _ (tokens : Tokens) (p : Program) where
 
   routine_entry : (s : Scopes) (m : scopes.Scope) (x : Name) (n : ℕ) (o : Option scopes.Meaning) → RoutineIs (W tokens s.shapes) (heading_at n s) x m o → HeadingIs (W tokens s.shapes) (heading_at n s) (routine_of_system x o m)
   routine_entry s m x n (Some (scopes.routine_meaning r)) h = h
-  routine_entry s m x n (Some (scopes.constant_meaning b z)) h = absurd h
-  routine_entry s m x n (Some (scopes.type_meaning t)) h = absurd h
-  routine_entry s m x n (Some (scopes.local_variable t)) h = absurd h
-  routine_entry s m x n (Some (scopes.permanent_variable t)) h = absurd h
-  routine_entry s m x n (Some (scopes.standard_meaning q)) h = absurd h
-  routine_entry s m x n None h = absurd h
+  routine_entry s m x n _ h = absurd h
 
   -- the routines of a component of the type that was closed
   own_entry : (s : Scopes) (m below : scopes.Scope) (ks : List ℕ) (c : ℕ) (around : scopes.Scope) (y : System) (n : ℕ) (x : Name) → IsNumbered c around y → m ≡ (system_in around y).scope → Agree tokens p false None s m below ks → look_in x s.inner ≡ Some (Some (meaning.Routine n)) →

@@ -24,7 +24,6 @@ use Rattle.cp_check.specs.declared.types.Holding.TheVariants as holds
 use Rattle.cp_check.specs.Names as names
 use Rattle.cp_check.specs.Constants.{constant}
 use Rattle.cp_check.specs.Types as typing
-use Rattle.cp_check.specs.Types.{Step, nothing, Typed, typed}
 use Rattle.cp_meaning.specs.Names.{Name, same_name}
 use Rattle.cp_meaning.specs.Types as named
 use Rattle.cp_meaning.specs.Types.{Ty, is_within, range_of}
@@ -48,47 +47,36 @@ StandsAt spot.Other t = is_free t ≡ true
 StandsAt spot.Element t = is_element t ≡ true
 StandsAt p t = is_standing t ≡ true
 
-free_element : (t : Ty) → is_free t ≡ true → is_element t ≡ true
-free_element (named.ordinal r) h = h
+pub free_element : (t : Ty) → is_free t ≡ true → is_element t ≡ true
 free_element named.queue_type h = refl
-free_element (named.set_over r) h = h
-free_element (named.array_over r t) h = h
-free_element (named.record_with ts) h = h
 free_element (named.component_of n) h = refl
+free_element _ h = h
 
 both_are : (a b c : Bool) → (a && b) ≡ true → (b ≡ true → c ≡ true) → (a && c) ≡ true
 both_are true b c h k = k h
 both_are false b c h k = h
 
-free_standing : (t : Ty) → is_free t ≡ true → is_standing t ≡ true
-free_standing (named.ordinal r) h = h
+pub free_standing : (t : Ty) → is_free t ≡ true → is_standing t ≡ true
 free_standing named.queue_type h = refl
-free_standing (named.set_over r) h = h
 free_standing (named.array_over r t) h = both_are (is_indexed r t) (is_free t) (is_element t) h (free_element t)
-free_standing (named.record_with ts) h = h
 free_standing (named.component_of n) h = refl
+free_standing _ h = h
 
 pub stands_free : (p : Spot) (t : Ty) → is_free t ≡ true → StandsAt p t
 stands_free spot.Other t h = h
 stands_free spot.Element t h = free_element t h
-stands_free spot.Base t h = free_standing t h
-stands_free spot.Definition t h = free_standing t h
-stands_free (spot.Permanent o) t h = free_standing t h
+stands_free _ t h = free_standing t h
 
-element_standing : (t : Ty) → is_element t ≡ true → is_standing t ≡ true
-element_standing (named.ordinal r) h = h
+pub element_standing : (t : Ty) → is_element t ≡ true → is_standing t ≡ true
 element_standing named.queue_type h = refl
-element_standing (named.set_over r) h = h
 element_standing (named.array_over r t) h = both_are (is_indexed r t) (is_free t) (is_element t) h (free_element t)
-element_standing (named.record_with ts) h = h
 element_standing (named.component_of n) h = refl
+element_standing _ h = h
 
 pub standing_at : (p : Spot) (t : Ty) → StandsAt p t → is_standing t ≡ true
 standing_at spot.Other t h = free_standing t h
 standing_at spot.Element t h = element_standing t h
-standing_at spot.Base t h = h
-standing_at spot.Definition t h = h
-standing_at (spot.Permanent o) t h = h
+standing_at _ t h = h
 
 -- a queue or component alone
 abbrev pub IsSingle : Holding → Type 0
@@ -114,10 +102,6 @@ MayHold p h = Unit {0}
 
 pub spotted_stands : (at : ℕ) (p : Spot) (h : Holding) (v : ValueType) (t : Ty) → Held h t → Good (λ u. (u ≡ v) × StandsAt p t × MayHold p h) (typing.spotted at p h v)
 spotted_stands at spot.Base holds.Plain v t k = (refl, k.standing, tt)
-spotted_stands at spot.Base holds.Queue v t k = (refl, k.standing, tt)
-spotted_stands at spot.Base holds.Queues v t k = (refl, k.standing, tt)
-spotted_stands at spot.Base (holds.Component j) v t k = (refl, k.standing, tt)
-spotted_stands at spot.Base (holds.Components j) v t k = (refl, k.standing, tt)
 spotted_stands at spot.Other holds.Plain v t k = (refl, k.free refl, tt)
 spotted_stands at spot.Other holds.Queue v t k = tt
 spotted_stands at spot.Other holds.Queues v t k = tt
@@ -128,16 +112,13 @@ spotted_stands at spot.Element holds.Queue v t k = (refl, k.element tt, tt)
 spotted_stands at spot.Element holds.Queues v t k = tt
 spotted_stands at spot.Element (holds.Component j) v t k = (refl, k.element tt, tt)
 spotted_stands at spot.Element (holds.Components j) v t k = tt
-spotted_stands at spot.Definition holds.Plain v t k = (refl, k.standing, tt)
 spotted_stands at spot.Definition holds.Queue v t k = tt
-spotted_stands at spot.Definition holds.Queues v t k = (refl, k.standing, tt)
 spotted_stands at spot.Definition (holds.Component j) v t k = tt
-spotted_stands at spot.Definition (holds.Components j) v t k = (refl, k.standing, tt)
-spotted_stands at (spot.Permanent o) holds.Plain v t k = (refl, k.standing, tt)
 spotted_stands at (spot.Permanent o) holds.Queue v t k = good_if (λ u. (u ≡ v) × (is_standing t ≡ true) × Unit {0}) (typing.may_queue (spot.Permanent o)) v (check_fault.Rule at C11) [] (λ e. (refl, k.standing, tt))
 spotted_stands at (spot.Permanent o) holds.Queues v t k = good_if (λ u. (u ≡ v) × (is_standing t ≡ true) × Unit {0}) (typing.may_queues (spot.Permanent o)) v (check_fault.Rule at C11) [] (λ e. (refl, k.standing, tt))
 spotted_stands at (spot.Permanent o) (holds.Component j) v t k = good_if (λ u. (u ≡ v) × (is_standing t ≡ true) × (typing.may_own o j ≡ true)) (typing.may_own o j) v (check_fault.Rule at C13) [] (λ e. (refl, k.standing, e))
 spotted_stands at (spot.Permanent o) (holds.Components j) v t k = good_if (λ u. (u ≡ v) × (is_standing t ≡ true) × (typing.may_own o j ≡ true)) (typing.may_own o j) v (check_fault.Rule at C13) [] (λ e. (refl, k.standing, e))
+spotted_stands at _ _ v t k = (refl, k.standing, tt)
 
 module _ (w : Written) where
   plain_array : (r : named.Range) (t : Ty) → (is_indexed r t && is_element t) ≡ true → (is_element t ≡ true → is_free t ≡ true) → Held holds.Plain (named.array_over r t)
@@ -224,38 +205,21 @@ module _ (tokens : Tokens) where
 
   kind_meant : (ss : Shapes) (v : ValueType) (x : Name) (m : scopes.Scope) (o : Option scopes.Meaning) → find x m ≡ o → KindIs (W tokens ss) v o → IsFit o → KindOf ss (meant.type_named m x) v
   kind_meant ss v x m (Some (scopes.type_meaning t)) e h f = subst (λ (q : Ty). KindOf ss q v) (sym (latest_is x m t e)) (record { belongs = h; standing = f })
-  kind_meant ss v x m (Some (scopes.constant_meaning b z)) e h f = absurd h
-  kind_meant ss v x m (Some (scopes.local_variable t)) e h f = absurd h
-  kind_meant ss v x m (Some (scopes.permanent_variable t)) e h f = absurd h
-  kind_meant ss v x m (Some (scopes.routine_meaning r)) e h f = absurd h
-  kind_meant ss v x m (Some (scopes.standard_meaning q)) e h f = absurd h
-  kind_meant ss v x m None e h f = absurd h
+  kind_meant ss v x m _ e h f = absurd h
 
   found_kind : (at : ℕ) (s : Scopes) (m : scopes.Scope) (x : Name) (o : Option (Option Meaning)) → IsKnown tokens s m x o → Good (KindOf s.shapes (meant.type_named m x)) (names.found at o >>= typing.to_type at)
-  found_kind at s m x None h = tt
   found_kind at s m x (Some None) h = absurd h
   found_kind at s m x (Some (Some (meaning.Kind v))) h = kind_meant s.shapes v x m (find x m) refl h.means h.fit
-  found_kind at s m x (Some (Some (meaning.Constant b v))) h = tt
-  found_kind at s m x (Some (Some (meaning.Variable v))) h = tt
-  found_kind at s m x (Some (Some (meaning.Parameter v))) h = tt
-  found_kind at s m x (Some (Some (meaning.Reference v))) h = tt
-  found_kind at s m x (Some (Some (meaning.Routine n))) h = tt
-  found_kind at s m x (Some (Some (meaning.Predeclared q))) h = tt
+  found_kind at s m x _ h = tt
 
   pub type_named : (s : Scopes) (m : scopes.Scope) (at : ℕ) (x : Name) → IsKnown tokens s m x (look x s) → Good (KindOf s.shapes (meant.type_named m x)) (typing.type_named s at x)
   unfolding typing.type_named names.visible
   type_named s m at x h = found_kind at s m x (look x s) h
 
   outer_kind : (at : ℕ) (s : Scopes) (m below : scopes.Scope) (x : Name) (o : Option (Option Meaning)) → meant.type_named below x ≡ meant.type_named m x → IsTypeKnown tokens s below x o → Good (KindOf s.shapes (meant.type_named m x)) (names.found at o >>= typing.to_type at)
-  outer_kind at s m below x None e h = tt
   outer_kind at s m below x (Some None) e h = absurd h
   outer_kind at s m below x (Some (Some (meaning.Kind v))) e h = subst (λ (t : Ty). KindOf s.shapes t v) e (record { belongs = h.0; standing = h.1 })
-  outer_kind at s m below x (Some (Some (meaning.Constant b z))) e h = tt
-  outer_kind at s m below x (Some (Some (meaning.Variable v))) e h = tt
-  outer_kind at s m below x (Some (Some (meaning.Parameter v))) e h = tt
-  outer_kind at s m below x (Some (Some (meaning.Reference v))) e h = tt
-  outer_kind at s m below x (Some (Some (meaning.Routine n))) e h = tt
-  outer_kind at s m below x (Some (Some (meaning.Predeclared q))) e h = tt
+  outer_kind at s m below x _ e h = tt
 
   stacked_kind : (at : ℕ) (s : Scopes) (m below : scopes.Scope) (x : Name) (o q : Option (Option Meaning)) → IsStacked tokens s m below x o → IsTypeKnown tokens s below x q → Good (KindOf s.shapes (meant.type_named m x)) (names.found at (or_else o q) >>= typing.to_type at)
   stacked_kind at s m below x None q h g = outer_kind at s m below x q h.latest g
@@ -276,17 +240,11 @@ module _ (tokens : Tokens) where
 
   -- what a name stands for that is visible outside
   pub known_type : (s t : Scopes) (m : scopes.Scope) (x : Name) (o : Option (Option Meaning)) → t.shapes ≡ s.shapes → IsKnown tokens s m x o → IsTypeKnown tokens t m x o
-  known_type s t m x None e h = tt
   known_type s t m x (Some None) e h = h
   known_type s t m x (Some (Some (meaning.Kind v))) e h =
       let k : KindOf s.shapes (meant.type_named m x) v = kind_meant s.shapes v x m (find x m) refl h.means h.fit in
       (subst (λ ss. TypeIs (W tokens ss) (meant.type_named m x) v) (sym e) k.belongs, k.standing)
-  known_type s t m x (Some (Some (meaning.Constant b z))) e h = tt
-  known_type s t m x (Some (Some (meaning.Variable v))) e h = tt
-  known_type s t m x (Some (Some (meaning.Parameter v))) e h = tt
-  known_type s t m x (Some (Some (meaning.Reference v))) e h = tt
-  known_type s t m x (Some (Some (meaning.Routine n))) e h = tt
-  known_type s t m x (Some (Some (meaning.Predeclared q))) e h = tt
+  known_type s t m x _ e h = tt
 
   -- of which kind the component is, or those of an array
   abbrev pub OwnedAt : Spot → Ty → Type 0
@@ -302,19 +260,12 @@ module _ (tokens : Tokens) where
 
   pub array_owned : (ss : Shapes) (p : Spot) (r : named.Range) (t : Ty) (v : ValueType) → TypeIs (W tokens ss) t v → MayHold p (typing.holding_array v) → OwnedAt p (named.array_over r t)
   array_owned ss p r (named.component_of n) v h may = subst (MayOwn p) h.own (subst (λ (u : ValueType). MayHold p (typing.holding_array u)) h.is may)
-  array_owned ss p r (named.ordinal q) v h may = tt
-  array_owned ss p r named.queue_type v h may = tt
-  array_owned ss p r (named.set_over q) v h may = tt
-  array_owned ss p r (named.array_over q t) v h may = tt
-  array_owned ss p r (named.record_with ts) v h may = tt
+  array_owned ss p r _ v h may = tt
 
   named_owned : (s : Scopes) (p : Spot) (t : Ty) (v : ValueType) → TypeIs (W tokens s.shapes) t v → MayHold p (typing.holding s v) → OwnedAt p t
   named_owned s p (named.component_of n) v h may = subst (MayOwn p) h.own (subst (λ (u : ValueType). MayHold p (typing.holding s u)) h.is may)
   named_owned s p (named.array_over r t) v h may = array_owned s.shapes p r t h.shape.element h.belongs (subst (λ o. MayHold p (typing.holding_of o)) h.there (subst (λ (u : ValueType). MayHold p (typing.holding s u)) h.is may))
-  named_owned s p (named.ordinal q) v h may = tt
-  named_owned s p named.queue_type v h may = tt
-  named_owned s p (named.set_over q) v h may = tt
-  named_owned s p (named.record_with ts) v h may = tt
+  named_owned s p _ v h may = tt
 
   spotted_kind : (s : Scopes) (p : Spot) (at : ℕ) (t : Ty) (v : ValueType) → KindOf s.shapes t v → Good (TypedAs s.shapes p t) (typing.at_spot s p at v)
   spotted_kind s p at t v h =

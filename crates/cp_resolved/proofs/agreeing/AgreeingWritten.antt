@@ -21,7 +21,7 @@ use Rattle.cp_scope.specs.declared.shape.ArrayShape.{ArrayShape}
 use Rattle.cp_scope.specs.Types.{whole}
 use Rattle.cp_scope.specs.Counts.{times}
 use Rattle.cp_scope.specs.Judged.{Judged, both, ◌>>=◌, faults}
-use Rattle.cp_scope.specs.Scopes.{Names, Scope, new_scope, Scopes, Shape, array_shape, record_shape, Shapes, shape_in, as_array, look, count_of, is_declared, is_declared_in, is_among, with_name, with_shape, add, keep}
+use Rattle.cp_scope.specs.Scopes.{Names, Scope, new_scope, Scopes, Shape, array_shape, record_shape, Shapes, shape_in, as_array, count_of, is_declared, is_declared_in, is_among, with_name, with_shape, add, keep}
 use Rattle.cp_scope.specs.Scopes as checker
 use Rattle.cp_check.specs.declared.types.Spot.{Spot}
 use Rattle.cp_check.specs.declared.types.Spot.TheVariants as spot
@@ -41,12 +41,13 @@ use Rattle.cp_resolved.specs.Layouts.{cells_of, cells_in}
 use Rattle.cp_resolved.specs.Standing.{is_bounded, is_based, are_few, is_indexed, is_free, are_free, is_element, is_standing}
 use Rattle.cp_resolved.specs.Tokens.{type_tokens, groups_tokens}
 use Rattle.cp_resolved.specs.Typed.{Tokens, BaseIs, RangeIs, TypeIs, FieldsAre}
-use Rattle.cp_resolved.proofs.agreeing.Agreeing.{Appends, appends_same, appends_then, Good, good_then, Sound, good_sound, none_left, none_right, none_first, none_of_both, new_names, find_last, is_itself, More, more_same, more_trans, with_more, with_there}
+use Rattle.cp_resolved.proofs.agreeing.Agreeing.{Appends, appends_same, appends_then, Good, good_then, Sound, good_sound, none_left, none_right, none_of_both, new_names, find_last, is_itself, More, more_same, more_trans, with_more, with_there}
 use Rattle.cp_resolved.proofs.agreeing.AgreeingCells.{array_takes, record_takes}
 use Rattle.cp_resolved.proofs.agreeing.AgreeingNames.{W, Agree, sees, agree_added, agree_kept, type_more, fields_more}
 use Rattle.cp_resolved.proofs.agreeing.AgreeingTypes.{MayHold, OwnedAt, array_owned, StandsAt, stands_free, spotted_stands, held_array, IsOrdinal, ordinal_of, IsFew, TypedAs, type_spotted, subrange_typed}
 use Rattle.cp_resolved.proofs.counts.FewCells.{in_order, few_element, characters_within}
-use Rattle.cp_resolved.proofs.declarations.Reserving.{Pends, or_left, or_right, ReservedIn, all_reserved, pending_fresh, named_all, Filled, all_filled}
+use Rattle.cp_resolved.proofs.declarations.Reserving.{Pends, ReservedIn, all_reserved, pending_fresh, named_all, Filled, all_filled}
+use Rattle.cp_lawful.proofs.Once.{no_first as none_first, or_left, or_right}
 
 -- ---- lists
 
@@ -60,7 +61,7 @@ each_right P (x ∷ xs) ys h = each_right P xs ys h.1
 
 -- ---- one name that is not being declared
 
-other_than : (x n : List ℕ) (ms : List (List ℕ)) → is_among x ms ≡ true → is_among n ms ≡ false → bytes_eq x n ≡ false
+pub other_than : (x n : List ℕ) (ms : List (List ℕ)) → is_among x ms ≡ true → is_among n ms ≡ false → bytes_eq x n ≡ false
 other_than x n ms h g = go (bytes_eq x n) refl
   where
     go : (b : Bool) → bytes_eq x n ≡ b → b ≡ false
@@ -283,10 +284,7 @@ module _ (tokens : Tokens) (p : Program) where
           good_then (λ u. (u ≡ types.Array at) × StandsAt q (named.array_over (range_of i) e) × MayHold q (typing.holding_array ev)) (ArrayAs s.shapes q i e) (typing.spotted at q (typing.holding_array ev) (types.Array at)) (λ u. Ok (record { index = r; element = ev; cells = n }))
           (spotted (range_of i) (indexed (range_of i) e bounded (subst (λ m. m ≤ 8192) takes (ltb-false 8192 n f)) g.stands)) (λ u k. record { range = o.range; element = g.belongs; takes = takes; few = subst (λ m. m ≤ 8192) takes (ltb-false 8192 n f); stands = k.1; owned = array_owned tokens s.shapes q (range_of i) e ev g.belongs k.2 })
   array_good s q at i e types.Queue ev h g = tt
-  array_good s q at i e (types.Set r) ev h g = tt
-  array_good s q at i e (types.Array n) ev h g = tt
-  array_good s q at i e (types.Record n) ev h g = tt
-  array_good s q at i e (types.Component k n) ev h g = tt
+  array_good s q at i e _ ev h g = tt
 
   array_kept : (b : Bool) (s u : Scopes) (m below : scopes.Scope) (ks : List ℕ) (q : Spot) (at : ℕ) (i e : Ty) (j : Judged ArrayShape) → Sound (ArrayAs u.shapes q i e) j → Agree tokens p b None u m below (at ∷ ks) → u.outer ≡ s.outer → u.inner.pending ≡ s.inner.pending → Pends u.inner → More s.shapes u.shapes → Appends s.inner.names u.inner.names →
       TypeResult b s below ks q (record { type = j >>= typing.to_array at; scopes = typing.keep_array u at j }) (named.array_over (range_of i) e, m)
@@ -343,10 +341,7 @@ module _ (tokens : Tokens) (p : Program) where
       go true e = tt
       go false e = record { belongs = record { range = r; is = refl; belongs = o.range; low = (members e).0; high = (members e).1 }; stands = stands_free q (named.set_over (range_of t)) (based e); owned = tt }
   set_good ss q at base_at t types.Queue h = tt
-  set_good ss q at base_at t (types.Set r) h = tt
-  set_good ss q at base_at t (types.Array n) h = tt
-  set_good ss q at base_at t (types.Record n) h = tt
-  set_good ss q at base_at t (types.Component k n) h = tt
+  set_good ss q at base_at t _ h = tt
 
   set_typed : (b : Bool) (s : Scopes) (below : scopes.Scope) (ks : List ℕ) (q : Spot) (at base_at : ℕ) (t : Typed) (u : Ty × scopes.Scope) → TypeResult b s below ks spot.Base t u → faults (typing.set_typed at base_at t).type ≡ [] → TypeResult b s below ks q (typing.set_typed at base_at t) (named.set_over (range_of u.0), u.1)
   set_typed b s below ks q at base_at t u r none =

@@ -2,7 +2,7 @@
 use Rattle.std.proofs.Common.{◌≡◌, ℕ, zero, suc, Bool, if◌then◌else◌, List, [], ◌∷◌, ◌++◌, length, Some, slice_get, refl, sym, ap, subst, ◌∙◌, arith, append_assoc, length-append}
 use Rattle.std.proofs.lemmas.List.{append-nil}
 use Rattle.cp_tree.specs.declared.declaration.SystemKind.{SystemKind}
-use Rattle.cp_tree.specs.Syntax.{simple, array_of, set_type, record_of, no_fields, more_fields, fields, TypeDefinition, VariableGroup, constants, types, variables, System, Definition, type_definition, system_definition, SystemDefinition, ProgramPart, program_constants, program_types, program_variables, Program}
+use Rattle.cp_tree.specs.Syntax.{array_of, record_of, no_fields, more_fields, fields, TypeDefinition, VariableGroup, constants, types, variables, System, Definition, type_definition, system_definition, SystemDefinition, ProgramPart, program_constants, program_types, program_variables, Program}
 use Rattle.cp_meaning.specs.Declarations.{names_of}
 use Rattle.cp_meaning.specs.Systems.{SystemMeaning, system_in, Declared, definition_in, definitions_in, program_part_in, program_parts_in, declared, own_meaning, or_own}
 use Rattle.cp_meaning.specs.Scopes.{seen_inside}
@@ -11,12 +11,11 @@ use Rattle.cp_resolved.specs.Fit.{nothing_declared}
 use Rattle.cp_resolved.specs.Small.{Each}
 use Rattle.cp_resolved.specs.Judging.{tokens_of}
 use Rattle.cp_resolved.specs.Tokens.{all_tokens, type_tokens, groups_tokens, part_tokens, routine_tokens, definition_tokens, program_part_tokens, program_tokens, IsOther, AreDifferent, definition_types, program_part_types, token_in, tokens_of_enumerations, HasFew, constants_among}
-use Rattle.cp_resolved.proofs.names.Steps.{slice_more}
-use Rattle.cp_resolved.proofs.names.StepsOfTypes.{slice_end}
 use Rattle.cp_resolved.proofs.agreeing.Agreeing.{same_number, other_number}
 use Rattle.cp_resolved.proofs.agreeing.AgreeingTypes.{IsFew}
 use Rattle.cp_resolved.proofs.agreeing.AgreeingSystems.{IsNumbered}
 use Rattle.cp_resolved.proofs.agreeing.AgreeingProgram.{IsNumberedDefinition, AreNumberedDefinitions, IsNumberedPart, AreNumberedParts}
+use Rattle.cp_resolved.proofs.names.Entries.{last_entry as slice_end, still_there as slice_more}
 
 -- ---- some of the tokens of a list, in their order
 
@@ -43,10 +42,9 @@ all_left f one (a ∷ as') xs ys s = one a xs (all_tokens f as' ys) (all_left f 
 
 mutual
   type_left : Leaves type_tokens
-  type_left (simple at t) xs ys s = s
   type_left (array_of at i t) xs ys s = type_left t xs (at ∷ ys) (left_out xs ys at s)
-  type_left (set_type at t) xs ys s = s
   type_left (record_of at gs b) xs ys s = groups_left gs xs (at ∷ ys) (left_out xs ys at s)
+  type_left _ xs ys s = s
 
   groups_left : Leaves groups_tokens
   groups_left no_fields xs ys s = s
@@ -114,9 +112,8 @@ types_left (type_definition t) xs ys s = s
 types_left (system_definition y) xs ys s = left_out xs ys y.at s
 
 part_types_left : Leaves program_part_types
-part_types_left (program_constants at ds) xs ys s = s
 part_types_left (program_types at ds) xs ys s = all_left (λ (d : SystemDefinition). definition_types d.value) (λ d. types_left d.value) ds xs ys s
-part_types_left (program_variables at gs) xs ys s = s
+part_types_left _ xs ys s = s
 
 -- ---- the system types of a program
 
@@ -139,9 +136,8 @@ definitions_extend d [] = extends_same d.systems
 definitions_extend d (n ∷ ns) = extends_trans d.systems (definition_in d n n.value).systems (definitions_in (definition_in d n n.value) ns).systems (definition_extends d n n.value) (definitions_extend (definition_in d n n.value) ns)
 
 part_extends : (d : Declared) (q : ProgramPart) → Extends d.systems (program_part_in d q).systems
-part_extends d (program_constants at ds) = extends_same d.systems
 part_extends d (program_types at ns) = definitions_extend d ns
-part_extends d (program_variables at gs) = extends_same d.systems
+part_extends d _ = extends_same d.systems
 
 parts_extend : (d : Declared) (qs : List ProgramPart) → Extends d.systems (program_parts_in d qs).systems
 parts_extend d [] = extends_same d.systems
@@ -201,14 +197,12 @@ module _ (p : Program) where
       )
 
   part_stage : (d : Declared) (q : ProgramPart) (rest : List ℕ) → Stage d (program_part_types q rest) → Stage (program_part_in d q) rest
-  part_stage d (program_constants at ds) rest s = record { before = s.before; count = s.count; is = s.is }
   part_stage d (program_types at ns) rest s = definitions_stage d ns rest s
-  part_stage d (program_variables at gs) rest s = record { before = s.before; count = s.count; is = s.is }
+  part_stage d _ rest s = record { before = s.before; count = s.count; is = s.is }
 
   part_numbered : (d : Declared) (q : ProgramPart) (rest : List ℕ) → Stage d (program_part_types q rest) → Extends (program_part_in d q).systems (declared p).systems → Among (p.period ∷ []) rest → AreDifferent type_list → IsNumberedPart (tokens_of p) p d q
-  part_numbered d (program_constants at ds) rest s ext last different = tt
   part_numbered d (program_types at ns) rest s ext last different = definitions_numbered d ns rest s ext last different
-  part_numbered d (program_variables at gs) rest s ext last different = tt
+  part_numbered d _ rest s ext last different = tt
 
   parts_numbered : (d : Declared) (qs : List ProgramPart) → Stage d (all_tokens program_part_types qs (p.period ∷ [])) → Extends (program_parts_in d qs).systems (declared p).systems → AreDifferent type_list → AreNumberedParts (tokens_of p) p d qs
   parts_numbered d [] s ext different = tt

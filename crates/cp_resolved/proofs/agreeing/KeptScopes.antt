@@ -18,9 +18,8 @@ module _ (Q : Scope → Type 0) (more : (x : Name) (d : Meaning) (s : Scope) →
   constants_kept b n (x ∷ xs) s h = constants_kept b (suc n) xs ((x, constant_meaning b (pos n)) ∷ s) (more x (constant_meaning b (pos n)) s tt h)
 
   simple_kept : (s : Scope) (t : syntax.Simple) → Q s → Q (simple_in s t).1
-  simple_kept s (syntax.type_name at x) h = h
   simple_kept s (syntax.enumeration at is) h = constants_kept (enumerated at (names_of is)) 0 (names_of is) s h
-  simple_kept s (syntax.subrange at c d) h = h
+  simple_kept s _ h = h
 
   mutual
     pub type_kept : (s : Scope) (t : syntax.TypeTerm) → Q s → Q (type_in s t).1

@@ -45,9 +45,8 @@ module _ (P : Statements → Type 0) where
   definitions_open d (n ∷ ns) h = openings_both (definition_openings d n.value) (definitions_openings (definition_in d n n.value) ns) (definition_opens d n.value h.0) (definitions_open (definition_in d n n.value) ns h.1)
 
   part_opens : (d : Declared) (q : ProgramPart) → OfPart q → Each OfOpening (part_openings d q)
-  part_opens d (program_constants at ds) h = tt
   part_opens d (program_types at ns) h = definitions_open d ns h
-  part_opens d (program_variables at gs) h = tt
+  part_opens d _ h = tt
 
   parts_open : (d : Declared) (qs : List ProgramPart) → Each OfPart qs → Each OfOpening (parts_openings d qs)
   parts_open d [] h = tt

@@ -12,9 +12,8 @@ outer_counted b n [] s h = h
 outer_counted b n (x ∷ xs) s h = outer_counted b (suc n) xs (_ ∷ s) (tt, h)
 
 outer_simple : (s : Scope) (t : syntax.Simple) → AreOuter s → AreOuter (simple_in s t).1
-outer_simple s (syntax.type_name at x) h = h
 outer_simple s (syntax.enumeration at is) h = outer_counted (enumerated at (names_of is)) 0 (names_of is) s h
-outer_simple s (syntax.subrange at c d) h = h
+outer_simple s _ h = h
 
 mutual
   pub outer_type : (s : Scope) (t : syntax.TypeTerm) → AreOuter s → AreOuter (type_in s t).1

@@ -79,12 +79,7 @@ module _ (Q : List ℕ → Type 0) (n : ℕ) where
 
   not_it : (m : LayoutMeaning) → IsNoRoutine m → Some m ≡ Some (meaning.Routine n) → ⊥
   not_it (meaning.Routine k) h e = h
-  not_it (meaning.Constant b z) h e = cc
-  not_it (meaning.Kind t) h e = cc
-  not_it (meaning.Variable o t) h e = cc
-  not_it (meaning.Contained k t) h e = cc
-  not_it (meaning.Bound k j) h e = cc
-  not_it (meaning.Predeclared p) h e = cc
+  not_it x h e = cc
 
   hidden : (ns : layers.Names) (s : Scopes) (z : List ℕ) (m : LayoutMeaning) → IsNoRoutine m → Inside ns s → Inside ((z, m) ∷ ns) s
   hidden ns s z m other h y = go (bytes_eq z y)
@@ -114,9 +109,8 @@ module _ (Q : List ℕ → Type 0) (n : ℕ) where
 
   simple_inside : (l : Layer) (s : Scopes) (p : Spot) (t : syntax.Simple) → Inside l.names s → Inside (simple_type l t).1.names (typing.simple_typed s p t).scopes
   unfolding simple_type typing.simple_typed
-  simple_inside l s p (syntax.type_name at x) h = h
   simple_inside l s p (syntax.enumeration at is) h = enumerated_inside l s _ _ 0 0 is h
-  simple_inside l s p (syntax.subrange at c d) h = h
+  simple_inside l s p _ h = h
 
   array_inside : (ns : layers.Names) (s : Scopes) (at : ℕ) (j : Judged ArrayShape) → Inside ns s → Inside ns (typing.keep_array s at j)
   unfolding keep
@@ -274,11 +268,7 @@ module _ (Q : List ℕ → Type 0) (n : ℕ) where
 
   system_parameter_inside : (l : Layer) (ps : Parameters) (s : Scopes) (x : List ℕ) (t : CellType) (o : Option checked.Meaning) → Inside l.names s → Inside (system_parameter l ps x t).1.names (add s x o)
   system_parameter_inside l ps s x (types.System k) o h = declared l.names s x _ o tt h
-  system_parameter_inside l ps s x (types.Ordinal q) o h = declared l.names s x _ o tt h
-  system_parameter_inside l ps s x types.Queue o h = declared l.names s x _ o tt h
-  system_parameter_inside l ps s x (types.Set q) o h = declared l.names s x _ o tt h
-  system_parameter_inside l ps s x (types.Array k) o h = declared l.names s x _ o tt h
-  system_parameter_inside l ps s x (types.Record k) o h = declared l.names s x _ o tt h
+  system_parameter_inside l ps s x _ o h = declared l.names s x _ o tt h
 
   system_parameters_inside : (l : Layer) (ps : Parameters) (s : Scopes) (t : CellType) (is : List Identifier) (o : Option checked.Meaning) → Inside l.names s → Inside (system_parameters_of l ps t is).1.names (add_names s is o)
   unfolding system_parameters_of add_names

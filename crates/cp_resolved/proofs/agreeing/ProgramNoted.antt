@@ -14,7 +14,7 @@ use Rattle.cp_check.specs.Systems.{definition_step, definition_steps, program_pa
 use Rattle.cp_check.specs.Faults.{declarations, program_context, opened, faults_of}
 use Rattle.cp_lawful.specs.Accepted.{IsAccepted}
 use Rattle.cp_meaning.specs.Scopes as scopes
-use Rattle.cp_meaning.specs.Scopes.{find, routine_meaning, predeclared, seen_inside}
+use Rattle.cp_meaning.specs.Scopes.{predeclared, seen_inside}
 use Rattle.cp_meaning.specs.Systems.{SystemMeaning, system_in, Declared, definition_in, definitions_in, program_part_in, program_parts_in, declared, program_system, own_meaning, system_of}
 use Rattle.cp_resolved.specs.Enumerations.{in_routine, in_definition, in_program_part, each_in, enumerations_of}
 use Rattle.cp_resolved.specs.Fit.{nothing_declared}
@@ -24,12 +24,11 @@ use Rattle.cp_tree.specs.Read.{IsRead}
 use Rattle.cp_resolved.specs.Small.{Each, IsSmallDefinition, IsSmallProgramPart, IsSmallProgram}
 use Rattle.cp_resolved.specs.Tokens.{AreDifferent, all_tokens, routine_tokens, definition_tokens, program_part_tokens, program_tokens, token_of_type}
 use Rattle.cp_resolved.specs.Typed.{Tokens}
-use Rattle.cp_resolved.proofs.agreeing.Agreeing.{none_left, none_right, none_first}
+use Rattle.cp_resolved.proofs.agreeing.Agreeing.{none_left, none_right}
 use Rattle.cp_resolved.proofs.agreeing.AgreeingNames.{Agree}
 use Rattle.cp_resolved.proofs.agreeing.AgreeingTypes.{IsFew}
 use Rattle.cp_resolved.proofs.agreeing.AgreeingWritten.{each_left, each_right}
 use Rattle.cp_resolved.proofs.agreeing.AgreeingParts.{NamesResult, name_result}
-use Rattle.cp_resolved.proofs.agreeing.AgreeingRoutines.{none_before}
 use Rattle.cp_resolved.proofs.agreeing.AgreeingBodies.{RoutinesResult, routines_agree}
 use Rattle.cp_resolved.proofs.agreeing.AgreeingSystems.{entered_agrees, InsideResult, inside_agrees}
 use Rattle.cp_resolved.proofs.agreeing.AgreeingProgram.{AreNumberedDefinitions, IsNumberedPart, AreNumberedParts, defined_agrees, part_agrees, parts_agree, start_agrees, agree_plain, uses_sound, start_settled}
@@ -39,6 +38,7 @@ use Rattle.cp_resolved.proofs.declarations.EnumerationsRead.{read_few, read_diff
 use Rattle.cp_resolved.proofs.agreeing.RoutinesSeen.{written, constants, variables}
 use Rattle.cp_resolved.proofs.statements.RoutinesNoted.{AreNoRoutines, one_more, none_inside, none_found, AreListed, listed_left, listed_right, all_listed, AreNoted, noted_both, RoutinesNoted, routines_noted, SystemNumbered, done_numbered, initial_numbered, system_noted}
 use Rattle.cp_resolved.proofs.declarations.SmallTexts.{read_small}
+use Rattle.cp_lawful.proofs.Once.{no_first as none_first, none_before}
 
 module _ (tokens : Tokens) (p : Program) where
   -- ---- no routine stands around a system type
@@ -115,9 +115,8 @@ module _ (tokens : Tokens) (p : Program) where
   part_noted : (s : Scopes) (d : Declared) (below : scopes.Scope) (ks : List ℕ) (q : ProgramPart) → (program_part_step s q).faults ≡ [] → IsNumberedPart tokens p d q → IsSmallProgramPart q → Each (IsFew tokens) (in_program_part q) → s.inner.pending ≡ [] → Agree tokens p true None s d.scope below (program_part_tokens q ks) →
       AreNoRoutines d.scope → AreListed p (part_places s q) (part_openings d q) → Noted (part_places s q) (part_openings d q) d (program_part_in d q)
   unfolding program_part_step
-  part_noted s d below ks (program_constants at ds) e number small few empty h none listed = record { noted = tt; numbered = λ i. i }
   part_noted s d below ks (program_types at ns) e number small few empty h none listed = definitions_noted s d below ks ns e number small few empty h none listed
-  part_noted s d below ks (program_variables at gs) e number small few empty h none listed = record { noted = tt; numbered = λ i. i }
+  part_noted s d below ks _ e number small few empty h none listed = record { noted = tt; numbered = λ i. i }
 
   parts_noted : (s : Scopes) (d : Declared) (below : scopes.Scope) (ks : List ℕ) (qs : List ProgramPart) → (program_part_steps s qs).faults ≡ [] → AreNumberedParts tokens p d qs → Each IsSmallProgramPart qs → Each (IsFew tokens) (each_in in_program_part qs) → s.inner.pending ≡ [] → Agree tokens p true None s d.scope below (all_tokens program_part_tokens qs ks) →
       AreNoRoutines d.scope → AreListed p (parts_places s qs) (parts_openings d qs) → Noted (parts_places s qs) (parts_openings d qs) d (program_parts_in d qs)

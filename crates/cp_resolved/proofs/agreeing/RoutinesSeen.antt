@@ -3,7 +3,6 @@ use Rattle.std.proofs.Common.{◌≡◌, ℕ, suc, Bool, true, false, if◌then�
 use Rattle.cp_tree.specs.Syntax as syntax
 use Rattle.cp_meaning.specs.Names.{Name, same_name}
 use Rattle.cp_meaning.specs.Types.{Base, enumerated, Ty}
-use Rattle.cp_meaning.specs.Scopes as scopes
 use Rattle.cp_meaning.specs.Scopes.{Meaning, Scope, local_variable, routine_meaning, find, since}
 use Rattle.cp_meaning.specs.Declarations.{with_constants, simple_in, type_in, fields_in, names_of, constants_in, types_in, with_names, Block, named_variables, variables_in, part_in, parts_in, Heading, type_named, with_group, with_groups, with_parameter_groups, heading_of, routine_in}
 use Rattle.cp_resolved.specs.Openings.{with_routine}
@@ -21,9 +20,8 @@ module _ (P : Scope → Type 0) (step : (x : Name) (d : Meaning) (s : Scope) →
   counted b n (x ∷ xs) s h = counted b (suc n) xs (_ ∷ s) (step x _ s tt h)
 
   simple : (s : Scope) (t : syntax.Simple) → P s → P (simple_in s t).1
-  simple s (syntax.type_name at x) h = h
   simple s (syntax.enumeration at is) h = counted (enumerated at (names_of is)) 0 (names_of is) s h
-  simple s (syntax.subrange at c d) h = h
+  simple s _ h = h
 
   mutual
     pub written : (s : Scope) (t : syntax.TypeTerm) → P s → P (type_in s t).1
@@ -86,11 +84,7 @@ module _ (P : Scope → Type 0) (step : (x : Name) (d : Meaning) (s : Scope) →
 
 entry_step : (b : Bool) (x : Name) (d : Meaning) (s : Scope) → IsNoRoutine d → is_entry_in s ≡ b → is_entry_in ((x, d) ∷ s) ≡ b
 entry_step b x (routine_meaning r) s i h = absurd i
-entry_step b x (scopes.constant_meaning c z) s i h = h
-entry_step b x (scopes.type_meaning t) s i h = h
-entry_step b x (scopes.local_variable t) s i h = h
-entry_step b x (scopes.permanent_variable t) s i h = h
-entry_step b x (scopes.standard_meaning q) s i h = h
+entry_step b x _ s i h = h
 
 -- in the scope of a routine's body it is the routine itself
 pub body_entry : (m : Scope) (r : syntax.Routine) → is_entry_in (routine_in (with_routine m r) r).scope ≡ r.is_entry

@@ -18,12 +18,12 @@ use Rattle.cp_resolved.specs.Layouts.{cells_in}
 use Rattle.cp_resolved.specs.Typed.{Tokens, Written, BaseIs, RangeIs, TypeIs, FieldsAre}
 use Rattle.cp_resolved.proofs.agreeing.Agreeing.{same_number}
 use Rattle.cp_resolved.proofs.agreeing.AgreeingConstants.{base_same}
+use Rattle.cp_resolved.proofs.names.Alike.{same_inside as some_same}
+use Rattle.cp_resolved.proofs.forms.Typing.{same_range as ordinal_range}
 
 itself : (b : check_base.Base) → same_base b b ≡ true
-itself base.Integer = refl
-itself base.Boolean = refl
-itself base.Char = refl
 itself (base.Enumeration n z) = same_number n
+itself _ = refl
 
 pub range_same : (k : Tokens) (q p : named.Range) (r s : Range) → r ≡ s → RangeIs k q r → RangeIs k p s → q ≡ p
 range_same k q p r s e h g =
@@ -34,12 +34,6 @@ range_same k q p r s e h g =
   where
     range_of : named.Base → ℤ → ℤ → named.Range
     range_of b l u = record { base = b; low = l; high = u }
-
-some_same : {A : Type 0} (a b : A) → Some a ≡ Some b → a ≡ b
-some_same a b e = cc
-
-ordinal_range : (r s : Range) → types.Ordinal r ≡ types.Ordinal s → r ≡ s
-ordinal_range r s e = cc
 
 set_range : (r s : Range) → types.Set (Some r) ≡ types.Set (Some s) → r ≡ s
 set_range r s e = cc

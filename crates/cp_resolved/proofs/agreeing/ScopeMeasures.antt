@@ -4,7 +4,7 @@ use Rattle.std.specs.Prelude.{nat_lt}
 use Rattle.std.proofs.lemmas.Bool.{ltb-true, ltb-false}
 use Rattle.cp_tree.specs.Syntax.{Simple, type_name, enumeration, subrange, TypeTerm, simple, array_of, set_type, record_of, FieldGroups, no_fields, more_fields, FieldGroup, fields, ConstantDefinition, TypeDefinition, VariableGroup, Part, constants, types, variables, Group, ParameterGroup, RoutineKind, procedure, function, Routine, System, Definition, type_definition, system_definition, SystemDefinition, ProgramPart, program_constants, program_types, program_variables}
 use Rattle.cp_meaning.specs.Names.{Name, same_name}
-use Rattle.cp_meaning.specs.Types.{Base, Ty, ordinal, queue_type, set_over, array_over, record_with, component_of}
+use Rattle.cp_meaning.specs.Types.{Base, Ty, component_of}
 use Rattle.cp_meaning.specs.Scopes.{Meaning, constant_meaning, type_meaning, local_variable, permanent_variable, routine_meaning, standard_meaning, Scope, seen_inside}
 use Rattle.cp_meaning.specs.Declarations.{type_named, names_of, with_constants, simple_in, type_in, fields_in, group_in, Block, constant_of, constants_in, types_in, named_variables, with_names, variables_in, part_in, parts_in, Heading, with_group, with_groups, with_parameter_groups, heading_of, routine_in}
 use Rattle.cp_meaning.specs.Systems.{with_routines, system_in, Declared, definition_in, definitions_in, program_part_in, program_parts_in}
@@ -40,11 +40,7 @@ low_height h (component_of i) low = go (nat_lt i h) refl
     go : (b : Bool) → nat_lt i h ≡ b → (if b then h else suc i) ≡ h
     go true e = refl
     go false e = let le = ltb-false i h e in omega (arith, le, low)
-low_height h (ordinal r) low = refl
-low_height h queue_type low = refl
-low_height h (set_over r) low = refl
-low_height h (array_over r t) low = refl
-low_height h (record_with ts) low = refl
+low_height h _ low = refl
 
 new_height : (h : ℕ) → height_with (component_of h) h ≡ suc h
 new_height h = go (nat_lt h h) refl
@@ -59,11 +55,7 @@ own_low h (component_of i) = go (nat_lt i h) refl
     go : (b : Bool) → nat_lt i h ≡ b → i < (if b then h else suc i)
     go true e = ltb-true i h e
     go false e = omega arith
-own_low h (ordinal r) = tt
-own_low h queue_type = tt
-own_low h (set_over r) = tt
-own_low h (array_over r t) = tt
-own_low h (record_with ts) = tt
+own_low h _ = tt
 
 height_grows : (h : ℕ) (t : Ty) → h ≤ height_with t h
 height_grows h (component_of i) = go (nat_lt i h) refl
@@ -71,19 +63,11 @@ height_grows h (component_of i) = go (nat_lt i h) refl
     go : (b : Bool) → nat_lt i h ≡ b → h ≤ (if b then h else suc i)
     go true e = omega arith
     go false e = let le = ltb-false i h e in omega (arith, le)
-height_grows h (ordinal r) = omega arith
-height_grows h queue_type = omega arith
-height_grows h (set_over r) = omega arith
-height_grows h (array_over r t) = omega arith
-height_grows h (record_with ts) = omega arith
+height_grows h x = omega arith
 
 higher_low : (h k : ℕ) (t : Ty) → h ≤ k → IsLow h t → IsLow k t
 higher_low h k (component_of i) le low = omega (arith, le, low)
-higher_low h k (ordinal r) le low = tt
-higher_low h k queue_type le low = tt
-higher_low h k (set_over r) le low = tt
-higher_low h k (array_over r t) le low = tt
-higher_low h k (record_with ts) le low = tt
+higher_low h k _ le low = tt
 
 -- a type that is named is one of those before
 named_low : (s : Scope) (x : Name) → IsLow (measure s).0 (type_named s x)

@@ -160,9 +160,8 @@ module _ (ls ps : List Variable) where
   of_counted b n (x ∷ xs) s h = of_counted b (suc n) xs (_ ∷ s) (tt, h)
 
   of_simple : (s : Scope) (t : syntax.Simple) → AreOf ls ps s → AreOf ls ps (simple_in s t).1
-  of_simple s (syntax.type_name at x) h = h
   of_simple s (syntax.enumeration at is) h = of_counted (enumerated at (names_of is)) 0 (names_of is) s h
-  of_simple s (syntax.subrange at c d) h = h
+  of_simple s _ h = h
 
   mutual
     pub of_type : (s : Scope) (t : syntax.TypeTerm) → AreOf ls ps s → AreOf ls ps (type_in s t).1

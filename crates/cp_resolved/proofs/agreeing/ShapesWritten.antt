@@ -1,13 +1,13 @@
 -- Each declaration writes shapes at tokens of its own, and leaves what is written at others.
 use Rattle.std.proofs.Common.{◌≡◌, ℕ, ◌+◌, ◌<◌, ◌≤◌, ◌∙◌, Bool, true, false, if◌then◌else◌, List, [], ◌∷◌, ◌++◌, length, Option, Some, None, Ok, Err, is_some, pos, refl, ap, arith}
 use Rattle.std.specs.Prelude.{nat_eq}
-use Rattle.std.proofs.lemmas.Bool.{eqb-false, eqb-true}
+use Rattle.std.proofs.lemmas.Bool.{eqb-false}
 use Rattle.cp_text.specs.declared.token.Kind.{Kind}
 use Rattle.cp_text.specs.declared.token.Kind.TheVariants as kind
 use Rattle.cp_text.specs.declared.token.Mark.TheVariants as mark
 use Rattle.cp_tree.specs.declared.constant.Identifier.{Identifier}
 use Rattle.cp_tree.specs.declared.declaration.SystemKind.{SystemKind}
-use Rattle.cp_tree.specs.Syntax.{Simple, type_name, enumeration, subrange, TypeTerm, simple, array_of, set_type, record_of, FieldGroups, no_fields, more_fields, FieldGroup, fields, ConstantDefinition, TypeDefinition, VariableGroup, Part, constants, types, variables, Group, ParameterGroup, RoutineKind, procedure, function, Routine, System, Definition, type_definition, system_definition, SystemDefinition, ProgramPart, program_constants, program_types, program_variables}
+use Rattle.cp_tree.specs.Syntax.{Simple, enumeration, TypeTerm, simple, array_of, set_type, record_of, FieldGroups, no_fields, more_fields, FieldGroup, fields, ConstantDefinition, TypeDefinition, VariableGroup, Part, constants, types, variables, Group, ParameterGroup, RoutineKind, procedure, function, Routine, System, Definition, type_definition, system_definition, SystemDefinition, ProgramPart, program_constants, program_types, program_variables}
 use Rattle.cp_tree.specs.Spelling.{put_optional, put_all, put_type, put_field_groups, put_more_field_groups, put_field_group, put_type_definition, put_variable_group, put_part, put_group, put_identifier, put_body, put_routine_kind, put_routine, put_system, put_definition, put_system_definition, put_program_part}
 use Rattle.cp_tree.specs.SpellingIndexed.{AreAllIndexed, AreSomeIndexed, IsIndexedType, AreIndexedFieldGroups, AreIndexedMoreFieldGroups, IsIndexedFieldGroup, IsIndexedTypeDefinition, IsIndexedVariableGroup, IsIndexedPart, IsIndexedRoutine, IsIndexedSystem, IsIndexedDefinition, IsIndexedSystemDefinition, IsIndexedProgramPart}
 use Rattle.cp_tree.proofs.Grows.{grows_optional, grows_all, grows_names, grows_simple, grows_type, grows_field_groups, grows_more_field_groups, grows_field_group, grows_type_definition, grows_variable_group, grows_part, grows_group, grows_body, grows_parameters, grows_routine_kind, grows_routine, grows_system_definition}
@@ -28,15 +28,9 @@ use Rattle.cp_check.specs.Declarations.{reserve_name, reserve_names, add_names, 
 use Rattle.cp_check.specs.Headings as headings
 use Rattle.cp_check.specs.Routines as routines
 use Rattle.cp_check.specs.Systems as systems
+use Rattle.cp_resolved.proofs.agreeing.Agreeing.{other_number as different}
 
 -- ---- what is written at a token
-
-different : (n m : ℕ) → (n ≡ m → ⊥) → nat_eq n m ≡ false
-different n m apart = go (nat_eq n m) refl
-  where
-    go : (b : Bool) → nat_eq n m ≡ b → b ≡ false
-    go true e = absurd (apart (eqb-true n m e))
-    go false e = refl
 
 shape_before : (n : ℕ) (ds es : Shapes) (d : Shape) → shape_in n ds ≡ Some d → shape_in n (ds ++ es) ≡ Some d
 shape_before n [] es d h = absurd (let bad : None ≡ Some d = h in cc)
@@ -150,9 +144,8 @@ members_same s b k (i ∷ is) = members_same (member s b k i).scopes b (k + 1) i
 
 pub simple_same : (s : Scopes) (p : Spot) (t : Simple) → (simple_typed s p t).scopes.shapes ≡ s.shapes
 unfolding simple_typed
-simple_same s p (type_name at n) = refl
 simple_same s p (enumeration at is) = members_same s _ 0 is
-simple_same s p (subrange at a b) = refl
+simple_same s p _ = refl
 
 module _ (total : ℕ) where
   kept_one : (high low here : ℕ) (s : Scopes) (n : ℕ) (d : Shape) → n + here ≡ total → here ≤ high → low < here → Writes total high low s.shapes (keep s n d).shapes
@@ -305,8 +298,7 @@ module _ (total : ℕ) where
   closed_write : (high low here : ℕ) (r : Routine) (j : Judged (Option ValueType)) (u : Judged Use) (s : Scopes) → r.body.at + here ≡ total → here ≤ high → low < here → Writes total high low s.shapes (routines.closed_of r j u s).shapes
   unfolding routines.closed settle leave
   closed_write high low here r (Ok t) (Ok u) s begins up down = kept_one high low here (leave s) r.body.at _ begins up down
-  closed_write high low here r (Ok t) (Err fs) s begins up down = unchanged total high low s.shapes s.shapes refl
-  closed_write high low here r (Err fs) u s begins up down = unchanged total high low s.shapes s.shapes refl
+  closed_write high low here r _ _ s begins up down = unchanged total high low s.shapes s.shapes refl
 
 routine_group_same : (b : Bool) (s : Scopes) (g : Group) → (headings.group_step b s g).scopes.shapes ≡ s.shapes
 unfolding headings.group_step

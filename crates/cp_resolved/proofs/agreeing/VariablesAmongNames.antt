@@ -27,13 +27,14 @@ use Rattle.cp_resolved.specs.Enumerations.{in_type, in_part, each_in}
 use Rattle.cp_resolved.specs.Small.{Each, IsSmallType, IsSmallPart}
 use Rattle.cp_resolved.specs.Tokens.{all_tokens, type_tokens, part_tokens}
 use Rattle.cp_resolved.specs.Typed.{Tokens, SystemThere}
-use Rattle.cp_resolved.proofs.agreeing.Agreeing.{Appends, none_left, none_right, none_first, More, more_trans, with_more, with_there}
+use Rattle.cp_resolved.proofs.agreeing.Agreeing.{Appends, none_left, none_right, More, more_trans, with_more, with_there}
 use Rattle.cp_resolved.proofs.agreeing.AgreeingNames.{type_more, Agree}
 use Rattle.cp_resolved.proofs.agreeing.AgreeingTypes.{IsFew, TypedAs}
 use Rattle.cp_resolved.proofs.agreeing.AgreeingWritten.{each_left, each_right}
 use Rattle.cp_resolved.proofs.agreeing.AgreeingParameters.{shapes_added}
 use Rattle.cp_resolved.proofs.agreeing.AgreeingParts.{StepResult, names_result, all_named, constants_agree, type_reached, types_agree, Kind, variable_agrees, part_agrees}
 use Rattle.cp_resolved.proofs.declarations.Reserving.{named_all}
+use Rattle.cp_lawful.proofs.Once.{no_first as none_first}
 
 -- a variable among names, with those before it and those after it
 pub record StandsAmong (Is : ValueType → Type 0) (Rest : Names → Type 0) (x : Name) (ds : Names) : Type 0 where

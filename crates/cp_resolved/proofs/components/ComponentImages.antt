@@ -1,5 +1,5 @@
 -- The permanent cells of each component begin with the first values of its system type.
-use Rattle.std.proofs.Common.{◌≡◌, ℕ, zero, suc, ◌+◌, ◌<◌, ℤ, pos, Bool, true, false, ◌&&◌, if◌then◌else◌, List, [], ◌∷◌, ◌++◌, length, Some, slice_index_or, refl, sym, ap, subst, ◌∙◌, inl, inr, ◌⊎◌, append_assoc, arith, length-append}
+use Rattle.std.proofs.Common.{◌≡◌, ℕ, ◌+◌, ℤ, pos, Bool, true, false, ◌&&◌, if◌then◌else◌, List, [], ◌∷◌, ◌++◌, length, Some, refl, sym, ap, subst, ◌∙◌, inl, inr, ◌⊎◌, append_assoc, arith, length-append}
 use Rattle.std.specs.Prelude.{min}
 use Rattle.std.proofs.lemmas.Option.{none-some, same_Some}
 use Rattle.std.proofs.lemmas.Slice.Eq.{bytes_eq-Decides}
@@ -33,17 +33,11 @@ use Rattle.cp_resolved.specs.TreeLayouts.{slot_in, components_among}
 use Rattle.cp_resolved.proofs.frames.EncodedCells.{HoldEarlier, IsValued, AreValued, least_encoded, least_counted}
 use Rattle.cp_resolved.proofs.systems.OwnedParts.{cells_after, SlotIs, ContentIs}
 use Rattle.cp_resolved.proofs.systems.SystemsLaid.{PermanentIs, OwnIs}
+use Rattle.cp_resolved.proofs.agreeing.AgreeingWritten.{each_left}
+use Rattle.cp_resolved.proofs.frames.FrameCells.{index_right as skipped, index_left as inside}
+use Rattle.cp_resolved.proofs.systems.SystemKnown.{least_some as least_looked}
 
 -- ---- a block among cells
-
-skipped : (xs ys : List ℤ) (k : ℕ) → slice_index_or (xs ++ ys) (length xs + k) (pos 0) ≡ slice_index_or ys k (pos 0)
-skipped [] ys k = let e : 0 + k ≡ k = omega arith in ap (λ n. slice_index_or ys n (pos 0)) e
-skipped (x ∷ xs) ys k = let e : suc (length xs) + k ≡ suc (length xs + k) = omega arith in ap (λ n. slice_index_or (x ∷ (xs ++ ys)) n (pos 0)) e ∙ skipped xs ys k
-
-inside : (xs ys : List ℤ) (k : ℕ) → k < length xs → slice_index_or (xs ++ ys) k (pos 0) ≡ slice_index_or xs k (pos 0)
-inside [] ys k lt = absurd (omega (arith, lt))
-inside (x ∷ xs) ys zero lt = refl
-inside (x ∷ xs) ys (suc k) lt = inside xs ys k (omega (arith, lt))
 
 pub stands_between : (xs block ys : List ℤ) → StandsAt (xs ++ (block ++ ys)) (length xs) block
 stands_between xs block ys =
@@ -62,19 +56,6 @@ least_append (v ∷ vs) ws = go (has_components v.ty) (least_append vs ws)
         → (if b then least_of (vs ++ ws) else (v.name, holds (values.least v.ty)) ∷ least_of (vs ++ ws)) ≡ (if b then least_of vs else (v.name, holds (values.least v.ty)) ∷ least_of vs) ++ least_of ws
     go true e = e
     go false e = ap (λ bs. (v.name, holds (values.least v.ty)) ∷ bs) e
-
-least_looked : (x : Name) (t : Ty) (vs : List Variable) → look x (components_among false vs) ≡ Some t → content_of x (least_of vs) ≡ Some (holds (values.least t))
-least_looked x t [] e = absurd (none-some t e)
-least_looked x t (v ∷ vs) e = go (has_components v.ty) (least_looked x t vs) e
-  where
-    found : (b : Bool) → (look x (components_among false vs) ≡ Some t → content_of x (least_of vs) ≡ Some (holds (values.least t))) → (if b then Some v.ty else look x (components_among false vs)) ≡ Some t → (if b then Some (holds (values.least v.ty)) else content_of x (least_of vs)) ≡ Some (holds (values.least t))
-    found true rest f = ap (λ u. Some (holds (values.least u))) (same_Some v.ty t f)
-    found false rest f = rest f
-
-    go : (b : Bool) → (look x (components_among false vs) ≡ Some t → content_of x (least_of vs) ≡ Some (holds (values.least t))) → look x (if b then components_among false vs else v ∷ components_among false vs) ≡ Some t
-        → content_of x (if b then least_of vs else (v.name, holds (values.least v.ty)) ∷ least_of vs) ≡ Some (holds (values.least t))
-    go true rest f = rest f
-    go false rest f = found (same_name x v.name) rest f
 
 pub first_is : (m : SystemMeaning) (x : Name) (t : Ty) → look x (components_among false (own_variables m)) ≡ Some t → first_permanent m x ≡ values.least t
 first_is m x t e = ap value_held (ap (content_of x) (sym (least_append (parameter_variables m.parameters) m.variables)) ∙ least_looked x t (own_variables m) e)
@@ -104,35 +85,28 @@ looked P x t (v ∷ vs) h e = go (has_components v.ty) refl (looked P x t vs h.1
 
 -- ---- values alone
 
-both : (a b : Bool) → (a && b) ≡ true → (a ≡ true) × (b ≡ true)
+pub both : (a b : Bool) → (a && b) ≡ true → (a ≡ true) × (b ≡ true)
 both true b e = (refl, e)
 both false b e = absurd (let w : false ≡ true = e in cc)
 
 mutual
   free_valued : (t : Ty) → is_free t ≡ true → IsValued t
-  free_valued (named.ordinal r) e = tt
-  free_valued named.queue_type e = tt
-  free_valued (named.set_over r) e = tt
   free_valued (named.array_over r t) e = free_valued t (both (is_indexed r t) (is_free t) e).1
   free_valued (named.record_with us) e = fields_valued us (both (are_few (cells_in us)) (are_free us) e).1
   free_valued (named.component_of n) e = absurd (let w : false ≡ true = e in cc)
+  free_valued _ e = tt
 
   fields_valued : (us : FieldTypes) → are_free us ≡ true → AreValued us
   fields_valued named.no_field_types e = tt
   fields_valued (named.more_field_types x t us) e = let h = both (is_free t) (are_free us) e in (free_valued t h.0, fields_valued us h.1)
 
 standing_valued : (t : Ty) → is_standing t ≡ true → has_components t ≡ false → IsValued t
-standing_valued (named.ordinal r) e c = tt
-standing_valued named.queue_type e c = tt
-standing_valued (named.set_over r) e c = tt
 standing_valued (named.record_with us) e c = free_valued (named.record_with us) e
 standing_valued (named.component_of n) e c = absurd (let w : true ≡ false = c in cc)
-standing_valued (named.array_over r (named.ordinal q)) e c = tt
-standing_valued (named.array_over r named.queue_type) e c = tt
-standing_valued (named.array_over r (named.set_over q)) e c = tt
 standing_valued (named.array_over r (named.array_over q t)) e c = free_valued (named.array_over q t) (both (is_indexed r (named.array_over q t)) (is_free (named.array_over q t)) e).1
 standing_valued (named.array_over r (named.record_with us)) e c = free_valued (named.record_with us) (both (is_indexed r (named.record_with us)) (is_free (named.record_with us)) e).1
 standing_valued (named.array_over r (named.component_of n)) e c = absurd (let w : true ≡ false = c in cc)
+standing_valued _ e c = tt
 
 -- ---- the cells of a system type
 
@@ -141,10 +115,6 @@ unfolding contents_least
 contents_append ts [] ds = refl
 contents_append ts (content.Variable v ∷ cs) ds = ap (λ zs. kinds.least ts v ++ zs) (contents_append ts cs ds) ∙ sym (append_assoc (kinds.least ts v) (contents_least ts cs) (contents_least ts ds))
 contents_append ts (content.Component ∷ cs) ds = ap (λ zs. pos 0 ∷ zs) (contents_append ts cs ds)
-
-each_left : {A : Type 0} (P : A → Type 0) (xs ys : List A) → Each P (xs ++ ys) → Each P xs
-each_left P [] ys h = tt
-each_left P (x ∷ xs) ys h = (h.0, each_left P xs ys h.1)
 
 module _ (k : Numbering) (end : Layer) (earlier : HoldEarlier end.types) where
   cells_counted : (n m : ℕ) (cs : List Content) → n ≡ min m most → Each (ContentIs k end.types) cs → cells_after end.types n cs ≡ min (m + length (contents_least end.types cs)) most

@@ -8,13 +8,15 @@ use Rattle.cp_layout.specs.Kinds.{Compounds}
 use Rattle.cp_layout.specs.Layers.{Owned, System}
 use Rattle.cp_layout.specs.LaidComponents.{Listing, nothing_listed, contents_least, next_kind, with_component, again_and_again, contained_by, system_by, listed_below, program_listed}
 use Rattle.cp_meaning.specs.Names.{Name}
-use Rattle.cp_meaning.specs.Types.{Ty, ordinal, queue_type, set_over, array_over, record_with, component_of, length_of_range}
+use Rattle.cp_meaning.specs.Types.{Ty, array_over, component_of, length_of_range}
 use Rattle.cp_meaning.specs.Declarations.{Variable}
 use Rattle.cp_meaning.specs.Systems.{system_of}
 use Rattle.cp_meaning.specs.Components.{Path, Listed, step_down, listed_elements, listed_variable, listed_variables, listed}
 use Rattle.cp_resolved.specs.TreeLayouts.{initial_or}
 use Rattle.cp_resolved.proofs.names.Entries.{there, past_there}
 use Rattle.cp_resolved.proofs.systems.OwnedParts.{contained_of, all_contained, AreLow}
+use Rattle.cp_resolved.proofs.components.Subtrees.{low_left, low_right}
+use Rattle.cp_resolved.proofs.frames.EncodedCells.{less as before}
 
 -- ---- one component after the other
 
@@ -27,20 +29,6 @@ once_more : (n : ℕ) (one : Listing → Listing) (c : Listing) → again_and_ag
 unfolding again_and_again
 once_more zero one c = refl
 once_more (suc n) one c = ap one (once_more n one c)
-
-low_left : (s : ℕ) (cs ds : List Contained) → AreLow s (cs ++ ds) → AreLow s cs
-low_left s [] ds h = tt
-low_left s (c ∷ cs) ds h = (h.0, low_left s cs ds h.1)
-
-low_right : (s : ℕ) (cs ds : List Contained) → AreLow s (cs ++ ds) → AreLow s ds
-low_right s [] ds h = h
-low_right s (c ∷ cs) ds h = low_right s cs ds h.1
-
-before : (n bound : ℕ) → n < suc bound → (n ≡ bound → ⊥) → n < bound
-before zero zero lt other = absurd (other refl)
-before zero (suc bound) lt other = omega arith
-before (suc n) zero lt other = absurd (omega (arith, lt))
-before (suc n) (suc bound) lt other = let h = before n bound (omega (arith, lt)) (λ e. other (ap suc e)) in omega (arith, h)
 
 module _ (p : Program) (ts : Compounds) (ss : List System) (o : Owned) (last : ℕ) where
   abbrev pub owned_in : Option System → Owned
@@ -82,15 +70,7 @@ module _ (p : Program) (ts : Compounds) (ss : List System) (o : Owned) (last : �
     unfolding contained_by again_and_again
     variable_same above x (component_of j) c h = same j h.0 (step_down above x None) c
     variable_same above x (array_over r (component_of j)) c h = elements_same j h.0 above x (length_of_range r) 0 c
-    variable_same above x (array_over r (ordinal q)) c h = refl
-    variable_same above x (array_over r queue_type) c h = refl
-    variable_same above x (array_over r (set_over q)) c h = refl
-    variable_same above x (array_over r (array_over q u)) c h = refl
-    variable_same above x (array_over r (record_with us)) c h = refl
-    variable_same above x (ordinal r) c h = refl
-    variable_same above x queue_type c h = refl
-    variable_same above x (set_over r) c h = refl
-    variable_same above x (record_with us) c h = refl
+    variable_same above x _ c h = refl
 
     variables_same : (above : Path) (vs : List Variable) (c : Listing) → AreLow bound (all_contained vs) → contained_by one (all_contained vs) c ≡ steps c (listed_variables inner above vs)
     unfolding contained_by

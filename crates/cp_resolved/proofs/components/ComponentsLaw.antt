@@ -16,8 +16,7 @@ use Rattle.cp_layout.specs.Layers as layers
 use Rattle.cp_layout.specs.Layers.{System}
 use Rattle.cp_slots.specs.Tables.{Tables, component_at, process_at, no_component, no_process}
 use Rattle.cp_meaning.specs.Names.{Name, same_name}
-use Rattle.cp_meaning.specs.Types as named_types
-use Rattle.cp_meaning.specs.Types.{Ty, Range, array_over, component_of, has_components, length_of_range}
+use Rattle.cp_meaning.specs.Types.{Ty, array_over, component_of, has_components}
 use Rattle.cp_meaning.specs.Values as values
 use Rattle.cp_meaning.specs.Scopes.{find, permanent_variable}
 use Rattle.cp_meaning.specs.Declarations.{Parameter}
@@ -47,16 +46,9 @@ use Rattle.cp_resolved.proofs.systems.OwnedParts.{FirstIs}
 use Rattle.cp_resolved.proofs.sound.SoundComponents.{tabled, images, initial_in, listed, layer_of}
 use Rattle.cp_resolved.proofs.systems.SystemsLaid.{PermanentIs}
 use Rattle.cp_resolved.proofs.laid.Whole.{program_laid}
+use Rattle.cp_resolved.proofs.agreeing.AgreeingWritten.{each_left, each_right}
 
 -- ---- variables and parameters by their names
-
-each_right : {A : Type 0} (P : A → Type 0) (xs ys : List A) → Each P (xs ++ ys) → Each P ys
-each_right P [] ys h = h
-each_right P (x ∷ xs) ys h = each_right P xs ys h.1
-
-each_left : {A : Type 0} (P : A → Type 0) (xs ys : List A) → Each P (xs ++ ys) → Each P xs
-each_left P [] ys h = tt
-each_left P (x ∷ xs) ys h = (h.0, each_left P xs ys h.1)
 
 -- what is visible of a name has one type
 one_type : (t u : Ty) → Some (permanent_variable t) ≡ Some (permanent_variable u) → t ≡ u
@@ -162,30 +154,14 @@ module _ (g : Ground) (t : Tree) (e : plain g.tables ≡ laid t) (h : HasCompone
   Lies of first u number = ContainedAt (layouts_of t) of first u number
 
   no_components : (of first : ℕ) (u : Ty) (number : Option ℕ → ℕ) → has_components u ≡ false → Lies of first u number
-  no_components of first (named_types.ordinal q) number w = tt
-  no_components of first named_types.queue_type number w = tt
-  no_components of first (named_types.set_over q) number w = tt
-  no_components of first (named_types.record_with us) number w = tt
   no_components of first (component_of k) number w = absurd (let z : true ≡ false = w in cc)
-  no_components of first (array_over q (named_types.ordinal v)) number w = tt
-  no_components of first (array_over q named_types.queue_type) number w = tt
-  no_components of first (array_over q (named_types.set_over v)) number w = tt
-  no_components of first (array_over q (named_types.array_over v u)) number w = tt
-  no_components of first (array_over q (named_types.record_with us)) number w = tt
   no_components of first (array_over q (component_of k)) number w = absurd (let z : true ≡ false = w in cc)
+  no_components of first _ number w = tt
 
   parts_lie : (n : ℕ) (y : Listed) (x : Name) (first : ℕ) (u : Ty) → y.system ≤ program_system p → slice_get (components_of p) n ≡ Some y → (f : FirstIs ss (system_of p y.system).variables x first) → f.variable.ty ≡ u → Lies n first u (λ i. component_with (step_down y.path x i) (first_components p))
   parts_lie n y x first (component_of k) le at f same = one_lies p h.formed.paths (low t h.plain) ss (count_same t h.plain) (counted t h.plain) few_listed n y x first k le at f same
   parts_lie n y x first (array_over q (component_of k)) le at f same = λ j lt. each_lies p h.formed.paths (low t h.plain) ss (count_same t h.plain) (counted t h.plain) few_listed n y x first q k j le at f same lt
-  parts_lie n y x first (named_types.ordinal q) le at f same = tt
-  parts_lie n y x first named_types.queue_type le at f same = tt
-  parts_lie n y x first (named_types.set_over q) le at f same = tt
-  parts_lie n y x first (named_types.record_with us) le at f same = tt
-  parts_lie n y x first (array_over q (named_types.ordinal v)) le at f same = tt
-  parts_lie n y x first (array_over q named_types.queue_type) le at f same = tt
-  parts_lie n y x first (array_over q (named_types.set_over v)) le at f same = tt
-  parts_lie n y x first (array_over q (named_types.array_over v u)) le at f same = tt
-  parts_lie n y x first (array_over q (named_types.record_with us)) le at f same = tt
+  parts_lie n y x first _ le at f same = tt
 
   abbrev at_names : ℕ → layers.Names
   at_names j = (parts_at t j).names

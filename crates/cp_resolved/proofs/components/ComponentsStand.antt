@@ -69,8 +69,7 @@ record Steps (c d : Listing) (k : SystemKind) (initial : ℕ) (image : List ℤ)
 
 one_step : (c : Listing) (k : SystemKind) (initial : ℕ) (image : List ℤ) (system : ℕ) → Steps c (with_component (next_kind c k initial).1 (next_kind c k initial).0 image system) k initial image system
 one_step c system_kind.Process initial image system = record { components = refl; permanents = refl; processes = refl; monitors = λ m e. omega (arith, e) }
-one_step c system_kind.Monitor initial image system = record { components = refl; permanents = refl; processes = sym (append-nil c.processes); monitors = λ m e. omega (arith, e) }
-one_step c system_kind.Class initial image system = record { components = refl; permanents = refl; processes = sym (append-nil c.processes); monitors = λ m e. omega (arith, e) }
+one_step c x initial image system = record { components = refl; permanents = refl; processes = sym (append-nil c.processes); monitors = λ m e. omega (arith, e) }
 
 -- what only grows
 pub record Grows (c d : Listing) : Type 0 where
@@ -165,19 +164,16 @@ module _ (p : Program) where
 
     made_first : (k : SystemKind) (n : ℕ) (rs : List named.Process) → process_first k n rs ≡ named_made k n ++ rs
     made_first system_kind.Process n rs = refl
-    made_first system_kind.Monitor n rs = refl
-    made_first system_kind.Class n rs = refl
+    made_first _ n rs = refl
 
     made_same : (k : SystemKind) (n i : ℕ) → AreProcesses (process_made k n i) (named_made k n)
     made_same system_kind.Process n i = (refl, tt)
-    made_same system_kind.Monitor n i = tt
-    made_same system_kind.Class n i = tt
+    made_same _ n i = tt
 
     processes_append : (as' bs : List Process) (cs ds : List named.Process) → AreProcesses as' cs → AreProcesses bs ds → AreProcesses (as' ++ bs) (cs ++ ds)
     processes_append [] bs [] ds h i = i
-    processes_append [] bs (c ∷ cs) ds h i = absurd h
-    processes_append (a ∷ as') bs [] ds h i = absurd h
     processes_append (a ∷ as') bs (c ∷ cs) ds h i = (h.0, processes_append as' bs cs ds h.1 i)
+    processes_append _ bs _ ds h i = absurd h
 
     processes_same : (c : Listing) (rs : List named.Process) (xs : List Listed) → AreProcesses c.processes rs → AreProcesses (all_made c xs).processes (rs ++ processes_from (length c.components) (map (first_component p) xs))
     processes_same c rs [] h = rw (append-nil rs) h
@@ -294,9 +290,8 @@ module _ (p : Program) where
 
         processes_even : (qs : List Process) (rs : List named.Process) → AreProcesses qs rs → length qs ≡ length rs
         processes_even [] [] e = refl
-        processes_even [] (s ∷ rs) e = absurd e
-        processes_even (q ∷ qs) [] e = absurd e
         processes_even (q ∷ qs) (s ∷ rs) e = ap suc (processes_even qs rs e.1)
+        processes_even _ _ e = absurd e
 
         process_same : (qs : List Process) (rs : List named.Process) (n : ℕ) → n < length qs → AreProcesses qs rs → (slice_index_or qs n tables.no_process).component ≡ (slice_index_or rs n named.no_process).component
         process_same [] rs n lt e = absurd (omega (arith, lt))

@@ -26,29 +26,25 @@ use Rattle.cp_resolved.proofs.components.Subtrees.{Subtree, subtree_of, listed_e
 
 -- ---- paths
 
-element_told : (o q : Option ℕ) → same_element o q ≡ true → o ≡ q
+pub element_told : (o q : Option ℕ) → same_element o q ≡ true → o ≡ q
 element_told None None h = refl
-element_told None (Some m) h = cc
-element_told (Some n) None h = cc
 element_told (Some n) (Some m) h = ap Some (eqb-true n m h)
+element_told x y h = cc
 
-three : (a b c : Bool) → (a && b && c) ≡ true → (a ≡ true) × (b ≡ true) × (c ≡ true)
+pub three : (a b c : Bool) → (a && b && c) ≡ true → (a ≡ true) × (b ≡ true) × (c ≡ true)
 three true true true h = (refl, refl, refl)
-three true true false h = cc
-three true false c h = cc
-three false b c h = cc
+three x y z h = cc
 
 three_true : (a b c : Bool) → a ≡ true → b ≡ true → c ≡ true → (a && b && c) ≡ true
 three_true a b c h k l = rw (h, k, l) refl
 
-path_told : (a b : Path) → same_path a b ≡ true → a ≡ b
+pub path_told : (a b : Path) → same_path a b ≡ true → a ≡ b
 path_told [] [] h = refl
-path_told [] (t ∷ b) h = cc
-path_told (s ∷ a) [] h = cc
 path_told (s ∷ a) (t ∷ b) h =
     let parts = three (same_name s.name t.name) (same_element s.element t.element) (same_path a b) h in
     let same : s ≡ t = ap₂ (λ x o. (let r : PathStep = record { name = x; element = o } in r)) ((bytes_eq-Decides s.name t.name).0 parts.0) (element_told s.element t.element parts.1) in
     ap₂ (λ u us. u ∷ us) same (path_told a b parts.2)
+path_told x y h = cc
 
 element_same : (o : Option ℕ) → same_element o o ≡ true
 element_same None = refl

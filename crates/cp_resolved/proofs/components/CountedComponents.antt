@@ -63,15 +63,7 @@ module _ (g f : ℕ → ℕ) (inner : ℕ → Path → List Listed) (one : (n : 
   variable_weighs : (above : Path) (x : Name) (t : Ty) → weight g (listed_variable inner above x t) ≡ weight_of f t
   variable_weighs above x (named.component_of j) = one j (step_down above x None)
   variable_weighs above x (named.array_over r (named.component_of j)) = elements_weigh above x j (length_of_range r) 0
-  variable_weighs above x (named.array_over r (named.ordinal q)) = refl
-  variable_weighs above x (named.array_over r named.queue_type) = refl
-  variable_weighs above x (named.array_over r (named.set_over q)) = refl
-  variable_weighs above x (named.array_over r (named.array_over q u)) = refl
-  variable_weighs above x (named.array_over r (named.record_with us)) = refl
-  variable_weighs above x (named.ordinal r) = refl
-  variable_weighs above x named.queue_type = refl
-  variable_weighs above x (named.set_over r) = refl
-  variable_weighs above x (named.record_with us) = refl
+  variable_weighs above x _ = refl
 
   pub variables_weigh : (above : Path) (vs : List Variable) → weight g (listed_variables inner above vs) ≡ all_weights f vs
   variables_weigh above [] = refl
@@ -137,15 +129,13 @@ module _ (pick : Census → ℕ) (adds : Adds pick) (ss : Shapes) where
 
 component_count : (m : ℕ) (k : SystemKind) (names : Scope) (h : Heading) (c : Census) (need : ℕ) → (component_census m k (Some (system_shape names h c need))).components ≡ times m (plus c.components 1)
 component_count m system_kind.Class names h c need = refl
-component_count m system_kind.Monitor names h c need = refl
-component_count m system_kind.Process names h c need = refl
+component_count m _ names h c need = refl
 
 one_more : (z : ℤ) → natural_of (z +ℤ pos 1) ≤ unsigned_abs z + 1
-one_more (pos n) = omega arith
-one_more (negsuc zero) = omega arith
 one_more (negsuc (suc n)) =
     let e : natural_of (negsuc (suc n) +ℤ pos 1) ≡ 0 = ap natural_of (+ℤ_one (negsuc (suc n))) in
     omega (arith, e)
+one_more x = omega arith
 
 pub values_few : (k : Tokens) (q : named.Range) (r : Range) → RangeIs k q r → min (length_of_range q) 8193 ≤ count_of r
 values_few k q r h =
@@ -195,15 +185,7 @@ module _ (tokens : Tokens) (q : Spot) (ss : Shapes) (f : ℕ → ℕ) (bound : �
   type_weighs : (t : Ty) (u : ValueType) → AreLow bound (contained_of t) → TypeIs (W tokens ss) t u → (variable_census u ss).components ≤ 8192 → weight_of f t ≤ (variable_census u ss).components
   type_weighs (named.component_of n) u low h few = component_weighs n u low.0 h few
   type_weighs (named.array_over r (named.component_of n)) u low h few = array_weighs r n u low.0 h few
-  type_weighs (named.array_over r (named.ordinal i)) u low h few = omega arith
-  type_weighs (named.array_over r named.queue_type) u low h few = omega arith
-  type_weighs (named.array_over r (named.set_over i)) u low h few = omega arith
-  type_weighs (named.array_over r (named.array_over i t)) u low h few = omega arith
-  type_weighs (named.array_over r (named.record_with us)) u low h few = omega arith
-  type_weighs (named.ordinal r) u low h few = omega arith
-  type_weighs named.queue_type u low h few = omega arith
-  type_weighs (named.set_over r) u low h few = omega arith
-  type_weighs (named.record_with us) u low h few = omega arith
+  type_weighs x u low h few = omega arith
 
   all_weigh : (vs : List Variable) → AreLow bound (all_contained vs) → Each (Weighs (λ c. c.components) (λ a b. refl) ss tokens q f) vs
   all_weigh [] low = tt

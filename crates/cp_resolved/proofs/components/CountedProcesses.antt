@@ -41,22 +41,18 @@ weight_by tokens k = process_weight (tokens.kinds k)
 
 -- no system type may own processes
 no_process : (o k : SystemKind) → may_own (Some o) k ≡ true → process_weight k ≡ 0
-no_process o system_kind.Class e = refl
-no_process o system_kind.Monitor e = refl
 no_process system_kind.Class system_kind.Process e = absurd (let bad : false ≡ true = e in cc)
-no_process system_kind.Monitor system_kind.Process e = absurd (let bad : false ≡ true = e in cc)
-no_process system_kind.Process system_kind.Process e = absurd (let bad : false ≡ true = e in cc)
+no_process x system_kind.Process e = absurd (let bad : false ≡ true = e in cc)
+no_process o _ e = refl
 
 process_count : (m : ℕ) (k : SystemKind) (names : Scope) (h : Heading) (c : Census) (need : ℕ) → (component_census m k (Some (system_shape names h c need))).processes ≡ m * process_weight k
 process_count m system_kind.Class names h c need = omega arith
-process_count m system_kind.Monitor names h c need = omega arith
-process_count m system_kind.Process names h c need = omega arith
+process_count m x names h c need = omega arith
 
 -- as many as there are elements, where each is a process or none is
 several : (l m s : ℕ) (k : SystemKind) → min l 8193 ≤ m → s ≤ process_weight k → m * process_weight k ≤ 8192 → l * s ≤ m * process_weight k
-several l m s system_kind.Class h one few = let a = mul-le l s l 0 (omega arith) one in omega (arith, a)
-several l m s system_kind.Monitor h one few = let a = mul-le l s l 0 (omega arith) one in omega (arith, a)
 several l m s system_kind.Process h one few = let a = mul-le l s l 1 (omega arith) one in omega (arith, a, h, few)
+several l m s x h one few = let a = mul-le l s l 0 (omega arith) one in omega (arith, a)
 
 module _ (tokens : Tokens) (f : ℕ → ℕ) (bound : ℕ) (one : (n : ℕ) → n < bound → f n ≤ process_weight (tokens.kinds n)) where
   -- ---- in a system type
@@ -70,15 +66,7 @@ module _ (tokens : Tokens) (f : ℕ → ℕ) (bound : ℕ) (one : (n : ℕ) → 
       let z : f n ≡ 0 = component_none o n low.0 may in
       let a : length_of_range r * f n ≡ length_of_range r * 0 = ap (λ m. length_of_range r * m) z in
       omega (arith, a)
-  type_none o (named.array_over r (named.ordinal i)) low may = refl
-  type_none o (named.array_over r named.queue_type) low may = refl
-  type_none o (named.array_over r (named.set_over i)) low may = refl
-  type_none o (named.array_over r (named.array_over i t)) low may = refl
-  type_none o (named.array_over r (named.record_with us)) low may = refl
-  type_none o (named.ordinal r) low may = refl
-  type_none o named.queue_type low may = refl
-  type_none o (named.set_over r) low may = refl
-  type_none o (named.record_with us) low may = refl
+  type_none o _ low may = refl
 
   none_inside : (o : SystemKind) (ss : Shapes) (vs : List Variable) (ds : Names) → AreLow bound (all_contained vs) → Declares tokens (spot.Permanent (Some o)) ss vs ds → all_weights f vs ≡ 0
   none_inside o ss [] ds low h = refl
@@ -116,15 +104,7 @@ module _ (tokens : Tokens) (f : ℕ → ℕ) (bound : ℕ) (one : (n : ℕ) → 
     type_weighs : (t : Ty) (u : ValueType) → AreLow bound (contained_of t) → TypeIs (W tokens ss) t u → (variable_census u ss).processes ≤ 8192 → weight_of f t ≤ (variable_census u ss).processes
     type_weighs (named.component_of n) u low h few = component_weighs n u low.0 h few
     type_weighs (named.array_over r (named.component_of n)) u low h few = array_weighs r n u low.0 h few
-    type_weighs (named.array_over r (named.ordinal i)) u low h few = omega arith
-    type_weighs (named.array_over r named.queue_type) u low h few = omega arith
-    type_weighs (named.array_over r (named.set_over i)) u low h few = omega arith
-    type_weighs (named.array_over r (named.array_over i t)) u low h few = omega arith
-    type_weighs (named.array_over r (named.record_with us)) u low h few = omega arith
-    type_weighs (named.ordinal r) u low h few = omega arith
-    type_weighs named.queue_type u low h few = omega arith
-    type_weighs (named.set_over r) u low h few = omega arith
-    type_weighs (named.record_with us) u low h few = omega arith
+    type_weighs x u low h few = omega arith
 
     all_weigh : (vs : List Variable) → AreLow bound (all_contained vs) → Each (Weighs (λ c. c.processes) (λ a b. refl) ss tokens (spot.Permanent None) f) vs
     all_weigh [] low = tt

@@ -23,16 +23,15 @@ use Rattle.cp_resolved.proofs.components.Listing.{program_keeps}
 
 -- ---- what types and routines leave of the permanent cells
 
-enumerated_owned : (l : Layer) (b : CellBase) (n : ℕ) (is : List Identifier) → (enumerated l b n is).owned ≡ l.owned
+pub enumerated_owned : (l : Layer) (b : CellBase) (n : ℕ) (is : List Identifier) → (enumerated l b n is).owned ≡ l.owned
 unfolding enumerated
 enumerated_owned l b n [] = refl
 enumerated_owned l b n (i ∷ is) = enumerated_owned (with_constant l i.name (meaning.Constant b (as_integer n))) b (n + 1) is
 
-simple_owned : (l : Layer) (s : Simple) → (simple_type l s).1.owned ≡ l.owned
+pub simple_owned : (l : Layer) (s : Simple) → (simple_type l s).1.owned ≡ l.owned
 unfolding simple_type
-simple_owned l (syntax.type_name at x) = refl
 simple_owned l (syntax.enumeration at is) = enumerated_owned l (enumeration_base (length l.constants) (length is)) 0 is
-simple_owned l (syntax.subrange at c d) = refl
+simple_owned l _ = refl
 
 mutual
   unfolding written_type field_groups field_group
@@ -60,17 +59,17 @@ unfolding type_definitions
 definitions_owned l [] = refl
 definitions_owned l (d ∷ ds) = definitions_owned (type_definition l d) ds ∙ written_owned l d.value
 
-locals_owned : (l : Layer) (t : CellType) (is : List Identifier) → (locals_of l t is).owned ≡ l.owned
+pub locals_owned : (l : Layer) (t : CellType) (is : List Identifier) → (locals_of l t is).owned ≡ l.owned
 unfolding locals_of
 locals_owned l t [] = refl
 locals_owned l t (i ∷ is) = locals_owned (local l i.name t) t is
 
-local_variables_owned : (l : Layer) (gs : List VariableGroup) → (local_variables l gs).owned ≡ l.owned
+pub local_variables_owned : (l : Layer) (gs : List VariableGroup) → (local_variables l gs).owned ≡ l.owned
 unfolding local_variables
 local_variables_owned l [] = refl
 local_variables_owned l (g ∷ gs) = local_variables_owned (local_group l g) gs ∙ locals_owned (written_type l g.variable_type).1 (written_type l g.variable_type).0 g.names ∙ written_owned l g.variable_type
 
-local_part_owned : (l : Layer) (p : Part) → (local_part l p).owned ≡ l.owned
+pub local_part_owned : (l : Layer) (p : Part) → (local_part l p).owned ≡ l.owned
 local_part_owned l (syntax.constants at ds) = constants_owned l ds
 local_part_owned l (syntax.types at ds) = definitions_owned l ds
 local_part_owned l (syntax.variables at gs) = local_variables_owned l gs
@@ -80,17 +79,17 @@ unfolding local_parts
 local_parts_owned l [] = refl
 local_parts_owned l (p ∷ ps) = local_parts_owned (local_part l p) ps ∙ local_part_owned l p
 
-constant_parameters_owned : (l : Layer) (ps : Parameters) (t : CellType) (is : List Identifier) → (constant_parameters_of l ps t is).1.owned ≡ l.owned
+pub constant_parameters_owned : (l : Layer) (ps : Parameters) (t : CellType) (is : List Identifier) → (constant_parameters_of l ps t is).1.owned ≡ l.owned
 unfolding constant_parameters_of
 constant_parameters_owned l ps t [] = refl
 constant_parameters_owned l ps t (i ∷ is) = constant_parameters_owned (constant_parameter l ps i.name t).1 (constant_parameter l ps i.name t).0 t is
 
-constant_groups_owned : (l : Layer) (ps : Parameters) (gs : List Group) → (constant_groups l ps gs).1.owned ≡ l.owned
+pub constant_groups_owned : (l : Layer) (ps : Parameters) (gs : List Group) → (constant_groups l ps gs).1.owned ≡ l.owned
 unfolding constant_groups
 constant_groups_owned l ps [] = refl
 constant_groups_owned l ps (g ∷ gs) = constant_groups_owned (constant_group l ps g).1 (constant_group l ps g).0 gs ∙ constant_parameters_owned l ps (named_type l g.type_name.name) g.names
 
-var_parameters_owned : (l : Layer) (ps : Parameters) (t : CellType) (is : List Identifier) → (var_parameters_of l ps t is).1.owned ≡ l.owned
+pub var_parameters_owned : (l : Layer) (ps : Parameters) (t : CellType) (is : List Identifier) → (var_parameters_of l ps t is).1.owned ≡ l.owned
 unfolding var_parameters_of
 var_parameters_owned l ps t [] = refl
 var_parameters_owned l ps t (i ∷ is) = var_parameters_owned (var_parameter l ps i.name t).1 (var_parameter l ps i.name t).0 t is
@@ -102,7 +101,7 @@ parameter_group_owned l ps g = go g.is_var
     go true = var_parameters_owned l ps (named_type l g.group.type_name.name) g.group.names
     go false = constant_parameters_owned l ps (named_type l g.group.type_name.name) g.group.names
 
-parameter_groups_owned : (l : Layer) (ps : Parameters) (gs : List ParameterGroup) → (parameter_groups l ps gs).1.owned ≡ l.owned
+pub parameter_groups_owned : (l : Layer) (ps : Parameters) (gs : List ParameterGroup) → (parameter_groups l ps gs).1.owned ≡ l.owned
 unfolding parameter_groups
 parameter_groups_owned l ps [] = refl
 parameter_groups_owned l ps (g ∷ gs) = parameter_groups_owned (parameter_group l ps g).1 (parameter_group l ps g).0 gs ∙ parameter_group_owned l ps g
@@ -115,7 +114,7 @@ heading_owned l x (syntax.function gs i) = constant_groups_owned l [] gs
 pub body_owned : (l : Layer) (b : Body) → (body l b).owned ≡ l.owned
 body_owned l b = ap (λ (j : Layer). j.owned) (statements_grew l b.statements).1
 
-routine_owned : (l : Layer) (r : Routine) → (routine l r).owned ≡ l.owned
+pub routine_owned : (l : Layer) (r : Routine) → (routine l r).owned ≡ l.owned
 routine_owned l r =
     let x = opened l r.name.name in
     let h = heading x.1 r.name.name r.kind in
@@ -185,9 +184,8 @@ pub record First (initial system : ℕ) (c : Listing) : Type 0 where
   pub is : component.system ≡ system
 
 first_step : (initial system : ℕ) (k : SystemKind) (c : Listing) (n : ℕ) (image : List ℤ) (s : ℕ) → First initial system c → First initial system (with_component (next_kind c k n).1 (next_kind c k n).0 image s)
-first_step initial system system_kind.Class c n image s h = record { process = h.process; component = h.component; there = still_there c.components _ 0 h.component h.there; is = h.is }
-first_step initial system system_kind.Monitor c n image s h = record { process = h.process; component = h.component; there = still_there c.components _ 0 h.component h.there; is = h.is }
 first_step initial system system_kind.Process c n image s h = record { process = still_there c.processes _ 0 (process_at 0 initial) h.process; component = h.component; there = still_there c.components _ 0 h.component h.there; is = h.is }
+first_step initial system _ c n image s h = record { process = h.process; component = h.component; there = still_there c.components _ 0 h.component h.there; is = h.is }
 
 pub program_first : (ts : Compounds) (ss : List System) (o : Owned) (initial : ℕ) → First initial (length ss) (program_listed ts ss o initial)
 program_first ts ss o initial =

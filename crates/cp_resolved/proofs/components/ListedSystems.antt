@@ -6,7 +6,7 @@ use Rattle.cp_tree.specs.Syntax.{Program, Tree}
 use Rattle.cp_slots.specs.Tables.{Tables, component_at}
 use Rattle.cp_lawful.proofs.Earlier.{TyBelow, VariablesBelow, systems_below}
 use Rattle.cp_meaning.specs.Names.{Name}
-use Rattle.cp_meaning.specs.Types.{Ty, ordinal, queue_type, set_over, array_over, record_with, component_of, length_of_range}
+use Rattle.cp_meaning.specs.Types.{Ty, array_over, component_of, length_of_range}
 use Rattle.cp_meaning.specs.Declarations.{Variable}
 use Rattle.cp_meaning.specs.Systems.{program_system, system_of}
 use Rattle.cp_meaning.specs.Components.{Path, Listed, step_down, listed_elements, listed_variable, listed_variables, listed, components_of}
@@ -41,15 +41,7 @@ module _ (inner : ℕ → Path → List Listed) (k : ℕ) (low : (j : ℕ) → j
   variable_below : (above : Path) (x : Name) (u : Ty) → TyBelow k u → AreBelow k (listed_variable inner above x u)
   variable_below above x (component_of j) h = low j h (step_down above x None)
   variable_below above x (array_over q (component_of j)) h = elements_below j h above x (length_of_range q) 0
-  variable_below above x (array_over q (ordinal s)) h = none_below k
-  variable_below above x (array_over q queue_type) h = none_below k
-  variable_below above x (array_over q (set_over s)) h = none_below k
-  variable_below above x (array_over q (array_over s u)) h = none_below k
-  variable_below above x (array_over q (record_with us)) h = none_below k
-  variable_below above x (ordinal s) h = none_below k
-  variable_below above x queue_type h = none_below k
-  variable_below above x (set_over s) h = none_below k
-  variable_below above x (record_with us) h = none_below k
+  variable_below above x _ h = none_below k
 
   variables_below : (above : Path) (vs : List Variable) → VariablesBelow k vs → AreBelow k (listed_variables inner above vs)
   variables_below above [] h = none_below k

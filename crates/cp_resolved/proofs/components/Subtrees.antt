@@ -8,7 +8,7 @@ use Rattle.cp_layout.specs.Kinds.{most, plus, times}
 use Rattle.cp_layout.specs.Layers.{System}
 use Rattle.cp_layout.specs.LaidExpressions.{count_in}
 use Rattle.cp_meaning.specs.Names.{Name}
-use Rattle.cp_meaning.specs.Types.{Ty, ordinal, queue_type, set_over, array_over, record_with, component_of, length_of_range}
+use Rattle.cp_meaning.specs.Types.{Ty, array_over, component_of, length_of_range}
 use Rattle.cp_meaning.specs.Declarations.{Variable}
 use Rattle.cp_meaning.specs.Systems.{system_of}
 use Rattle.cp_meaning.specs.Components.{Path, Listed, step_down, listed_elements, listed_variable, listed_variables, listed}
@@ -25,11 +25,11 @@ either_place (y ∷ xs) ys (suc n) x e = go (either_place xs ys n x e)
     go (inl f) = inl f
     go (inr f) = let p = f.1 in inr (f.0, omega (arith, p), f.2)
 
-low_left : (s : ℕ) (cs ds : List Contained) → AreLow s (cs ++ ds) → AreLow s cs
+pub low_left : (s : ℕ) (cs ds : List Contained) → AreLow s (cs ++ ds) → AreLow s cs
 low_left s [] ds h = tt
 low_left s (c ∷ cs) ds h = (h.0, low_left s cs ds h.1)
 
-low_right : (s : ℕ) (cs ds : List Contained) → AreLow s (cs ++ ds) → AreLow s ds
+pub low_right : (s : ℕ) (cs ds : List Contained) → AreLow s (cs ++ ds) → AreLow s ds
 low_right s [] ds h = h
 low_right s (c ∷ cs) ds h = low_right s cs ds h.1
 
@@ -86,15 +86,7 @@ module _ (p : Program) (low : (k : ℕ) → AreLow k (all_contained (system_of p
     variable_sub : (above : Path) (y : Name) (t : Ty) (n : ℕ) (x : Listed) → AreLow bound (contained_of t) → slice_get (listed_variable inner above y t) n ≡ Some x → Subtree (listed_variable inner above y t) n x
     variable_sub above y (component_of j) n x h e = sub j h.0 (step_down above y None) n x e
     variable_sub above y (array_over r (component_of j)) n x h e = elements_sub j h.0 above y (length_of_range r) 0 n x e
-    variable_sub above y (array_over r (ordinal q)) n x h e = absurd (none-some x e)
-    variable_sub above y (array_over r queue_type) n x h e = absurd (none-some x e)
-    variable_sub above y (array_over r (set_over q)) n x h e = absurd (none-some x e)
-    variable_sub above y (array_over r (array_over q u)) n x h e = absurd (none-some x e)
-    variable_sub above y (array_over r (record_with us)) n x h e = absurd (none-some x e)
-    variable_sub above y (ordinal r) n x h e = absurd (none-some x e)
-    variable_sub above y queue_type n x h e = absurd (none-some x e)
-    variable_sub above y (set_over r) n x h e = absurd (none-some x e)
-    variable_sub above y (record_with us) n x h e = absurd (none-some x e)
+    variable_sub above y _ n x h e = absurd (none-some x e)
 
     variables_sub : (above : Path) (vs : List Variable) (n : ℕ) (x : Listed) → AreLow bound (all_contained vs) → slice_get (listed_variables inner above vs) n ≡ Some x → Subtree (listed_variables inner above vs) n x
     variables_sub above [] n x h e = absurd (none-some x e)
@@ -135,15 +127,7 @@ module _ (p : Program) (low : (k : ℕ) → AreLow k (all_contained (system_of p
     variable_even : (a b : Path) (y z : Name) (t : Ty) → AreLow bound (contained_of t) → length (listed_variable inner a y t) ≡ length (listed_variable inner b z t)
     variable_even a b y z (component_of j) h = even j h.0 (step_down a y None) (step_down b z None)
     variable_even a b y z (array_over r (component_of j)) h = elements_even j h.0 a a y (length_of_range r) 0 ∙ sym (elements_even j h.0 b a z (length_of_range r) 0)
-    variable_even a b y z (array_over r (ordinal q)) h = refl
-    variable_even a b y z (array_over r queue_type) h = refl
-    variable_even a b y z (array_over r (set_over q)) h = refl
-    variable_even a b y z (array_over r (array_over q u)) h = refl
-    variable_even a b y z (array_over r (record_with us)) h = refl
-    variable_even a b y z (ordinal r) h = refl
-    variable_even a b y z queue_type h = refl
-    variable_even a b y z (set_over r) h = refl
-    variable_even a b y z (record_with us) h = refl
+    variable_even a b y z _ h = refl
 
     variables_even : (a b : Path) (vs : List Variable) → AreLow bound (all_contained vs) → length (listed_variables inner a vs) ≡ length (listed_variables inner b vs)
     variables_even a b [] h = refl
@@ -172,15 +156,7 @@ module _ (p : Program) (low : (k : ℕ) → AreLow k (all_contained (system_of p
           let o : times (count_in (slice_get ss j)) (length_of_range r) ≡ min (length_of_range r * length (inner j above)) most = ap (λ q. times q (length_of_range r)) c ∙ times_stopped (length_of_range r) (length (inner j above)) in
           let l = elements_even bound inner even j h.0 above above y (length_of_range r) 0 in
           omega (arith, o, e, l)
-      variable_counted above y (array_over r (ordinal q)) n m h e = omega (arith, e)
-      variable_counted above y (array_over r queue_type) n m h e = omega (arith, e)
-      variable_counted above y (array_over r (set_over q)) n m h e = omega (arith, e)
-      variable_counted above y (array_over r (array_over q u)) n m h e = omega (arith, e)
-      variable_counted above y (array_over r (record_with us)) n m h e = omega (arith, e)
-      variable_counted above y (ordinal r) n m h e = omega (arith, e)
-      variable_counted above y queue_type n m h e = omega (arith, e)
-      variable_counted above y (set_over r) n m h e = omega (arith, e)
-      variable_counted above y (record_with us) n m h e = omega (arith, e)
+      variable_counted above y x n m h e = omega (arith, e)
 
       after_append : (n : ℕ) (cs ds : List Contained) → count_after ss n (cs ++ ds) ≡ count_after ss (count_after ss n cs) ds
       after_append n [] ds = refl

@@ -2,20 +2,17 @@
 use Rattle.std.proofs.Common.{◌≡◌, ◌*◌, ◌≤◌, ℤ, pos, negsuc, Bool, true, false, ◌&&◌, refl, arith}
 use Rattle.std.specs.Prelude.{◌+ℤ◌, ◌-ℤ◌, int_le, int_lt, ◌||◌}
 use Rattle.std.proofs.lemmas.Bool.{leb-true}
-use Rattle.cp_meaning.specs.Types.{Range, Ty, ordinal, queue_type, set_over, array_over, record_with, component_of, FieldTypes, no_field_types, more_field_types, is_within, all_characters, natural_of, length_of_range}
+use Rattle.cp_meaning.specs.Types.{Range, Ty, array_over, record_with, FieldTypes, no_field_types, more_field_types, is_within, all_characters, natural_of, length_of_range}
 use Rattle.cp_meaning.specs.Operations.{range_of_base}
 use Rattle.cp_resolved.specs.Layouts.{cells_of, cells_in}
 use Rattle.cp_resolved.specs.Standing.{is_bounded, are_few, is_indexed, is_free, are_free, is_element, is_standing}
 use Rattle.cp_resolved.specs.Valued.{IsFull, AreFull}
-use Rattle.cp_resolved.proofs.declarations.Reserving.{or_left, or_right}
+use Rattle.cp_resolved.proofs.frames.LeastCells.{right_true as right_of}
+use Rattle.cp_lawful.proofs.Once.{or_left, or_right}
 
 pub left_of : (a b : Bool) → (a && b) ≡ true → a ≡ true
 left_of true b h = refl
 left_of false b h = h
-
-pub right_of : (a b : Bool) → (a && b) ≡ true → b ≡ true
-right_of true b h = h
-right_of false b h = absurd (let bad : false ≡ true = h in cc)
 
 -- ---- ranges
 
@@ -52,28 +49,19 @@ indexed_few : (r : Range) (t : Ty) (b : Bool) → (is_indexed r t && b) ≡ true
 indexed_few r t b h = leb-true (length_of_range r * cells_of t) 8192 (right_of (is_bounded r) (are_few (length_of_range r * cells_of t)) (left_of (is_indexed r t) b h))
 
 pub few_free : (t : Ty) → is_free t ≡ true → cells_of t ≤ 8192
-few_free (ordinal r) h = omega arith
-few_free queue_type h = omega arith
-few_free (set_over r) h = omega arith
 few_free (array_over r t) h = indexed_few r t (is_free t) h
 few_free (record_with ts) h = leb-true (cells_in ts) 8192 (left_of (are_few (cells_in ts)) (are_free ts) h)
-few_free (component_of n) h = omega arith
+few_free x h = omega arith
 
 pub few_element : (t : Ty) → is_element t ≡ true → cells_of t ≤ 8192
-few_element (ordinal r) h = omega arith
-few_element queue_type h = omega arith
-few_element (set_over r) h = omega arith
 few_element (array_over r t) h = few_free (array_over r t) h
 few_element (record_with ts) h = few_free (record_with ts) h
-few_element (component_of n) h = omega arith
+few_element x h = omega arith
 
 pub few_standing : (t : Ty) → is_standing t ≡ true → cells_of t ≤ 8192
-few_standing (ordinal r) h = omega arith
-few_standing queue_type h = omega arith
-few_standing (set_over r) h = omega arith
 few_standing (array_over r t) h = indexed_few r t (is_element t) h
 few_standing (record_with ts) h = few_free (record_with ts) h
-few_standing (component_of n) h = omega arith
+few_standing x h = omega arith
 
 -- ---- arrays
 
@@ -82,29 +70,20 @@ indexed_some r t b h = some_values r (left_of (is_bounded r) (are_few (length_of
 
 mutual
   pub full_free : (t : Ty) → is_free t ≡ true → IsFull t
-  full_free (ordinal r) h = tt
-  full_free queue_type h = tt
-  full_free (set_over r) h = tt
   full_free (array_over r t) h = (indexed_some r t (is_free t) h, full_free t (right_of (is_indexed r t) (is_free t) h))
   full_free (record_with ts) h = all_full ts (right_of (are_few (cells_in ts)) (are_free ts) h)
-  full_free (component_of n) h = tt
+  full_free _ h = tt
 
   all_full : (ts : FieldTypes) → are_free ts ≡ true → AreFull ts
   all_full no_field_types h = tt
   all_full (more_field_types x t ts) h = (full_free t (left_of (is_free t) (are_free ts) h), all_full ts (right_of (is_free t) (are_free ts) h))
 
 full_element : (t : Ty) → is_element t ≡ true → IsFull t
-full_element (ordinal r) h = tt
-full_element queue_type h = tt
-full_element (set_over r) h = tt
 full_element (array_over r t) h = full_free (array_over r t) h
 full_element (record_with ts) h = full_free (record_with ts) h
-full_element (component_of n) h = tt
+full_element _ h = tt
 
 pub full_standing : (t : Ty) → is_standing t ≡ true → IsFull t
-full_standing (ordinal r) h = tt
-full_standing queue_type h = tt
-full_standing (set_over r) h = tt
 full_standing (array_over r t) h = (indexed_some r t (is_element t) h, full_element t (right_of (is_indexed r t) (is_element t) h))
 full_standing (record_with ts) h = full_free (record_with ts) h
-full_standing (component_of n) h = tt
+full_standing _ h = tt

@@ -23,7 +23,6 @@ use Rattle.cp_resolved.proofs.counts.FewContents.{Holds, program_holds}
 use Rattle.cp_resolved.proofs.counts.FewReferences.{each_entry, each_weaker}
 use Rattle.cp_resolved.proofs.counts.FewReferencesOfTables.{laid_routines}
 use Rattle.cp_resolved.proofs.counts.FewRooms.{Fits, program_level, cells_few}
-use Rattle.cp_resolved.proofs.laid.Foreign.{each_append}
 use Rattle.cp_resolved.proofs.declarations.Plain.{read_names_law}
 use Rattle.cp_resolved.proofs.agreeing.ScopesOfTrees.{scopes_law}
 use Rattle.cp_resolved.proofs.names.SmallNames.{AreSmallNames, SmallNames, small_names}
@@ -31,6 +30,7 @@ use Rattle.cp_resolved.proofs.declarations.SmallTexts.{read_few}
 use Rattle.cp_resolved.proofs.sound.SoundComponents.{layer_of, Images, images}
 use Rattle.cp_resolved.proofs.names.Steps.{names_grown}
 use Rattle.cp_resolved.proofs.laid.Whole.{program_laid}
+use Rattle.cp_resolved.proofs.frames.FrameCells.{each_both as each_append}
 
 -- ---- names where statements begin
 

@@ -1,6 +1,6 @@
 -- The tables of an accepted program have few processes, monitors, components and permanent cells.
 use Rattle.std.proofs.Common.{◌≡◌, ℕ, suc, ◌+◌, ◌*◌, ◌<◌, ◌≤◌, ℤ, Bool, true, false, ◌||◌, if◌then◌else◌, List, [], ◌∷◌, ◌++◌, length, None, refl, sym, ap, subst, ◌∙◌, arith, length-append}
-use Rattle.std.specs.Prelude.{nat_lt, ◌-◌, Ok, Err}
+use Rattle.std.specs.Prelude.{nat_lt, ◌-◌, Ok}
 use Rattle.std.proofs.lemmas.Bool.{ltb-false}
 use Rattle.std.proofs.lemmas.List.{length-map}
 use Rattle.cp_tree.specs.declared.declaration.SystemKind.{SystemKind}
@@ -53,9 +53,9 @@ use Rattle.cp_resolved.proofs.counts.FewReferences.{each_entry}
 use Rattle.cp_resolved.proofs.components.Listing.{program_keeps}
 use Rattle.cp_resolved.proofs.systems.OwnedParts.{all_contained, AreLow}
 use Rattle.cp_resolved.proofs.declarations.Plain.{plain_law}
-use Rattle.cp_resolved.proofs.declarations.Reserving.{or_left, or_right}
 use Rattle.cp_resolved.proofs.declarations.SmallTexts.{read_small}
 use Rattle.cp_resolved.proofs.sound.SoundComponents.{tabled, listing_of, layer_of}
+use Rattle.cp_lawful.proofs.Once.{or_left, or_right, uses_sound as faults_left}
 
 -- ---- what is listed, by how many components there are
 
@@ -134,10 +134,6 @@ few_census c u e =
       processes = ltb-false 15 c.processes (or_left (nat_lt 15 c.processes) (nat_lt 64 c.components || (nat_lt 8192 c.cells || (nat_lt 4096 c.need || nat_lt 4096 (need_of u)))) e);
       components = ltb-false 64 c.components (or_left (nat_lt 64 c.components) (nat_lt 8192 c.cells || (nat_lt 4096 c.need || nat_lt 4096 (need_of u))) rest);
     }
-
-faults_left : (at : ℕ) (s : Scopes) (j : Judged Use) → limit_faults at s j ≡ [] → faults j ≡ []
-faults_left at s (Ok u) e = refl
-faults_left at s (Err fs) e = e
 
 none_first : (fs : List CheckFault) (j : Judged Use) → faults (after_faults fs j) ≡ [] → faults j ≡ []
 none_first fs j e = ap faults (sym (none_after fs j e)) ∙ e

@@ -23,12 +23,12 @@ use Rattle.cp_resolved.specs.Small.{Each}
 use Rattle.cp_resolved.proofs.agreeing.AgreeingWritten.{each_left, each_right}
 use Rattle.cp_resolved.proofs.laid.Declares.{Declares, type_declares, constants_declare, variables_of_declare, variables_declare, permanent_parts_declare, system_parameters_declare, system_groups_declare}
 use Rattle.cp_resolved.proofs.laid.Extends.{routine_names}
-use Rattle.cp_resolved.proofs.laid.Foreign.{each_append}
 use Rattle.cp_resolved.proofs.components.Handed.{written_owned, constants_owned, definitions_owned, body_owned, routines_owned}
 use Rattle.cp_resolved.proofs.declarations.Numbered.{names_room}
 use Rattle.cp_resolved.proofs.names.SmallNames.{AreSmallNames}
 use Rattle.cp_resolved.proofs.names.StepsOfProgram.{initial_systems}
 use Rattle.cp_resolved.proofs.names.StepsOfRoutines.{body_systems, routines_systems}
+use Rattle.cp_resolved.proofs.frames.FrameCells.{each_both as each_append}
 
 -- ---- new names stand before the others
 

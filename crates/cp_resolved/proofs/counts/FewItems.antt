@@ -1,5 +1,5 @@
 -- A program has no more items than tokens: each statement and each call of a function is one, and `repeat` is two.
-use Rattle.std.proofs.Common.{◌≡◌, ℕ, ◌+◌, ◌≤◌, Bool, List, [], ◌∷◌, ◌++◌, length, max, Option, Some, None, slice_index, refl, ap, arith, length-append}
+use Rattle.std.proofs.Common.{◌≡◌, ℕ, ◌+◌, ◌≤◌, Bool, List, [], ◌∷◌, length, max, Option, Some, None, slice_index, refl, ap, arith}
 use Rattle.cp_text.specs.declared.token.Kind.{Kind}
 use Rattle.cp_text.specs.declared.token.Kind.TheVariants as kind
 use Rattle.cp_text.specs.declared.token.Mark.TheVariants as mark
@@ -11,20 +11,18 @@ use Rattle.cp_tree.proofs.Grows.{grows_all, grows_type, grows_constant_definitio
 use Rattle.cp_layout.specs.declared.layer.FunctionResult.{FunctionResult}
 use Rattle.cp_slots.specs.Code as code
 use Rattle.cp_slots.specs.Code.{SetExpression, ComponentPlace, Argument, Arm, Action, Item}
-use Rattle.cp_layout.specs.Values.{Value, Designated, a_value, a_variable, a_contained, a_component, a_routine, an_entry, a_standard, no_designated, added as values_added, multiplied as values_multiplied, ordinal_of}
+use Rattle.cp_layout.specs.Values.{Value, Designated, a_routine, an_entry, a_standard, added as values_added, multiplied as values_multiplied, ordinal_of}
 use Rattle.cp_layout.specs.Layers.{Layer, Pending, settled_all, settled, without_pending, added, with_cell, with_room, call_need, need_of, result_of, again, need_inside, pending_need, nothing_laid}
 use Rattle.cp_layout.specs.LaidExpressions.{begun, counted, function_as, named_as, signed, name_at, expression, sum, more_terms, term, more_factors, factor, elements, first_value, arguments_from, designator, selectors, selector, arguments}
 use Rattle.cp_layout.specs.LaidStatements.{Target, target_of, assignment, arms_need, origin_of, low_of, high_of, is_down, assigned, performed, procedure, standard, Callee, a_standard_procedure, a_procedure, no_callee, callee_of, invoked_as, invoked, blocked, cycled, chosen, while_item, until_item, token_of, repeated, selected, for_item, initial_of, begun_component, Placed, placed_of, started_as, started, starts, statements, statement, arms, one_arm}
 use Rattle.cp_layout.specs.LaidTypes.{written_type}
 use Rattle.cp_layout.specs.LaidDeclarations.{constants, variables, body, Parameters, heading, heading_with, with_heading, with_new_frame, opened, local_parts, permanent_parts, routine, routines, initial_statement, system_groups, entered, system, definition, system_definition, system_definitions, program_part, program_parts, program}
 use Rattle.cp_resolved.proofs.laid.Declares.{Declares, type_declares, constants_declare, variables_declare, permanent_parts_declare, local_parts_declare, heading_declares, system_groups_declare}
+use Rattle.cp_resolved.proofs.counts.FewReferences.{one_more}
 
 -- the items so far, with those that are to come
 abbrev pub count : Layer → ℕ
 count l = length l.items + length l.pending
-
-one_more : {X : Type 0} (xs : List X) (x : X) → length (xs ++ x ∷ []) ≡ length xs + 1
-one_more xs x = length-append xs (x ∷ [])
 
 pub added_one : (l : Layer) (at : ℕ) (a : Action) (need : ℕ) → count (added l at a need) ≡ count l + 1
 added_one l at a need =
@@ -65,14 +63,10 @@ function_few l at c b r (Some x) handed high low le h =
     omega (arith, a, e)
 
 named_few : (l : Layer) (at : ℕ) (d : Designated) (first : Layer → Value × Layer) (handed : Layer → ℕ → List Argument × Layer) (high low : ℕ) → low ≤ high → ((m : Layer) → count (first m).1 + low ≤ count m + high) → ((m : Layer) (k : ℕ) → count (handed m k).1 + low ≤ count m + high) → count (named_as l at d first handed).1 + low ≤ count l + high + 1
-named_few l at (a_value v) first handed high low le f h = omega (arith, le)
-named_few l at (a_variable p t) first handed high low le f h = omega (arith, le)
-named_few l at (a_contained k t) first handed high low le f h = omega (arith, le)
-named_few l at (a_component c k) first handed high low le f h = omega (arith, le)
 named_few l at (a_routine r) first handed high low le f h = function_few l at code.own _ r (result_of l r) handed high low le h
 named_few l at (an_entry c r) first handed high low le f h = function_few l at c _ r (result_of l r) handed high low le h
 named_few l at (a_standard s) first handed high low le f h = let a = f l in omega (arith, a)
-named_few l at no_designated first handed high low le f h = omega (arith, le)
+named_few l at x first handed high low le f h = omega (arith, le)
 
 mutual
   unfolding expression sum more_terms term more_factors factor elements first_value arguments_from designator selectors selector
@@ -112,8 +106,6 @@ mutual
       omega (arith, x, y)
 
   factor_few : (l : Layer) (f : syntax.Factor) (rest : List Kind) → count (factor l f).1 + length rest ≤ count l + length (put_factor f rest)
-  factor_few l (syntax.number at n) rest = omega arith
-  factor_few l (syntax.character at c) rest = omega arith
   factor_few l (syntax.named at (syntax.designator i ss) es) rest =
       let x : Designated × Layer = designator l (syntax.designator i ss) in
       let a = selectors_few l (begun l i.name) ss (put_arguments es rest) in
@@ -122,6 +114,7 @@ mutual
   factor_few l (syntax.group at e) rest = let x = expression_few l e (kind.Mark mark.CloseParenthesis ∷ rest) in omega (arith, x)
   factor_few l (syntax.negated at f) rest = let x = factor_few l f rest in omega (arith, x)
   factor_few l (syntax.set_of at es) rest = let x = elements_few l code.empty_set es (kind.Mark mark.CloseBracket ∷ rest) in omega (arith, x)
+  factor_few l x rest = omega arith
 
   elements_few : (l : Layer) (s : SetExpression) (es : syntax.Expressions) (rest : List Kind) → count (elements l s es).1 + length rest ≤ count l + length (put_expressions es rest)
   elements_few l s syntax.no_expressions rest = omega arith

@@ -1,6 +1,5 @@
 -- The tables of a program that was read have at most 20,000 items.
-use Rattle.std.proofs.Common.{◌≡◌, suc, List, [], ◌∷◌, ◌∙◌, map, length, ap, refl, arith}
-use Rattle.cp_slots.specs.declared.item.Item as code_item
+use Rattle.std.proofs.Common.{◌≡◌, List, ◌∙◌, map, length, ap, arith}
 use Rattle.cp_slots.specs.Code.{Item, item_seen}
 use Rattle.cp_layout.specs.Laid.{PlainTables}
 use Rattle.cp_layout.specs.LaidDeclarations.{program}
@@ -9,10 +8,7 @@ use Rattle.cp_resolved.specs.Held.{FewItemsLaw}
 use Rattle.cp_resolved.proofs.counts.FewItems.{program_few}
 use Rattle.cp_resolved.proofs.sound.OwnCallsOfTables.{laid_items}
 use Rattle.cp_resolved.proofs.declarations.SmallTexts.{read_few}
-
-seen_length : (is : List code_item.Item) → length (map item_seen is) ≡ length is
-seen_length [] = refl
-seen_length (i ∷ is) = ap suc (seen_length is)
+use Rattle.cp_resolved.proofs.sound.SoundItems.{seen_length}
 
 pub few_items_law : FewItemsLaw
 few_items_law t tree is read =

@@ -28,9 +28,8 @@ enumerated_frame l b n (i ∷ is) = enumerated_frame (with_constant l i.name (me
 
 simple_frame : (l : Layer) (s : syntax.Simple) → (simple_type l s).1.frame ≡ l.frame
 unfolding simple_type
-simple_frame l (syntax.type_name at x) = refl
 simple_frame l (syntax.enumeration at is) = enumerated_frame l (enumeration_base (length l.constants) (length is)) 0 is
-simple_frame l (syntax.subrange at c d) = refl
+simple_frame l _ = refl
 
 mutual
   unfolding written_type field_groups field_group

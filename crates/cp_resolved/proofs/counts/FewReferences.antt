@@ -24,9 +24,9 @@ use Rattle.cp_layout.specs.LaidTypes.{with_constant, enumerated, simple_type, wr
 use Rattle.cp_layout.specs.LaidDeclarations.{constant, constants, type_definition, type_definitions, variables, local, locals_of, local_variables, local_part, local_parts, Parameters, constant_parameter, constant_parameters_of, constant_groups, var_parameter, var_parameters_of, parameter_group, parameter_groups, body, heading, heading_with, with_heading, with_new_frame, opened, permanent_parts, routine, routines, initial_statement, system_groups, entered, system, definition, system_definition, system_definitions, program_part, program_parts, program}
 use Rattle.cp_resolved.specs.Small.{Each}
 use Rattle.cp_resolved.proofs.laid.Declares.{Declares, type_declares, constants_declare, variables_declare, permanent_parts_declare, local_parts_declare, heading_declares, system_groups_declare}
-use Rattle.cp_resolved.proofs.laid.Foreign.{each_append}
 use Rattle.cp_resolved.proofs.declarations.Numbered.{names_room}
 use Rattle.cp_resolved.proofs.laid.Walked.{statements_walked}
+use Rattle.cp_resolved.proofs.frames.FrameCells.{each_both as each_append}
 
 pub each_entry : {A : Type 0} (Q : A → Type 0) (xs : List A) (n : ℕ) (x : A) → slice_get xs n ≡ Some x → Each Q xs → Q x
 each_entry Q [] n x e h = absurd (none-some x e)
@@ -114,9 +114,8 @@ enumerated_framed l b n (i ∷ is) = let k : Layer = with_constant l i.name (mea
 
 simple_framed : (l : Layer) (t : syntax.Simple) → Framed l (simple_type l t).1
 unfolding simple_type
-simple_framed l (syntax.type_name at x) = framed_same l
 simple_framed l (syntax.enumeration at is) = enumerated_framed l _ 0 is
-simple_framed l (syntax.subrange at c d) = framed_same l
+simple_framed l _ = framed_same l
 
 mutual
   unfolding written_type field_groups field_group
@@ -187,7 +186,7 @@ groups_of_framed l ps (g ∷ gs) =
     let x = constant_parameters_of l ps (named_type l g.type_name.name) g.names in
     then_framed l x.1 (constant_groups x.1 x.0 gs).1 (constants_of_framed l ps (named_type l g.type_name.name) g.names) (groups_of_framed x.1 x.0 gs)
 
-one_more : {X : Type 0} (xs : List X) (x : X) → length (xs ++ x ∷ []) ≡ length xs + 1
+pub one_more : {X : Type 0} (xs : List X) (x : X) → length (xs ++ x ∷ []) ≡ length xs + 1
 one_more xs x = length-append xs (x ∷ [])
 
 vars_extended : (l : Layer) (ps : Parameters) (t : CellType) (is : List Identifier) → Extended (length is) 0 l (var_parameters_of l ps t is).1

@@ -22,12 +22,12 @@ use Rattle.cp_resolved.proofs.laid.Declares.{Declares, type_declares, constants_
 use Rattle.cp_resolved.proofs.counts.FewItems.{count, added_one, settled_same, body_few}
 use Rattle.cp_resolved.proofs.counts.FewLocals.{heading_extended, parts_extended}
 use Rattle.cp_resolved.proofs.counts.FewReferences.{each_entry, each_weaker}
-use Rattle.cp_resolved.proofs.laid.Foreign.{each_append}
 use Rattle.cp_resolved.proofs.laid.Grown.{settled_grew}
 use Rattle.cp_resolved.proofs.counts.Rooms.{Room}
 use Rattle.cp_resolved.proofs.laid.SettledItems.{all_frame}
 use Rattle.cp_resolved.proofs.names.SmallNames.{SmallNames, earlier}
 use Rattle.cp_resolved.proofs.laid.Walked.{statements_walked}
+use Rattle.cp_resolved.proofs.frames.FrameCells.{each_both as each_append}
 
 -- ---- statements
 

@@ -4,8 +4,8 @@ use Rattle.std.proofs.lemmas.Option.{none-some, same_Some}
 use Rattle.cp_tree.specs.Syntax.{Routine, Designator, designator, Definition, type_definition, system_definition, SystemDefinition, ProgramPart, program_constants, program_types, program_variables, Program, Tree}
 use Rattle.cp_lawful.specs.Accepted.{IsAccepted}
 use Rattle.cp_meaning.specs.Names.{Name, same_name}
-use Rattle.cp_meaning.specs.Types.{Ty, ordinal, queue_type, set_over, array_over, record_with, component_of}
-use Rattle.cp_meaning.specs.Scopes.{Meaning, constant_meaning, type_meaning, local_variable, permanent_variable, routine_meaning, standard_meaning, Scope, find, since, is_seen, seen_inside}
+use Rattle.cp_meaning.specs.Types.{Ty, array_over, component_of}
+use Rattle.cp_meaning.specs.Scopes.{Meaning, local_variable, permanent_variable, routine_meaning, Scope, find, since, is_seen, seen_inside}
 use Rattle.cp_meaning.specs.Declarations.{RoutineMeaning, with_groups, heading_of, routine_in}
 use Rattle.cp_meaning.specs.Expressions.{routine_of_system, routine_of_type, routine_meant, routine_called, result_called}
 use Rattle.cp_meaning.specs.Lifting.{last_field}
@@ -22,11 +22,11 @@ use Rattle.cp_resolved.specs.Resolved.{initial_meaning}
 use Rattle.cp_resolved.specs.Small.{Each}
 use Rattle.cp_resolved.specs.TreeLayouts.{call_variables}
 use Rattle.cp_resolved.specs.Typed.{Tokens}
-use Rattle.cp_resolved.proofs.declarations.DeclaredVariables.{each_both}
-use Rattle.cp_resolved.proofs.frames.FrameCells.{each_left, each_right}
 use Rattle.cp_resolved.proofs.agreeing.KeptScopes.{IsNoRoutine, type_kept, definitions_of_constants, variables_kept, parts_kept, groups_kept, heading_kept}
 use Rattle.cp_resolved.proofs.declarations.RoutineVariables.{meaning_holds}
 use Rattle.cp_resolved.proofs.agreeing.ScopesOfTrees.{scopes_law}
+use Rattle.cp_resolved.proofs.agreeing.AgreeingWritten.{each_left, each_right}
+use Rattle.cp_resolved.proofs.frames.FrameCells.{each_both}
 
 -- ---- results of routines
 
@@ -36,8 +36,7 @@ HasOrdinal o = IsOrdinalResult o.meaning.result
 all_results : (tokens : Tokens) (p : Program) (xs : List Place) (os : List Opening) → AreAgreed tokens p xs os → Each HasOrdinal os
 all_results tokens p [] [] h = tt
 all_results tokens p (x ∷ xs) (o ∷ os) h = (h.0.result, all_results tokens p xs os h.1)
-all_results tokens p [] (o ∷ os) h = absurd h
-all_results tokens p (x ∷ xs) [] h = absurd h
+all_results tokens p _ _ h = absurd h
 
 pub accepted_result : (t : Tree) → IsRead t.program → IsAccepted t → (n : ℕ) → IsOrdinalResult (meaning_at t.program n).result
 accepted_result t read accepted n =
@@ -55,12 +54,8 @@ GiveOrdinals [] = Unit {0}
 GiveOrdinals (d ∷ s) = GivesOrdinal (d ∷ s) d.1 × GiveOrdinals s
 
 no_routine_gives : (s : Scope) (d : Meaning) → IsNoRoutine d → GivesOrdinal s d
-no_routine_gives s (constant_meaning b z) h = tt
-no_routine_gives s (type_meaning t) h = tt
-no_routine_gives s (local_variable t) h = tt
-no_routine_gives s (permanent_variable t) h = tt
 no_routine_gives s (routine_meaning r) h = absurd h
-no_routine_gives s (standard_meaning q) h = tt
+no_routine_gives s _ h = tt
 
 more_gives : (x : Name) (d : Meaning) (s : Scope) → IsNoRoutine d → GiveOrdinals s → GiveOrdinals ((x, d) ∷ s)
 more_gives x d s other h = (no_routine_gives ((x, d) ∷ s) d other, h)
@@ -81,36 +76,18 @@ result_ordinal (Some t) h = h
 
 system_called : (y : Name) (s : Scope) (o : Option Meaning) → GiveOrdinals s → find y s ≡ o → IsOrdinal (result_called (routine_of_system y o s))
 system_called y s (Some (routine_meaning r)) h e = result_ordinal (routine_in (since y s) r).result (found_gives y s r h e)
-system_called y s (Some (constant_meaning b z)) h e = refl
-system_called y s (Some (type_meaning t)) h e = refl
-system_called y s (Some (local_variable t)) h e = refl
-system_called y s (Some (permanent_variable t)) h e = refl
-system_called y s (Some (standard_meaning q)) h e = refl
-system_called y s None h e = refl
+system_called y s _ h e = refl
 
 module _ (p : Program) (systems : (k : ℕ) → GiveOrdinals (system_of p k).scope) where
   type_called : (t : Ty) (y : Name) → IsOrdinal (result_called (routine_of_type p t y))
   type_called (component_of k) y = system_called y (system_of p k).scope (find y (system_of p k).scope) (systems k) refl
   type_called (array_over r (component_of k)) y = system_called y (system_of p k).scope (find y (system_of p k).scope) (systems k) refl
-  type_called (ordinal r) y = refl
-  type_called queue_type y = refl
-  type_called (set_over r) y = refl
-  type_called (record_with ts) y = refl
-  type_called (array_over r (ordinal q)) y = refl
-  type_called (array_over r queue_type) y = refl
-  type_called (array_over r (set_over q)) y = refl
-  type_called (array_over r (array_over q t)) y = refl
-  type_called (array_over r (record_with ts)) y = refl
+  type_called _ y = refl
 
   meant_called : (s : Scope) (x : Name) (m : Option Meaning) (o : Option Name) → GiveOrdinals s → find x s ≡ m → IsOrdinal (result_called (routine_meant p s x m o))
   meant_called s x (Some (routine_meaning r)) o h e = result_ordinal (routine_in (since x s) r).result (found_gives x s r h e)
   meant_called s x (Some (permanent_variable t)) (Some y) h e = type_called t y
-  meant_called s x (Some (permanent_variable t)) None h e = refl
-  meant_called s x (Some (constant_meaning b z)) o h e = refl
-  meant_called s x (Some (type_meaning t)) o h e = refl
-  meant_called s x (Some (local_variable t)) o h e = refl
-  meant_called s x (Some (standard_meaning q)) o h e = refl
-  meant_called s x None o h e = refl
+  meant_called s x _ _ h e = refl
 
   called : (s : Scope) (d : Designator) → GiveOrdinals s → IsOrdinal (result_called (routine_called p s d))
   called s (designator i ss) h = meant_called s i.name (find i.name s) (last_field ss) h refl

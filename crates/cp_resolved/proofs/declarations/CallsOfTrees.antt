@@ -3,7 +3,7 @@ use Rattle.std.proofs.Common.{ℕ, List, [], ◌∷◌, length}
 use Rattle.cp_text.specs.declared.token.Kind.{Kind}
 use Rattle.cp_text.specs.declared.token.Kind.TheVariants as kind
 use Rattle.cp_text.specs.declared.token.Mark.TheVariants as mark
-use Rattle.cp_tree.specs.Syntax.{Statements, Body, Routine, System, Definition, type_definition, system_definition, SystemDefinition, ProgramPart, program_constants, program_types, program_variables, Program}
+use Rattle.cp_tree.specs.Syntax.{Statements, Body, Routine, System, Definition, type_definition, system_definition, SystemDefinition, ProgramPart, program_types, Program}
 use Rattle.cp_tree.specs.Spelling.{put_all, put_routine, put_body, put_system_definition, put_program_part, spell}
 use Rattle.cp_tree.specs.SpellingIndexed.{AreAllIndexed, AreSomeIndexed, IsIndexedBody, IsIndexedRoutine, IsIndexedSystem, IsIndexedDefinition, IsIndexedSystemDefinition, IsIndexedProgramPart, IsIndexed}
 use Rattle.cp_meaning.specs.Scopes.{Scope}
@@ -43,9 +43,8 @@ module _ (total : ℕ) where
   named_apart d rest h = definition_apart d.value (kind.Mark mark.Semicolon ∷ rest) h.1
 
   part_apart : (q : ProgramPart) (rest : List Kind) → IsIndexedProgramPart total q rest → OfPart AreCallsApart q
-  part_apart (program_constants at ds) rest h = tt
   part_apart (program_types at ds) rest h = some_indexed put_system_definition (IsIndexedSystemDefinition total) (λ (d : SystemDefinition). OfDefinition AreCallsApart d.value) named_apart ds rest h.1
-  part_apart (program_variables at gs) rest h = tt
+  part_apart _ rest h = tt
 
 pub indexed_apart : (p : Program) → IsIndexed p → (n : ℕ) → AreApart (all_calls_laid (meaning_at p n).scope (meaning_at p n).body)
 indexed_apart p h n =

@@ -15,6 +15,7 @@ use Rattle.cp_meaning.specs.State.{Item, function_call}
 use Rattle.cp_meaning.specs.Lifting.{is_call, own_call, expression_calls, sum_calls, terms_calls, term_calls, factors_calls, factor_calls, expressions_calls, designator_calls, selectors_calls, selector_calls}
 use Rattle.cp_resolved.specs.Calls.{starts_calls, calls_laid, all_calls_laid, arms_calls_laid, arm_calls_laid, is_at, IsAmong, IsApart, AreApart}
 use Rattle.cp_resolved.specs.Small.{Each}
+use Rattle.cp_resolved.proofs.frames.LeastCells.{same_number as same_token}
 
 -- ---- lists of calls
 
@@ -36,9 +37,6 @@ disjoint_both xs ys zs h g n at a b = go (among_either at ys zs b)
     go : IsAmong at ys ⊎ IsAmong at zs → (n == at) ≡ false
     go (inl k) = h n at a k
     go (inr k) = g n at a k
-
-same_token : (n : ℕ) → (n == n) ≡ true
-same_token n = (Decides-eqb n n).1 refl
 
 one_joined : (i : Item) (xs ys : List Item) → IsApart i xs → Disjoint (i ∷ xs) ys → IsApart i (xs ++ ys)
 one_joined (function_call n d es) xs ys h g = λ at w. go at (among_either at xs ys w)

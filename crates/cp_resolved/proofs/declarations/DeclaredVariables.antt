@@ -17,50 +17,27 @@ use Rattle.cp_meaning.specs.Types.{Ty}
 use Rattle.cp_meaning.specs.Scopes.{Meaning, find}
 use Rattle.cp_meaning.specs.Scopes as scopes
 use Rattle.cp_meaning.specs.Declarations.{Variable, Block, names_of, named_variables, with_names, type_in, constants_in, types_in, variables_in, part_in, parts_in}
-use Rattle.cp_resolved.specs.Distinct.{IsOther, AreDistinct}
-use Rattle.cp_resolved.specs.Framed.{AreDifferent, AreDeclared}
+use Rattle.cp_resolved.specs.Distinct.{IsOther}
+use Rattle.cp_resolved.specs.Framed.{AreDeclared}
 use Rattle.cp_resolved.specs.Layouts.{look}
 use Rattle.cp_resolved.specs.Small.{Each}
-use Rattle.cp_resolved.proofs.agreeing.Agreeing.{none_left, none_right, none_first}
-use Rattle.cp_resolved.proofs.frames.FrameCells.{itself, same_is, none_both}
+use Rattle.cp_resolved.proofs.agreeing.Agreeing.{none_left, none_right}
+use Rattle.cp_resolved.proofs.frames.FrameCells.{itself, same_is, each_both}
 use Rattle.cp_resolved.proofs.declarations.OnceRoutines.{IsKnown, still_known, known_named}
 use Rattle.cp_resolved.proofs.agreeing.OwnNames.{names_reserved}
 use Rattle.cp_resolved.proofs.declarations.Reserving.{is_new, name_reserved}
 use Rattle.cp_resolved.proofs.declarations.HiddenByNone.{Stays, stays_then, stays_same, find_past, type_stays, constants_stay, definitions_stay}
-
-pub each_both : {A : Type 0} (P : A → Type 0) (xs ys : List A) → Each P xs → Each P ys → Each P (xs ++ ys)
-each_both P [] ys h g = g
-each_both P (x ∷ xs) ys h g = (h.0, each_both P xs ys h.1 g)
+use Rattle.cp_resolved.proofs.names.PermanentNames.{left_true as or_first}
+use Rattle.cp_meaning.proofs.Good.{or_right as or_last}
+use Rattle.cp_resolved.proofs.declarations.OwnVariables.{among_before as among_more, among_last, different_both as both_different, named_different, others_look as no_name}
+use Rattle.cp_lawful.proofs.Once.{no_first as none_first}
+use Rattle.cp_resolved.proofs.declarations.OtherNames.{together_distinct as distinct_names}
 
 -- ---- names that are being declared
 
 or_more : (a b c : Bool) → (a || b) ≡ true → (b ≡ true → c ≡ true) → (a || c) ≡ true
 or_more true b c h f = refl
 or_more false b c h f = f h
-
-or_first : (a b : Bool) → a ≡ true → (a || b) ≡ true
-or_first true b h = refl
-or_first false b h = absurd (let bad : false ≡ true = h in cc)
-
-or_last : (a b : Bool) → b ≡ true → (a || b) ≡ true
-or_last true b h = refl
-or_last false b h = h
-
-among_more : (x n : Name) (ms : List Name) → is_among x ms ≡ true → is_among x (ms ++ n ∷ []) ≡ true
-among_more x n [] h = absurd (let bad : false ≡ true = h in cc)
-among_more x n (m ∷ ms) h = go (same_name x m) h (among_more x n ms)
-  where
-    go : (b : Bool) → (if b then true else is_among x ms) ≡ true → (is_among x ms ≡ true → is_among x (ms ++ n ∷ []) ≡ true) → (if b then true else is_among x (ms ++ n ∷ [])) ≡ true
-    go true e rest = refl
-    go false e rest = rest e
-
-among_last : (n : Name) (ms : List Name) → is_among n (ms ++ n ∷ []) ≡ true
-among_last n [] = ap (λ (b : Bool). if b then true else false) (itself n)
-among_last n (m ∷ ms) = go (same_name n m) (among_last n ms)
-  where
-    go : (b : Bool) → is_among n (ms ++ n ∷ []) ≡ true → (if b then true else is_among n (ms ++ n ∷ [])) ≡ true
-    go true e = refl
-    go false e = e
 
 pending_more : (c : Scope) (n x : Name) → is_declared_in c x ≡ true → is_declared_in (with_pending c n) x ≡ true
 pending_more c n x h = go (is_among n c.pending)
@@ -84,14 +61,6 @@ reserved_more s n x h = go (is_declared s n.name)
     go true = h
     go false = pending_more s.inner n.name x h
 
-reserved_own : (s : Scopes) (n : Identifier) → is_declared (reserve_name s n).scopes n.name ≡ true
-unfolding reserve_name reserve
-reserved_own s n = go (is_declared s n.name) refl
-  where
-    go : (b : Bool) → is_declared s n.name ≡ b → is_declared (let t : Step = (if b then record { faults = check_fault.Rule n.at C2 ∷ []; scopes = s } else nothing (record { outer = s.outer; inner = with_pending s.inner n.name; shapes = s.shapes })) in t.scopes) n.name ≡ true
-    go true e = e
-    go false e = pending_own s.inner n.name
-
 -- what is declared, or being declared, is none of them
 pub other_names : (s : Scopes) (ns : List Identifier) (x : Name) → (reserve_names s ns).faults ≡ [] → is_declared s x ≡ true → IsOther x (names_of ns)
 unfolding reserve_names
@@ -103,14 +72,6 @@ other_names s (n ∷ ns) x none h =
     go : (b : Bool) → same_name x n.name ≡ b → is_declared s n.name ≡ false → b ≡ false
     go true e new = absurd (let bad : true ≡ false = sym h ∙ ap (is_declared s) (same_is x n.name e) ∙ new in cc)
     go false e new = refl
-
-pub distinct_names : (s : Scopes) (ns : List Identifier) → (reserve_names s ns).faults ≡ [] → AreDistinct (names_of ns)
-unfolding reserve_names
-distinct_names s [] none = tt
-distinct_names s (n ∷ ns) none =
-    let t : Scopes = (reserve_name s n).scopes in
-    let rest : (reserve_names t ns).faults ≡ [] = none_right (reserve_name s n).faults (reserve_names t ns).faults none in
-    (other_names t ns n.name rest (reserved_own s n), distinct_names t ns rest)
 
 names_known : (s : Scopes) (ns : List Identifier) (o : Option check_meaning.Meaning) → Each (λ x. IsKnown x (add_names s ns o).inner.names) (names_of ns)
 unfolding add_names add
@@ -142,18 +103,6 @@ names_found [] d m = tt
 names_found (n ∷ ns) d m = (names_stay n ns d ((n, d) ∷ m) (ap (λ (b : Bool). if b then Some d else find n m) (itself n)), names_found ns d ((n, d) ∷ m))
 
 -- ---- variables of lists
-
-no_name : (x : Name) (ns : List Name) (t : Ty) → IsOther x ns → look x (named_variables ns t) ≡ None
-no_name x [] t h = refl
-no_name x (n ∷ ns) t h = ap (λ (b : Bool). if b then Some t else look x (named_variables ns t)) h.0 ∙ no_name x ns t h.1
-
-named_different : (ns : List Name) (t : Ty) → AreDistinct ns → AreDifferent (named_variables ns t)
-named_different [] t h = tt
-named_different (n ∷ ns) t h = (no_name n ns t h.0, named_different ns t h.1)
-
-both_different : (vs us : List Variable) → AreDifferent vs → AreDifferent us → Each (λ (v : Variable). look v.name us ≡ None) vs → AreDifferent (vs ++ us)
-both_different [] us h g other = g
-both_different (v ∷ vs) us h g other = (none_both v.name vs us h.0 other.0, both_different vs us h.1 g other.1)
 
 module _ (kind : Ty → Meaning) where
   -- variables of different names, each visible, and declared in the innermost scope of the checker

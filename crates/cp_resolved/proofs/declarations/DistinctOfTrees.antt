@@ -2,7 +2,7 @@
 use Rattle.std.proofs.Common.{◌≡◌, ℕ, zero, suc, false, true, List, [], ◌∷◌, ◌++◌, Option, Some, None, Ok, Err, slice_get, refl, inr}
 use Rattle.cp_tree.specs.declared.constant.Identifier.{Identifier}
 use Rattle.cp_tree.specs.declared.declaration.SystemKind.{SystemKind}
-use Rattle.cp_tree.specs.Syntax.{Group, ParameterGroup, RoutineKind, procedure, function, Routine, System, Definition, type_definition, system_definition, SystemDefinition, Part, ProgramPart, program_constants, program_types, program_variables, Program, Tree}
+use Rattle.cp_tree.specs.Syntax.{Group, ParameterGroup, RoutineKind, procedure, function, Routine, System, Definition, type_definition, system_definition, SystemDefinition, Part, ProgramPart, program_types, Program}
 use Rattle.cp_scope.specs.declared.types.ValueType.{ValueType}
 use Rattle.cp_scope.specs.declared.types.Meaning.{Meaning}
 use Rattle.cp_scope.specs.Judged.{Judged, faults}
@@ -16,27 +16,25 @@ use Rattle.cp_check.specs.Headings.{Headed, after_faults, written, ruled, headin
 use Rattle.cp_check.specs.Routines as routines
 use Rattle.cp_check.specs.Routines.{routine_step, routine_steps}
 use Rattle.cp_check.specs.Systems as systems
-use Rattle.cp_lawful.specs.Accepted.{IsAccepted}
 use Rattle.cp_lawful.proofs.Kept.{Keeps, same, after, names_reserved, names_added, all_added}
 use Rattle.cp_lawful.proofs.Once.{no_left, no_right, no_first, none_before, inside_sound, defined_sound, declarations_sound, parts_sound}
 use Rattle.cp_lawful.proofs.Told.{none_after}
 use Rattle.cp_meaning.specs.Names.{Name, same_name}
-use Rattle.cp_meaning.specs.Types.{Ty, ordinal, queue_type, set_over, array_over, record_with, component_of}
+use Rattle.cp_meaning.specs.Types.{Ty, component_of}
 use Rattle.cp_meaning.specs.Declarations.{names_of, Parameter}
 use Rattle.cp_meaning.specs.Systems.{declared, own_meaning}
 use Rattle.cp_resolved.specs.BodiesFormed.{DistinctLaw}
-use Rattle.cp_resolved.specs.Distinct.{IsOther, AreDistinct, all_names, part_names, kind_names, parameter_names, AreApart, IsDistinctRoutine, IsDistinctSystem, IsDistinctDefinition, IsDistinctPart, IsNoComponent, AreValues, IsDistinct}
+use Rattle.cp_resolved.specs.Distinct.{IsOther, AreDistinct, all_names, part_names, kind_names, parameter_names, AreApart, IsDistinctRoutine, IsDistinctSystem, IsDistinctDefinition, IsDistinctPart, IsNoComponent, AreValues}
 use Rattle.cp_resolved.specs.Judging.{Place, places_of, AreAgreed, tokens_of}
 use Rattle.cp_resolved.specs.Openings.{Opening, openings_of, meaning_in}
-use Rattle.cp_tree.specs.Read.{IsRead}
 use Rattle.cp_resolved.specs.Resolved.{initial_meaning}
 use Rattle.cp_resolved.specs.Small.{Each}
 use Rattle.cp_resolved.specs.Standing.{is_free, IsFreeParameter}
 use Rattle.cp_resolved.specs.Typed.{Tokens}
-use Rattle.cp_resolved.proofs.names.HeadingsFound.{each_both}
 use Rattle.cp_resolved.proofs.declarations.OnceRoutines.{IsKnown, known_named}
 use Rattle.cp_resolved.proofs.declarations.OtherNames.{stays_known, names_other, together_distinct, parts_other}
 use Rattle.cp_resolved.proofs.agreeing.ScopesOfTrees.{scopes_law}
+use Rattle.cp_resolved.proofs.frames.FrameCells.{each_both}
 
 -- ---- names that are declared between two scopes
 
@@ -170,9 +168,8 @@ definitions_distinct s (d ∷ ds) h =
 
 part_distinct : (s : Scopes) (q : ProgramPart) → (systems.program_part_step s q).faults ≡ [] → IsDistinctPart q
 unfolding systems.program_part_step
-part_distinct s (program_constants at ds) h = tt
 part_distinct s (program_types at ds) h = definitions_distinct s ds h
-part_distinct s (program_variables at gs) h = tt
+part_distinct s _ h = tt
 
 parts_distinct : (s : Scopes) (qs : List ProgramPart) → (systems.program_part_steps s qs).faults ≡ [] → Each IsDistinctPart qs
 unfolding systems.program_part_steps
@@ -187,12 +184,8 @@ own_distinct p h = routines_distinct None (systems.program_part_steps start p.pa
 -- ---- types of parameters
 
 no_component : (t : Ty) → is_free t ≡ true → IsNoComponent t
-no_component (ordinal r) h = tt
-no_component queue_type h = tt
-no_component (set_over r) h = tt
-no_component (array_over r t) h = tt
-no_component (record_with ts) h = tt
 no_component (component_of n) h = let bad : false ≡ true = h in absurd cc
+no_component _ h = tt
 
 all_values : (qs : List Parameter) → Each IsFreeParameter qs → AreValues qs
 all_values [] h = tt

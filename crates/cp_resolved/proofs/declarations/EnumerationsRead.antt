@@ -4,7 +4,7 @@ use Rattle.cp_text.specs.declared.token.Kind.{Kind}
 use Rattle.cp_text.specs.declared.token.Kind.TheVariants as kind
 use Rattle.cp_text.specs.declared.token.Mark.TheVariants as mark
 use Rattle.cp_tree.specs.declared.constant.Identifier.{Identifier}
-use Rattle.cp_tree.specs.Syntax.{type_name, enumeration, subrange, simple, array_of, set_type, record_of, no_fields, more_fields, fields, TypeDefinition, VariableGroup, constants, types, variables, type_definition, system_definition, SystemDefinition, program_constants, program_types, program_variables, Program}
+use Rattle.cp_tree.specs.Syntax.{enumeration, simple, array_of, set_type, record_of, no_fields, more_fields, fields, TypeDefinition, VariableGroup, constants, types, variables, type_definition, system_definition, SystemDefinition, program_constants, program_types, program_variables, Program}
 use Rattle.cp_tree.specs.Spelling.{put_optional, put_all, put_type, put_more_field_groups, put_type_definition, put_variable_group, put_part, put_body, put_routine, put_system_definition, put_program_part, spell}
 use Rattle.cp_tree.specs.SpellingIndexed.{AreIndexedNames, AreAllIndexed, AreSomeIndexed, IsIndexedSimple, IsIndexedType, AreIndexedFieldGroups, AreIndexedMoreFieldGroups, IsIndexedFieldGroup, IsIndexedTypeDefinition, IsIndexedVariableGroup, IsIndexedPart, IsIndexedRoutine, IsIndexedSystem, IsIndexedDefinition, IsIndexedSystemDefinition, IsIndexedProgramPart, IsIndexedProgram}
 use Rattle.cp_resolved.specs.Enumerations.{Enumerated, in_simple, in_type, in_groups, in_group, each_in, in_part, in_routine, in_system, in_definition, in_program_part, enumerations_of}
@@ -40,9 +40,8 @@ module _ (total : ℕ) where
   names_some (i ∷ is) rest h = omega arith
 
   simple_some : Finds (IsIndexedSimple total) in_simple
-  simple_some (type_name at n) rest h = tt
   simple_some (enumeration at is) rest h = (names_some is (kind.Mark mark.CloseParenthesis ∷ rest) h.1, tt)
-  simple_some (subrange at c d) rest h = tt
+  simple_some _ rest h = tt
 
   mutual
     type_some : Finds (IsIndexedType total) in_type

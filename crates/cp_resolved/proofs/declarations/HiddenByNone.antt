@@ -1,14 +1,12 @@
 -- Declarations that break no rule hide no name of the innermost scope: each name that they declare is another one (C2).
-use Rattle.std.proofs.Common.{◌≡◌, ℕ, suc, ◌+◌, pos, Bool, true, false, ◌||◌, if◌then◌else◌, List, [], ◌∷◌, Option, Some, Ok, Err, is_some, refl, sym, ap, subst, ◌∙◌}
+use Rattle.std.proofs.Common.{◌≡◌, ℕ, suc, ◌+◌, pos, Bool, true, false, if◌then◌else◌, List, [], ◌∷◌, Option, Some, Ok, Err, is_some, refl, sym, ap, subst, ◌∙◌}
 use Rattle.cp_tree.specs.declared.constant.Identifier.{Identifier}
 use Rattle.cp_tree.specs.Syntax as syntax
-use Rattle.cp_scope.specs.declared.fault.CheckFault.{CheckFault}
 use Rattle.cp_scope.specs.declared.fault.CheckFault.TheVariants as check_fault
 use Rattle.cp_scope.specs.declared.fault.Rule.TheVariants.{C2}
 use Rattle.cp_scope.specs.declared.types.Base as check_base
 use Rattle.cp_scope.specs.declared.types.Meaning as check_meaning
 use Rattle.cp_scope.specs.declared.types.Meaning.TheVariants as checked
-use Rattle.cp_scope.specs.declared.types.ValueType.{ValueType}
 use Rattle.cp_scope.specs.declared.shape.ArrayShape.{ArrayShape}
 use Rattle.cp_scope.specs.Judged.{Judged, both, ◌>>=◌, faults}
 use Rattle.cp_scope.specs.Scopes.{Scope, Scopes, Shape, new_scope, is_declared, add, keep}
@@ -16,7 +14,7 @@ use Rattle.cp_scope.specs.Scopes as checker
 use Rattle.cp_check.specs.declared.types.Spot.{Spot}
 use Rattle.cp_check.specs.declared.types.Spot.TheVariants as spot
 use Rattle.cp_check.specs.Constants.{constant}
-use Rattle.cp_check.specs.Records.{Fields, reserve_fields, sound, sound_of}
+use Rattle.cp_check.specs.Records.{Fields, reserve_fields, sound}
 use Rattle.cp_check.specs.Types as typing
 use Rattle.cp_check.specs.Types.{Step, nothing, Typed, typed}
 use Rattle.cp_check.specs.Declarations.{as_declared, reserve_name, add_one, to_constant, to_kind, constant_step, constant_steps, type_step, type_steps}
@@ -27,8 +25,10 @@ use Rattle.cp_meaning.specs.Types.{Base, enumerated}
 use Rattle.cp_meaning.specs.Scopes.{Meaning, constant_meaning, type_meaning, find}
 use Rattle.cp_meaning.specs.Scopes as scopes
 use Rattle.cp_meaning.specs.Declarations.{names_of, with_constants, simple_in, type_in, fields_in, group_in, constant_of, constants_in, types_in}
-use Rattle.cp_resolved.proofs.agreeing.Agreeing.{none_left, none_right, none_first, none_of_both}
+use Rattle.cp_resolved.proofs.agreeing.Agreeing.{none_left, none_right, none_of_both}
 use Rattle.cp_resolved.proofs.declarations.OnceRoutines.{IsKnown, still_known, known_other}
+use Rattle.cp_lawful.proofs.Once.{no_first as none_first, or_left as or_first}
+use Rattle.cp_resolved.proofs.declarations.StillVisible.{no_faults, no_field_faults as sound_none}
 
 -- From the checker's scopes s and a scope m to later ones: what is declared in the innermost scope stays so, and stands for what it did.
 abbrev pub Stays : (s t : Scopes) (m k : scopes.Scope) → Type 0
@@ -61,10 +61,6 @@ name_stays s t n o d m k none h x e =
 
 -- ---- the constants of an enumeration
 
-or_first : (a b : Bool) → (a || b) ≡ false → a ≡ false
-or_first true b h = h
-or_first false b h = refl
-
 member_stays : (s : Scopes) (c : check_base.Base) (n : ℕ) (i : Identifier) (d : Meaning) (m : scopes.Scope) → (typing.member s c n i).faults ≡ [] → Stays s (typing.member s c n i).scopes m ((i.name, d) ∷ m)
 unfolding typing.member
 member_stays s c n i d m none = go (is_declared s i.name) refl none
@@ -85,19 +81,10 @@ members_stay s c n (i ∷ is) b k m none =
 
 -- ---- types
 
-no_faults : (fs : List CheckFault) (v : ValueType) → faults (typing.unless_type fs v) ≡ [] → fs ≡ []
-no_faults [] v h = refl
-no_faults (f ∷ fs) v h = h
-
-sound_none : (fs : List CheckFault) (c : Scope) → faults (sound_of fs c) ≡ [] → fs ≡ []
-sound_none [] c h = refl
-sound_none (f ∷ fs) c h = h
-
 simple_stays : (s : Scopes) (q : Spot) (t : syntax.Simple) (m : scopes.Scope) → faults (typing.simple_typed s q t).type ≡ [] → Stays s (typing.simple_typed s q t).scopes m (simple_in m t).1
 unfolding typing.simple_typed
-simple_stays s q (syntax.type_name at x) m none = stays_same s s m refl
 simple_stays s q (syntax.enumeration at is) m none = members_stay s (typing.base_of at is) 0 is (enumerated at (names_of is)) 0 m (no_faults (typing.members s (typing.base_of at is) 0 is).faults _ none)
-simple_stays s q (syntax.subrange at c d) m none = stays_same s s m refl
+simple_stays s q _ m none = stays_same s s m refl
 
 array_names : (s : Scopes) (at : ℕ) (j : Judged ArrayShape) → (typing.keep_array s at j).inner.names ≡ s.inner.names
 unfolding keep

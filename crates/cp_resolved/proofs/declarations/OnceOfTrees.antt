@@ -4,7 +4,7 @@ use Rattle.std.proofs.lemmas.Slice.Eq.{bytes_eq-Decides}
 use Rattle.cp_tree.specs.declared.constant.Identifier.{Identifier}
 use Rattle.cp_tree.specs.declared.declaration.SystemKind.{SystemKind}
 use Rattle.cp_tree.specs.Syntax as syntax
-use Rattle.cp_tree.specs.Syntax.{System, Definition, type_definition, system_definition, SystemDefinition, ProgramPart, program_constants, program_types, program_variables, Tree}
+use Rattle.cp_tree.specs.Syntax.{System, Definition, type_definition, system_definition, SystemDefinition, ProgramPart, program_types, Tree}
 use Rattle.cp_scope.specs.declared.types.Meaning as checker
 use Rattle.cp_scope.specs.Judged.{faults}
 use Rattle.cp_scope.specs.Scopes.{Names, Scopes, find, add, settle, enter, start}
@@ -27,10 +27,7 @@ use Rattle.cp_resolved.specs.Layouts.{is_parameter}
 use Rattle.cp_resolved.specs.Once.{IsOnceDefinition, IsOncePart, AreOthers, IsOnce}
 use Rattle.cp_resolved.specs.Small.{Each}
 use Rattle.cp_resolved.proofs.declarations.OnceRoutines.{IsKnown, still_known, known_named, routines_once}
-
-each_both : {A : Type 0} (P : A → Type 0) (xs ys : List A) → Each P xs → Each P ys → Each P (xs ++ ys)
-each_both P [] ys h g = g
-each_both P (x ∷ xs) ys h g = (h.0, each_both P xs ys h.1 g)
+use Rattle.cp_resolved.proofs.frames.FrameCells.{each_both}
 
 -- ---- routines
 
@@ -51,9 +48,8 @@ definitions_once s (d ∷ ds) h =
 
 part_once : (s : Scopes) (q : ProgramPart) → (systems.program_part_step s q).faults ≡ [] → IsOncePart q
 unfolding systems.program_part_step
-part_once s (program_constants at ds) h = tt
 part_once s (program_types at ds) h = definitions_once s ds h
-part_once s (program_variables at gs) h = tt
+part_once s _ h = tt
 
 parts_once : (s : Scopes) (qs : List ProgramPart) → (systems.program_part_steps s qs).faults ≡ [] → Each IsOncePart qs
 unfolding systems.program_part_steps
@@ -177,9 +173,8 @@ definitions_others s d (n ∷ ns) h all =
 
 program_part_others : (s : Scopes) (d : Declared) (q : ProgramPart) → (systems.program_part_step s q).faults ≡ [] → Each HasOthers d.systems → Each HasOthers (program_part_in d q).systems
 unfolding systems.program_part_step
-program_part_others s d (program_constants at ds) h all = all
 program_part_others s d (program_types at ns) h all = definitions_others s d ns h all
-program_part_others s d (program_variables at gs) h all = all
+program_part_others s d _ h all = all
 
 program_parts_others : (s : Scopes) (d : Declared) (qs : List ProgramPart) → (systems.program_part_steps s qs).faults ≡ [] → Each HasOthers d.systems → Each HasOthers (program_parts_in d qs).systems
 unfolding systems.program_part_steps

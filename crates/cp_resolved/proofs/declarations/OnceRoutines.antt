@@ -18,7 +18,7 @@ use Rattle.cp_check.specs.Routines as routines
 use Rattle.cp_check.specs.Routines.{routine_step, routine_steps}
 use Rattle.cp_lawful.proofs.Classes.{reserved_names, reserved_new, last_found}
 use Rattle.cp_lawful.proofs.Kept.{find_before, last_is, written_kept, parts_kept}
-use Rattle.cp_lawful.proofs.Once.{no_left, no_right, no_first, none_before}
+use Rattle.cp_lawful.proofs.Once.{no_left, no_right, no_first, none_before, some_is}
 use Rattle.cp_meaning.specs.Names.{Name, same_name}
 use Rattle.cp_resolved.specs.Once.{IsNoneOf, AreOnce}
 
@@ -26,10 +26,6 @@ use Rattle.cp_resolved.specs.Once.{IsNoneOf, AreOnce}
 
 abbrev pub IsKnown : Name → Names → Type 0
 IsKnown x ds = is_some (find x ds) ≡ true
-
-some_is : {A : Type 0} (o : Option A) → is_some o ≡ true → (a : A) × (o ≡ Some a)
-some_is None h = absurd (let bad : false ≡ true = h in cc)
-some_is (Some a) h = (a, refl)
 
 -- a name that is known stays so where each meaning stays
 pub still_known : (x : Name) (ds es : Names) → ((m : Option Meaning) → find x ds ≡ Some m → find x es ≡ Some m) → IsKnown x ds → IsKnown x es
@@ -83,9 +79,8 @@ announced_inner r (Err fs) s cs t e = (None, ap (λ (a : Around). a.inner) (last
 
 closed_known : (r : Routine) (j : Judged (Option ValueType)) (u : Judged Use) (s : Scopes) (x : Name) → IsKnown x (last_of s.outer).inner.names → IsKnown x (routines.closed_of r j u s).inner.names
 unfolding routines.closed settle keep leave
-closed_known r (Ok v) (Ok u) s x h = h
 closed_known r (Ok v) (Err fs) s x h = known_without x r.name.name (last_of s.outer).inner.names h
-closed_known r (Err fs) u s x h = h
+closed_known r _ _ s x h = h
 
 -- and it is known after it, with those before
 pub routine_known : (k : Option SystemKind) (s : Scopes) (r : Routine) (x : Name) → (IsKnown x s.inner.names) ⊎ (x ≡ r.name.name) → IsKnown x (routine_step k s r).scopes.inner.names

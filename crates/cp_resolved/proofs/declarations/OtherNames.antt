@@ -4,7 +4,7 @@ use Rattle.std.specs.Prelude.{◌⊎◌}
 use Rattle.std.specs.Str.{bytes_eq}
 use Rattle.std.proofs.lemmas.Slice.Eq.{bytes_eq-Decides}
 use Rattle.cp_tree.specs.declared.constant.Identifier.{Identifier}
-use Rattle.cp_tree.specs.Syntax.{Simple, type_name, enumeration, subrange, TypeTerm, simple, array_of, set_type, record_of, FieldGroups, no_fields, more_fields, fields, ConstantDefinition, TypeDefinition, VariableGroup, Part, constants, types, variables}
+use Rattle.cp_tree.specs.Syntax.{Simple, enumeration, TypeTerm, simple, array_of, set_type, record_of, FieldGroups, no_fields, more_fields, fields, ConstantDefinition, TypeDefinition, VariableGroup, Part, constants, types, variables}
 use Rattle.cp_scope.specs.declared.fault.CheckFault.{CheckFault}
 use Rattle.cp_scope.specs.declared.fault.CheckFault.TheVariants as check_fault
 use Rattle.cp_scope.specs.declared.fault.Rule.TheVariants.{C2}
@@ -24,41 +24,20 @@ use Rattle.cp_meaning.specs.Names.{Name, same_name}
 use Rattle.cp_meaning.specs.Declarations.{names_of}
 use Rattle.cp_resolved.specs.Distinct.{IsOther, AreDistinct, all_names, simple_names, type_names, groups_names, part_names}
 use Rattle.cp_resolved.proofs.agreeing.Agreeing.{none_of_both}
-use Rattle.cp_resolved.proofs.names.HeadingsFound.{each_both}
 use Rattle.cp_resolved.proofs.declarations.OnceRoutines.{IsKnown, still_known}
+use Rattle.cp_resolved.proofs.names.PermanentNames.{left_true as or_first}
+use Rattle.cp_meaning.proofs.Good.{or_right as or_second}
+use Rattle.cp_resolved.proofs.frames.FrameCells.{each_both}
+use Rattle.cp_resolved.proofs.declarations.OwnVariables.{among_before as among_more, among_last}
 
 -- ---- names that are being declared
 
 abbrev IsTaken : Name → Scopes → Type 0
 IsTaken x s = is_declared s x ≡ true
 
-or_first : (a b : Bool) → a ≡ true → (a || b) ≡ true
-or_first true b h = refl
-or_first false b h = absurd (let bad : false ≡ true = h in cc)
-
-or_second : (a b : Bool) → b ≡ true → (a || b) ≡ true
-or_second true b h = refl
-or_second false b h = h
-
 or_grows : (a b c : Bool) → (b ≡ true → c ≡ true) → (a || b) ≡ true → (a || c) ≡ true
 or_grows true b c f h = refl
 or_grows false b c f h = f h
-
-among_more : (x n : Name) (ms : List Name) → is_among x ms ≡ true → is_among x (ms ++ n ∷ []) ≡ true
-among_more x n [] h = absurd (let bad : false ≡ true = h in cc)
-among_more x n (m ∷ ms) h = go (bytes_eq x m) (among_more x n ms) h
-  where
-    go : (b : Bool) → (is_among x ms ≡ true → is_among x (ms ++ n ∷ []) ≡ true) → (if b then true else is_among x ms) ≡ true → (if b then true else is_among x (ms ++ n ∷ [])) ≡ true
-    go true rest e = refl
-    go false rest e = rest e
-
-among_last : (n : Name) (ms : List Name) → is_among n (ms ++ n ∷ []) ≡ true
-among_last n [] = ap (λ b. if b then true else false) ((bytes_eq-Decides n n).1 refl)
-among_last n (m ∷ ms) = go (bytes_eq n m) (among_last n ms)
-  where
-    go : (b : Bool) → is_among n (ms ++ n ∷ []) ≡ true → (if b then true else is_among n (ms ++ n ∷ [])) ≡ true
-    go true rest = refl
-    go false rest = rest
 
 pending_taken : (c : Scope) (n x : Name) → (is_declared_in c x ≡ true) ⊎ (x ≡ n) → is_declared_in (with_pending c n) x ≡ true
 pending_taken c n x h = go (is_among n c.pending) refl h
@@ -153,9 +132,8 @@ module _ (x : Name) where
 
   simple_other : (s : Scopes) (p : Spot) (t : Simple) → faults (simple_typed s p t).type ≡ [] → IsHere s → IsOther x (simple_names t)
   unfolding simple_typed
-  simple_other s p (type_name at n) h known = tt
   simple_other s p (enumeration at is) h known = members_other s (base_of at is) 0 is (unless_none (members s (base_of at is) 0 is).faults _ h) known
-  simple_other s p (subrange at c d) h known = tt
+  simple_other s p _ h known = tt
 
   simple_stays : (s : Scopes) (p : Spot) (t : Simple) → IsHere s → IsHere (simple_typed s p t).scopes
   unfolding typed

@@ -34,10 +34,11 @@ use Rattle.cp_resolved.proofs.frames.FramesBegun.{variables_append, named_parame
 use Rattle.cp_resolved.proofs.declarations.OnceOfTrees.{AllKnown, AllNew, names_new, names_known}
 use Rattle.cp_resolved.proofs.declarations.OnceRoutines.{IsKnown, known_other}
 use Rattle.cp_resolved.proofs.declarations.StillVisible.{Stays, kept_known, constants_stay, types_stay, written_stays, routines_stay, definitions_stay}
+use Rattle.cp_resolved.proofs.frames.SeatsOfProgram.{definitions_keep_variables as same_variables}
 
 -- ---- names of one declaration
 
-among_last : (n : Name) (ms : List Name) → is_among n (ms ++ n ∷ []) ≡ true
+pub among_last : (n : Name) (ms : List Name) → is_among n (ms ++ n ∷ []) ≡ true
 among_last n [] = ap (λ (b : Bool). if b then true else false) (itself n)
 among_last n (m ∷ ms) = go (same_name n m) (among_last n ms)
   where
@@ -45,7 +46,7 @@ among_last n (m ∷ ms) = go (same_name n m) (among_last n ms)
     go true rest = refl
     go false rest = rest
 
-among_before : (x n : Name) (ms : List Name) → is_among x ms ≡ true → is_among x (ms ++ n ∷ []) ≡ true
+pub among_before : (x n : Name) (ms : List Name) → is_among x ms ≡ true → is_among x (ms ++ n ∷ []) ≡ true
 among_before x n [] h = absurd (let bad : false ≡ true = h in cc)
 among_before x n (m ∷ ms) h = go (same_name x m) h (among_before x n ms)
   where
@@ -96,15 +97,15 @@ known_others : (x : Name) (xs : List Name) (ds : Names) → IsKnown x ds → All
 known_others x [] ds known new = tt
 known_others x (y ∷ ys) ds known new = (known_other x y ds known new.0, known_others x ys ds known new.1)
 
-others_look : (x : Name) (xs : List Name) (t : Ty) → IsOther x xs → look x (named_variables xs t) ≡ None
+pub others_look : (x : Name) (xs : List Name) (t : Ty) → IsOther x xs → look x (named_variables xs t) ≡ None
 others_look x [] t h = refl
 others_look x (y ∷ ys) t h = ap (λ (b : Bool). if b then Some t else look x (named_variables ys t)) h.0 ∙ others_look x ys t h.1
 
-named_different : (xs : List Name) (t : Ty) → AreDistinct xs → AreDifferent (named_variables xs t)
+pub named_different : (xs : List Name) (t : Ty) → AreDistinct xs → AreDifferent (named_variables xs t)
 named_different [] t h = tt
 named_different (x ∷ xs) t h = (others_look x xs t h.0, named_different xs t h.1)
 
-different_both : (vs ws : List Variable) → AreDifferent vs → AreDifferent ws → Each (λ (v : Variable). look v.name ws ≡ None) vs → AreDifferent (vs ++ ws)
+pub different_both : (vs ws : List Variable) → AreDifferent vs → AreDifferent ws → Each (λ (v : Variable). look v.name ws ≡ None) vs → AreDifferent (vs ++ ws)
 different_both [] ws d e h = e
 different_both (v ∷ vs) ws d e h = (none_both v.name vs ws d.0 h.0, different_both vs ws d.1 e h.1)
 
@@ -231,14 +232,6 @@ unfolding systems.definition_steps
 definitions_declare s d [] h all = all
 definitions_declare s d (n ∷ ns) h all =
     definitions_declare (systems.definition_step s n).scopes (definition_in d n n.value) ns (no_right (systems.definition_step s n).faults _ h) (definition_declares (reserve_name s n.name).scopes d n n.value (defined_sound s n (no_left (systems.definition_step s n).faults _ h)) all)
-
-same_variables : (d : Declared) (ns : List syntax.SystemDefinition) → (definitions_in d ns).variables ≡ d.variables
-same_variables d [] = refl
-same_variables d (n ∷ ns) = same_variables (definition_in d n n.value) ns ∙ one n.value
-  where
-    one : (v : syntax.Definition) → (definition_in d n v).variables ≡ d.variables
-    one (syntax.type_definition t) = refl
-    one (syntax.system_definition y) = refl
 
 -- ---- the program
 

@@ -8,7 +8,7 @@ use Rattle.cp_text.specs.declared.token.Kind.TheVariants as token
 use Rattle.cp_text.specs.declared.token.Mark.TheVariants as mark
 use Rattle.cp_tree.specs.declared.constant.Identifier.{Identifier}
 use Rattle.cp_tree.specs.declared.declaration.SystemKind.{SystemKind}
-use Rattle.cp_tree.specs.Syntax.{Simple, type_name, enumeration, subrange, TypeTerm, simple, array_of, set_type, record_of, FieldGroups, no_fields, more_fields, FieldGroup, fields, ConstantDefinition, VariableGroup, Group, System, Definition, type_definition, system_definition, SystemDefinition, ProgramPart, program_constants, program_types, program_variables, Tree}
+use Rattle.cp_tree.specs.Syntax.{Simple, type_name, enumeration, TypeTerm, simple, array_of, set_type, record_of, FieldGroups, no_fields, more_fields, FieldGroup, fields, ConstantDefinition, VariableGroup, Group, System, Definition, type_definition, system_definition, SystemDefinition, ProgramPart, program_constants, program_types, program_variables, Tree}
 use Rattle.cp_tree.specs.Spelling.{put_all, put_type, put_definition, put_system_definition, put_program_part, put_routine, put_body, spell}
 use Rattle.cp_tree.specs.SpellingIndexed.{AreAllIndexed, AreSomeIndexed, IsIndexedType, IsIndexedDefinition, IsIndexedSystemDefinition, IsIndexedProgramPart, IsIndexed}
 use Rattle.cp_tree.proofs.Grows.{grows_simple, grows_system_definition, grows_program_part}
@@ -24,7 +24,7 @@ use Rattle.cp_scope.specs.declared.types.ValueType.TheVariants as types
 use Rattle.cp_scope.specs.declared.types.ValueType.TheVariants.{Array, Component}
 use Rattle.cp_scope.specs.declared.shape.ArrayShape.{ArrayShape}
 use Rattle.cp_scope.specs.Judged.{Judged, broken, both, ◌>>=◌, faults}
-use Rattle.cp_scope.specs.Scopes.{Names, Scope, Scopes, as_array, with_pending, Shape, Shapes, array_shape, shape_in, find, is_among, is_declared, look, with_name, add, reserve, settle, enter, keep, count_of, cells_of, start}
+use Rattle.cp_scope.specs.Scopes.{Scope, Scopes, as_array, with_pending, Shape, Shapes, array_shape, shape_in, find, is_among, is_declared, look, with_name, add, reserve, settle, enter, keep, count_of, cells_of, start}
 use Rattle.cp_scope.specs.Counts.{times}
 use Rattle.cp_check.specs.declared.types.Spot.{Spot}
 use Rattle.cp_check.specs.declared.types.Spot.TheVariants as spot
@@ -43,7 +43,7 @@ use Rattle.cp_meaning.specs.Scopes.{constant_meaning, type_meaning, permanent_va
 use Rattle.cp_meaning.specs.Declarations.{type_named, names_of, with_constants, simple_in, type_in, fields_in, group_in, constants_in, with_names, Block, variables_in, Heading, with_group}
 use Rattle.cp_meaning.specs.Systems.{Declared, definition_in, definitions_in, program_part_in}
 use Rattle.cp_lawful.proofs.Classes as classes
-use Rattle.cp_lawful.proofs.Kept.{Keeps, type_kept, definition_kept, program_part_kept, name_reserved}
+use Rattle.cp_lawful.proofs.Kept.{Keeps, definition_kept, program_part_kept, name_reserved, simple_kept as simple_keeps}
 use Rattle.cp_lawful.proofs.Loud.{Loud}
 use Rattle.cp_lawful.proofs.Once.{no_left, no_right, no_first, inside_sound, defined_sound, parts_sound, or_right}
 use Rattle.cp_lawful.proofs.Told.{Told, heard, add_told, enter_told, names_reserved_told, system_parameter_loud, type_told, name_reserved_told, definition_told, program_part_told, start_told}
@@ -51,6 +51,8 @@ use Rattle.cp_resolved.specs.Small.{IsParameter, AreParameters}
 use Rattle.cp_resolved.specs.Fit.{IsFitDefinition, AreFitDefinitions, IsFitPart, AreFitParts, nothing_declared}
 use Rattle.cp_resolved.proofs.agreeing.ShapesWritten as shapes
 use Rattle.cp_resolved.proofs.agreeing.ShapesWritten.{Writes}
+use Rattle.cp_resolved.proofs.agreeing.AgreeingWritten.{other_than as other_name}
+use Rattle.cp_resolved.proofs.declarations.Reserving.{fresh_last as still_new, last_among}
 
 -- ---- components, and arrays of them
 
@@ -79,15 +81,7 @@ Stay w u = (n : ℕ) (d : Shape) → shape_in n w ≡ Some d → shape_in n u �
 holds_stay : (w u : Shapes) (t : Ty) (v : ValueType) → Stay w u → Holds w t v → Holds u t v
 holds_stay w u (component_of k) v stay h = h
 holds_stay w u (array_over r (component_of k)) v stay h = record { token = h.token; is = h.is; shape = h.shape; there = stay h.token (array_shape h.shape) h.there; element = h.element }
-holds_stay w u (array_over r (ordinal q)) v stay h = tt
-holds_stay w u (array_over r queue_type) v stay h = tt
-holds_stay w u (array_over r (set_over q)) v stay h = tt
-holds_stay w u (array_over r (array_over q t)) v stay h = tt
-holds_stay w u (array_over r (record_with ts)) v stay h = tt
-holds_stay w u (ordinal q) v stay h = tt
-holds_stay w u queue_type v stay h = tt
-holds_stay w u (set_over q) v stay h = tt
-holds_stay w u (record_with ts) v stay h = tt
+holds_stay w u _ v stay h = tt
 
 -- ---- the checker knows such a type by the name by which the program means it
 
@@ -121,9 +115,8 @@ enumerated_tell s b n [] m tell = tell
 enumerated_tell s b n (x ∷ xs) m tell = enumerated_tell s b (suc n) xs _ ((λ t e has. absurd cc), tell)
 
 simple_tell : (s : Scopes) (m : meant.Scope) (t : Simple) → AllTell s m → AllTell s (simple_in m t).1
-simple_tell s m (type_name at x) tell = tell
 simple_tell s m (enumeration at is) tell = enumerated_tell s _ 0 (names_of is) m tell
-simple_tell s m (subrange at c d) tell = tell
+simple_tell s m _ tell = tell
 
 mutual
   type_tell : (s : Scopes) (m : meant.Scope) (t : TypeTerm) → AllTell s m → AllTell s (type_in m t).1
@@ -224,26 +217,14 @@ named_ok s p at x v e h =
 element_known : (s : Scopes) (m : meant.Scope) (e : TypeTerm) (k : ℕ) → AllTell s m → (type_in m e).0 ≡ component_of k → faults (typed s spot.Element e).type ≡ [] → (v : ValueType) × (IsComponent v × ((typed s spot.Element e).type ≡ Ok v))
 unfolding typed typing.simple_typed
 element_known s m (simple at (type_name n_at x)) k tell e h = let r = found_tell s x m (component_of k) tell refl e in (r.value_type, (r.holds, named_ok s spot.Element n_at x r.value_type r.found h))
-element_known s m (simple at (enumeration n_at is)) k tell e h = absurd cc
-element_known s m (simple at (subrange n_at c d)) k tell e h = absurd cc
-element_known s m (array_of at i t) k tell e h = absurd cc
-element_known s m (set_type at t) k tell e h = absurd cc
-element_known s m (record_of at gs b) k tell e h = absurd cc
-
-simple_keeps : (s : Scopes) (p : Spot) (t : Simple) → Keeps s (typing.simple_typed s p t).scopes
-unfolding typed
-simple_keeps s p t = type_kept s p (simple 0 t)
+element_known s m x k tell e h = absurd cc
 
 simple_stays : (s : Scopes) (p : Spot) (t : Simple) → Stay s.shapes (typing.simple_typed s p t).scopes.shapes
 simple_stays s p t n d h = ap (shape_in n) (shapes.simple_same s p t) ∙ h
 
 element_of : (r : Range) (t : Ty) → has_components (array_over r t) ≡ true → (k : ℕ) × (t ≡ component_of k)
 element_of r (component_of k) h = (k, refl)
-element_of r (ordinal q) h = absurd (let bad : false ≡ true = h in cc)
-element_of r queue_type h = absurd (let bad : false ≡ true = h in cc)
-element_of r (set_over q) h = absurd (let bad : false ≡ true = h in cc)
-element_of r (array_over q t) h = absurd (let bad : false ≡ true = h in cc)
-element_of r (record_with ts) h = absurd (let bad : false ≡ true = h in cc)
+element_of r x h = absurd (let bad : false ≡ true = h in cc)
 
 same_ok : {A : Type 0} (a b : A) → ◌≡◌ {A = Judged A} (Ok a) (Ok b) → a ≡ b
 same_ok a b h = cc
@@ -254,11 +235,7 @@ array_is s p at (types.Ordinal r) e a h =
     let y = bound (typing.limited at (times (count_of r) (cells_of e s.shapes))) _ a x.1.1 in
     let z : (let b : ArrayShape = record { index = r; element = e; cells = times (count_of r) (cells_of e s.shapes) } in b) ≡ a = same_ok _ a y.1.1 in
     sym (ap (λ (b : ArrayShape). b.element) z)
-array_is s p at types.Queue e a h = absurd cc
-array_is s p at (types.Set r) e a h = absurd cc
-array_is s p at (types.Array n) e a h = absurd cc
-array_is s p at (types.Record n) e a h = absurd cc
-array_is s p at (types.Component k n) e a h = absurd cc
+array_is s p at x e a h = absurd cc
 
 -- nothing is written at these tokens or later ones
 abbrev IsFresh : (total high : ℕ) → Shapes → Type 0
@@ -293,8 +270,6 @@ unfolding typed typing.simple_typed
 type_written total s m (simple at (type_name n_at x)) rest tell told indexed fresh h has =
     let r = found_tell s x m (type_named m x) tell has refl in
     record { value_type = r.value_type; is = named_ok s spot.Definition n_at x r.value_type r.found h; holds = r.holds }
-type_written total s m (simple at (enumeration n_at is)) rest tell told indexed fresh h has = absurd (let bad : false ≡ true = has in cc)
-type_written total s m (simple at (subrange n_at c d)) rest tell told indexed fresh h has = absurd (let bad : false ≡ true = has in cc)
 type_written total s m (array_of at i e) rest tell told indexed fresh h has =
     let index : Typed = typing.simple_typed s spot.Other i in
     let after : Typed = typed index.scopes spot.Element e in
@@ -311,25 +286,9 @@ type_written total s m (array_of at i e) rest tell told indexed fresh h has =
     let writes = shapes.type_writes total index.scopes spot.Element e rest indexed.2 in
     let new : shape_in at after.scopes.shapes ≡ None = writes.before at (omega (arith, begins, le)) ∙ (ap (shape_in at) (shapes.simple_same s spot.Other i) ∙ fresh at (omega (arith, begins))) in
     subst (λ (u : Ty). IsWritten (typed s spot.Definition (array_of at i e)) (array_over (range_of (simple_in m i).0) u)) (sym k.1) (array_written spot.Definition at (range_of (simple_in m i).0) k.0 index.type after inner.0 x.0 x.1.0 inner.1.1 inner.1.0 new)
-type_written total s m (set_type at t) rest tell told indexed fresh h has = absurd (let bad : false ≡ true = has in cc)
-type_written total s m (record_of at gs b) rest tell told indexed fresh h has = absurd (let bad : false ≡ true = has in cc)
+type_written total s m x rest tell told indexed fresh h has = absurd (let bad : false ≡ true = has in cc)
 
 -- ---- a name that is being declared is not declared by what is written under it
-
-other_name : (x n : List ℕ) (ms : List (List ℕ)) → is_among x ms ≡ true → is_among n ms ≡ false → bytes_eq x n ≡ false
-other_name x n ms h g = go (bytes_eq x n) refl
-  where
-    go : (b : Bool) → bytes_eq x n ≡ b → b ≡ false
-    go true e = absurd (let bad : true ≡ false = sym h ∙ (ap (λ (y : List ℕ). is_among y ms) ((bytes_eq-Decides x n).0 e) ∙ g) in cc)
-    go false e = refl
-
-still_new : (x n : List ℕ) (ds : Names) (m : Option Meaning) → bytes_eq x n ≡ false → is_some (find x ds) ≡ false → is_some (find x (ds ++ (n, m) ∷ [])) ≡ false
-still_new x n [] m h g = rw h refl
-still_new x n (d ∷ ds) m h g = go (bytes_eq x d.0) g (still_new x n ds m h)
-  where
-    go : (b : Bool) → is_some (if b then Some d.1 else find x ds) ≡ false → (is_some (find x ds) ≡ false → is_some (find x (ds ++ (n, m) ∷ [])) ≡ false) → is_some (if b then Some d.1 else find x (ds ++ (n, m) ∷ [])) ≡ false
-    go true e rest = e
-    go false e rest = rest e
 
 abbrev IsPending : List ℕ → Scopes → Type 0
 IsPending x s = (is_among x s.inner.pending ≡ true) × (is_some (find x s.inner.names) ≡ false)
@@ -356,9 +315,8 @@ members_pending s b k (i ∷ is) x h = members_pending (typing.member s b k i).s
 
 simple_pending : (s : Scopes) (p : Spot) (t : Simple) (x : List ℕ) → IsPending x s → IsPending x (typing.simple_typed s p t).scopes
 unfolding typing.simple_typed
-simple_pending s p (type_name at n) x h = h
 simple_pending s p (enumeration at is) x h = members_pending s _ 0 is x h
-simple_pending s p (subrange at a b) x h = h
+simple_pending s p _ x h = h
 
 array_pending : (s : Scopes) (at : ℕ) (j : Judged ArrayShape) (x : List ℕ) → IsPending x s → IsPending x (typing.keep_array s at j)
 unfolding keep
@@ -369,19 +327,7 @@ type_pending : (s : Scopes) (m : meant.Scope) (t : TypeTerm) (x : List ℕ) → 
 unfolding typed
 type_pending s m (simple at t) x has h = simple_pending s spot.Definition t x h
 type_pending s m (array_of at i (simple e_at e)) x has h = array_pending _ at _ x (simple_pending (typing.simple_typed s spot.Other i).scopes spot.Element e x (simple_pending s spot.Other i x h))
-type_pending s m (array_of at i (array_of e_at j e)) x has h = absurd (let bad : false ≡ true = has in cc)
-type_pending s m (array_of at i (set_type e_at e)) x has h = absurd (let bad : false ≡ true = has in cc)
-type_pending s m (array_of at i (record_of e_at gs b)) x has h = absurd (let bad : false ≡ true = has in cc)
-type_pending s m (set_type at t) x has h = absurd (let bad : false ≡ true = has in cc)
-type_pending s m (record_of at gs b) x has h = absurd (let bad : false ≡ true = has in cc)
-
-last_among : (n : List ℕ) (ms : List (List ℕ)) → is_among n (ms ++ n ∷ []) ≡ true
-last_among n [] = rw (classes.itself n) refl
-last_among n (m ∷ ms) = go (bytes_eq n m) (last_among n ms)
-  where
-    go : (b : Bool) → is_among n (ms ++ n ∷ []) ≡ true → (if b then true else is_among n (ms ++ n ∷ [])) ≡ true
-    go true h = refl
-    go false h = h
+type_pending s m y x has h = absurd (let bad : false ≡ true = has in cc)
 
 pending_now : (c : Scope) (x : List ℕ) → is_among x (with_pending c x).pending ≡ true
 pending_now c x = go (is_among x c.pending) refl
@@ -471,16 +417,12 @@ group_fits o s g m h knows = go (type_named m g.type_name.name) refl
 
     go : (t : Ty) → type_named m g.type_name.name ≡ t → IsParameter t
     go (array_over r (component_of k)) e = absurd (no_components r k e)
-    go (array_over r (ordinal q)) e = refl
-    go (array_over r queue_type) e = refl
-    go (array_over r (set_over q)) e = refl
-    go (array_over r (array_over q t)) e = refl
-    go (array_over r (record_with ts)) e = refl
     go (ordinal q) e = tt
     go queue_type e = tt
     go (set_over q) e = tt
     go (record_with ts) e = tt
     go (component_of k) e = tt
+    go _ e = refl
 
 groups_fit : (o : SystemKind) (gs : List Group) (s : Scopes) (h : Heading) → (systems.group_steps o s gs).faults ≡ [] → Knows h.scope s → AreParameters h gs
 unfolding systems.group_steps systems.group_step

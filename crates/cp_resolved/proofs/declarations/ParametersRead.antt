@@ -3,7 +3,7 @@ use Rattle.std.proofs.Common.{◌≡◌, ℕ, ◌+◌, Bool, true, false, if◌t
 use Rattle.std.specs.Str.{bytes_eq}
 use Rattle.std.proofs.lemmas.List.{append-nil}
 use Rattle.cp_tree.specs.declared.constant.Identifier.{Identifier}
-use Rattle.cp_tree.specs.Syntax.{Simple, type_name, enumeration, subrange, TypeTerm, simple, array_of, set_type, record_of, FieldGroups, no_fields, more_fields, FieldGroup, fields, ConstantDefinition, TypeDefinition, VariableGroup, Part, constants, types, variables}
+use Rattle.cp_tree.specs.Syntax.{Simple, enumeration, TypeTerm, simple, array_of, set_type, record_of, FieldGroups, no_fields, more_fields, FieldGroup, fields, ConstantDefinition, TypeDefinition, VariableGroup, Part, constants, types, variables}
 use Rattle.cp_scope.specs.declared.fault.CheckFault.TheVariants as check_fault
 use Rattle.cp_scope.specs.declared.fault.Rule.TheVariants.{C2}
 use Rattle.cp_scope.specs.declared.types.Base.{Base}
@@ -63,14 +63,11 @@ after c d e h g =
     }
 
 no_parameter : (o : Option Meaning) → IsDeclared o → parameter_in o ≡ None
-no_parameter None h = refl
-no_parameter (Some (meaning.Constant b z)) h = refl
-no_parameter (Some (meaning.Kind v)) h = refl
-no_parameter (Some (meaning.Variable v)) h = refl
 no_parameter (Some (meaning.Parameter v)) h = absurd h
 no_parameter (Some (meaning.Reference v)) h = absurd h
 no_parameter (Some (meaning.Routine n)) h = absurd h
 no_parameter (Some (meaning.Predeclared q)) h = absurd h
+no_parameter _ h = refl
 
 none_read : (ds : Names) → AreDeclared ds → parameters_in ds ≡ []
 unfolding parameters_in
@@ -205,9 +202,8 @@ members_read s b k (i ∷ is) = after s.inner (member s b k i).scopes.inner _ (m
 
 simple_read : (s : Scopes) (p : Spot) (t : Simple) → Reads s (simple_typed s p t).scopes
 unfolding simple_typed
-simple_read s p (type_name at n) = same s.inner s.inner refl
 simple_read s p (enumeration at is) = members_read s _ 0 is
-simple_read s p (subrange at a b) = same s.inner s.inner refl
+simple_read s p _ = same s.inner s.inner refl
 
 array_read : (s : Scopes) (at : ℕ) (j : Judged ArrayShape) → Reads s (keep_array s at j)
 unfolding keep

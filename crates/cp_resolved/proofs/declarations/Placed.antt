@@ -1,8 +1,8 @@
 -- A tree that was read and breaks no rule has what the laws on layouts and on bodies want of it.
-use Rattle.std.proofs.Common.{◌≤◌, ℕ, zero, suc, List, [], ◌∷◌, ◌++◌, Option, Some, None, slice_get, arith}
+use Rattle.std.proofs.Common.{◌≤◌, ℕ, zero, suc, List, [], ◌∷◌, ◌++◌, Option, Some, slice_get, arith}
 use Rattle.cp_tree.specs.Syntax.{Program}
 use Rattle.cp_layout.specs.Kinds.{most}
-use Rattle.cp_meaning.specs.Scopes.{Meaning, constant_meaning, type_meaning, local_variable, permanent_variable, routine_meaning, standard_meaning, find}
+use Rattle.cp_meaning.specs.Scopes.{Meaning, local_variable, permanent_variable, find}
 use Rattle.cp_meaning.specs.Systems.{declared, own_meaning, program_system}
 use Rattle.cp_resolved.specs.Fit.{nothing_declared}
 use Rattle.cp_resolved.specs.Judging.{Place, places_of, AreAgreed, tokens_of, ScopesAre}
@@ -29,20 +29,15 @@ few_most n h = omega (arith, h)
 fit_sized : (o : Option Meaning) → IsFit o → IsSizedMeaning o
 fit_sized (Some (local_variable t)) h = (few_most (cells_of t) (few_free t h), full_free t h)
 fit_sized (Some (permanent_variable t)) h = (few_most (cells_of t) (few_standing t h), full_standing t h)
-fit_sized (Some (constant_meaning b z)) h = tt
-fit_sized (Some (type_meaning t)) h = tt
-fit_sized (Some (routine_meaning r)) h = tt
-fit_sized (Some (standard_meaning q)) h = tt
-fit_sized None h = tt
+fit_sized _ h = tt
 
 abbrev AreSizedAt : Opening → Type 0
 AreSizedAt o = AreSized o.meaning.scope
 
 all_sized : (tokens : Tokens) (p : Program) (xs : List Place) (os : List Opening) → AreAgreed tokens p xs os → Each AreSizedAt os
 all_sized tokens p [] [] h = tt
-all_sized tokens p [] (o ∷ os) h = absurd h
-all_sized tokens p (x ∷ xs) [] h = absurd h
 all_sized tokens p (x ∷ xs) (o ∷ os) h = ((λ y. fit_sized (find y o.meaning.scope) (h.0.fit y)), all_sized tokens p xs os h.1)
+all_sized tokens p _ _ h = absurd h
 
 -- the last of all
 last_sized : (os : List Opening) (o : Opening) → Each AreSizedAt (os ++ o ∷ []) → AreSizedAt o

@@ -11,15 +11,8 @@ use Rattle.cp_scope.specs.Scopes.{Names, Scope, Scopes, find, is_among, or_else,
 use Rattle.cp_check.specs.Types.{Step, nothing}
 use Rattle.cp_check.specs.Records.{Reserved, reserve_field, reserve_fields, with_fields}
 use Rattle.cp_check.specs.Declarations.{reserve_name, reserve_names}
-use Rattle.cp_resolved.proofs.agreeing.Agreeing.{itself, is_itself, find_last, new_names, none_left, none_right}
-
-pub or_left : (a b : Bool) → (a || b) ≡ false → a ≡ false
-or_left true b h = h
-or_left false b h = refl
-
-pub or_right : (a b : Bool) → (a || b) ≡ false → b ≡ false
-or_right true b h = absurd (let bad : true ≡ false = h in cc)
-or_right false b h = h
+use Rattle.cp_resolved.proofs.agreeing.Agreeing.{is_itself, find_last, new_names, none_left, none_right}
+use Rattle.cp_lawful.proofs.Once.{itself, or_left, or_right}
 
 -- ---- one name
 
@@ -103,12 +96,8 @@ or_true : (a : Bool) → (a || true) ≡ true
 or_true true = refl
 or_true false = refl
 
-last_among : (n : List ℕ) (ms : List (List ℕ)) → is_among n (ms ++ n ∷ []) ≡ true
+pub last_among : (n : List ℕ) (ms : List (List ℕ)) → is_among n (ms ++ n ∷ []) ≡ true
 last_among n ms = among_last n n ms ∙ ap (λ b. is_among n ms || b) (itself n) ∙ or_true (is_among n ms)
-
-all_among : (ns : List Identifier) (ms : List (List ℕ)) (ps : List (List ℕ)) → ((x : List ℕ) → is_among x ms ≡ true → is_among x ps ≡ true) → AreAmong ns ms → AreAmong ns ps
-all_among [] ms ps h g = tt
-all_among (n ∷ ns) ms ps h g = (h n.name g.0, all_among ns ms ps h g.1)
 
 pub one_reserved : (c : Scope) (n : Identifier) → (reserve_field c n).faults ≡ [] → Pends c → ReservedIn c (reserve_field c n).fields (n ∷ [])
 one_reserved c n h p =
@@ -147,7 +136,7 @@ pub pending_fresh : (c : Scope) (ns : List Identifier) (ms : List (List ℕ)) �
 pending_fresh c [] ms h g = tt
 pending_fresh c (n ∷ ns) ms h g = (h n.name g.0, pending_fresh c ns ms h g.1)
 
-fresh_last : (x n : List ℕ) (ds : Names) (o : Option Meaning) → bytes_eq x n ≡ false → is_some (find x ds) ≡ false → is_some (find x (ds ++ (n, o) ∷ [])) ≡ false
+pub fresh_last : (x n : List ℕ) (ds : Names) (o : Option Meaning) → bytes_eq x n ≡ false → is_some (find x ds) ≡ false → is_some (find x (ds ++ (n, o) ∷ [])) ≡ false
 fresh_last x n ds o e h = ap is_some (find_last x n ds o ∙ ap (λ (b : Bool). or_else (find x ds) (if b then Some o else None)) e) ∙ go (find x ds) h
   where
     go : (q : Option (Option Meaning)) → is_some q ≡ false → is_some (or_else q None) ≡ false

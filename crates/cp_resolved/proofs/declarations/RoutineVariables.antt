@@ -1,23 +1,23 @@
 -- The parameters and variables of each routine of a tree that breaks no rule have different names, and each is visible where its statements stand (C2);
 -- and where the tree was read, none of them has queues or components.
-use Rattle.std.proofs.Common.{◌≡◌, ℕ, zero, suc, Bool, true, false, List, [], ◌∷◌, ◌++◌, length, Option, Some, None, Ok, Err, slice_get, refl, sym, ap, subst, ◌∙◌, append-nil}
+use Rattle.std.proofs.Common.{◌≡◌, ℕ, zero, suc, Bool, true, false, List, [], ◌∷◌, ◌++◌, length, Option, Some, None, Ok, slice_get, sym, ap, subst, ◌∙◌, append-nil}
 use Rattle.cp_tree.specs.declared.declaration.SystemKind.{SystemKind}
-use Rattle.cp_tree.specs.Syntax.{Group, ParameterGroup, RoutineKind, procedure, function, Routine, Definition, type_definition, system_definition, SystemDefinition, ProgramPart, program_constants, program_types, program_variables, Program, Tree}
+use Rattle.cp_tree.specs.Syntax.{Group, ParameterGroup, RoutineKind, procedure, function, Routine, Definition, type_definition, system_definition, SystemDefinition, ProgramPart, program_types, Program, Tree}
 use Rattle.cp_scope.specs.declared.types.ValueType.{ValueType}
 use Rattle.cp_scope.specs.Counts.{no_use}
-use Rattle.cp_scope.specs.Judged.{Judged, ◌>>=◌, faults}
-use Rattle.cp_scope.specs.Scopes.{Scopes, enter, start, add_around, keep}
+use Rattle.cp_scope.specs.Judged.{◌>>=◌, faults}
+use Rattle.cp_scope.specs.Scopes.{Scopes, enter, start}
 use Rattle.cp_check.specs.declared.types.Spot.TheVariants as spot
 use Rattle.cp_check.specs.Types.{Step}
 use Rattle.cp_check.specs.Declarations.{as_declared, reserve_name, reserve_names, part_steps}
 use Rattle.cp_check.specs.Faults.{faults_of, declarations}
 use Rattle.cp_check.specs.Headings as headings
-use Rattle.cp_check.specs.Headings.{after_faults, Headed, written, heading, announced, announced_of}
+use Rattle.cp_check.specs.Headings.{after_faults, Headed, written, heading, announced_of}
 use Rattle.cp_check.specs.Routines as routines
 use Rattle.cp_check.specs.Routines.{routine_context, routine_step, routine_steps}
 use Rattle.cp_check.specs.Statements.{statements}
 use Rattle.cp_check.specs.Systems as systems
-use Rattle.cp_lawful.proofs.Once.{inside_sound, defined_sound, parts_sound, declarations_sound}
+use Rattle.cp_lawful.proofs.Once.{inside_sound, defined_sound, parts_sound, declarations_sound, no_first as none_first, none_before}
 use Rattle.cp_lawful.specs.Accepted.{IsAccepted}
 use Rattle.cp_meaning.specs.Names.{Name}
 use Rattle.cp_meaning.specs.Types.{Ty}
@@ -35,12 +35,14 @@ use Rattle.cp_resolved.specs.Resolved.{initial_meaning}
 use Rattle.cp_resolved.specs.Small.{Each}
 use Rattle.cp_resolved.specs.Standing.{IsFreeVariable, IsFreeParameter}
 use Rattle.cp_resolved.specs.Typed.{Tokens}
-use Rattle.cp_resolved.proofs.agreeing.Agreeing.{none_left, none_right, none_first}
-use Rattle.cp_resolved.proofs.agreeing.AgreeingRoutines.{none_before, none_after}
-use Rattle.cp_resolved.proofs.declarations.DeclaredVariables.{each_both, Seen, none_seen, seen_stays, group_seen, parts_seen}
+use Rattle.cp_resolved.proofs.agreeing.Agreeing.{none_left, none_right}
+use Rattle.cp_resolved.proofs.agreeing.AgreeingRoutines.{none_after}
+use Rattle.cp_resolved.proofs.declarations.DeclaredVariables.{Seen, none_seen, seen_stays, group_seen, parts_seen}
 use Rattle.cp_resolved.proofs.frames.FramesBegun.{variables_append, named_parameters}
 use Rattle.cp_resolved.proofs.agreeing.ScopesOfTrees.{scopes_law}
 use Rattle.cp_resolved.proofs.declarations.HiddenByNone.{stays_same}
+use Rattle.cp_resolved.proofs.frames.FrameCells.{each_both}
+use Rattle.cp_resolved.proofs.sound.OwnCalls.{announced_names}
 
 -- ---- headings
 
@@ -84,11 +86,6 @@ written_seen s m (function gs i) none =
 
 abbrev HasDeclared : RoutineMeaning → Type 0
 HasDeclared m = AreDeclared local_variable m.scope (routine_variables m)
-
-announced_names : (r : Routine) (j : Judged (Option ValueType)) (s : Scopes) → (announced_of r j s).inner.names ≡ s.inner.names
-unfolding announced add_around keep
-announced_names r (Ok v) s = refl
-announced_names r (Err fs) s = refl
 
 routine_declared : (owner : Option SystemKind) (s : Scopes) (m : scopes.Scope) (r : Routine) → (routine_step owner s r).faults ≡ [] → HasDeclared (routine_in (with_routine m r) r)
 unfolding routine_step heading routines.opened
@@ -140,9 +137,8 @@ definitions_declared s d (n ∷ ns) none =
 
 part_declared : (s : Scopes) (d : Declared) (q : ProgramPart) → (systems.program_part_step s q).faults ≡ [] → Each OfOpening (part_openings d q)
 unfolding systems.program_part_step
-part_declared s d (program_constants at ds) none = tt
 part_declared s d (program_types at ns) none = definitions_declared s d ns none
-part_declared s d (program_variables at gs) none = tt
+part_declared s d _ none = tt
 
 parts_declared : (s : Scopes) (d : Declared) (qs : List ProgramPart) → (systems.program_part_steps s qs).faults ≡ [] → Each OfOpening (parts_openings d qs)
 unfolding systems.program_part_steps
@@ -186,8 +182,7 @@ both_free (q ∷ qs) vs h g = (h.0, both_free qs vs h.1 g)
 all_free : (tokens : Tokens) (p : Program) (xs : List Place) (os : List Opening) → AreAgreed tokens p xs os → Each (λ (o : Opening). HasFree o.meaning) os
 all_free tokens p [] [] h = tt
 all_free tokens p (x ∷ xs) (o ∷ os) h = (both_free o.meaning.parameters o.meaning.variables h.0.parameters h.0.variables, all_free tokens p xs os h.1)
-all_free tokens p [] (o ∷ os) h = absurd h
-all_free tokens p (x ∷ xs) [] h = absurd h
+all_free tokens p _ _ h = absurd h
 
 pub accepted_free : (t : Tree) → IsRead t.program → IsAccepted t → (n : ℕ) → Each IsFreeVariable (routine_variables (meaning_at t.program n))
 accepted_free t read accepted n =

@@ -4,7 +4,7 @@ use Rattle.cp_text.specs.declared.token.Kind.{Kind}
 use Rattle.cp_text.specs.declared.token.Kind.TheVariants as kind
 use Rattle.cp_text.specs.declared.token.Mark.TheVariants as mark
 use Rattle.cp_tree.specs.declared.constant.Constant.{Constant}
-use Rattle.cp_tree.specs.Syntax.{Expression, alone, related, Sum, sum, Terms, no_terms, more_terms, Term, term, Factors, no_factors, more_factors, Factor, number, character, named, group, negated, set_of, Expressions, no_expressions, more_expressions, Designator, designator, Selectors, no_selectors, more_selectors, Selector, field, index, Start, Statement, empty, assign, invoke, block, if_then, if_else, case_of, while_do, repeat_until, for_do, cycle, init, Statements, no_statements, more_statements, Arms, no_arms, more_arms, Arm, arm, Body, Routine, System, Definition, type_definition, system_definition, SystemDefinition, ProgramPart, program_constants, program_types, program_variables, Program}
+use Rattle.cp_tree.specs.Syntax.{Expression, alone, related, Sum, sum, Terms, no_terms, more_terms, Term, term, Factors, no_factors, more_factors, Factor, named, group, negated, set_of, Expressions, no_expressions, more_expressions, Designator, designator, Selectors, no_selectors, more_selectors, Selector, field, index, Start, Statement, empty, assign, invoke, block, if_then, if_else, case_of, while_do, repeat_until, for_do, cycle, init, Statements, no_statements, more_statements, Arms, no_arms, more_arms, Arm, arm, Body, Routine, System, Definition, type_definition, system_definition, SystemDefinition, ProgramPart, program_constants, program_types, program_variables, Program}
 use Rattle.cp_tree.specs.Spelling.{put_constant, put_optional, put_behind, put_all, put_separated, put_identifier, put_expression, put_sum, put_terms, put_term, put_factors, put_factor, put_arguments, put_expressions, put_more_expressions, put_designator, put_selectors, put_selector, put_start, put_statement, put_statements, put_more_statements, put_arms, put_more_arms, put_arm, put_part, put_group, put_body, put_routine_kind, put_routine, put_system, put_definition, put_system_definition, put_program_part, relation_mark, direction_mark, spell}
 use Rattle.cp_resolved.specs.Openings.{Opening, openings_of}
 use Rattle.cp_tree.specs.Read.{IsRead}
@@ -38,12 +38,11 @@ mutual
   factors_small (more_factors m f fs) r e = (factor_small f (put_factors fs r) e.1, factors_small fs r (factor_after f (put_factors fs r) e.1))
 
   factor_small : (x : Factor) (r : List Kind) → AreScanned (put_factor x r) → IsSmallFactor x
-  factor_small (number at n) r e = e.0
-  factor_small (character at c) r e = e.0
   factor_small (named at d es) r e = (designator_small d (put_arguments es r) e, arguments_small es r (designator_after d (put_arguments es r) e))
   factor_small (group at x) r e = expression_small x (kind.Mark mark.CloseParenthesis ∷ r) e.1
   factor_small (negated at f) r e = factor_small f r e.1
   factor_small (set_of at es) r e = expressions_small es (kind.Mark mark.CloseBracket ∷ r) e.1
+  factor_small _ r e = e.0
 
   pub arguments_small : (x : Expressions) (r : List Kind) → AreScanned (put_arguments x r) → AreSmallExpressions x
   arguments_small no_expressions r e = tt

@@ -5,7 +5,7 @@ use Rattle.cp_text.specs.declared.token.Kind.TheVariants as kind
 use Rattle.cp_text.specs.declared.token.Mark.TheVariants as mark
 use Rattle.cp_tree.specs.declared.constant.Constant.{Constant}
 use Rattle.cp_tree.specs.declared.constant.Sign.{Sign}
-use Rattle.cp_tree.specs.Syntax.{Expression, alone, related, Sum, sum, Terms, no_terms, more_terms, Term, term, Factors, no_factors, more_factors, Factor, number, character, named, group, negated, set_of, Expressions, no_expressions, more_expressions, Designator, designator, Selectors, no_selectors, more_selectors, Selector, field, index, Start, Statement, empty, assign, invoke, block, if_then, if_else, case_of, while_do, repeat_until, for_do, cycle, init, Statements, no_statements, more_statements, Arms, no_arms, more_arms, Arm, arm}
+use Rattle.cp_tree.specs.Syntax.{Expression, alone, related, Sum, sum, Terms, no_terms, more_terms, Term, term, Factors, no_factors, more_factors, Factor, named, group, negated, set_of, Expressions, no_expressions, more_expressions, Designator, designator, Selectors, no_selectors, more_selectors, Selector, field, index, Start, Statement, empty, assign, invoke, block, if_then, if_else, case_of, while_do, repeat_until, for_do, cycle, init, Statements, no_statements, more_statements, Arms, no_arms, more_arms, Arm, arm}
 use Rattle.cp_tree.specs.Spelling.{put_behind, put_all, put_separated, put_sign, put_constant, put_optional, put_expression, put_sum, put_terms, put_term, put_factors, put_factor, put_arguments, put_expressions, put_more_expressions, put_designator, put_selectors, put_selector, put_start, put_statement, put_statements, put_more_statements, put_arms, put_more_arms, put_arm, relation_mark, direction_mark}
 use Rattle.cp_resolved.proofs.declarations.SmallTokens.{AreScanned, optional_small, constant_small}
 
@@ -33,12 +33,11 @@ mutual
   factors_after (more_factors m f fs) r e = factors_after fs r (factor_after f (put_factors fs r) e.1)
 
   pub factor_after : (x : Factor) (r : List Kind) → AreScanned (put_factor x r) → AreScanned r
-  factor_after (number at n) r e = e.1
-  factor_after (character at c) r e = e.1
   factor_after (named at d es) r e = arguments_after es r (designator_after d (put_arguments es r) e)
   factor_after (group at x) r e = (expression_after x (kind.Mark mark.CloseParenthesis ∷ r) e.1).1
   factor_after (negated at f) r e = factor_after f r e.1
   factor_after (set_of at es) r e = (expressions_after es (kind.Mark mark.CloseBracket ∷ r) e.1).1
+  factor_after _ r e = e.1
 
   pub arguments_after : (x : Expressions) (r : List Kind) → AreScanned (put_arguments x r) → AreScanned r
   arguments_after no_expressions r e = e

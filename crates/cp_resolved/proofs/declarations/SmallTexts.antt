@@ -52,12 +52,11 @@ word_scanned (Some m) spelling h = tt
 word_scanned None spelling h = h
 
 lexeme_scanned : (s : Shape) (piece : List ℕ) (k : Kind) → Has s piece → IsLexeme s piece k → IsScanned k
-lexeme_scanned shape.Separator piece k g h = absurd h
-lexeme_scanned shape.Comment piece k g h = absurd h
 lexeme_scanned shape.Number piece k g h = subst IsScanned (sym h.1) h.0
 lexeme_scanned shape.Name piece k g h = subst IsScanned (sym h.1) (word_scanned (reserved (lower_case piece)) (lower_case piece) (piece_word piece g))
 lexeme_scanned shape.Character piece k g h = subst IsScanned (sym h.kind) (code_small h.text h.code h.stands_for)
 lexeme_scanned (shape.Sign m) piece k g h = subst IsScanned (sym h) tt
+lexeme_scanned _ piece k g h = absurd h
 
 tokens_scanned : (line : ℕ) (ps : List Part) (ts : List Token) → AreCut ps [] → AreTokens line ps ts → AreScanned (kinds ts)
 tokens_scanned line [] [] c no_more = tt

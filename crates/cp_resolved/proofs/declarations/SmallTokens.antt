@@ -35,11 +35,10 @@ optional_small m true rest e = e.1
 optional_small m false rest e = e
 
 pub constant_small : (c : ConstantKind) (rest : List Kind) → AreScanned (put_constant_kind c rest) → IsSmallConstant c × AreScanned rest
-constant_small (constant_kind.Number None n) rest e = (e.0, e.1)
 constant_small (constant_kind.Number (Some s) n) rest e = (e.1.0, e.1.1)
 constant_small (constant_kind.Name None i) rest e = (tt, e.1)
 constant_small (constant_kind.Name (Some s) i) rest e = (tt, e.1.1)
-constant_small (constant_kind.Character c) rest e = (e.0, e.1)
+constant_small _ rest e = (e.0, e.1)
 
 pub simple_small : (t : Simple) (rest : List Kind) → AreScanned (put_simple t rest) → IsSmallSimple t × AreScanned rest
 simple_small (type_name at n) rest e = (tt, e.1)

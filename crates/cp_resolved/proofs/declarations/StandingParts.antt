@@ -2,20 +2,22 @@
 use Rattle.std.proofs.Common.{◌≡◌, ℕ, ◌+◌, ◌*◌, ℤ, Bool, true, false, ◌&&◌, if◌then◌else◌, List, [], ◌∷◌, Option, Some, None, inl, inr, refl, sym, ap, subst, arith, ◌∙◌}
 use Rattle.std.specs.Prelude.{◌⊎◌, int_le, nat_lt}
 use Rattle.cp_meaning.specs.Names.{Name, same_name}
-use Rattle.cp_meaning.specs.Types.{Range, Ty, ordinal, queue_type, set_over, array_over, record_with, component_of, FieldTypes, no_field_types, more_field_types, length_of_range, is_within}
+use Rattle.cp_meaning.specs.Types.{Range, Ty, ordinal, queue_type, array_over, record_with, component_of, FieldTypes, no_field_types, more_field_types, length_of_range, is_within}
 use Rattle.cp_meaning.specs.Operations.{range_of_base}
 use Rattle.cp_meaning.specs.Values.{Choice, the_field, the_element, number_value}
 use Rattle.cp_resolved.specs.Encoded.{Chosen, further_chosen, field_chosen, one_chosen, then_chosen, chosen_at, HasType}
 use Rattle.cp_resolved.specs.Layouts.{cells_of, cells_in}
 use Rattle.cp_resolved.specs.Standing.{is_bounded, are_few, is_indexed, is_free, are_free, is_standing}
-use Rattle.cp_resolved.proofs.forms.Typing.{first_true, second_true}
+use Rattle.cp_resolved.proofs.names.Alike.{same_inside as some_same}
+use Rattle.cp_resolved.proofs.frames.LeastCells.{right_true as second_true}
+use Rattle.cp_resolved.proofs.counts.FewCells.{left_of as first_true}
 
 -- ---- ranges
 
 at_most : (a b c : ℤ) → int_le a b ≡ true → int_le b c ≡ true → int_le a c ≡ true
 at_most a b c h g = search (arith, h, g)
 
-both_of : (a b : Bool) → a ≡ true → b ≡ true → (a && b) ≡ true
+pub both_of : (a b : Bool) → a ≡ true → b ≡ true → (a && b) ≡ true
 both_of a b h g = ap (λ c. c && b) h ∙ g
 
 -- a value in a range is one of its base
@@ -29,9 +31,6 @@ within_base r b z h =
     (at_most z r.high (range_of_base r.base).high (second_true (int_le r.low z) (int_le z r.high) h) (second_true (int_le (range_of_base r.base).low r.high) (int_le r.high (range_of_base r.base).high) high))
 
 -- ---- parts
-
-some_same : {A : Type 0} (x y : A) → Some x ≡ Some y → x ≡ y
-some_same x y h = cc
 
 -- a part further on is the same part
 record Further (o : Option Chosen) (t : Ty) : Type 0 where
@@ -51,25 +50,20 @@ field_free (more_field_types y t ts) x c f h = go (same_name x y) h (λ d g. fie
     go true e rest = subst (λ (u : Ty). is_free u ≡ true) (ap (λ (d : Chosen). d.1) (some_same (0, t) c e)) (first_true (is_free t) (are_free ts) f)
     go false e rest = let d = further_some (cells_of t) (field_chosen ts x) c e in subst (λ (u : Ty). is_free u ≡ true) d.same (rest d.part d.is)
 
-element_is : (n : ℕ) (r : Range) (t : Ty) (c : Chosen) → one_chosen (array_over r t) (the_element n) ≡ Some c → t ≡ c.1
+pub element_is : (n : ℕ) (r : Range) (t : Ty) (c : Chosen) → one_chosen (array_over r t) (the_element n) ≡ Some c → t ≡ c.1
 element_is n r t c h = go (nat_lt n (length_of_range r)) h
   where
     go : (b : Bool) → (if b then Some (n * cells_of t, t) else None) ≡ Some c → t ≡ c.1
     go true e = ap (λ (d : Chosen). d.1) (some_same (n * cells_of t, t) c e)
     go false e = absurd (let bad : None ≡ Some c = e in cc)
 
-no_part : (c : Chosen) → None ≡ Some c → ⊥
+pub no_part : (c : Chosen) → None ≡ Some c → ⊥
 no_part c h = let bad : None ≡ Some c = h in absurd cc
 
 one_free : (t : Ty) (i : Choice) (c : Chosen) → is_free t ≡ true → one_chosen t i ≡ Some c → is_free c.1 ≡ true
 one_free (record_with ts) (the_field x) c f h = field_free ts x c (second_true (are_few (cells_in ts)) (are_free ts) f) h
-one_free (record_with ts) (the_element n) c f h = absurd (no_part c h)
 one_free (array_over r t) (the_element n) c f h = subst (λ (u : Ty). is_free u ≡ true) (element_is n r t c h) (second_true (is_indexed r t) (is_free t) f)
-one_free (array_over r t) (the_field x) c f h = absurd (no_part c h)
-one_free (ordinal r) i c f h = absurd (no_part c h)
-one_free queue_type i c f h = absurd (no_part c h)
-one_free (set_over r) i c f h = absurd (no_part c h)
-one_free (component_of n) i c f h = absurd (no_part c h)
+one_free _ _ c f h = absurd (no_part c h)
 
 -- a part of what has neither queues nor components has none
 pub free_part : (t : Ty) (cs : List Choice) (c : Chosen) → is_free t ≡ true → chosen_at t cs ≡ Some c → is_free c.1 ≡ true
@@ -105,17 +99,11 @@ array_alone r t none (the_element n ∷ cs) o q h = go (one_chosen (array_over r
         none cs k.part.0 q (subst (λ (u : Ty). chosen_at u cs ≡ Some (k.part.0, ordinal q)) (sym (element_is n r t d e)) (k.is ∙ ap (λ (u : Ty). Some (k.part.0, u)) k.same))
 
 free_or : (t : Ty) → is_standing t ≡ true → (is_free t ≡ true) ⊎ NoOrdinal t
-free_or (ordinal r) h = inl h
 free_or queue_type h = inr queue_alone
-free_or (set_over r) h = inl h
-free_or (record_with ts) h = inl h
 free_or (component_of n) h = inr (component_alone n)
 free_or (array_over r queue_type) h = inr (array_alone r queue_type queue_alone)
 free_or (array_over r (component_of n)) h = inr (array_alone r (component_of n) (component_alone n))
-free_or (array_over r (ordinal q)) h = inl h
-free_or (array_over r (set_over q)) h = inl h
-free_or (array_over r (array_over q t)) h = inl h
-free_or (array_over r (record_with ts)) h = inl h
+free_or _ h = inl h
 
 -- ---- variables
 
@@ -126,11 +114,3 @@ unqueued t cs ds o j q h e g = go (free_or t h)
     go : (is_free t ≡ true) ⊎ NoOrdinal t → ⊥
     go (inl f) = let bad : false ≡ true = free_part t ds (j, queue_type) f g in absurd cc
     go (inr none) = none cs o q e
-
--- an ordinal part of a variable has the values of its base
-pub part_within : (t : Ty) (cs : List Choice) (o : ℕ) (q : Range) → is_standing t ≡ true → chosen_at t cs ≡ Some (o, ordinal q) → (z : ℤ) → is_within q z ≡ true → HasType (ordinal q) (number_value z)
-part_within t cs o q h e = go (free_or t h)
-  where
-    go : (is_free t ≡ true) ⊎ NoOrdinal t → (z : ℤ) → is_within q z ≡ true → HasType (ordinal q) (number_value z)
-    go (inl f) = within_base q (free_part t cs (o, ordinal q) f e)
-    go (inr none) = absurd (none cs o q e)

@@ -84,11 +84,11 @@ members_stay s b k (i ∷ is) c base n h =
     let d : Scope = (i.name, constant_meaning base (pos n)) ∷ c in
     stays_then s t c d (with_constants base (suc n) (names_of is) d) a.kept (stays_added s i.name (constant_meaning base (pos n)) c c a.new (stays_same s c)) (members_stay t b (k + 1) is d base (suc n) (no_right (typing.member s b k i).faults _ h))
 
-no_faults : (fs : List CheckFault) (v : ValueType) → faults (typing.unless_type fs v) ≡ [] → fs ≡ []
+pub no_faults : (fs : List CheckFault) (v : ValueType) → faults (typing.unless_type fs v) ≡ [] → fs ≡ []
 no_faults [] v h = refl
 no_faults (f ∷ fs) v h = h
 
-no_field_faults : (fs : List CheckFault) (f : checked.Scope) → faults (sound_of fs f) ≡ [] → fs ≡ []
+pub no_field_faults : (fs : List CheckFault) (f : checked.Scope) → faults (sound_of fs f) ≡ [] → fs ≡ []
 no_field_faults [] f h = refl
 no_field_faults (e ∷ es) f h = h
 
@@ -104,9 +104,8 @@ both_second (Err fs) (Err gs) h = no_right fs gs h
 
 simple_stays : (s : Scopes) (c : Scope) (p : Spot) (t : syntax.Simple) → faults (typing.simple_typed s p t).type ≡ [] → Stays s c (simple_in c t).1
 unfolding typing.simple_typed
-simple_stays s c p (syntax.type_name at x) h = stays_same s c
 simple_stays s c p (syntax.enumeration at is) h = members_stay s (typing.base_of at is) 0 is c (enumerated at (names_of is)) 0 (no_faults _ _ h)
-simple_stays s c p (syntax.subrange at a b) h = stays_same s c
+simple_stays s c p _ h = stays_same s c
 
 mutual
   unfolding typed typing.groups_typed typing.group_typed

@@ -7,7 +7,7 @@ use Rattle.cp_meaning.specs.Declarations.{Parameter, Variable}
 use Rattle.cp_meaning.specs.Names.{Name}
 use Rattle.cp_meaning.specs.Steps.{parameter_variables}
 use Rattle.cp_meaning.specs.Systems.{system_of}
-use Rattle.cp_meaning.specs.Types.{Ty, ordinal, queue_type, set_over, array_over, record_with, component_of, has_components}
+use Rattle.cp_meaning.specs.Types.{Ty, ordinal, component_of, has_components}
 use Rattle.cp_resolved.specs.Framed.{system_variables}
 use Rattle.cp_resolved.specs.Layouts.{look}
 use Rattle.cp_tree.specs.Read.{IsRead}
@@ -25,18 +25,9 @@ pub accepted_values : (t : Tree) → IsRead t.program → IsAccepted t → (k : 
 accepted_values t read accepted k = each_weaker IsSystemParameter (λ (q : Parameter). q.is_var ≡ false) (λ q h. h.0) (system_of t.program k).parameters ((scopes_law t read accepted).handed k)
 
 handed_free : (b : Bool) (t : Ty) → has_components t ≡ false → IsHanded b t → is_free t ≡ true
-handed_free false (ordinal r) w h = h
-handed_free false queue_type w h = h
-handed_free false (set_over r) w h = h
-handed_free false (array_over r t) w h = h
-handed_free false (record_with ts) w h = h
 handed_free false (component_of n) w h = absurd (let bad : true ≡ false = w in cc)
 handed_free true (ordinal r) w h = h
-handed_free true queue_type w h = h
-handed_free true (set_over r) w h = h
-handed_free true (array_over r t) w h = h
-handed_free true (record_with ts) w h = h
-handed_free true (component_of n) w h = h
+handed_free _ _ w h = h
 
 among_free : (x : Name) (t : Ty) (qs : List Parameter) → has_components t ≡ false → Each IsSystemParameter qs → Among x t (parameter_variables qs) → is_free t ≡ true
 among_free x t [] w h a = absurd a

@@ -1,6 +1,6 @@
 -- No parameter of a system type is a `var` parameter.
 use Rattle.std.proofs.Common.{◌≡◌, ℕ, zero, suc, false, List, [], ◌∷◌, slice_get, refl}
-use Rattle.cp_tree.specs.Syntax.{Group, System, Definition, type_definition, system_definition, SystemDefinition, ProgramPart, program_constants, program_types, program_variables, Program}
+use Rattle.cp_tree.specs.Syntax.{Group, System, Definition, type_definition, system_definition, SystemDefinition, ProgramPart, program_types, Program}
 use Rattle.cp_meaning.specs.Names.{Name}
 use Rattle.cp_meaning.specs.Types.{Ty}
 use Rattle.cp_meaning.specs.Scopes.{Scope, permanent_variable, predeclared, seen_inside}
@@ -35,9 +35,8 @@ definitions_values d [] h = h
 definitions_values d (n ∷ ns) h = definitions_values (definition_in d n n.value) ns (definition_values d n n.value h)
 
 part_values : (d : Declared) (p : ProgramPart) → Each AreValues d.systems → Each AreValues (program_part_in d p).systems
-part_values d (program_constants at ds) h = h
 part_values d (program_types at ns) h = definitions_values d ns h
-part_values d (program_variables at gs) h = h
+part_values d _ h = h
 
 parts_values : (d : Declared) (ps : List ProgramPart) → Each AreValues d.systems → Each AreValues (program_parts_in d ps).systems
 parts_values d [] h = h

@@ -4,7 +4,7 @@ use Rattle.cp_text.specs.declared.token.Kind.{Kind}
 use Rattle.cp_text.specs.declared.token.Kind.TheVariants as kind
 use Rattle.cp_text.specs.declared.token.Mark.TheVariants as mark
 use Rattle.cp_tree.specs.declared.constant.Identifier.{Identifier}
-use Rattle.cp_tree.specs.Syntax.{Simple, type_name, enumeration, subrange, TypeTerm, simple, array_of, set_type, record_of, FieldGroups, no_fields, more_fields, fields, ConstantDefinition, TypeDefinition, VariableGroup, Part, constants, types, variables, Group, ParameterGroup, RoutineKind, procedure, function, Routine, System, Definition, type_definition, system_definition, SystemDefinition, ProgramPart, program_constants, program_types, program_variables, Program}
+use Rattle.cp_tree.specs.Syntax.{Simple, type_name, enumeration, TypeTerm, simple, array_of, set_type, record_of, FieldGroups, no_fields, more_fields, fields, ConstantDefinition, TypeDefinition, VariableGroup, Part, constants, types, variables, Group, ParameterGroup, RoutineKind, procedure, function, Routine, System, Definition, type_definition, system_definition, SystemDefinition, ProgramPart, program_constants, program_types, program_variables, Program}
 use Rattle.cp_tree.specs.Spelling.{put_identifier, put_optional, put_behind, put_all, put_names, put_simple, put_type, put_field_groups, put_more_field_groups, put_constant_definition, put_type_definition, put_variable_group, put_part, put_group, put_parameter_group, put_parameters, put_body, put_routine_kind, put_routine, put_system, put_definition, put_system_definition, put_program_part, spell}
 use Rattle.cp_meaning.specs.Names.{Name}
 use Rattle.cp_meaning.specs.Types.{Base, Ty, enumerated}
@@ -42,9 +42,8 @@ constants_words b n (x ∷ xs) s h w = constants_words b (suc n) xs ((x, constan
 -- ---- types
 
 simple_words : (s : Scope) (t : Simple) (rest : List Kind) → AreScanned (put_simple t rest) → AreWords s → AreWords (simple_in s t).1
-simple_words s (type_name at x) rest e w = w
 simple_words s (enumeration at is) rest e w = constants_words (enumerated at (names_of is)) 0 (names_of is) s (names_words is (kind.Mark mark.CloseParenthesis ∷ rest) e.1) w
-simple_words s (subrange at c d) rest e w = w
+simple_words s _ rest e w = w
 
 mutual
   type_words : (s : Scope) (t : TypeTerm) (rest : List Kind) → AreScanned (put_type t rest) → AreWords s → AreWords (type_in s t).1

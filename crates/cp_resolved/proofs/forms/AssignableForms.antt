@@ -1,7 +1,7 @@
 -- Where an expression that breaks no rule is a variable that may be assigned to, its form is the value of that variable.
 use Rattle.std.proofs.Common.{◌≡◌, ℕ, Bool, true, false, ◌&&◌, if◌then◌else◌, List, [], ◌∷◌, Option, Some, None, Ok, Err, refl, sym, ap, subst, ◌∙◌}
 use Rattle.cp_tree.specs.declared.constant.Identifier.{Identifier}
-use Rattle.cp_tree.specs.Syntax.{Expression, alone, related, Sum, sum, no_terms, more_terms as terms_more, Term, term, no_factors, more_factors as factors_more, Factor, number, character, named as factor_named, group, negated, set_of, designator as name_with, Selectors}
+use Rattle.cp_tree.specs.Syntax.{Expression, alone, related, Sum, sum, no_terms, more_terms as terms_more, Term, term, no_factors, more_factors as factors_more, Factor, named as factor_named, group, negated, set_of, designator as name_with, Selectors}
 use Rattle.cp_scope.specs.declared.types.ValueType.{ValueType}
 use Rattle.cp_scope.specs.declared.types.ValueType.TheVariants as types
 use Rattle.cp_scope.specs.declared.count.Use.{Use}
@@ -17,7 +17,7 @@ use Rattle.cp_check.specs.declared.operand.Named.TheVariants as name
 use Rattle.cp_check.specs.Operands.{value, is_assignable}
 use Rattle.cp_check.specs.Operations as operations
 use Rattle.cp_check.specs.Calls as calls
-use Rattle.cp_check.specs.Expressions.{expression, sum_value, more_terms, term_value, more_factors, factor, designator, arguments, constructed, set_like, are_elements}
+use Rattle.cp_check.specs.Expressions.{expression, sum_value, more_terms, term_value, more_factors, factor, designator, arguments, constructed}
 use Rattle.cp_check.specs.Expressions as expressions
 use Rattle.cp_slots.specs.Code as code
 use Rattle.cp_meaning.specs.Names.{Name}
@@ -89,27 +89,24 @@ module _ (tokens : Tokens) (s : Scopes) (h : Here) (w : Context) (agrees : Scope
   value_held : (at : ℕ) (i : Identifier) (ss : Selectors) (d : check_designated.DesignatedName) (n : Named) (os : List Operand) (o : Option Designated) (f : Option Formed) → NamedIs tokens s h i.name (find i.name h.scope) (last_field ss) n o →
       HasVariable W (calls.value_named s w at d os n) (named_form h at (name_with i ss) (is_call_meant (find i.name h.scope) (last_field ss)) (find i.name h.scope) o f)
   value_held at i ss d (name.Variable v) os o f k = variable_held at d.uses i ss v os o f k
-  value_held at i ss d name.Nothing os o f k = tt
-  value_held at i ss d name.Kind os o f k = tt
   value_held at i ss d (name.Constant b) os o f k = made (calls.value_named s w at d os (name.Constant b)) _ (alone_made (value at (values_of b) d.uses) os refl)
   value_held at i ss d (name.Parameter v) os o f k = fixed (calls.placed at v place.Fixed d.uses) os _ refl
   value_held at i ss d (name.Predeclared p) os o f k = made (calls.value_named s w at d os (name.Predeclared p)) _ (applied_made at p os (calls.total_use d.uses os))
   value_held at i ss d (name.Routine n) os o f k = made (calls.value_named s w at d os (name.Routine n)) _ (call_made s w at d.name_at true n os d.uses)
   value_held at i ss d (name.Entry n) os o f k = made (calls.value_named s w at d os (name.Entry n)) _ (call_made s w at d.name_at false n os d.uses)
+  value_held at i ss d _ os o f k = tt
 
   name_held : (v : Bool) (at : ℕ) (i : Identifier) (ss : Selectors) (j : Judged check_designated.DesignatedName) (k : Judged (List Operand)) (o : Option Designated) (f : Option Formed) → HasDesignated tokens s h i.name (find i.name h.scope) (last_field ss) j o →
       HasVariable W (expressions.named_value s w v at j k) (named_form h at (name_with i ss) (is_call_meant (find i.name h.scope) (last_field ss)) (find i.name h.scope) o f)
   unfolding calls.value_of
   name_held false at i ss (Ok d) (Ok os) o f e = value_held at i ss d d.named os o f e
-  name_held false at i ss (Ok d) (Err fs) o f e = tt
   name_held false at i ss (Err fs) (Ok os) o f e = tt
-  name_held false at i ss (Err fs) (Err gs) o f e = tt
-  name_held true at i ss (Err fs) k o f e = tt
   name_held true at i ss (Ok d) k o f e = go (calls.is_other_function s w d.named)
     where
       go : (b : Bool) → HasVariable W (if b then Ok (calls.placed at types.Queue place.Function d.uses) else calls.value_of s w at (d, [])) (named_form h at (name_with i ss) (is_call_meant (find i.name h.scope) (last_field ss)) (find i.name h.scope) o f)
       go true = (λ z. absurd (cc))
       go false = value_held at i ss d d.named [] o f e
+  name_held _ at i ss _ _ o f e = tt
 
   alone_sum : (at : ℕ) (j : Judged Operand) (f : Option Formed) → HasVariable W j f → HasVariable W ((j >>= expressions.signed at None) >>= operations.agreed at) (then_form f (λ x. then_form (signed_form None x) (λ y. Some y)))
   alone_sum at (Ok o) None e = e
@@ -124,11 +121,10 @@ module _ (tokens : Tokens) (s : Scopes) (h : Here) (w : Context) (agrees : Scope
   factor_held : (v : Bool) (f : Factor) → IsSmallFactor f → HasVariable W (factor s w v f) (factor_form h f)
   unfolding expression
   factor_held v (factor_named at (name_with i ss) es) m = name_held (v && expressions.has_none es) at i ss (designator s w (name_with i ss)) (arguments s w [] 0 es) (designator_form h (name_with i ss)) _ (designator_typed tokens s h w agrees i ss m.0)
-  factor_held v (number at n) m = (λ a. absurd (cc))
-  factor_held v (character at c) m = (λ a. absurd (cc))
   factor_held v (group at e) m = made (expression s w false e >>= expressions.to_group at) _ (group_made at (expression s w false e))
   factor_held v (negated at f) m = made (factor s w false f >>= operations.negated at) _ (negated_made at (factor s w false f))
   factor_held v (set_of at es) m = made (arguments s w [] 0 es >>= constructed at) _ (constructed_made at (arguments s w [] 0 es))
+  factor_held v x m = (λ a. absurd (cc))
 
   term_held : (v : Bool) (t : Term) → IsSmallTerm t → HasVariable W (term_value s w v t) (term_form h t)
   unfolding expression

@@ -53,17 +53,9 @@ module _ (k : Numbering) (h : Here) (l : Layer) (g : Knows k h l) where
       }
 
   pub without_components : (x : Name) (t : Ty) → has_components t ≡ false → permanent_begun h x t ≡ a_variable (code.place (origin.Permanent ((system_here h).slots x)) 0 code.no_indices) t
-  without_components x (named.ordinal r) e = refl
-  without_components x named.queue_type e = refl
-  without_components x (named.set_over r) e = refl
-  without_components x (named.array_over r (named.ordinal s)) e = refl
-  without_components x (named.array_over r named.queue_type) e = refl
-  without_components x (named.array_over r (named.set_over s)) e = refl
-  without_components x (named.array_over r (named.array_over s t)) e = refl
-  without_components x (named.array_over r (named.record_with us)) e = refl
   without_components x (named.array_over r (named.component_of n)) e = absurd (cc)
-  without_components x (named.record_with us) e = refl
   without_components x (named.component_of n) e = absurd (cc)
+  without_components x _ e = refl
 
   parts_begun_same : (x : Name) (m : LayoutMeaning) (t : Ty) → layers.find x l.names ≡ Some m → PartsAre k l.types t m → DesignatedIs k l.types (permanent_begun h x t) (begun l x)
   parts_begun_same x m (named.component_of n) i v =
@@ -80,15 +72,7 @@ module _ (k : Numbering) (h : Here) (l : Layer) (g : Knows k h l) where
         is = ap begun_as there ∙ ap (λ w. begun_as (Some (meaning.Contained v.first w))) v.belongs.is ∙ ap (λ q. values.a_contained q (types.Array v.belongs.number)) (sym f.0);
         belongs = subst (TypeIs k l.types (named.array_over r (named.component_of n))) v.belongs.is v.belongs;
       }
-  parts_begun_same x m (named.ordinal r) i v = absurd (let w : false ≡ true = v.has in cc)
-  parts_begun_same x m named.queue_type i v = absurd (let w : false ≡ true = v.has in cc)
-  parts_begun_same x m (named.set_over r) i v = absurd (let w : false ≡ true = v.has in cc)
-  parts_begun_same x m (named.array_over r (named.ordinal s)) i v = absurd (let w : false ≡ true = v.has in cc)
-  parts_begun_same x m (named.array_over r named.queue_type) i v = absurd (let w : false ≡ true = v.has in cc)
-  parts_begun_same x m (named.array_over r (named.set_over s)) i v = absurd (let w : false ≡ true = v.has in cc)
-  parts_begun_same x m (named.array_over r (named.array_over s t)) i v = absurd (let w : false ≡ true = v.has in cc)
-  parts_begun_same x m (named.array_over r (named.record_with us)) i v = absurd (let w : false ≡ true = v.has in cc)
-  parts_begun_same x m (named.record_with us) i v = absurd (let w : false ≡ true = v.has in cc)
+  parts_begun_same x m y i v = absurd (let w : false ≡ true = v.has in cc)
 
   permanent_begun_same : (x : Name) (m : LayoutMeaning) (t : Ty) → layers.find x l.names ≡ Some m → scopes.find x h.scope ≡ Some (scopes.permanent_variable t) → CellsAre k l.types t m ⊎ (PartsAre k l.types t m ⊎ BoundIs t m) → DesignatedIs k l.types (permanent_begun h x t) (begun l x)
   permanent_begun_same x m t i j (inl v) =
@@ -114,12 +98,9 @@ module _ (k : Numbering) (h : Here) (l : Layer) (g : Knows k h l) where
   found_begun x (Some m) (Some (scopes.local_variable t)) s d i j f r e = subst (λ y. DesignatedIs k l.types y (begun l x)) (same_inside _ d e) (local_begun x m t i j f)
   found_begun x (Some m) (Some (scopes.permanent_variable t)) s d i j f r e = subst (λ y. DesignatedIs k l.types y (begun l x)) (same_inside _ d e) (permanent_begun_same x m t i j f)
   found_begun x (Some m) (Some (scopes.routine_meaning q)) s d i j f r e = absurd r
-  found_begun x (Some m) (Some (scopes.constant_meaning b z)) s d i j f r e = absurd (cc)
-  found_begun x (Some m) (Some (scopes.type_meaning t)) s d i j f r e = absurd (cc)
-  found_begun x (Some m) (Some (scopes.standard_meaning q)) s d i j f r e = absurd (cc)
   found_begun x (Some m) None s d i j f r e = absurd f
   found_begun x None (Some n) s d i j f r e = absurd f
-  found_begun x None None s d i j f r e = absurd (cc)
+  found_begun x y z s d i j f r e = absurd (cc)
 
   pub begun_same : (x : Name) (d : Designated) → IsNoRoutine (scopes.find x h.scope) → begun_form h x (scopes.find x h.scope) ≡ Some d → DesignatedIs k l.types d (begun l x)
   begun_same x d r e = found_begun x (layers.find x l.names) (scopes.find x h.scope) (scopes.since x h.scope) d refl refl (found_in k l.types x l.names h.scope g.names) r e

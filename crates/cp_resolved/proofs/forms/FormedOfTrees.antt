@@ -45,8 +45,7 @@ agreed_at tokens p (x ∷ xs) (o ∷ os) (suc n) h small less =
     let r : AgreedAt tokens p os n = agreed_at tokens p xs os n h.1 small.1 fewer in
     record { place = r.place; opening = r.opening; is = r.is; agreed = r.agreed; small = r.small }
 agreed_at tokens p [] [] n h small less = absurd (omega (arith, less))
-agreed_at tokens p [] (o ∷ os) n h small less = absurd h
-agreed_at tokens p (x ∷ xs) [] n h small less = absurd h
+agreed_at tokens p _ _ n h small less = absurd h
 
 named_at : (t : Tree) (n : ℕ) (o : Opening) → slice_get (openings_of t.program) n ≡ Some o → HasResult o.meaning.result → (layouts_of t).names n ≡ o.name
 named_at t n o e result = ap name_in e ∙ with_result o.name o.meaning.result result

@@ -56,7 +56,8 @@ use Rattle.cp_resolved.proofs.forms.Typing.{formed, OrdinalForm, ordinal_found, 
 use Rattle.cp_resolved.proofs.forms.TypingOperations.{boolean_found}
 use Rattle.cp_resolved.proofs.forms.TypingNames.{Holds, NamedIs, HasDesignated, written, begun_typed}
 use Rattle.cp_resolved.proofs.forms.TypingExpressions.{expression_typed, designator_typed}
-use Rattle.cp_resolved.proofs.agreeing.Agreeing.{none_first, none_of_both, none_left}
+use Rattle.cp_resolved.proofs.agreeing.Agreeing.{none_of_both, none_left}
+use Rattle.cp_lawful.proofs.Once.{no_first as none_first}
 
 -- ---- what has no fault
 
@@ -85,43 +86,23 @@ either_fault A false f g h = cc
 
 pub ordinal_is : (v : ValueType) → is_ordinal v ≡ true → (r : Range) × (v ≡ types.Ordinal r)
 ordinal_is (types.Ordinal r) h = (r, refl)
-ordinal_is types.Queue h = absurd (let bad : false ≡ true = h in cc)
-ordinal_is (types.Set r) h = absurd (let bad : false ≡ true = h in cc)
-ordinal_is (types.Array n) h = absurd (let bad : false ≡ true = h in cc)
-ordinal_is (types.Record n) h = absurd (let bad : false ≡ true = h in cc)
-ordinal_is (types.Component k n) h = absurd (let bad : false ≡ true = h in cc)
+ordinal_is x h = absurd (let bad : false ≡ true = h in cc)
 
 pub agree_ordinal : (r : Range) (v : ValueType) → agree (types.Ordinal r) v ≡ true → (q : Range) × (v ≡ types.Ordinal q)
 agree_ordinal r (types.Ordinal q) h = (q, refl)
-agree_ordinal r types.Queue h = absurd (let bad : false ≡ true = h in cc)
-agree_ordinal r (types.Set q) h = absurd (let bad : false ≡ true = h in cc)
-agree_ordinal r (types.Array n) h = absurd (let bad : false ≡ true = h in cc)
-agree_ordinal r (types.Record n) h = absurd (let bad : false ≡ true = h in cc)
-agree_ordinal r (types.Component k n) h = absurd (let bad : false ≡ true = h in cc)
+agree_ordinal r x h = absurd (let bad : false ≡ true = h in cc)
 
 agree_set : (r : Range) (v : ValueType) → agree (types.Set (Some r)) v ≡ true → (q : Option Range) × (v ≡ types.Set q)
 agree_set r (types.Set q) h = (q, refl)
-agree_set r (types.Ordinal q) h = absurd (let bad : false ≡ true = h in cc)
-agree_set r types.Queue h = absurd (let bad : false ≡ true = h in cc)
-agree_set r (types.Array n) h = absurd (let bad : false ≡ true = h in cc)
-agree_set r (types.Record n) h = absurd (let bad : false ≡ true = h in cc)
-agree_set r (types.Component k n) h = absurd (let bad : false ≡ true = h in cc)
+agree_set r x h = absurd (let bad : false ≡ true = h in cc)
 
 agree_array : (n : ℕ) (v : ValueType) → agree (types.Array n) v ≡ true → v ≡ types.Array n
 agree_array n (types.Array m) h = ap types.Array (sym ((Decides-eqb n m).0 h))
-agree_array n (types.Ordinal q) h = absurd (let bad : false ≡ true = h in cc)
-agree_array n types.Queue h = absurd (let bad : false ≡ true = h in cc)
-agree_array n (types.Set q) h = absurd (let bad : false ≡ true = h in cc)
-agree_array n (types.Record m) h = absurd (let bad : false ≡ true = h in cc)
-agree_array n (types.Component k m) h = absurd (let bad : false ≡ true = h in cc)
+agree_array n x h = absurd (let bad : false ≡ true = h in cc)
 
 agree_record : (n : ℕ) (v : ValueType) → agree (types.Record n) v ≡ true → v ≡ types.Record n
 agree_record n (types.Record m) h = ap types.Record (sym ((Decides-eqb n m).0 h))
-agree_record n (types.Ordinal q) h = absurd (let bad : false ≡ true = h in cc)
-agree_record n types.Queue h = absurd (let bad : false ≡ true = h in cc)
-agree_record n (types.Set q) h = absurd (let bad : false ≡ true = h in cc)
-agree_record n (types.Array m) h = absurd (let bad : false ≡ true = h in cc)
-agree_record n (types.Component k m) h = absurd (let bad : false ≡ true = h in cc)
+agree_record n x h = absurd (let bad : false ≡ true = h in cc)
 
 module _ (tokens : Tokens) (s : Scopes) (h : Here) (w : Context) (agrees : ScopesAgree tokens s h) (heard : Heard s) where
   abbrev W : Written
@@ -153,9 +134,6 @@ module _ (tokens : Tokens) (s : Scopes) (h : Here) (w : Context) (agrees : Scope
   record_found : (n : ℕ) (o : Option Formed) → Expressed W (types.Record n) o → PlaceForm o
   record_found n (Some x) e = record_form n x.ty x.form e
   record_found n None e = absurd (let bad : types.Record n ≡ types.Array e.belongs.token = e.belongs.is in cc)
-
-  array_token : (n k : ℕ) → types.Array n ≡ types.Array k → n ≡ k
-  array_token n k e = cc
 
   -- an array of components is fixed
   components_fixed : (v : ValueType) (q : named.Range) (k : ℕ) → TypeIs W (named.array_over q (named.component_of k)) v → is_fixed s v ≡ true
@@ -224,30 +202,19 @@ module _ (tokens : Tokens) (s : Scopes) (h : Here) (w : Context) (agrees : Scope
 
   takes : (at name_at : ℕ) (t : Target) (o : Operand) (u : Use) → faults (both (statements.aimed name_at t >>= (λ x. Ok (x, u))) (Ok o) >>= statements.finish_assignment at) ≡ [] → Takes t o
   takes at name_at (target.Assignable t) o u e = chosen_true (agree t o.value_type) (both_uses u o.uses) _ [] e
-  takes at name_at (target.Fixed None) o u e = absurd (cc)
   takes at name_at (target.Fixed (Some t)) o u e = absurd (either_fault Use (agree t o.value_type) _ _ e)
-  takes at name_at target.Kind o u e = absurd (cc)
+  takes at name_at x o u e = absurd (cc)
 
   assigned_by : (d : Designator) (e : Expression) (m : Option scopes.Meaning) (x : Option Name) (v : ValueType) (q : Option Designated) → Holds W m x v q → (designator_form h d ≡ q) → HasValueFor h q e → IsAssigned h d e m
   assigned_by d e (Some (scopes.routine_meaning r)) x v (Some (a_variable p t)) i same k = absurd i.2
   assigned_by d e (Some (scopes.routine_meaning r)) x v (Some (some_components first q n)) i same k = absurd k
   assigned_by d e (Some (scopes.routine_meaning r)) x v (Some (a_component c n)) i same k = absurd k
   assigned_by d e (Some (scopes.routine_meaning r)) x v None i same k = absurd i
-  assigned_by d e (Some (scopes.constant_meaning b z)) x v q i same k = subst (λ o. HasValueFor h o e) (sym same) k
-  assigned_by d e (Some (scopes.type_meaning t)) x v q i same k = subst (λ o. HasValueFor h o e) (sym same) k
-  assigned_by d e (Some (scopes.local_variable t)) x v q i same k = subst (λ o. HasValueFor h o e) (sym same) k
-  assigned_by d e (Some (scopes.permanent_variable t)) x v q i same k = subst (λ o. HasValueFor h o e) (sym same) k
-  assigned_by d e (Some (scopes.standard_meaning f)) x v q i same k = subst (λ o. HasValueFor h o e) (sym same) k
-  assigned_by d e None x v q i same k = subst (λ o. HasValueFor h o e) (sym same) k
+  assigned_by d e _ x v q i same k = subst (λ o. HasValueFor h o e) (sym same) k
 
   result_ordinal : (v : ValueType) (o : Option Ty) → IsOrdinalResult tokens v o → (r : Range) × (v ≡ types.Ordinal r)
   result_ordinal v (Some (named.ordinal q)) i = (i.range, i.is)
-  result_ordinal v (Some named.queue_type) i = absurd i
-  result_ordinal v (Some (named.set_over q)) i = absurd i
-  result_ordinal v (Some (named.array_over q t)) i = absurd i
-  result_ordinal v (Some (named.record_with ts)) i = absurd i
-  result_ordinal v (Some (named.component_of k)) i = absurd i
-  result_ordinal v None i = absurd i
+  result_ordinal v _ i = absurd i
 
   own_assigned : (d : Designator) (i : Name) (n : ℕ) (o : Operand) (e : Expression) (v : Option ValueType) (m : Option scopes.Meaning) → v ≡ (heading_at n s).result → RoutineIs W (heading_at n s) i h.scope m → Takes (statements.result_target s w n true v) o → Expressed W o.value_type (expression_form h e) → IsAssigned h d e m
   own_assigned d i n o e None m is k t x = absurd t
@@ -259,12 +226,7 @@ module _ (tokens : Tokens) (s : Scopes) (h : Here) (w : Context) (agrees : Scope
           let q = agree_ordinal p.0 o.value_type (subst (λ z. agree z o.value_type ≡ true) p.1 a) in
           ordinal_formed e o.value_type x (ap is_ordinal q.1)
       go false a = absurd a
-  own_assigned d i n o e (Some v) (Some (scopes.constant_meaning b z)) is k t x = absurd k
-  own_assigned d i n o e (Some v) (Some (scopes.type_meaning u)) is k t x = absurd k
-  own_assigned d i n o e (Some v) (Some (scopes.local_variable u)) is k t x = absurd k
-  own_assigned d i n o e (Some v) (Some (scopes.permanent_variable u)) is k t x = absurd k
-  own_assigned d i n o e (Some v) (Some (scopes.standard_meaning f)) is k t x = absurd k
-  own_assigned d i n o e (Some v) None is k t x = absurd k
+  own_assigned d i n o e (Some v) _ is k t x = absurd k
 
   no_entry : (n : ℕ) (o : Operand) (v : Option ValueType) → Takes (statements.result_target s w n false v) o → ⊥
   no_entry n o None t = t
@@ -283,10 +245,7 @@ module _ (tokens : Tokens) (s : Scopes) (h : Here) (w : Context) (agrees : Scope
   named_assigned d i e m x (name.Routine n) q o k same t y = own_assigned d i n o e (heading_at n s).result m refl k t y
   named_assigned d i e m x (name.Entry n) q o k same t y = absurd (no_entry n o (heading_at n s).result t)
   named_assigned d i e m x (name.Predeclared p) q o k same t y = absurd (no_standard p o (operations.is_function p) t)
-  named_assigned d i e m x (name.Parameter v) q o k same t y = absurd t
-  named_assigned d i e m x (name.Constant b) q o k same t y = absurd t
-  named_assigned d i e m x name.Kind q o k same t y = absurd t
-  named_assigned d i e m x name.Nothing q o k same t y = absurd t
+  named_assigned d i e m x _ q o k same t y = absurd t
 
   -- what a designator without faults stands for
   record Pointed (i : Identifier) (ss : Selectors) : Type 0 where
@@ -320,9 +279,7 @@ module _ (tokens : Tokens) (s : Scopes) (h : Here) (w : Context) (agrees : Scope
 
   three_true : (a b c : Bool) → (a && b && c) ≡ true → (a ≡ true) × (b ≡ true) × (c ≡ true)
   three_true true true true e = (refl, refl, refl)
-  three_true true true false e = absurd (cc)
-  three_true true false c e = absurd (cc)
-  three_true false b c e = absurd (cc)
+  three_true x y z e = absurd (cc)
 
   counts_over : (at n : ℕ) (t : Target) (a b : Operand) (u : Use) → faults (statements.counted at n t a b u) ≡ [] → CountsOver t a b
   counts_over at n (target.Assignable t) a b u e = three_true (is_ordinal t) (agree t a.value_type) (agree t b.value_type) (chosen_true (statements.counts t a b) u _ [] e)
@@ -332,32 +289,18 @@ module _ (tokens : Tokens) (s : Scopes) (h : Here) (w : Context) (agrees : Scope
 
   counter_of : (i : Identifier) (m : Option scopes.Meaning) (x : Option Name) (v : ValueType) (q : Option Designated) → begun_form h i.name (find i.name h.scope) ≡ q → Holds W m x v q → is_ordinal v ≡ true → IsCounter h i
   counter_of i m x v (Some (a_variable p (named.ordinal r))) same k e = record { place = p; range = r; formed = same }
-  counter_of i m x v (Some (a_variable p (named.set_over r))) same k e = absurd (let bad : false ≡ true = sym (ap is_ordinal k.0.is) ∙ e in cc)
-  counter_of i m x v (Some (a_variable p (named.array_over r y))) same k e = absurd (let bad : false ≡ true = sym (ap is_ordinal k.0.is) ∙ e in cc)
-  counter_of i m x v (Some (a_variable p (named.record_with ts))) same k e = absurd (let bad : false ≡ true = sym (ap is_ordinal k.0.is) ∙ e in cc)
   counter_of i m x v (Some (a_variable p named.queue_type)) same k e = absurd (let bad : false ≡ true = sym (ap is_ordinal k.0) ∙ e in cc)
   counter_of i m x v (Some (a_variable p (named.component_of n))) same k e = absurd (let bad : false ≡ true = k.1 in cc)
-  counter_of i m x v (Some (some_components first q n)) same k e = absurd (let bad : false ≡ true = sym (ap is_ordinal k.0.is) ∙ e in cc)
-  counter_of i m x v (Some (a_component c n)) same k e = absurd (let bad : false ≡ true = sym (ap is_ordinal k.0.is) ∙ e in cc)
   counter_of i m x v None same k e = absurd k
+  counter_of i m x v y same k e = absurd (let bad : false ≡ true = sym (ap is_ordinal k.0.is) ∙ e in cc)
 
   any_counts : (i : Identifier) (m : Option scopes.Meaning) → IsCounter h i → Counts h i m
   any_counts i (Some (scopes.routine_meaning r)) c = tt
-  any_counts i (Some (scopes.constant_meaning b z)) c = c
-  any_counts i (Some (scopes.type_meaning t)) c = c
-  any_counts i (Some (scopes.local_variable t)) c = c
-  any_counts i (Some (scopes.permanent_variable t)) c = c
-  any_counts i (Some (scopes.standard_meaning f)) c = c
-  any_counts i None c = c
+  any_counts i _ c = c
 
   own_counts : (i : Identifier) (x : Name) (d : Heading) (m : Option scopes.Meaning) → RoutineIs W d x h.scope m → Counts h i m
   own_counts i x d (Some (scopes.routine_meaning r)) k = tt
-  own_counts i x d (Some (scopes.constant_meaning b z)) k = absurd k
-  own_counts i x d (Some (scopes.type_meaning t)) k = absurd k
-  own_counts i x d (Some (scopes.local_variable t)) k = absurd k
-  own_counts i x d (Some (scopes.permanent_variable t)) k = absurd k
-  own_counts i x d (Some (scopes.standard_meaning f)) k = absurd k
-  own_counts i x d None k = absurd k
+  own_counts i x d _ k = absurd k
 
   record Counted (i : Identifier) (e f : Expression) : Type 0 where
     pub counter : Counts h i (find i.name h.scope)
@@ -401,10 +344,7 @@ module _ (tokens : Tokens) (s : Scopes) (h : Here) (w : Context) (agrees : Scope
       go : (z : Bool) → CountsOver (if z then target.Fixed None else target.Kind) a b → ⊥
       go true d = d
       go false d = d
-  named_counted i e f (name.Parameter v) a b k c x y = absurd c
-  named_counted i e f (name.Constant z) a b k c x y = absurd c
-  named_counted i e f name.Kind a b k c x y = absurd c
-  named_counted i e f name.Nothing a b k c x y = absurd c
+  named_counted i e f _ a b k c x y = absurd c
 
   -- ---- cases
 
@@ -414,11 +354,7 @@ module _ (tokens : Tokens) (s : Scopes) (h : Here) (w : Context) (agrees : Scope
 
   pub selector_ordinal : (at : ℕ) (v : ValueType) (ls : List Label) → cases.label_faults at v ls ≡ [] → is_ordinal v ≡ true
   selector_ordinal at (types.Ordinal r) ls e = refl
-  selector_ordinal at types.Queue ls e = absurd (cc)
-  selector_ordinal at (types.Set r) ls e = absurd (cc)
-  selector_ordinal at (types.Array n) ls e = absurd (cc)
-  selector_ordinal at (types.Record n) ls e = absurd (cc)
-  selector_ordinal at (types.Component k n) ls e = absurd (cc)
+  selector_ordinal at x ls e = absurd (cc)
 
   -- ---- the standard procedures
 
@@ -435,38 +371,31 @@ module _ (tokens : Tokens) (s : Scopes) (h : Here) (w : Context) (agrees : Scope
 
   first_of : (e : Expression) (j : Judged Operand) (k : Judged (List Operand)) (os : List Operand) → expression s w false e ≡ j → (both j k >>= expressions.before) ≡ Ok os → First e k os
   first_of e (Ok o) (Ok rest) os i g = record { operand = o; others = rest; all = sym (same_list (o ∷ rest) os g); is = i; after = refl }
-  first_of e (Ok o) (Err gs) os i g = absurd (cc)
-  first_of e (Err fs) (Ok rest) os i g = absurd (cc)
   first_of e (Err fs) (Err gs) os i g = absurd (cc)
+  first_of e x y os i g = absurd (cc)
 
   typed_of : (e : Expression) (o : Operand) → IsSmallExpression e → expression s w false e ≡ Ok o → Expressed W o.value_type (expression_form h e)
   typed_of e o small i = subst (λ (j : Judged Operand). HasForm W j (expression_form h e)) i (expression_typed tokens s h w agrees e small)
 
   queue_formed : (e : Expression) (v : ValueType) (p : OperandUse) → Expressed W v (expression_form h e) → is_queue_in v p ≡ true → HasQueue h e
   queue_formed e types.Queue p x i = let f : QueueForm (expression_form h e) = queue_found W (expression_form h e) x in record { place = f.place; formed = f.is }
-  queue_formed e (types.Ordinal r) p x i = absurd (cc)
-  queue_formed e (types.Set r) p x i = absurd (cc)
-  queue_formed e (types.Array n) p x i = absurd (cc)
-  queue_formed e (types.Record n) p x i = absurd (cc)
-  queue_formed e (types.Component k n) p x i = absurd (cc)
+  queue_formed e y p x i = absurd (cc)
 
   shown_one : (at : ℕ) (os : List Operand) → statements.display_faults at os ≡ [] → (o : Operand) × ((os ≡ o ∷ []) × (is_ordinal o.value_type ≡ true))
-  shown_one at [] e = absurd (cc)
   shown_one at (o ∷ []) e = (o, (refl, go (is_ordinal o.value_type) e))
     where
       go : (b : Bool) → (if b then [] else calls.fault o.at C21) ≡ [] → b ≡ true
       go true k = refl
       go false k = absurd (cc)
-  shown_one at (o ∷ p ∷ os) e = absurd (cc)
+  shown_one at x e = absurd (cc)
 
   queued_one : (at : ℕ) (os : List Operand) → statements.queue_faults at os ≡ [] → (o : Operand) × ((os ≡ o ∷ []) × (is_queue_in o.value_type o.place ≡ true))
-  queued_one at [] e = absurd (cc)
   queued_one at (o ∷ []) e = (o, (refl, go (is_queue_in o.value_type o.place) e))
     where
       go : (b : Bool) → (if b then [] else calls.fault at C5) ≡ [] → b ≡ true
       go true k = refl
       go false k = absurd (cc)
-  queued_one at (o ∷ p ∷ os) e = absurd (cc)
+  queued_one at x e = absurd (cc)
 
   one_only : (o p : Operand) (rest : List Operand) → p ∷ rest ≡ o ∷ [] → (p ≡ o) × (rest ≡ [])
   one_only o p rest e = (ap (head_or o) e, ap tail_of e)
@@ -503,18 +432,12 @@ module _ (tokens : Tokens) (s : Scopes) (h : Here) (w : Context) (agrees : Scope
   performed_formed at scopes.continue_procedure es os u small i none =
       let o = queued_one at os (none_left (statements.queue_faults at os) (statements.wait_faults s w at predeclared.Continue) (rules_none (statements.waiting_faults s w at predeclared.Continue os) _ none)) in
       one_argument (HasQueue h) (IsPerformed h scopes.continue_procedure) o.0 es os i o.1.0 small (λ e x. queue_formed e o.0.value_type o.0.place x o.1.1) (λ e p. p)
-  performed_formed at scopes.succ_function es os u small i none = absurd (cc)
-  performed_formed at scopes.pred_function es os u small i none = absurd (cc)
-  performed_formed at scopes.chr_function es os u small i none = absurd (cc)
-  performed_formed at scopes.ord_function es os u small i none = absurd (cc)
-  performed_formed at scopes.abs_function es os u small i none = absurd (cc)
-  performed_formed at scopes.empty_function es os u small i none = absurd (cc)
+  performed_formed at x es os u small i none = absurd (cc)
 
   no_variable : (q : scopes.Standard) (x : Option Name) (v : ValueType) (o : Option Designated) → Holds W (Some (scopes.standard_meaning q)) x v o → ⊥
   no_variable q x v (Some (a_variable p t)) k = k.2
-  no_variable q x v (Some (some_components first r n)) k = k.1
-  no_variable q x v (Some (a_component c n)) k = k.1
   no_variable q x v None k = k
+  no_variable q x v _ k = k.1
 
   standard_invoked : (at : ℕ) (q : scopes.Standard) (i : Name) (x : Option Name) (d : check_designated.DesignatedName) (n : Named) (es : Expressions) (os : List Operand) (o : Option Designated) → NamedIs tokens s h i (Some (scopes.standard_meaning q)) x n o → AreSmallExpressions es → arguments s w (statements.parameters_of s n (statements.number_of es)) 0 es ≡ Ok os → faults (statements.invoked_named s w at d os n) ≡ [] → IsPerformed h q es
   standard_invoked at q i x d (name.Predeclared p) es os o k small a none =
@@ -524,17 +447,11 @@ module _ (tokens : Tokens) (s : Scopes) (h : Here) (w : Context) (agrees : Scope
   standard_invoked at q i x d (name.Parameter v) es os o k small a none = absurd (no_variable q x v o k)
   standard_invoked at q i x d (name.Routine n) es os o k small a none = absurd k
   standard_invoked at q i x d (name.Entry n) es os o k small a none = absurd (let bad : false ≡ true = k.is in cc)
-  standard_invoked at q i x d name.Kind es os o k small a none = absurd (cc)
-  standard_invoked at q i x d name.Nothing es os o k small a none = absurd (cc)
+  standard_invoked at q i x d y es os o k small a none = absurd (cc)
 
   any_invoked : (at : ℕ) (i : Name) (m : Option scopes.Meaning) (x : Option Name) (d : check_designated.DesignatedName) (n : Named) (es : Expressions) (os : List Operand) (o : Option Designated) → NamedIs tokens s h i m x n o → AreSmallExpressions es → arguments s w (statements.parameters_of s n (statements.number_of es)) 0 es ≡ Ok os → faults (statements.invoked_named s w at d os n) ≡ [] → IsInvoked h es m
   any_invoked at i (Some (scopes.standard_meaning q)) x d n es os o k small a none = standard_invoked at q i x d n es os o k small a none
-  any_invoked at i (Some (scopes.constant_meaning b z)) x d n es os o k small a none = tt
-  any_invoked at i (Some (scopes.type_meaning t)) x d n es os o k small a none = tt
-  any_invoked at i (Some (scopes.local_variable t)) x d n es os o k small a none = tt
-  any_invoked at i (Some (scopes.permanent_variable t)) x d n es os o k small a none = tt
-  any_invoked at i (Some (scopes.routine_meaning r)) x d n es os o k small a none = tt
-  any_invoked at i None x d n es os o k small a none = tt
+  any_invoked at i _ x d n es os o k small a none = tt
 
   invoke_formed : (at : ℕ) (i : Identifier) (ss : Selectors) (es : Expressions) → IsSmallDesignator (name_with i ss) → AreSmallExpressions es → faults (statements.call s w at (name_with i ss) es) ≡ [] → IsInvoked h es (find i.name h.scope)
   unfolding statements.call statements.invoked
@@ -554,32 +471,21 @@ module _ (tokens : Tokens) (s : Scopes) (h : Here) (w : Context) (agrees : Scope
 
   component_started : (t : Start) (m : Option scopes.Meaning) (x : Option Name) (k : SystemKind) (n : ℕ) (q : Option Designated) → designator_form h t.target ≡ q → Holds W m x (types.Component k n) q → IsStarted h t
   component_started t m x k n (Some (a_component c j)) same i = record { part = c; system = j; formed = same }
-  component_started t m x k n (Some (some_components first r j)) same i = absurd (let bad : types.Component k n ≡ types.Array i.0.token = i.0.is in cc)
   component_started t m x k n (Some (a_variable p (named.component_of j))) same i = absurd (let bad : false ≡ true = i.1 in cc)
   component_started t m x k n (Some (a_variable p (named.ordinal r))) same i = absurd (let bad : types.Component k n ≡ types.Ordinal i.0.range = i.0.is in cc)
   component_started t m x k n (Some (a_variable p named.queue_type)) same i = absurd (let bad : types.Component k n ≡ types.Queue = i.0 in cc)
   component_started t m x k n (Some (a_variable p (named.set_over r))) same i = absurd (let bad : types.Component k n ≡ types.Set (Some i.0.range) = i.0.is in cc)
-  component_started t m x k n (Some (a_variable p (named.array_over r y))) same i = absurd (let bad : types.Component k n ≡ types.Array i.0.token = i.0.is in cc)
   component_started t m x k n (Some (a_variable p (named.record_with ts))) same i = absurd (let bad : types.Component k n ≡ types.Record i.0.token = i.0.is in cc)
   component_started t m x k n None same i = absurd i
+  component_started t m x k n y same i = absurd (let bad : types.Component k n ≡ types.Array i.0.token = i.0.is in cc)
 
   variable_started : (at : ℕ) (t : Start) (m : Option scopes.Meaning) (x : Option Name) (d : check_designated.DesignatedName) (os : List Operand) (v : ValueType) → Holds W m x v (designator_form h t.target) → faults (statements.started_named s at d os (name.Variable v)) ≡ [] → IsStarted h t
   variable_started at t m x d os (types.Component k n) i none = component_started t m x k n (designator_form h t.target) refl i
-  variable_started at t m x d os (types.Ordinal r) i none = absurd (cc)
-  variable_started at t m x d os types.Queue i none = absurd (cc)
-  variable_started at t m x d os (types.Set r) i none = absurd (cc)
-  variable_started at t m x d os (types.Array n) i none = absurd (cc)
-  variable_started at t m x d os (types.Record n) i none = absurd (cc)
+  variable_started at t m x d os y i none = absurd (cc)
 
   named_started : (at : ℕ) (t : Start) (i : Name) (m : Option scopes.Meaning) (x : Option Name) (d : check_designated.DesignatedName) (os : List Operand) (n : Named) → NamedIs tokens s h i m x n (designator_form h t.target) → faults (statements.started_named s at d os n) ≡ [] → IsStarted h t
   named_started at t i m x d os (name.Variable v) k none = variable_started at t m x d os v k none
-  named_started at t i m x d os (name.Parameter v) k none = absurd (cc)
-  named_started at t i m x d os (name.Constant b) k none = absurd (cc)
-  named_started at t i m x d os (name.Routine n) k none = absurd (cc)
-  named_started at t i m x d os (name.Entry n) k none = absurd (cc)
-  named_started at t i m x d os (name.Predeclared p) k none = absurd (cc)
-  named_started at t i m x d os name.Kind k none = absurd (cc)
-  named_started at t i m x d os name.Nothing k none = absurd (cc)
+  named_started at t i m x d os y k none = absurd (cc)
 
   start_formed_of : (t : Start) (i : Identifier) (ss : Selectors) → t.target ≡ name_with i ss → IsSmallDesignator (name_with i ss) → faults (statements.start s w t) ≡ [] → IsStarted h t
   unfolding statements.start statements.started

@@ -63,19 +63,14 @@ pub record Taken (t : Ty) (p : code.Place) (f : Option Formed) : Type 0 where
 
 pub taken : (w : Written) (t : Ty) (p : code.Place) (f : Option Formed) → IsTaken t → Fits w t f → Taken t p f
 taken w (named.ordinal r) p f i x = record { value = formed x.ty (as_ordinal x.code); act = code.assign p x.code r.low r.high; is = x.is; assigned = refl }
-taken w named.queue_type p f i x = absurd i
 taken w (named.set_over r) p f i x = record { value = formed x.ty (as_set x.code); act = code.assign_set p x.code (natural_of r.low) (natural_of r.high); is = x.is; assigned = refl }
 taken w (named.array_over r t) p f i x = record { value = formed (named.array_over r t) (as_place x.place); act = code.copy_cells p x.place (cells_of (named.array_over r t)); is = x.is; assigned = (refl, refl) }
 taken w (named.record_with ts) p f i x = record { value = formed (named.record_with ts) (as_place x.place); act = code.copy_cells p x.place (cells_of (named.record_with ts)); is = x.is; assigned = (refl, refl) }
-taken w (named.component_of n) p f i x = absurd i
+taken w _ p f i x = absurd i
 
 plain_whole : (w : Written) (t : Ty) → is_plain t ≡ true → IsWhole w t
-plain_whole w (named.ordinal r) p = p
-plain_whole w named.queue_type p = p
-plain_whole w (named.set_over r) p = p
-plain_whole w (named.array_over r t) p = p
-plain_whole w (named.record_with ts) p = p
 plain_whole w (named.component_of n) p = tt
+plain_whole w _ p = p
 
 -- ---- places of names
 
@@ -94,16 +89,9 @@ component_variable h x k false q u e = cc
 -- a variable that stands for one value
 permanent_first : (h : Here) (x : Name) (t : Ty) (q : code.Place) (r : named.Range) → Some (permanent_begun h x t) ≡ Some (a_variable q (named.ordinal r)) → AtFirst q
 permanent_first h x (named.ordinal z) q r e = record { origin = Permanent ((system_here h).slots x); is = sym (variable_place (code.place (Permanent ((system_here h).slots x)) 0 code.no_indices) q (named.ordinal z) (named.ordinal r) e) }
-permanent_first h x named.queue_type q r e = absurd (cc)
-permanent_first h x (named.set_over z) q r e = absurd (cc)
-permanent_first h x (named.record_with ts) q r e = absurd (cc)
 permanent_first h x (named.component_of k) q r e = absurd (component_variable h x k (is_parameter x (system_of h.program h.system).parameters) q (named.ordinal r) e)
 permanent_first h x (named.array_over z (named.component_of k)) q r e = absurd (cc)
-permanent_first h x (named.array_over z (named.ordinal y)) q r e = absurd (cc)
-permanent_first h x (named.array_over z named.queue_type) q r e = absurd (cc)
-permanent_first h x (named.array_over z (named.set_over y)) q r e = absurd (cc)
-permanent_first h x (named.array_over z (named.record_with ts)) q r e = absurd (cc)
-permanent_first h x (named.array_over z (named.array_over y t)) q r e = absurd (cc)
+permanent_first h x y q r e = absurd (cc)
 
 result_first : (h : Here) (b : Bool) (q : code.Place) (t : Ty) → result_begun h b ≡ Some (a_variable q t) → AtFirst q
 result_first h true q t e = record { origin = (frame_here h).origins result_name; is = sym (variable_place (code.place ((frame_here h).origins result_name) 0 code.no_indices) q (result_type (h.layouts.meanings h.routine).result) t e) }
@@ -113,10 +101,7 @@ pub begun_first : (h : Here) (x : Name) (m : Option scopes.Meaning) (q : code.Pl
 begun_first h x (Some (scopes.permanent_variable t)) q r e = permanent_first h x t q r e
 begun_first h x (Some (scopes.local_variable t)) q r e = record { origin = (frame_here h).origins x; is = sym (variable_place (code.place ((frame_here h).origins x) 0 code.no_indices) q t (named.ordinal r) e) }
 begun_first h x (Some (scopes.routine_meaning f)) q r e = result_first h (is_own h x) q (named.ordinal r) e
-begun_first h x (Some (scopes.constant_meaning b z)) q r e = absurd (cc)
-begun_first h x (Some (scopes.type_meaning t)) q r e = absurd (cc)
-begun_first h x (Some (scopes.standard_meaning f)) q r e = absurd (cc)
-begun_first h x None q r e = absurd (cc)
+begun_first h x y q r e = absurd (cc)
 
 module _ (tokens : Tokens) (s : Scopes) (h : Here) (w : Context) (agrees : ScopesAgree tokens s h) where
   abbrev W : Written
@@ -140,19 +125,12 @@ module _ (tokens : Tokens) (s : Scopes) (h : Here) (w : Context) (agrees : Scope
   plain_target : (m : Option scopes.Meaning) (d : Designator) → IsPlainMeaning m → IsTarget h m d
   plain_target (Some (scopes.local_variable t)) d i = tt
   plain_target (Some (scopes.permanent_variable t)) d i = tt
-  plain_target (Some (scopes.constant_meaning b z)) d i = absurd i
-  plain_target (Some (scopes.type_meaning t)) d i = absurd i
-  plain_target (Some (scopes.routine_meaning r)) d i = absurd i
-  plain_target (Some (scopes.standard_meaning q)) d i = absurd i
-  plain_target None d i = absurd i
+  plain_target _ d i = absurd i
 
   free_taken : (t : Ty) (v : ValueType) → TypeIs W t v → is_plain t ≡ true → calls.is_fixed s v ≡ false → IsTaken t
-  free_taken (named.ordinal r) v i p f = tt
   free_taken named.queue_type v i p f = absurd (let bad : true ≡ false = sym (ap (calls.is_fixed s) i) ∙ f in cc)
-  free_taken (named.set_over r) v i p f = tt
-  free_taken (named.array_over r t) v i p f = tt
-  free_taken (named.record_with ts) v i p f = tt
   free_taken (named.component_of n) v i p f = absurd (cc)
+  free_taken _ v i p f = tt
 
   variable_target : (i : Identifier) (ss : Selectors) (x : Option Name) (v : ValueType) (o : Option Designated) → Holds W (find i.name h.scope) x v o → calls.is_fixed s v ≡ false → TargetFormed i ss v o
   variable_target i ss x v (Some (a_variable p t)) k free = record { place = p; ty = t; is = refl; belongs = k.0; whole = plain_whole W t k.1; taken = free_taken t v k.0 k.1 free; named = plain_target (find i.name h.scope) (name_with i ss) k.2 }
@@ -164,30 +142,15 @@ module _ (tokens : Tokens) (s : Scopes) (h : Here) (w : Context) (agrees : Scope
 
   ordinal_own : (v : ValueType) (o : Option Ty) → IsOrdinalResult tokens v o → (q : named.Range) × (o ≡ Some (named.ordinal q)) × OrdinalIs tokens q v
   ordinal_own v (Some (named.ordinal q)) k = (q, refl, k)
-  ordinal_own v (Some named.queue_type) k = absurd k
-  ordinal_own v (Some (named.set_over q)) k = absurd k
-  ordinal_own v (Some (named.array_over q t)) k = absurd k
-  ordinal_own v (Some (named.record_with ts)) k = absurd k
-  ordinal_own v (Some (named.component_of n)) k = absurd k
-  ordinal_own v None k = absurd k
+  ordinal_own v _ k = absurd k
 
   routine_target : (m : Option scopes.Meaning) (d : Designator) (n : Name) (x : ℕ) → RoutineIs W (heading_at x s) n h.scope m → IsBare d → HasResult (h.layouts.meanings h.routine).result → IsTarget h m d
   routine_target (Some (scopes.routine_meaning r)) d n x k b c = (b, c)
-  routine_target (Some (scopes.constant_meaning y z)) d n x k b c = absurd k
-  routine_target (Some (scopes.type_meaning t)) d n x k b c = absurd k
-  routine_target (Some (scopes.local_variable t)) d n x k b c = absurd k
-  routine_target (Some (scopes.permanent_variable t)) d n x k b c = absurd k
-  routine_target (Some (scopes.standard_meaning q)) d n x k b c = absurd k
-  routine_target None d n x k b c = absurd k
+  routine_target _ d n x k b c = absurd k
 
   routine_begun : (m : Option scopes.Meaning) (n : Name) (x : ℕ) → RoutineIs W (heading_at x s) n h.scope m → begun_form h n m ≡ result_begun h (is_own h n)
   routine_begun (Some (scopes.routine_meaning r)) n x k = refl
-  routine_begun (Some (scopes.constant_meaning y z)) n x k = absurd k
-  routine_begun (Some (scopes.type_meaning t)) n x k = absurd k
-  routine_begun (Some (scopes.local_variable t)) n x k = absurd k
-  routine_begun (Some (scopes.permanent_variable t)) n x k = absurd k
-  routine_begun (Some (scopes.standard_meaning q)) n x k = absurd k
-  routine_begun None n x k = absurd k
+  routine_begun _ n x k = absurd k
 
   own_target : (i : Identifier) (n : ℕ) (v : ValueType) → OwnRoutine n → look i.name s ≡ Some (Some (meaning.Routine n)) → RoutineIs W (heading_at n s) i.name h.scope (find i.name h.scope) → (heading_at n s).result ≡ Some v → TargetFormed i no_selectors v (begun_form h i.name (find i.name h.scope))
   own_target i n v own there k result =
@@ -216,9 +179,8 @@ module _ (tokens : Tokens) (s : Scopes) (h : Here) (w : Context) (agrees : Scope
       routine (meaning.Predeclared q) g = absurd (cc)
 
       go : (o : Option (Option Meaning)) → look i.name s ≡ o → (names.found i.at o >>= names.unselected i.at) ≡ Ok c → look i.name s ≡ Some (Some (meaning.Routine n))
-      go None j k = absurd (cc)
-      go (Some None) j k = absurd (cc)
       go (Some (Some m)) j k = j ∙ ap (λ (z : Meaning). Some (Some z)) (routine m (ap (λ (d : check_designated.DesignatedName). d.named) (ok_same _ c k) ∙ e))
+      go x j k = absurd (cc)
 
   record IsOwnHere (n : ℕ) (v : ValueType) : Type 0 where
     pub routine : w.routine ≡ Some n
@@ -252,9 +214,7 @@ module _ (tokens : Tokens) (s : Scopes) (h : Here) (w : Context) (agrees : Scope
 
       go : (z : OperandUse) → calls.place_of s u ≡ z → (if is_assignable z then target.Assignable u else target.Fixed (Some u)) ≡ target.Assignable v → TargetFormed i ss v o
       go place.Assignable j y = subst (λ z. TargetFormed i ss z o) (same_type u v y) (variable_target i ss x u o k (free_place tokens s h w agrees u (ap is_assignable j)))
-      go place.Value j y = absurd (cc)
-      go place.Fixed j y = absurd (cc)
-      go place.Function j y = absurd (cc)
+      go x j y = absurd (cc)
 
   no_entry : (n : ℕ) (v : ValueType) → target_of s w (name.Entry n) ≡ target.Assignable v → ⊥
   no_entry n v e = go (heading_at n s).result e
@@ -276,10 +236,7 @@ module _ (tokens : Tokens) (s : Scopes) (h : Here) (w : Context) (agrees : Scope
   begun_target own i c (name.Routine n) v same is k e = (let o : IsOwnHere n v = own_here n v e in own_target i n v (own n o.routine) (begun_routine i c n is same) k o.result)
   begun_target own i c (name.Entry n) v same is k e = absurd (no_entry n v e)
   begun_target own i c (name.Predeclared q) v same is k e = absurd (no_standard q v e)
-  begun_target own i c (name.Parameter u) v same is k e = absurd (cc)
-  begun_target own i c (name.Constant b) v same is k e = absurd (cc)
-  begun_target own i c name.Kind v same is k e = absurd (cc)
-  begun_target own i c name.Nothing v same is k e = absurd (cc)
+  begun_target own i c x v same is k e = absurd (cc)
 
   only : (o : Option Designated) → o ≡ then_form o (λ a. Some a)
   only None = refl
@@ -302,11 +259,7 @@ module _ (tokens : Tokens) (s : Scopes) (h : Here) (w : Context) (agrees : Scope
   routine_no_variable : (n : Name) (x : ℕ) (m : Option scopes.Meaning) → RoutineIs W (heading_at x s) n h.scope m → IsVariableMeaning m → ⊥
   routine_no_variable n x (Some (scopes.local_variable t)) k v = k
   routine_no_variable n x (Some (scopes.permanent_variable t)) k v = k
-  routine_no_variable n x (Some (scopes.routine_meaning r)) k v = v
-  routine_no_variable n x (Some (scopes.constant_meaning y z)) k v = v
-  routine_no_variable n x (Some (scopes.type_meaning t)) k v = v
-  routine_no_variable n x (Some (scopes.standard_meaning q)) k v = v
-  routine_no_variable n x None k v = v
+  routine_no_variable n x _ k v = v
 
   -- a name with selectors
   pub designated_target : (own : (n : ℕ) → w.routine ≡ Some n → OwnRoutine n) (i : Identifier) (ss : Selectors) (c : check_designated.DesignatedName) (n : Named) (v : ValueType) → c.named ≡ n → designator s w (name_with i ss) ≡ Ok c → NamedIs tokens s h i.name (find i.name h.scope) (last_field ss) n (designator_form h (name_with i ss)) → target_of s w n ≡ target.Assignable v → TargetFormed i ss v (designator_form h (name_with i ss))
@@ -315,7 +268,4 @@ module _ (tokens : Tokens) (s : Scopes) (h : Here) (w : Context) (agrees : Scope
       bare_target own i ss c n v (no_selector i ss (other_bare tokens s h w agrees i ss c (routine_no_variable i.name n (find i.name h.scope) k) is)) same is k e
   designated_target own i ss c (name.Entry n) v same is k e = absurd (no_entry n v e)
   designated_target own i ss c (name.Predeclared q) v same is k e = absurd (no_standard q v e)
-  designated_target own i ss c (name.Parameter u) v same is k e = absurd (cc)
-  designated_target own i ss c (name.Constant b) v same is k e = absurd (cc)
-  designated_target own i ss c name.Kind v same is k e = absurd (cc)
-  designated_target own i ss c name.Nothing v same is k e = absurd (cc)
+  designated_target own i ss c x v same is k e = absurd (cc)

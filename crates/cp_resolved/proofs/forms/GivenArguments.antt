@@ -58,21 +58,15 @@ valued w (named.record_with ts) f p x = record { form = formed (named.record_wit
 valued w (named.component_of n) f p x = record { form = formed (named.component_of n) (as_component x.part); value = code.component_of x.part; is = x.is; given = (refl, refl) }
 
 handed_whole : (w : Written) (t : Ty) → IsHanded false t → IsWhole w t
-handed_whole w (named.ordinal r) p = refl
-handed_whole w named.queue_type p = refl
-handed_whole w (named.set_over r) p = refl
 handed_whole w (named.array_over r t) p = free_plain (named.array_over r t) p
 handed_whole w (named.record_with ts) p = free_plain (named.record_with ts) p
 handed_whole w (named.component_of n) p = tt
+handed_whole w _ p = refl
 
 -- the place from which a value was loaded
-loaded_place : (p : code.Place) (t : Ty) → place_form (loaded_form p t) ≡ Some p
+pub loaded_place : (p : code.Place) (t : Ty) → place_form (loaded_form p t) ≡ Some p
 loaded_place p (named.ordinal r) = refl
-loaded_place p named.queue_type = refl
-loaded_place p (named.set_over r) = refl
-loaded_place p (named.array_over r t) = refl
-loaded_place p (named.record_with ts) = refl
-loaded_place p (named.component_of n) = refl
+loaded_place p _ = refl
 
 -- ---- faults
 
@@ -143,10 +137,8 @@ module _ (tokens : Tokens) (s : Scopes) (h : Here) (w : Context) (agrees : Scope
   variable_expressed e o b small is free = subst (λ (j : Judged Operand). HasVariable W j (expression_form h e)) is (expression_held tokens s h w agrees b e small) free
 
   no_function : (p : OperandUse) → is_assignable p ≡ true → is_function p ≡ false
-  no_function place.Assignable e = refl
-  no_function place.Value e = refl
-  no_function place.Fixed e = refl
   no_function place.Function e = absurd (cc)
+  no_function _ e = refl
 
   never : (b : Bool) (a : check_parameter.Parameter) → (b ≡ true → a.is_var ≡ true) → a.is_var ≡ false → b ≡ false
   never false a k e = refl
@@ -178,8 +170,7 @@ module _ (tokens : Tokens) (s : Scopes) (h : Here) (w : Context) (agrees : Scope
 
   two_true : (a b : Bool) → (a && b) ≡ true → (a ≡ true) × (b ≡ true)
   two_true true true e = (refl, refl)
-  two_true true false e = absurd (cc)
-  two_true false b e = absurd (cc)
+  two_true x y e = absurd (cc)
 
   pub all_given : (as' : List check_parameter.Parameter) (qs : List Parameter) (es : Expressions) (os : List Operand) → AreParameters W as' qs → AreSmallExpressions es → AreArguments as' es os → all_fit as' os ≡ true → all_variable_faults as' os ≡ [] → CanGiveAll h qs es
   all_given [] [] no_expressions [] i small x f k = tt
@@ -188,10 +179,7 @@ module _ (tokens : Tokens) (s : Scopes) (h : Here) (w : Context) (agrees : Scope
       (one_given a q e o i.0 small.0 x.0 both_fit.0 (none_left (variable_faults a o) (all_variable_faults as' os) k), all_given as' qs es os i.1 small.1 x.1 both_fit.1 (none_right (variable_faults a o) (all_variable_faults as' os) k))
   all_given [] (q ∷ qs) es os i small x f k = absurd i
   all_given (a ∷ as') [] es os i small x f k = absurd i
-  all_given [] [] (more_expressions e es) os i small x f k = absurd x
-  all_given [] [] no_expressions (o ∷ os) i small x f k = absurd x
-  all_given (a ∷ as') (q ∷ qs) no_expressions os i small x f k = absurd x
-  all_given (a ∷ as') (q ∷ qs) (more_expressions e es) [] i small x f k = absurd x
+  all_given _ _ _ _ i small x f k = absurd x
 
   -- an argument before others
   before_others : (v : Bool) (e : Expression) (es : Expressions) (k : Judged (List Operand)) (as' : List check_parameter.Parameter) (os : List Operand) → ((a : check_parameter.Parameter) (rest : List check_parameter.Parameter) → as' ≡ a ∷ rest → v ≡ true → a.is_var ≡ true) →

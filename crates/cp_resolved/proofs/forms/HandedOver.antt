@@ -9,13 +9,15 @@ use Rattle.cp_scope.specs.declared.types.ValueType.TheVariants as types
 use Rattle.cp_scope.specs.Types.{agree, same, same_base, same_range}
 use Rattle.cp_slots.specs.Code as code
 use Rattle.cp_meaning.specs.Types as named
-use Rattle.cp_meaning.specs.Types.{Ty, natural_of, range_of}
+use Rattle.cp_meaning.specs.Types.{Ty, range_of}
 use Rattle.cp_resolved.specs.Compiled.{Form, as_ordinal, as_place, as_component, Formed}
 use Rattle.cp_resolved.specs.Typed.{Written, RangeIs, TypeIs, is_plain, FormIs, Expressed}
 use Rattle.cp_resolved.proofs.agreeing.AgreeingConstants.{base_same}
 use Rattle.cp_resolved.proofs.agreeing.AgreeingTypes.{IsOrdinal, ordinal_of}
 use Rattle.cp_resolved.proofs.agreeing.SameTypes.{type_same}
-use Rattle.cp_resolved.proofs.forms.Typing.{formed, OrdinalForm, ordinal_found, SetForm, set_found, first_true, second_true}
+use Rattle.cp_resolved.proofs.forms.Typing.{formed, OrdinalForm, ordinal_found, SetForm, set_found}
+use Rattle.cp_resolved.proofs.frames.LeastCells.{right_true as second_true}
+use Rattle.cp_resolved.proofs.counts.FewCells.{left_of as first_true}
 
 -- ---- types that agree
 
@@ -83,31 +85,7 @@ module _ (w : Written) where
   types_same t u (types.Array j) (types.Array k) h g m n e = type_same w t u (types.Array j) h (subst (λ i. TypeIs w u (types.Array i)) (sym ((Decides-eqb j k).0 e)) g)
   types_same t u (types.Record j) (types.Record k) h g m n e = type_same w t u (types.Record j) h (subst (λ i. TypeIs w u (types.Record i)) (sym ((Decides-eqb j k).0 e)) g)
   types_same t u (types.Component i j) y h g m n e = absurd (plain_component t i j h m)
-  types_same t u (types.Ordinal a) types.Queue h g m n e = absurd (cc)
-  types_same t u (types.Ordinal a) (types.Set b) h g m n e = absurd (cc)
-  types_same t u (types.Ordinal a) (types.Array b) h g m n e = absurd (cc)
-  types_same t u (types.Ordinal a) (types.Record b) h g m n e = absurd (cc)
-  types_same t u (types.Ordinal a) (types.Component b c) h g m n e = absurd (cc)
-  types_same t u types.Queue (types.Ordinal b) h g m n e = absurd (cc)
-  types_same t u types.Queue (types.Set b) h g m n e = absurd (cc)
-  types_same t u types.Queue (types.Array b) h g m n e = absurd (cc)
-  types_same t u types.Queue (types.Record b) h g m n e = absurd (cc)
-  types_same t u types.Queue (types.Component b c) h g m n e = absurd (cc)
-  types_same t u (types.Set (Some a)) (types.Ordinal b) h g m n e = absurd (cc)
-  types_same t u (types.Set (Some a)) types.Queue h g m n e = absurd (cc)
-  types_same t u (types.Set (Some a)) (types.Array b) h g m n e = absurd (cc)
-  types_same t u (types.Set (Some a)) (types.Record b) h g m n e = absurd (cc)
-  types_same t u (types.Set (Some a)) (types.Component b c) h g m n e = absurd (cc)
-  types_same t u (types.Array a) (types.Ordinal b) h g m n e = absurd (cc)
-  types_same t u (types.Array a) types.Queue h g m n e = absurd (cc)
-  types_same t u (types.Array a) (types.Set b) h g m n e = absurd (cc)
-  types_same t u (types.Array a) (types.Record b) h g m n e = absurd (cc)
-  types_same t u (types.Array a) (types.Component b c) h g m n e = absurd (cc)
-  types_same t u (types.Record a) (types.Ordinal b) h g m n e = absurd (cc)
-  types_same t u (types.Record a) types.Queue h g m n e = absurd (cc)
-  types_same t u (types.Record a) (types.Set b) h g m n e = absurd (cc)
-  types_same t u (types.Record a) (types.Array b) h g m n e = absurd (cc)
-  types_same t u (types.Record a) (types.Component b c) h g m n e = absurd (cc)
+  types_same t u x y h g m n e = absurd (cc)
 
   -- ---- the form that a type wants
 
@@ -139,19 +117,11 @@ module _ (w : Written) where
 
   ordinal_fits : (a : Range) (u : ValueType) (f : Option Formed) → agree (types.Ordinal a) u ≡ true → Expressed w u f → OrdinalFits f
   ordinal_fits a (types.Ordinal b) f e x = (let o : OrdinalForm w.tokens b f = ordinal_found w b f x in record { ty = named.ordinal o.range; code = o.code; is = o.is })
-  ordinal_fits a types.Queue f e x = absurd (cc)
-  ordinal_fits a (types.Set b) f e x = absurd (cc)
-  ordinal_fits a (types.Array b) f e x = absurd (cc)
-  ordinal_fits a (types.Record b) f e x = absurd (cc)
-  ordinal_fits a (types.Component k b) f e x = absurd (cc)
+  ordinal_fits a y f e x = absurd (cc)
 
   set_fits : (a : Range) (u : ValueType) (f : Option Formed) → agree (types.Set (Some a)) u ≡ true → Expressed w u f → SetForm f
   set_fits a (types.Set b) f e x = set_found w b f x
-  set_fits a (types.Ordinal b) f e x = absurd (cc)
-  set_fits a types.Queue f e x = absurd (cc)
-  set_fits a (types.Array b) f e x = absurd (cc)
-  set_fits a (types.Record b) f e x = absurd (cc)
-  set_fits a (types.Component k b) f e x = absurd (cc)
+  set_fits a y f e x = absurd (cc)
 
   -- the value of an array or record
   same_place : (t u : Ty) (f : Form) (p : code.Place) → u ≡ t → f ≡ as_place p → PlaceFits t (Some (formed u f))
@@ -204,27 +174,15 @@ module _ (w : Written) where
 
   component_fits : (kind : SystemKind) (n : ℕ) (u : ValueType) (f : Option Formed) → ((k : ℕ) → w.tokens.systems k ≡ w.tokens.systems n → k ≡ n) → agree (types.Component kind (w.tokens.systems n)) u ≡ true → Expressed w u f → ComponentFits n f
   component_fits kind n (types.Component i m) f only e x = component_found i n m f only (sym ((Decides-eqb (w.tokens.systems n) m).0 e)) x
-  component_fits kind n (types.Ordinal b) f only e x = absurd (cc)
-  component_fits kind n types.Queue f only e x = absurd (cc)
-  component_fits kind n (types.Set b) f only e x = absurd (cc)
-  component_fits kind n (types.Array b) f only e x = absurd (cc)
-  component_fits kind n (types.Record b) f only e x = absurd (cc)
+  component_fits kind n y f only e x = absurd (cc)
 
   agree_array : (t : Ty) (n : ℕ) (u : ValueType) (f : Option Formed) → TypeIs w t (types.Array n) → is_plain t ≡ true → agree (types.Array n) u ≡ true → Expressed w u f → PlaceFits t f
   agree_array t n (types.Array m) f h p e x = array_fits t m f (subst (λ i. TypeIs w t (types.Array i)) ((Decides-eqb n m).0 e) h) p x
-  agree_array t n (types.Ordinal b) f h p e x = absurd (cc)
-  agree_array t n types.Queue f h p e x = absurd (cc)
-  agree_array t n (types.Set b) f h p e x = absurd (cc)
-  agree_array t n (types.Record b) f h p e x = absurd (cc)
-  agree_array t n (types.Component k b) f h p e x = absurd (cc)
+  agree_array t n y f h p e x = absurd (cc)
 
   agree_record : (t : Ty) (n : ℕ) (u : ValueType) (f : Option Formed) → TypeIs w t (types.Record n) → agree (types.Record n) u ≡ true → Expressed w u f → PlaceFits t f
   agree_record t n (types.Record m) f h e x = record_fits t m f (subst (λ i. TypeIs w t (types.Record i)) ((Decides-eqb n m).0 e) h) x
-  agree_record t n (types.Ordinal b) f h e x = absurd (cc)
-  agree_record t n types.Queue f h e x = absurd (cc)
-  agree_record t n (types.Set b) f h e x = absurd (cc)
-  agree_record t n (types.Array b) f h e x = absurd (cc)
-  agree_record t n (types.Component k b) f h e x = absurd (cc)
+  agree_record t n y f h e x = absurd (cc)
 
   -- a value that agrees with what has the type
   pub fitting : (t : Ty) (v u : ValueType) (f : Option Formed) → TypeIs w t v → IsWhole t → agree v u ≡ true → Expressed w u f → Fits t f

@@ -55,16 +55,7 @@ set_types_made at (types.Set a) (types.Set b) u = go (agree (types.Set a) (types
     go : (c : Bool) → MadeOption (if c then Some (value at (operations.set_type a b) u) else None)
     go true = refl
     go false = tt
-set_types_made at (types.Set a) (types.Ordinal r) u = tt
-set_types_made at (types.Set a) types.Queue u = tt
-set_types_made at (types.Set a) (types.Array n) u = tt
-set_types_made at (types.Set a) (types.Record n) u = tt
-set_types_made at (types.Set a) (types.Component k n) u = tt
-set_types_made at (types.Ordinal r) y u = tt
-set_types_made at types.Queue y u = tt
-set_types_made at (types.Array n) y u = tt
-set_types_made at (types.Record n) y u = tt
-set_types_made at (types.Component k n) y u = tt
+set_types_made at _ _ u = tt
 
 set_made : (at : ℕ) (l r : Operand) → MadeOption (operations.set at l r)
 set_made at l r = set_types_made at l.value_type r.value_type (both_uses l.uses r.uses)
@@ -94,21 +85,18 @@ multiplied_made at multiplication.Div (Some l) r = number_made at l r
 multiplied_made at multiplication.Mod (Some l) r = number_made at l r
 
 pub agreed_made : (at : ℕ) (j : Judged (Option Operand)) → IsMadePart j → IsMade (j >>= operations.agreed at)
-agreed_made at (Ok None) h = tt
 agreed_made at (Ok (Some o)) h = h
-agreed_made at (Err fs) h = tt
+agreed_made at _ h = tt
 
 pub sum_made : (at : ℕ) (a : Addition) (j : Judged (Option Operand)) (k : Judged Operand) → IsMadePart (both j k >>= expressions.added at a)
 sum_made at a (Ok o) (Ok r) = added_made at a o r
-sum_made at a (Ok o) (Err fs) = tt
 sum_made at a (Err fs) (Ok r) = tt
-sum_made at a (Err fs) (Err gs) = tt
+sum_made at a _ _ = tt
 
 pub product_made : (at : ℕ) (m : Multiplication) (j : Judged (Option Operand)) (k : Judged Operand) → IsMadePart (both j k >>= expressions.multiplied at m)
 product_made at m (Ok o) (Ok r) = multiplied_made at m o r
-product_made at m (Ok o) (Err fs) = tt
 product_made at m (Err fs) (Ok r) = tt
-product_made at m (Err fs) (Err gs) = tt
+product_made at m _ _ = tt
 
 pub signed_made : (at : ℕ) (g : Sign) (j : Judged Operand) → IsMadePart (j >>= expressions.signed at (Some g))
 signed_made at g (Ok o) = go (is_of base.Integer o.value_type)
@@ -124,9 +112,8 @@ related_made at r (Ok a) (Ok b) = go (operations.relates r a.value_type b.value_
     go : (c : Bool) → IsMade (if c then Ok (value at (values_of base.Boolean) (both_uses a.uses b.uses)) else broken at C5)
     go true = refl
     go false = tt
-related_made at r (Ok a) (Err gs) = tt
-related_made at r (Err fs) (Ok b) = tt
 related_made at r (Err fs) (Err gs) = tt
+related_made at r _ _ = tt
 
 pub negated_made : (at : ℕ) (j : Judged Operand) → IsMade (j >>= operations.negated at)
 negated_made at (Ok o) = go (is_of base.Boolean o.value_type)
@@ -146,11 +133,7 @@ like_made at os (types.Ordinal r) = go (are_elements r.base os) _
     go : (b : Bool) (o : Use) → IsMade (if b then Ok (value at (types.Set (Some (whole r.base))) o) else broken at C5)
     go true o = refl
     go false o = tt
-like_made at os types.Queue = tt
-like_made at os (types.Set r) = tt
-like_made at os (types.Array n) = tt
-like_made at os (types.Record n) = tt
-like_made at os (types.Component k n) = tt
+like_made at os _ = tt
 
 pub constructed_made : (at : ℕ) (j : Judged (List Operand)) → IsMade (j >>= constructed at)
 constructed_made at (Ok []) = refl
@@ -163,19 +146,11 @@ if_made false at v u = tt
 
 stepped_made : (at : ℕ) (v : ValueType) (u : Use) → IsMade (operations.stepped at v u)
 stepped_made at (types.Ordinal r) u = refl
-stepped_made at types.Queue u = tt
-stepped_made at (types.Set r) u = tt
-stepped_made at (types.Array n) u = tt
-stepped_made at (types.Record n) u = tt
-stepped_made at (types.Component k n) u = tt
+stepped_made at _ u = tt
 
 numbered_made : (at : ℕ) (v : ValueType) (u : Use) → IsMade (operations.numbered at v u)
 numbered_made at (types.Ordinal r) u = refl
-numbered_made at types.Queue u = tt
-numbered_made at (types.Set r) u = tt
-numbered_made at (types.Array n) u = tt
-numbered_made at (types.Record n) u = tt
-numbered_made at (types.Component k n) u = tt
+numbered_made at _ u = tt
 
 applied_one_made : (at : ℕ) (p : Predeclared) (o : Operand) (u : Use) → IsMade (operations.applied_to at p o u)
 applied_one_made at predeclared.Succ o u = stepped_made at o.value_type u
@@ -184,14 +159,11 @@ applied_one_made at predeclared.Ord o u = numbered_made at o.value_type u
 applied_one_made at predeclared.Chr o u = if_made (is_of base.Integer o.value_type) at (values_of base.Char) u
 applied_one_made at predeclared.Abs o u = if_made (is_of base.Integer o.value_type) at (values_of base.Integer) u
 applied_one_made at predeclared.Empty o u = if_made (is_queue_in o.value_type o.place) at (values_of base.Boolean) u
-applied_one_made at predeclared.Delay o u = tt
-applied_one_made at predeclared.Continue o u = tt
-applied_one_made at predeclared.Display o u = tt
+applied_one_made at _ o u = tt
 
 applied_all_made : (at : ℕ) (p : Predeclared) (os : List Operand) (u : Use) → IsMade (operations.applied_all at p os u)
-applied_all_made at p [] u = tt
 applied_all_made at p (o ∷ []) u = applied_one_made at p o u
-applied_all_made at p (o ∷ q ∷ os) u = tt
+applied_all_made at p _ u = tt
 
 pub applied_made : (at : ℕ) (p : Predeclared) (os : List Operand) (u : Use) → IsMade (operations.applied at p os u)
 applied_made at p os u = go (operations.is_function p)

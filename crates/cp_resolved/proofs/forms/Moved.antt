@@ -48,9 +48,6 @@ module _ (k : Numbering) (l : Layer) where
   value_same : (u t : Ty) (f : Form) (v : Value) (p : Passing) (g : code.ArgumentValue) → FormIs k l.types t f v → PassedBy k l.types false u p → ValueGiven u t f g → IsMoved u → passed l p v ≡ g
   value_same (named.ordinal r) t (as_ordinal c) v p g i w h m =
       ap (λ y. passed l y v) w.1 ∙ ap (λ x. passed l (passing.Constant x) v) w.2 ∙ ap (λ y. code.scalar (ordinal_of y) r.low r.high) i.2 ∙ sym h
-  value_same (named.ordinal r) t (as_set b) v p g i w h m = absurd h
-  value_same (named.ordinal r) t (as_place q) v p g i w h m = absurd h
-  value_same (named.ordinal r) t (as_component c) v p g i w h m = absurd h
   value_same (named.set_over r) t (as_set b) v p g i w h m =
       ap (λ y. passed l y v) w.1
       ∙ ap (λ x. passed l (passing.Constant x) v) w.2
@@ -58,26 +55,14 @@ module _ (k : Numbering) (l : Layer) where
       ∙ ap (λ n. code.set b n (byte_or 255 r.high)) (byte_same 0 r.low m.0)
       ∙ ap (code.set b (natural_of r.low)) (byte_same 255 r.high m.1)
       ∙ sym h
-  value_same (named.set_over r) t (as_ordinal c) v p g i w h m = absurd h
-  value_same (named.set_over r) t (as_place q) v p g i w h m = absurd h
-  value_same (named.set_over r) t (as_component c) v p g i w h m = absurd h
   value_same (named.component_of n) t (as_component c) v p g i w h m = ap (λ y. passed l y v) w ∙ ap (λ y. code.component_of (component_in y)) i ∙ sym h.1
-  value_same (named.component_of n) t (as_ordinal c) v p g i w h m = absurd h
-  value_same (named.component_of n) t (as_set b) v p g i w h m = absurd h
-  value_same (named.component_of n) t (as_place q) v p g i w h m = absurd h
   value_same (named.array_over r u) t (as_place q) v p g i w h m =
       ap (λ y. passed l y v) w.1
       ∙ copied (named.array_over r u) t q v w.0 g (ap (λ x. passed l (passing.Constant x) v) w.2.is ∙ ap (λ x. code.copy (place_of v) (kinds.cells_of l.types x)) (sym w.2.is)) i w.2 m h.0 h.1
-  value_same (named.array_over r u) t (as_ordinal c) v p g i w h m = absurd h
-  value_same (named.array_over r u) t (as_set b) v p g i w h m = absurd h
-  value_same (named.array_over r u) t (as_component c) v p g i w h m = absurd h
   value_same (named.record_with us) t (as_place q) v p g i w h m =
       ap (λ y. passed l y v) w.1
       ∙ copied (named.record_with us) t q v w.0 g (ap (λ x. passed l (passing.Constant x) v) w.2.is ∙ ap (λ x. code.copy (place_of v) (kinds.cells_of l.types x)) (sym w.2.is)) i w.2 m h.0 h.1
-  value_same (named.record_with us) t (as_ordinal c) v p g i w h m = absurd h
-  value_same (named.record_with us) t (as_set b) v p g i w h m = absurd h
-  value_same (named.record_with us) t (as_component c) v p g i w h m = absurd h
-  value_same named.queue_type t f v p g i w h m = absurd h
+  value_same _ t _ v p g i w h m = absurd h
 
   pub given_same : (b : Bool) (u : Ty) (f : Formed) (v : Value) (p : Passing) (g : code.ArgumentValue) → ValueIs k l.types f v → PassedBy k l.types b u p → GivenBy b u f g → IsMoved u → passed l p v ≡ g
   given_same true u f v p g i w h m = go (place_form f.form) refl h
@@ -94,27 +79,14 @@ module _ (k : Numbering) (l : Layer) where
 
   pub assigned_same : (u t : Ty) (f : Form) (v : Value) (p : code.Place) (x : CellType) (a : code.Action) → FormIs k l.types t f v → TypeIs k l.types u x → AssignedBy u p t f a → IsMoved u → assigned_as l p v x ≡ a
   assigned_same (named.ordinal r) t (as_ordinal c) v p x a i w h m = ap (assigned_as l p v) w ∙ ap (λ y. code.assign p (ordinal_of y) r.low r.high) i.2 ∙ sym h
-  assigned_same (named.ordinal r) t (as_set b) v p x a i w h m = absurd h
-  assigned_same (named.ordinal r) t (as_place q) v p x a i w h m = absurd h
-  assigned_same (named.ordinal r) t (as_component c) v p x a i w h m = absurd h
   assigned_same (named.set_over r) t (as_set b) v p x a i w h m =
       ap (assigned_as l p v) w
       ∙ ap (λ y. code.assign_set p (set_of y) (byte_or 0 r.low) (byte_or 255 r.high)) i
       ∙ ap (λ n. code.assign_set p b n (byte_or 255 r.high)) (byte_same 0 r.low m.0)
       ∙ ap (code.assign_set p b (natural_of r.low)) (byte_same 255 r.high m.1)
       ∙ sym h
-  assigned_same (named.set_over r) t (as_ordinal c) v p x a i w h m = absurd h
-  assigned_same (named.set_over r) t (as_place q) v p x a i w h m = absurd h
-  assigned_same (named.set_over r) t (as_component c) v p x a i w h m = absurd h
   assigned_same (named.array_over r u) t (as_place q) v p x a i w h m =
       copies (named.array_over r u) t p q v x a (ap (assigned_as l p v) w.is ∙ ap (λ y. code.copy_cells p (place_of v) (kinds.cells_of l.types y)) (sym w.is)) i w m h.0 h.1
-  assigned_same (named.array_over r u) t (as_ordinal c) v p x a i w h m = absurd h
-  assigned_same (named.array_over r u) t (as_set b) v p x a i w h m = absurd h
-  assigned_same (named.array_over r u) t (as_component c) v p x a i w h m = absurd h
   assigned_same (named.record_with us) t (as_place q) v p x a i w h m =
       copies (named.record_with us) t p q v x a (ap (assigned_as l p v) w.is ∙ ap (λ y. code.copy_cells p (place_of v) (kinds.cells_of l.types y)) (sym w.is)) i w m h.0 h.1
-  assigned_same (named.record_with us) t (as_ordinal c) v p x a i w h m = absurd h
-  assigned_same (named.record_with us) t (as_set b) v p x a i w h m = absurd h
-  assigned_same (named.record_with us) t (as_component c) v p x a i w h m = absurd h
-  assigned_same named.queue_type t f v p x a i w h m = absurd h
-  assigned_same (named.component_of n) t f v p x a i w h m = absurd h
+  assigned_same _ t _ v p x a i w h m = absurd h

@@ -11,9 +11,7 @@ character_byte (pos n) h = search (arith, h)
 character_byte (negsuc n) h = absurd (cc)
 
 pub type_moved : (w : Written) (t : Ty) (v : ValueType) → TypeIs w t v → IsMoved t
-type_moved w (named.ordinal r) v h = omega arith
-type_moved w named.queue_type v h = omega arith
 type_moved w (named.set_over r) v h = (character_byte r.low h.low, character_byte r.high h.high)
 type_moved w (named.array_over r t) v h = omega (arith, h.few)
 type_moved w (named.record_with ts) v h = omega (arith, h.few)
-type_moved w (named.component_of n) v h = omega arith
+type_moved w x v h = omega arith

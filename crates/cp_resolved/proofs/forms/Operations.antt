@@ -1,5 +1,5 @@
 -- Where an operation on forms gives a form, the operation on values gives the value of this form.
-use Rattle.std.proofs.Common.{◌≡◌, Bool, true, false, Option, Some, None, refl, sym, ap, subst, ◌∙◌}
+use Rattle.std.proofs.Common.{◌≡◌, Bool, true, Option, Some, None, refl, sym, ap, subst, ◌∙◌}
 use Rattle.std.specs.Prelude.{◌&&◌}
 use Rattle.cp_tree.specs.declared.constant.Sign.{Sign}
 use Rattle.cp_tree.specs.declared.constant.Sign.TheVariants as sign
@@ -14,11 +14,11 @@ use Rattle.cp_layout.specs.declared.kinds.CellBase.TheVariants as base
 use Rattle.cp_layout.specs.Kinds.{Compounds}
 use Rattle.cp_slots.specs.Code as code
 use Rattle.cp_layout.specs.Values as values
-use Rattle.cp_layout.specs.Values.{Value, ordinal_value, set_value, ordinal_of, applied}
+use Rattle.cp_layout.specs.Values.{Value, ordinal_value, set_value, ordinal_of}
 use Rattle.cp_layout.specs.LaidExpressions.{signed}
 use Rattle.cp_meaning.specs.Types as named
-use Rattle.cp_meaning.specs.Types.{Base, integers, Range, Ty, ordinal, all_integers, all_booleans, all_characters}
-use Rattle.cp_resolved.specs.Compiled.{Form, as_ordinal, as_set, as_place, as_component, Formed, integer_form, truth_form, set_form, is_integer_base, is_integer, is_boolean, compared_forms, added_ordinals, added_forms, multiplied_ordinals, multiplied_forms, signed_ordinal, signed_form, not_form_of, not_form, with_member_form}
+use Rattle.cp_meaning.specs.Types.{Base, integers, Ty, all_integers, all_booleans}
+use Rattle.cp_resolved.specs.Compiled.{Form, as_ordinal, as_set, as_place, Formed, integer_form, truth_form, set_form, is_integer_base, is_integer, is_boolean, compared_forms, added_ordinals, added_forms, multiplied_ordinals, multiplied_forms, signed_ordinal, signed_form, not_form_of, not_form, with_member_form}
 use Rattle.cp_resolved.specs.InStep.{Numbering, base_of}
 use Rattle.cp_resolved.specs.Valued.{FormIs, ValueIs}
 use Rattle.cp_resolved.proofs.names.Alike.{same_inside}
@@ -35,9 +35,7 @@ module _ (k : Numbering) (ts : Compounds) where
 
   integer_only : (b : Base) → is_integer_base b ≡ true → b ≡ integers
   integer_only named.integers h = refl
-  integer_only named.booleans h = absurd (cc)
-  integer_only named.characters h = absurd (cc)
-  integer_only (named.enumerated at xs) h = absurd (cc)
+  integer_only x h = absurd (cc)
 
   both : (f : Value → Value → Value) (v v' w w' : Value) → v ≡ v' → w ≡ w' → f v w ≡ f v' w'
   both f v v' w w' h i = ap (λ x. f x w) h ∙ ap (f v') i
@@ -51,77 +49,40 @@ module _ (k : Numbering) (ts : Compounds) where
   compared relation.Greater t u (as_ordinal a) (as_ordinal b) v w z h i e = as_truth _ z _ e (both (values.related relation.Greater) v _ w _ h.2 i.2)
   compared relation.AtMost t u (as_ordinal a) (as_ordinal b) v w z h i e = as_truth _ z _ e (both (values.related relation.AtMost) v _ w _ h.2 i.2)
   compared relation.AtLeast t u (as_ordinal a) (as_ordinal b) v w z h i e = as_truth _ z _ e (both (values.related relation.AtLeast) v _ w _ h.2 i.2)
-  compared relation.In t u (as_ordinal a) (as_ordinal b) v w z h i e = absurd (cc)
   compared relation.In t u (as_ordinal a) (as_set b) v w z h i e = as_truth _ z _ e (both (values.related relation.In) v _ w _ h.2 i)
-  compared relation.Equal t u (as_ordinal a) (as_set b) v w z h i e = absurd (cc)
-  compared relation.NotEqual t u (as_ordinal a) (as_set b) v w z h i e = absurd (cc)
-  compared relation.Less t u (as_ordinal a) (as_set b) v w z h i e = absurd (cc)
-  compared relation.Greater t u (as_ordinal a) (as_set b) v w z h i e = absurd (cc)
-  compared relation.AtMost t u (as_ordinal a) (as_set b) v w z h i e = absurd (cc)
-  compared relation.AtLeast t u (as_ordinal a) (as_set b) v w z h i e = absurd (cc)
   compared relation.Equal t u (as_set a) (as_set b) v w z h i e = as_truth _ z _ e (both (values.related relation.Equal) v _ w _ h i)
   compared relation.NotEqual t u (as_set a) (as_set b) v w z h i e = as_truth _ z _ e (both (values.related relation.NotEqual) v _ w _ h i)
-  compared relation.Less t u (as_set a) (as_set b) v w z h i e = absurd (cc)
-  compared relation.Greater t u (as_set a) (as_set b) v w z h i e = absurd (cc)
-  compared relation.AtMost t u (as_set a) (as_set b) v w z h i e = absurd (cc)
-  compared relation.AtLeast t u (as_set a) (as_set b) v w z h i e = absurd (cc)
-  compared relation.In t u (as_set a) (as_set b) v w z h i e = absurd (cc)
   compared r t u (as_ordinal a) (as_place p) v w z h i e = absurd (cc)
-  compared r t u (as_ordinal a) (as_component p) v w z h i e = absurd (cc)
   compared r t u (as_set a) (as_ordinal b) v w z h i e = absurd (cc)
-  compared r t u (as_set a) (as_place p) v w z h i e = absurd (cc)
-  compared r t u (as_set a) (as_component p) v w z h i e = absurd (cc)
-  compared r t u (as_place p) g v w z h i e = absurd (cc)
-  compared r t u (as_component p) g v w z h i e = absurd (cc)
+  compared x t u y a v w z h i e = absurd (cc)
 
   -- ---- sums and products
 
   added_numbers : (o : Addition) (n t : Bool) (a b : code.Expression) (p q : code_base.CellBase) (v w : Value) (z : Formed) → v ≡ ordinal_value a p → w ≡ ordinal_value b q → added_ordinals o n t a b ≡ Some z → ValueIs k ts z (values.added o v w)
   added_numbers addition.Plus true t a b p q v w z h i e = as_integer _ z _ e (both (values.added addition.Plus) v _ w _ h i)
-  added_numbers addition.Plus false t a b p q v w z h i e = absurd (cc)
   added_numbers addition.Minus true t a b p q v w z h i e = as_integer _ z _ e (both (values.added addition.Minus) v _ w _ h i)
-  added_numbers addition.Minus false t a b p q v w z h i e = absurd (cc)
   added_numbers addition.Or n true a b p q v w z h i e = as_truth _ z _ e (both (values.added addition.Or) v _ w _ h i)
-  added_numbers addition.Or n false a b p q v w z h i e = absurd (cc)
+  added_numbers x y u a b p q v w z h i e = absurd (cc)
 
   pub added : (o : Addition) (x y : Formed) (f g : Form) (t u : Ty) (v w : Value) (z : Formed) → FormIs k ts t f v → FormIs k ts u g w → added_forms o x y f g ≡ Some z → ValueIs k ts z (values.added o v w)
   added o x y (as_ordinal a) (as_ordinal b) t u v w z h i e = added_numbers o (is_integer x.ty && is_integer y.ty) (is_boolean x.ty && is_boolean y.ty) a b _ _ v w z h.2 i.2 e
-  added addition.Plus x y (as_set a) (as_set b) t u v w z h i e = absurd (cc)
   added addition.Minus x y (as_set a) (as_set b) t u v w z h i e = as_members _ z _ e (both (values.added addition.Minus) v _ w _ h i)
   added addition.Or x y (as_set a) (as_set b) t u v w z h i e = as_members _ z _ e (both (values.added addition.Or) v _ w _ h i)
-  added o x y (as_ordinal a) (as_set b) t u v w z h i e = absurd (cc)
-  added o x y (as_ordinal a) (as_place p) t u v w z h i e = absurd (cc)
-  added o x y (as_ordinal a) (as_component p) t u v w z h i e = absurd (cc)
   added o x y (as_set a) (as_ordinal b) t u v w z h i e = absurd (cc)
-  added o x y (as_set a) (as_place p) t u v w z h i e = absurd (cc)
-  added o x y (as_set a) (as_component p) t u v w z h i e = absurd (cc)
-  added o x y (as_place p) g t u v w z h i e = absurd (cc)
-  added o x y (as_component p) g t u v w z h i e = absurd (cc)
+  added a x y b c t u v w z h i e = absurd (cc)
 
   multiplied_numbers : (o : Multiplication) (n t : Bool) (a b : code.Expression) (p q : code_base.CellBase) (v w : Value) (z : Formed) → v ≡ ordinal_value a p → w ≡ ordinal_value b q → multiplied_ordinals o n t a b ≡ Some z → ValueIs k ts z (values.multiplied o v w)
   multiplied_numbers multiplication.Times true t a b p q v w z h i e = as_integer _ z _ e (both (values.multiplied multiplication.Times) v _ w _ h i)
-  multiplied_numbers multiplication.Times false t a b p q v w z h i e = absurd (cc)
   multiplied_numbers multiplication.Div true t a b p q v w z h i e = as_integer _ z _ e (both (values.multiplied multiplication.Div) v _ w _ h i)
-  multiplied_numbers multiplication.Div false t a b p q v w z h i e = absurd (cc)
   multiplied_numbers multiplication.Mod true t a b p q v w z h i e = as_integer _ z _ e (both (values.multiplied multiplication.Mod) v _ w _ h i)
-  multiplied_numbers multiplication.Mod false t a b p q v w z h i e = absurd (cc)
   multiplied_numbers multiplication.And n true a b p q v w z h i e = as_truth _ z _ e (both (values.multiplied multiplication.And) v _ w _ h i)
-  multiplied_numbers multiplication.And n false a b p q v w z h i e = absurd (cc)
+  multiplied_numbers x y u a b p q v w z h i e = absurd (cc)
 
   pub multiplied : (o : Multiplication) (x y : Formed) (f g : Form) (t u : Ty) (v w : Value) (z : Formed) → FormIs k ts t f v → FormIs k ts u g w → multiplied_forms o x y f g ≡ Some z → ValueIs k ts z (values.multiplied o v w)
   multiplied o x y (as_ordinal a) (as_ordinal b) t u v w z h i e = multiplied_numbers o (is_integer x.ty && is_integer y.ty) (is_boolean x.ty && is_boolean y.ty) a b _ _ v w z h.2 i.2 e
-  multiplied multiplication.Times x y (as_set a) (as_set b) t u v w z h i e = absurd (cc)
-  multiplied multiplication.Div x y (as_set a) (as_set b) t u v w z h i e = absurd (cc)
-  multiplied multiplication.Mod x y (as_set a) (as_set b) t u v w z h i e = absurd (cc)
   multiplied multiplication.And x y (as_set a) (as_set b) t u v w z h i e = as_members _ z _ e (both (values.multiplied multiplication.And) v _ w _ h i)
-  multiplied o x y (as_ordinal a) (as_set b) t u v w z h i e = absurd (cc)
-  multiplied o x y (as_ordinal a) (as_place p) t u v w z h i e = absurd (cc)
-  multiplied o x y (as_ordinal a) (as_component p) t u v w z h i e = absurd (cc)
   multiplied o x y (as_set a) (as_ordinal b) t u v w z h i e = absurd (cc)
-  multiplied o x y (as_set a) (as_place p) t u v w z h i e = absurd (cc)
-  multiplied o x y (as_set a) (as_component p) t u v w z h i e = absurd (cc)
-  multiplied o x y (as_place p) g t u v w z h i e = absurd (cc)
-  multiplied o x y (as_component p) g t u v w z h i e = absurd (cc)
+  multiplied a x y b c t u v w z h i e = absurd (cc)
 
   -- ---- signs, `not`, standard functions and members of sets
 
@@ -134,30 +95,18 @@ module _ (k : Numbering) (ts : Compounds) where
   sign_kept None x z n f v h j i e = subst (λ y. ValueIs k ts y v) (same_inside x z e) i
   sign_kept (Some sign.Plus) x z true (as_ordinal a) v h j i e = as_integer a z v e (integer_value x.ty a v h (subst (λ g. FormIs k ts x.ty g v) j i))
   sign_kept (Some sign.Minus) x z true (as_ordinal a) v h j i e = as_integer _ z _ e (ap values.opposite (integer_value x.ty a v h (subst (λ g. FormIs k ts x.ty g v) j i)))
-  sign_kept (Some sign.Plus) x z false f v h j i e = absurd (cc)
-  sign_kept (Some sign.Minus) x z false f v h j i e = absurd (cc)
-  sign_kept (Some sign.Plus) x z true (as_set a) v h j i e = absurd (cc)
-  sign_kept (Some sign.Minus) x z true (as_set a) v h j i e = absurd (cc)
-  sign_kept (Some sign.Plus) x z true (as_place p) v h j i e = absurd (cc)
-  sign_kept (Some sign.Minus) x z true (as_place p) v h j i e = absurd (cc)
-  sign_kept (Some sign.Plus) x z true (as_component p) v h j i e = absurd (cc)
-  sign_kept (Some sign.Minus) x z true (as_component p) v h j i e = absurd (cc)
+  sign_kept y x z u w v h j i e = absurd (cc)
 
   pub sign_same : (o : Option Sign) (x z : Formed) (v : Value) → ValueIs k ts x v → signed_form o x ≡ Some z → ValueIs k ts z (signed o v)
   sign_same o x z v i e = sign_kept o x z (is_integer x.ty) x.form v refl refl i e
 
   turned : (b : Bool) (t : Ty) (f : Form) (z : Formed) (v : Value) → FormIs k ts t f v → not_form_of b f ≡ Some z → ValueIs k ts z (values.negated v)
   turned true t (as_ordinal a) z v i e = as_truth _ z _ e (ap values.negated i.2)
-  turned true t (as_set a) z v i e = absurd (cc)
-  turned true t (as_place p) z v i e = absurd (cc)
-  turned true t (as_component p) z v i e = absurd (cc)
-  turned false t f z v i e = absurd (cc)
+  turned x t y z v i e = absurd (cc)
 
   pub negated : (x z : Formed) (v : Value) → ValueIs k ts x v → not_form x ≡ Some z → ValueIs k ts z (values.negated v)
   negated x z v i e = turned (is_boolean x.ty) x.ty x.form z v i e
 
   pub member : (s q : code.SetExpression) (t : Ty) (f : Form) (v : Value) → FormIs k ts t f v → with_member_form s f ≡ Some q → code.with_element s (ordinal_of v) ≡ q
   member s q t (as_ordinal a) v i e = ap (λ x. code.with_element s (ordinal_of x)) i.2 ∙ same_inside _ q e
-  member s q t (as_set a) v i e = absurd (cc)
-  member s q t (as_place p) v i e = absurd (cc)
-  member s q t (as_component p) v i e = absurd (cc)
+  member s q t x v i e = absurd (cc)

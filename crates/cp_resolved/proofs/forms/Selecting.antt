@@ -5,10 +5,10 @@ use Rattle.cp_slots.specs.declared.place.PlaceOrigin.{PlaceOrigin}
 use Rattle.cp_layout.specs.declared.kinds.CellType.{CellType}
 use Rattle.cp_layout.specs.declared.kinds.CellType.TheVariants as types
 use Rattle.cp_layout.specs.Kinds as kinds
-use Rattle.cp_layout.specs.Kinds.{Compounds, Field, as_field, field_of, as_array, array_of, most, plus}
+use Rattle.cp_layout.specs.Kinds.{Compounds, as_field, field_of, as_array, array_of, most, plus}
 use Rattle.cp_slots.specs.Code as code
 use Rattle.cp_layout.specs.Values as values
-use Rattle.cp_layout.specs.Values.{Value, loaded, whole_value}
+use Rattle.cp_layout.specs.Values.{loaded}
 use Rattle.cp_layout.specs.LaidExpressions.{with_last, with_offset, field_found, element_found}
 use Rattle.cp_meaning.specs.Types as named
 use Rattle.cp_meaning.specs.Types.{Ty, FieldTypes, length_of_range}
@@ -71,10 +71,7 @@ module _ (k : Numbering) (ts : Compounds) where
   pub field_selected_same : (p : code.Place) (t : Ty) (w : CellType) (x : List ℕ) (d : Designated) → TypeIs k ts t w → Ends p t → IsFull t → field_of_form t p x ≡ Some d → DesignatedIs k ts d (field_found p (field_of ts w x))
   field_selected_same (code.place o n is) (named.record_with us) w x d h i f e = part_same o n is us w x (field_chosen us x) d refl h i f e
   field_selected_same p (named.ordinal r) w x d h i f e = absurd (cc)
-  field_selected_same p named.queue_type w x d h i f e = absurd (cc)
-  field_selected_same p (named.set_over r) w x d h i f e = absurd (cc)
-  field_selected_same p (named.array_over r t) w x d h i f e = absurd (cc)
-  field_selected_same p (named.component_of m) w x d h i f e = absurd (cc)
+  field_selected_same p y w x d h i f e = absurd (cc)
 
   -- ---- elements
 
@@ -103,7 +100,4 @@ module _ (k : Numbering) (ts : Compounds) where
       } in
       subst (λ y. DesignatedIs k ts y (element_found (code.place o n is) (array_of ts w) c)) (same_inside (a_variable (code.place o n (with_index is c r (cells_of t))) t) d e) z
   element_selected_same p (named.ordinal r) w c d h i f e = absurd (cc)
-  element_selected_same p named.queue_type w c d h i f e = absurd (cc)
-  element_selected_same p (named.set_over r) w c d h i f e = absurd (cc)
-  element_selected_same p (named.record_with us) w c d h i f e = absurd (cc)
-  element_selected_same p (named.component_of m) w c d h i f e = absurd (cc)
+  element_selected_same p x w c d h i f e = absurd (cc)

@@ -49,7 +49,7 @@ use Rattle.cp_meaning.specs.Expressions.{routine_called}
 use Rattle.cp_meaning.specs.Systems.{system_of}
 use Rattle.cp_resolved.specs.BodiesStand.{CallsFormed}
 use Rattle.cp_resolved.specs.Calls.{starts_calls, calls_laid, all_calls_laid, arms_calls_laid, arm_calls_laid}
-use Rattle.cp_resolved.specs.Compiled.{Designated, a_variable, some_components, a_component, begun_form, designator_form, expression_form}
+use Rattle.cp_resolved.specs.Compiled.{Designated, a_variable, a_component, begun_form, designator_form, expression_form}
 use Rattle.cp_resolved.specs.Formed.{HasOrdinal, IsPerformed}
 use Rattle.cp_resolved.specs.FormedParts.{CanGiveAll, CallFormed}
 use Rattle.cp_resolved.specs.FormedStatements.{TestFormed, OrdinalFormed, AssignFormed, PerformFormed, InvokeFormed, IsTarget, IsNotRoutine, ForFormed, StartFormed, StatementFormed, AllFormed, ArmsFormed, ArmFormed}
@@ -65,7 +65,6 @@ use Rattle.cp_resolved.proofs.forms.FormedTargets.{OwnRoutine, Taken, taken, Tar
 use Rattle.cp_resolved.proofs.forms.GivenArguments.{AreArguments, Fitted, fitted, passed, plain_arguments, var_arguments, all_given, call_given, called_passed, Passed}
 use Rattle.cp_resolved.proofs.forms.HandedOver.{fitting}
 use Rattle.cp_resolved.proofs.forms.MovedTypes.{type_moved}
-use Rattle.cp_resolved.proofs.forms.Typing.{first_true, second_true}
 use Rattle.cp_resolved.proofs.forms.TypingExpressions.{expression_typed, designator_typed}
 use Rattle.cp_resolved.proofs.forms.TypingNames.{IsComponentMeaning, Holds, written, NamedIs, HasDesignated, begun_typed}
 use Rattle.cp_resolved.proofs.forms.TypingOperations.{boolean_found}
@@ -73,6 +72,8 @@ use Rattle.cp_resolved.proofs.forms.TypingValues.{own_called}
 use Rattle.cp_resolved.proofs.forms.UsedExpressions.{calls_both, expression_used, arguments_used, selectors_used}
 use Rattle.cp_resolved.proofs.forms.UsedNames.{IsVariableMeaning, other_bare, EntryUsed, entry_used}
 use Rattle.cp_resolved.proofs.agreeing.WithoutFaults.{ok_same, Then, then_of, both_of, if_of}
+use Rattle.cp_resolved.proofs.frames.LeastCells.{right_true as second_true}
+use Rattle.cp_resolved.proofs.counts.FewCells.{left_of as first_true}
 
 module _ (tokens : Tokens) (s : Scopes) (h : Here) (w : Context) (agrees : ScopesAgree tokens s h) (heard : Heard s) (own : (n : ℕ) → w.routine ≡ Some n → OwnRoutine tokens s h w agrees n) where
   -- ---- expressions
@@ -127,9 +128,8 @@ module _ (tokens : Tokens) (s : Scopes) (h : Here) (w : Context) (agrees : Scope
 
   assigns : (at : ℕ) (t : Target) (o : Operand) (u r : Use) → statements.assigned at t o u ≡ Ok r → Assigns t o
   assigns at (target.Assignable v) o u r e = record { value_type = v; is = refl; fits = (if_of (agree v o.value_type) u r _ [] e).0 }
-  assigns at (target.Fixed None) o u r e = absurd (cc)
   assigns at (target.Fixed (Some v)) o u r e = absurd (either_refused Use (agree v o.value_type) _ _ r e)
-  assigns at target.Kind o u r e = absurd (cc)
+  assigns at x o u r e = absurd (cc)
 
   assign_formed : (at : ℕ) (i : Identifier) (ss : Selectors) (e : Expression) → AreSmallSelectors ss → IsSmallExpression e → (r : Use) → statements.assignment s w at (name_with i ss) e ≡ Ok r → AssignFormed h (name_with i ss) e × CallsFormed h (selectors_calls h.scope ss ++ expression_calls h.scope e)
   unfolding statements.assignment
@@ -155,14 +155,11 @@ module _ (tokens : Tokens) (s : Scopes) (h : Here) (w : Context) (agrees : Scope
 
   free_place : (b c : Bool) (o : Operand) → (if b && not c then calls.fault o.at C6 else []) ≡ [] → b ≡ true → c ≡ true
   free_place true true o k e = refl
-  free_place true false o k e = absurd (cc)
-  free_place false c o k e = absurd (cc)
+  free_place x y o k e = absurd (cc)
 
   assignable_no_function : (p : OperandUse) → is_assignable p ≡ true → is_function p ≡ false
-  assignable_no_function place.Assignable e = refl
-  assignable_no_function place.Value e = refl
-  assignable_no_function place.Fixed e = refl
   assignable_no_function place.Function e = absurd (cc)
+  assignable_no_function _ e = refl
 
   known_used : (as' : List check_parameter.Parameter) (es : Expressions) (os : List Operand) → AreSmallExpressions es → AreArguments tokens s h w agrees as' es os → all_variable_faults as' os ≡ [] → AreUsed h es × CallsFormed h (expressions_calls h.scope es)
   known_used [] no_expressions [] m x k = (tt, tt)
@@ -171,10 +168,7 @@ module _ (tokens : Tokens) (s : Scopes) (h : Here) (w : Context) (agrees : Scope
       let u = expression_used tokens s h w agrees x.0.alone e m.0 o (λ i. assignable_no_function o.place (free_place a.is_var (is_assignable o.place) o none (x.0.only i))) x.0.is in
       let v = known_used as' es os m.1 x.1 (none_right (variable_faults a o) (all_variable_faults as' os) k) in
       ((u.0, v.0), calls_both h (expression_calls h.scope e) (expressions_calls h.scope es) u.1 v.1)
-  known_used [] no_expressions (o ∷ os) m x k = absurd x
-  known_used [] (more_expressions e es) os m x k = absurd x
-  known_used (a ∷ as') no_expressions os m x k = absurd x
-  known_used (a ∷ as') (more_expressions e es) [] m x k = absurd x
+  known_used _ _ _ m x k = absurd x
 
   -- the arguments of a procedure, whatever is known of its parameters
   procedure_arguments : (as' : List check_parameter.Parameter) (v : Option ValueType) (k : ℕ) (es : Expressions) (os : List Operand) → arguments s w (statements.as_many as' k v) 0 es ≡ Ok os → length as' ≡ length os → AreArguments tokens s h w agrees as' es os
@@ -210,18 +204,7 @@ module _ (tokens : Tokens) (s : Scopes) (h : Here) (w : Context) (agrees : Scope
   one_used scopes.display_procedure (more_expressions e no_expressions) p u = (tt, record { range = p.range; cell = p.code; formed = p.formed; used = u.0 })
   one_used scopes.delay_procedure (more_expressions e no_expressions) p u = (tt, record { place = p.place; formed = p.formed; used = u.0 })
   one_used scopes.continue_procedure (more_expressions e no_expressions) p u = (tt, record { place = p.place; formed = p.formed; used = u.0 })
-  one_used scopes.display_procedure no_expressions p u = absurd p
-  one_used scopes.delay_procedure no_expressions p u = absurd p
-  one_used scopes.continue_procedure no_expressions p u = absurd p
-  one_used scopes.display_procedure (more_expressions e (more_expressions f es)) p u = absurd p
-  one_used scopes.delay_procedure (more_expressions e (more_expressions f es)) p u = absurd p
-  one_used scopes.continue_procedure (more_expressions e (more_expressions f es)) p u = absurd p
-  one_used scopes.succ_function es p u = absurd p
-  one_used scopes.pred_function es p u = absurd p
-  one_used scopes.chr_function es p u = absurd p
-  one_used scopes.ord_function es p u = absurd p
-  one_used scopes.abs_function es p u = absurd p
-  one_used scopes.empty_function es p u = absurd p
+  one_used _ _ p u = absurd p
 
   standard_invoked : (at : ℕ) (d : Designator) (es : Expressions) (p : Predeclared) (os : List Operand) (u r : Use) (m : Option scopes.Meaning) → StandardIs p m → ((IsVariableMeaning m → ⊥) → IsBare d) → AreSmallExpressions es → arguments s w [] 0 es ≡ Ok os → statements.performed s w at p os u ≡ Ok r → InvokeResult d es m
   standard_invoked at d es p os u r (Some (scopes.standard_meaning q)) k bare small a is =
@@ -229,31 +212,17 @@ module _ (tokens : Tokens) (s : Scopes) (h : Here) (w : Context) (agrees : Scope
       let f : IsPerformed h q es = performed_formed tokens s h w agrees heard at q es os u small a (ap faults (subst (λ (z : Predeclared). statements.performed s w at z os u ≡ Ok r) (sym k) is)) in
       let one = one_used q es f x.0 in
       ((bare (λ z. z), one.0, one.1), x.1)
-  standard_invoked at d es p os u r (Some (scopes.constant_meaning b z)) k bare small a is = absurd k
-  standard_invoked at d es p os u r (Some (scopes.type_meaning t)) k bare small a is = absurd k
-  standard_invoked at d es p os u r (Some (scopes.local_variable t)) k bare small a is = absurd k
-  standard_invoked at d es p os u r (Some (scopes.permanent_variable t)) k bare small a is = absurd k
-  standard_invoked at d es p os u r (Some (scopes.routine_meaning f)) k bare small a is = absurd k
-  standard_invoked at d es p os u r None k bare small a is = absurd k
+  standard_invoked at d es p os u r _ k bare small a is = absurd k
 
   routine_invoked : (d : Designator) (es : Expressions) (i : Name) (n : ℕ) (m : Option scopes.Meaning) → RoutineIs (written tokens s h) (heading_at n s) i h.scope m → ((IsVariableMeaning m → ⊥) → IsBare d) → ProcedureCalled d es → InvokeResult d es m
   routine_invoked d es i n (Some (scopes.routine_meaning r)) k bare c = ((bare (λ z. z), c.used, c.call), c.calls)
-  routine_invoked d es i n (Some (scopes.constant_meaning b z)) k bare c = absurd k
-  routine_invoked d es i n (Some (scopes.type_meaning t)) k bare c = absurd k
-  routine_invoked d es i n (Some (scopes.local_variable t)) k bare c = absurd k
-  routine_invoked d es i n (Some (scopes.permanent_variable t)) k bare c = absurd k
-  routine_invoked d es i n (Some (scopes.standard_meaning q)) k bare c = absurd k
-  routine_invoked d es i n None k bare c = absurd k
+  routine_invoked d es i n _ k bare c = absurd k
 
   entry_invoked : (i : Identifier) (ss : Selectors) (es : Expressions) (r : ℕ) (m : Option scopes.Meaning) → is_call_meant m (last_field ss) ≡ true → ((IsVariableMeaning m → ⊥) → IsBare (name_with i ss)) → SelectorsUsed h ss → EntryUsed tokens s h w agrees i ss r → ProcedureCalled (name_with i ss) es → InvokeResult (name_with i ss) es m
   entry_invoked i ss es r (Some (scopes.routine_meaning f)) call bare u e c = ((bare (λ z. z), c.used, c.call), c.calls)
   entry_invoked i ss es r (Some (scopes.permanent_variable t)) call bare u e c =
       (record { entry = e.found.entry; chosen = u; part = a_component e.found.part e.system; formed = e.found.formed; used = c.used; call = c.call }, c.calls)
-  entry_invoked i ss es r (Some (scopes.local_variable t)) call bare u e c = absurd (cc)
-  entry_invoked i ss es r (Some (scopes.constant_meaning b z)) call bare u e c = absurd (cc)
-  entry_invoked i ss es r (Some (scopes.standard_meaning q)) call bare u e c = absurd (cc)
-  entry_invoked i ss es r (Some (scopes.type_meaning t)) call bare u e c = absurd (cc)
-  entry_invoked i ss es r None call bare u e c = absurd (cc)
+  entry_invoked i ss es r x call bare u e c = absurd (cc)
 
   named_invoked : (at : ℕ) (i : Identifier) (ss : Selectors) (es : Expressions) (c : check_designated.DesignatedName) (n : Named) (os : List Operand) (r : Use) (o : Option Designated) → c.named ≡ n → NamedIs tokens s h i.name (find i.name h.scope) (last_field ss) n o → AreSmallSelectors ss → AreSmallExpressions es → SelectorsUsed h ss → designator s w (name_with i ss) ≡ Ok c → arguments s w (statements.parameters_of s n (statements.number_of es)) 0 es ≡ Ok os → statements.invoked_named s w at c os n ≡ Ok r → InvokeResult (name_with i ss) es (find i.name h.scope)
   named_invoked at i ss es c (name.Predeclared p) os r o same k small less u d a is =
@@ -264,11 +233,7 @@ module _ (tokens : Tokens) (s : Scopes) (h : Here) (w : Context) (agrees : Scope
   named_invoked at i ss es c (name.Entry n) os r o same k small less u d a is =
       entry_invoked i ss es n (find i.name h.scope) k.is (λ other. other_bare tokens s h w agrees i ss c other d) u (entry_used tokens s h w agrees i ss c n small k.is same d)
       (procedure_formed at c.name_at false n os c.uses r (name_with i ss) es less k.heading a is)
-  named_invoked at i ss es c (name.Variable v) os r o same k small less u d a is = absurd (cc)
-  named_invoked at i ss es c (name.Parameter v) os r o same k small less u d a is = absurd (cc)
-  named_invoked at i ss es c (name.Constant b) os r o same k small less u d a is = absurd (cc)
-  named_invoked at i ss es c name.Kind os r o same k small less u d a is = absurd (cc)
-  named_invoked at i ss es c name.Nothing os r o same k small less u d a is = absurd (cc)
+  named_invoked at i ss es c x os r o same k small less u d a is = absurd (cc)
 
   invoke_formed : (at : ℕ) (i : Identifier) (ss : Selectors) (es : Expressions) → AreSmallSelectors ss → AreSmallExpressions es → (r : Use) → statements.call s w at (name_with i ss) es ≡ Ok r → InvokeFormed h (find i.name h.scope) (name_with i ss) es × CallsFormed h (selectors_calls h.scope ss ++ expressions_calls h.scope es)
   unfolding statements.call statements.invoked
@@ -286,12 +251,7 @@ module _ (tokens : Tokens) (s : Scopes) (h : Here) (w : Context) (agrees : Scope
 
   component_not_routine : (k : ℕ) (m : Option scopes.Meaning) → IsComponentMeaning k m → IsNotRoutine m
   component_not_routine k (Some (scopes.permanent_variable t)) i = tt
-  component_not_routine k (Some (scopes.local_variable t)) i = absurd i
-  component_not_routine k (Some (scopes.constant_meaning b z)) i = absurd i
-  component_not_routine k (Some (scopes.type_meaning t)) i = absurd i
-  component_not_routine k (Some (scopes.routine_meaning r)) i = absurd i
-  component_not_routine k (Some (scopes.standard_meaning q)) i = absurd i
-  component_not_routine k None i = absurd i
+  component_not_routine k _ i = absurd i
 
   record Started (i : Identifier) (ss : Selectors) (es : Expressions) (o : Option Designated) : Type 0 where
     pub part : code.ComponentPlace
@@ -308,15 +268,13 @@ module _ (tokens : Tokens) (s : Scopes) (h : Here) (w : Context) (agrees : Scope
 
   -- no parameter of a system type is `var`
   none_var : (as' : List check_parameter.Parameter) (os : List Operand) → Each (λ (a : check_parameter.Parameter). a.is_var ≡ false) as' → all_variable_faults as' os ≡ []
-  none_var [] os e = refl
-  none_var (a ∷ as') [] e = refl
   none_var (a ∷ as') (o ∷ os) e = ap (λ (b : Bool). (if b && not (is_assignable o.place) then calls.fault o.at C6 else []) ++ all_variable_faults as' os) e.0 ∙ none_var as' os e.1
+  none_var _ _ e = refl
 
   value_parameters : (as' : List check_parameter.Parameter) (qs : List meant.Parameter) → AreParameters (written tokens s h) as' qs → Each IsValueParameter qs → Each (λ (a : check_parameter.Parameter). a.is_var ≡ false) as'
   value_parameters [] [] i e = tt
   value_parameters (a ∷ as') (q ∷ qs) i e = (i.0.passed ∙ e.0, value_parameters as' qs i.1 e.1)
-  value_parameters [] (q ∷ qs) i e = absurd i
-  value_parameters (a ∷ as') [] i e = absurd i
+  value_parameters _ _ i e = absurd i
 
   component_started : (at : ℕ) (i : Identifier) (ss : Selectors) (es : Expressions) (x : Option Name) (k : SystemKind) (n : ℕ) (o : Option Designated) (os : List Operand) (u r : Use) → x ≡ last_field ss → Holds (written tokens s h) (find i.name h.scope) x (types.Component k n) o → AreSmallExpressions es → arguments s w [] 0 es ≡ Ok os → calls.unless (calls.fit_faults at (heading_at n s).parameters os) u ≡ Ok r → Started i ss es o
   component_started at i ss es x k n (Some (a_component c j)) os u r same e small a is =
@@ -337,32 +295,21 @@ module _ (tokens : Tokens) (s : Scopes) (h : Here) (w : Context) (agrees : Scope
         used = y.0;
         calls = y.1;
       }
-  component_started at i ss es x k n (Some (some_components first q j)) os u r same e small a is = absurd (let bad : types.Component k n ≡ types.Array e.0.token = e.0.is in cc)
   component_started at i ss es x k n (Some (a_variable p (named.component_of j))) os u r same e small a is = absurd (let bad : false ≡ true = e.1 in cc)
   component_started at i ss es x k n (Some (a_variable p (named.ordinal q))) os u r same e small a is = absurd (let bad : types.Component k n ≡ types.Ordinal e.0.range = e.0.is in cc)
   component_started at i ss es x k n (Some (a_variable p named.queue_type)) os u r same e small a is = absurd (let bad : types.Component k n ≡ types.Queue = e.0 in cc)
   component_started at i ss es x k n (Some (a_variable p (named.set_over q))) os u r same e small a is = absurd (let bad : types.Component k n ≡ types.Set (Some e.0.range) = e.0.is in cc)
-  component_started at i ss es x k n (Some (a_variable p (named.array_over q y))) os u r same e small a is = absurd (let bad : types.Component k n ≡ types.Array e.0.token = e.0.is in cc)
   component_started at i ss es x k n (Some (a_variable p (named.record_with ts))) os u r same e small a is = absurd (let bad : types.Component k n ≡ types.Record e.0.token = e.0.is in cc)
   component_started at i ss es x k n None os u r same e small a is = absurd e
+  component_started at i ss es x k n y os u r same e small a is = absurd (let bad : types.Component k n ≡ types.Array e.0.token = e.0.is in cc)
 
   variable_started : (at : ℕ) (i : Identifier) (ss : Selectors) (es : Expressions) (d : check_designated.DesignatedName) (v : ValueType) (o : Option Designated) (os : List Operand) (r : Use) → Holds (written tokens s h) (find i.name h.scope) (last_field ss) v o → AreSmallExpressions es → arguments s w [] 0 es ≡ Ok os → statements.started_named s at d os (name.Variable v) ≡ Ok r → Started i ss es o
   variable_started at i ss es d (types.Component k n) o os r e small a is = component_started at i ss es (last_field ss) k n o os _ r refl e small a is
-  variable_started at i ss es d (types.Ordinal q) o os r e small a is = absurd (cc)
-  variable_started at i ss es d types.Queue o os r e small a is = absurd (cc)
-  variable_started at i ss es d (types.Set q) o os r e small a is = absurd (cc)
-  variable_started at i ss es d (types.Array q) o os r e small a is = absurd (cc)
-  variable_started at i ss es d (types.Record q) o os r e small a is = absurd (cc)
+  variable_started at i ss es d x o os r e small a is = absurd (cc)
 
   named_started : (at : ℕ) (i : Identifier) (ss : Selectors) (es : Expressions) (d : check_designated.DesignatedName) (n : Named) (o : Option Designated) (os : List Operand) (r : Use) → NamedIs tokens s h i.name (find i.name h.scope) (last_field ss) n o → AreSmallExpressions es → arguments s w [] 0 es ≡ Ok os → statements.started_named s at d os n ≡ Ok r → Started i ss es o
   named_started at i ss es d (name.Variable v) o os r e small a is = variable_started at i ss es d v o os r e small a is
-  named_started at i ss es d (name.Parameter v) o os r e small a is = absurd (cc)
-  named_started at i ss es d (name.Constant b) o os r e small a is = absurd (cc)
-  named_started at i ss es d (name.Routine n) o os r e small a is = absurd (cc)
-  named_started at i ss es d (name.Entry n) o os r e small a is = absurd (cc)
-  named_started at i ss es d (name.Predeclared p) o os r e small a is = absurd (cc)
-  named_started at i ss es d name.Kind o os r e small a is = absurd (cc)
-  named_started at i ss es d name.Nothing o os r e small a is = absurd (cc)
+  named_started at i ss es d x o os r e small a is = absurd (cc)
 
   start_formed_of : (i : Identifier) (ss : Selectors) (es : Expressions) → AreSmallSelectors ss → AreSmallExpressions es → (r : Use) → statements.start s w (record { target = name_with i ss; arguments = es }) ≡ Ok r → StartFormed h (record { target = name_with i ss; arguments = es }) × CallsFormed h (selectors_calls h.scope ss ++ expressions_calls h.scope es)
   unfolding statements.start statements.started
@@ -421,10 +368,7 @@ module _ (tokens : Tokens) (s : Scopes) (h : Here) (w : Context) (agrees : Scope
       let f = begun_first h i.name (find i.name h.scope) p q e in
       record { origin = f.origin; range = q; variable = e ∙ ap (λ z. Some (a_variable z (named.ordinal q))) f.is; named = n }
   counter_of i v named.queue_type p e k o n = absurd (let bad : false ≡ true = sym (ap is_ordinal k) ∙ o in cc)
-  counter_of i v (named.set_over q) p e k o n = absurd (let bad : false ≡ true = sym (ap is_ordinal k.is) ∙ o in cc)
-  counter_of i v (named.array_over q t) p e k o n = absurd (let bad : false ≡ true = sym (ap is_ordinal k.is) ∙ o in cc)
-  counter_of i v (named.record_with ts) p e k o n = absurd (let bad : false ≡ true = sym (ap is_ordinal k.is) ∙ o in cc)
-  counter_of i v (named.component_of j) p e k o n = absurd (let bad : false ≡ true = sym (ap is_ordinal k.is) ∙ o in cc)
+  counter_of i v x p e k o n = absurd (let bad : false ≡ true = sym (ap is_ordinal k.is) ∙ o in cc)
 
   agreeing_ordinal : (v u : ValueType) → is_ordinal v ≡ true → agree v u ≡ true → is_ordinal u ≡ true
   agreeing_ordinal v u o a =

@@ -1,5 +1,5 @@
 -- What the type of an operand says of its form.
-use Rattle.std.proofs.Common.{◌≡◌, Bool, true, false, Option, Some, None, refl, sym, ap, subst}
+use Rattle.std.proofs.Common.{◌≡◌, Bool, true, Option, Some, None, refl, sym, ap, subst}
 use Rattle.std.specs.Prelude.{◌&&◌, ◌-◌, pos, length}
 use Rattle.cp_scope.specs.declared.types.Base as check_base
 use Rattle.cp_scope.specs.declared.types.Base.TheVariants as base
@@ -8,7 +8,7 @@ use Rattle.cp_scope.specs.declared.types.ValueType.TheVariants as types
 use Rattle.cp_scope.specs.Types.{same_base, values_of, whole}
 use Rattle.cp_slots.specs.Code as code
 use Rattle.cp_meaning.specs.Types as named
-use Rattle.cp_meaning.specs.Types.{Ty, all_integers, all_booleans, all_characters}
+use Rattle.cp_meaning.specs.Types.{Ty, all_characters}
 use Rattle.cp_resolved.specs.Compiled.{Form, as_ordinal, as_set, as_place, Formed, then_form, integer_form, truth_form, set_form, is_integer_base, is_boolean_base}
 use Rattle.cp_resolved.specs.Typed.{Tokens, Written, BaseIs, RangeIs, FormIs, Expressed}
 
@@ -115,13 +115,4 @@ then_two K go o p x y h i k = then_one K (λ a. then_form p (λ b. go a b)) o x 
 
 pub both_true : (K : Bool → Type 0) (m n : Bool) → m ≡ true → n ≡ true → K true → K (m && n)
 both_true K true true h i k = k
-both_true K false n h i k = absurd (cc)
-both_true K true false h i k = absurd (cc)
-
-pub first_true : (m n : Bool) → (m && n) ≡ true → m ≡ true
-first_true true n h = refl
-first_true false n h = absurd (cc)
-
-pub second_true : (m n : Bool) → (m && n) ≡ true → n ≡ true
-second_true true n h = h
-second_true false n h = absurd (cc)
+both_true K x y h i k = absurd (cc)

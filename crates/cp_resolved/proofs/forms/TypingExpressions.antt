@@ -18,7 +18,7 @@ use Rattle.cp_check.specs.declared.operand.Context.{Context}
 use Rattle.cp_check.specs.declared.operand.Operand.{Operand}
 use Rattle.cp_check.specs.declared.operand.DesignatedName as check_designated
 use Rattle.cp_check.specs.Names as names
-use Rattle.cp_check.specs.Expressions.{expression, sum_value, more_terms, term_value, more_factors, factor, designator, selectors, selector, arguments, constructed, set_like, are_elements, has_none, has_no_terms, has_no_factors, is_unsigned}
+use Rattle.cp_check.specs.Expressions.{expression, sum_value, more_terms, term_value, more_factors, factor, designator, selectors, arguments, constructed, set_like, are_elements}
 use Rattle.cp_check.specs.Expressions as expressions
 use Rattle.cp_slots.specs.Code as code
 use Rattle.cp_meaning.specs.Names.{Name}
@@ -31,10 +31,12 @@ use Rattle.cp_meaning.specs.Lifting.{last_field}
 use Rattle.cp_resolved.specs.Layouts.{Here}
 use Rattle.cp_resolved.specs.Compiled.{Formed, Designated as FormDesignated, then_form, set_form, signed_form, added_forms, multiplied_forms, with_member_form, begun_form, expression_form, sum_form, terms_form, term_form, factors_form, factor_form, members_form, first_form, designator_form, selected_form, chosen_form}
 use Rattle.cp_resolved.specs.Typed.{Tokens, Written, ScopesAgree, Expressed, HasForm, IsSmallExpression, IsSmallSum, AreSmallTerms, IsSmallTerm, AreSmallFactors, IsSmallFactor, AreSmallExpressions, AreSmallSelectors}
-use Rattle.cp_resolved.proofs.forms.Typing.{OrdinalForm, ordinal_found, a_set, first_true, second_true}
+use Rattle.cp_resolved.proofs.forms.Typing.{OrdinalForm, ordinal_found, a_set}
 use Rattle.cp_resolved.proofs.forms.TypingOperations.{HasPartForm, agreed_form, first_form as one_form, sign_form, negated_form, group_form, added_form, multiplied_form, related_form}
 use Rattle.cp_resolved.proofs.forms.TypingNames.{written, HasDesignated, begun_typed, field_selected, index_selected, known_selected, last_or, last_same}
 use Rattle.cp_resolved.proofs.forms.TypingValues.{AreArguments, name_typed, constant_typed}
+use Rattle.cp_resolved.proofs.frames.LeastCells.{right_true as second_true}
+use Rattle.cp_resolved.proofs.counts.FewCells.{left_of as first_true}
 
 -- ---- a chain of forms, from either end
 
@@ -43,9 +45,8 @@ chain None f g = refl
 chain (Some a) f g = refl
 
 two : {A B C D : Type 0} (o : Option A) (p : Option B) (f : A → B → Option C) (g : C → Option D) → then_form (then_form o (λ a. then_form p (λ b. f a b))) g ≡ then_form o (λ a. then_form p (λ b. then_form (f a b) g))
-two None p f g = refl
 two (Some a) None f g = refl
-two (Some a) (Some b) f g = refl
+two _ _ f g = refl
 
 only : {A : Type 0} (o : Option A) → o ≡ then_form o (λ a. Some a)
 only None = refl
@@ -73,11 +74,7 @@ module _ (tokens : Tokens) (s : Scopes) (h : Here) (w : Context) (agrees : Scope
 
   element_form : (v : ValueType) (b : check_base.Base) (f : Option Formed) → Expressed W v f → is_of b v ≡ true → (r : Range) × OrdinalForm tokens r f
   element_form (types.Ordinal r) b f e i = (r, ordinal_found W r f e)
-  element_form types.Queue b f e i = absurd (cc)
-  element_form (types.Set r) b f e i = absurd (cc)
-  element_form (types.Array n) b f e i = absurd (cc)
-  element_form (types.Record n) b f e i = absurd (cc)
-  element_form (types.Component k n) b f e i = absurd (cc)
+  element_form x b f e i = absurd (cc)
 
   more_members : (o : Operand) (os : List Operand) (f : Option Formed) (go : code.SetExpression → Option code.SetExpression) → Expressed W o.value_type f → Members os go → Members (o ∷ os) (λ c. then_form f (λ x. then_form (with_member_form c x.form) go))
   more_members o os f go e k b i c =
@@ -87,15 +84,13 @@ module _ (tokens : Tokens) (s : Scopes) (h : Here) (w : Context) (agrees : Scope
 
   members_before : (j : Judged Operand) (k : Judged (List Operand)) (f : Option Formed) (go : code.SetExpression → Option code.SetExpression) → HasForm W j f → AllMembers k go → AllMembers (both j k >>= expressions.before) (λ c. then_form f (λ x. then_form (with_member_form c x.form) go))
   members_before (Ok o) (Ok os) f go e k = more_members o os f go e k
-  members_before (Ok o) (Err fs) f go e k = tt
   members_before (Err fs) (Ok os) f go e k = tt
-  members_before (Err fs) (Err gs) f go e k = tt
+  members_before _ _ f go e k = tt
 
   arguments_before : (j : Judged Operand) (k : Judged (List Operand)) (f : Option Formed) → HasForm W j f → AreArguments tokens s h w (both j k >>= expressions.before) f
   arguments_before (Ok o) (Ok os) f e = e
-  arguments_before (Ok o) (Err fs) f e = tt
   arguments_before (Err fs) (Ok os) f e = tt
-  arguments_before (Err fs) (Err gs) f e = tt
+  arguments_before _ _ f e = tt
 
   set_built : (r : Range) (d : Option code.SetExpression) (c : code.SetExpression) → d ≡ Some c → Expressed W (types.Set (Some (whole r.base))) (then_form d set_form)
   set_built r d c e = subst (λ (p : Option code.SetExpression). Expressed W (types.Set (Some (whole r.base))) (then_form p set_form)) (sym e) (a_set W (Some (whole r.base)) c)
@@ -106,11 +101,7 @@ module _ (tokens : Tokens) (s : Scopes) (h : Here) (w : Context) (agrees : Scope
       choose : (b : Bool) → (b ≡ true → Expressed W (types.Set (Some (whole r.base))) (then_form (go code.empty_set) set_form)) → HasForm W (if b then Ok (value at (types.Set (Some (whole r.base))) (total_use no_use os)) else broken at C5) (then_form (go code.empty_set) set_form)
       choose true e = e refl
       choose false e = tt
-  like_form at os types.Queue go k = tt
-  like_form at os (types.Set r) go k = tt
-  like_form at os (types.Array n) go k = tt
-  like_form at os (types.Record n) go k = tt
-  like_form at os (types.Component j n) go k = tt
+  like_form at os _ go k = tt
 
   constructed_form : (at : ℕ) (j : Judged (List Operand)) (go : code.SetExpression → Option code.SetExpression) → AllMembers j go → HasForm W (j >>= constructed at) (then_form (go code.empty_set) set_form)
   constructed_form at (Ok []) go k = (let d = k base.Integer refl code.empty_set in subst (λ (p : Option code.SetExpression). Expressed W (types.Set None) (then_form p set_form)) (sym d.1) (a_set W None d.0))

@@ -12,7 +12,7 @@ use Rattle.cp_scope.specs.declared.types.Meaning.TheVariants as meaning
 use Rattle.cp_scope.specs.declared.shape.ArrayShape.{ArrayShape}
 use Rattle.cp_scope.specs.Types.{agree}
 use Rattle.cp_scope.specs.Judged.{Judged, both, ◌>>=◌}
-use Rattle.cp_scope.specs.Scopes.{Names, Scope, record_shape, Shapes, shape_in, as_array, as_field, Scopes, look, look_in, field_at, array_at, member_at, heading_at}
+use Rattle.cp_scope.specs.Scopes.{Names, Scope, as_field, Scopes, look, look_in, field_at, array_at, member_at, heading_at}
 use Rattle.cp_scope.specs.Scopes as scope
 use Rattle.cp_check.specs.declared.operand.Operand.{Operand}
 use Rattle.cp_check.specs.declared.operand.DesignatedName as check_designated
@@ -24,7 +24,7 @@ use Rattle.cp_slots.specs.Code as code
 use Rattle.cp_tree.specs.Syntax.{Selectors, no_selectors, more_selectors, field, index}
 use Rattle.cp_meaning.specs.Names.{Name}
 use Rattle.cp_meaning.specs.Types as named
-use Rattle.cp_meaning.specs.Types.{Ty, FieldTypes, is_within}
+use Rattle.cp_meaning.specs.Types.{Ty, FieldTypes}
 use Rattle.cp_meaning.specs.Scopes as scopes
 use Rattle.cp_meaning.specs.Scopes.{find}
 use Rattle.cp_meaning.specs.Lifting.{last_field, is_call_meant}
@@ -34,7 +34,9 @@ use Rattle.cp_resolved.specs.Encoded.{Chosen, field_chosen, further_chosen}
 use Rattle.cp_resolved.specs.Compiled.{as_ordinal, Formed, Designated, a_variable, some_components, a_component, then_form, component_begun, permanent_begun, begun_form, part_of_form, with_field_form, element_of_form, with_index_form}
 use Rattle.cp_meaning.specs.Systems.{system_of}
 use Rattle.cp_resolved.specs.Typed.{Tokens, Written, ComponentIs, TypeIs, FieldsAre, is_plain, are_plain, MayStand, HeadingIs, VariableIs, ConstantIs, RoutineIs, StandardIs, MeaningIs, ScopesAgree, Expressed, HasForm}
-use Rattle.cp_resolved.proofs.forms.Typing.{formed, OrdinalForm, ordinal_found, first_true, second_true}
+use Rattle.cp_resolved.proofs.forms.Typing.{formed, OrdinalForm, ordinal_found}
+use Rattle.cp_resolved.proofs.frames.LeastCells.{right_true as second_true}
+use Rattle.cp_resolved.proofs.counts.FewCells.{left_of as first_true}
 
 -- ---- fields
 
@@ -127,26 +129,14 @@ module _ (tokens : Tokens) (s : Scopes) (h : Here) where
   parameter_or_part x k v m false c i = (c, i, refl)
 
   permanent_holds : (x : Name) (v : ValueType) (t : Ty) → TypeIs written t v → MayStand t → Holds written (Some (scopes.permanent_variable t)) None v (Some (permanent_begun h x t))
-  permanent_holds x v (named.ordinal q) i p = (i, p, refl)
-  permanent_holds x v named.queue_type i p = (i, p, refl)
-  permanent_holds x v (named.set_over q) i p = (i, p, refl)
-  permanent_holds x v (named.record_with ts) i p = (i, p, refl)
   permanent_holds x v (named.component_of k) i p = parameter_or_part x k v (Some (scopes.permanent_variable (named.component_of k))) (is_parameter x (system_of h.program h.system).parameters) i refl
   permanent_holds x v (named.array_over q (named.component_of k)) i p = (i, refl, refl)
-  permanent_holds x v (named.array_over q (named.ordinal r)) i p = (i, p, refl)
-  permanent_holds x v (named.array_over q named.queue_type) i p = (i, p, refl)
-  permanent_holds x v (named.array_over q (named.set_over r)) i p = (i, p, refl)
-  permanent_holds x v (named.array_over q (named.record_with ts)) i p = (i, p, refl)
-  permanent_holds x v (named.array_over q (named.array_over r t)) i p = (i, p, refl)
+  permanent_holds x v _ i p = (i, p, refl)
 
   variable_holds : (x : Name) (v : ValueType) (o : Option scopes.Meaning) → VariableIs written v o → Holds written o None v (begun_form h x o)
   variable_holds x v (Some (scopes.local_variable t)) i = (i.0, i.1, tt)
   variable_holds x v (Some (scopes.permanent_variable t)) i = permanent_holds x v t i.0 i.1
-  variable_holds x v (Some (scopes.constant_meaning b z)) i = absurd i
-  variable_holds x v (Some (scopes.type_meaning t)) i = absurd i
-  variable_holds x v (Some (scopes.routine_meaning r)) i = absurd i
-  variable_holds x v (Some (scopes.standard_meaning f)) i = absurd i
-  variable_holds x v None i = absurd i
+  variable_holds x v _ i = absurd i
 
   meaning_holds : (x : Name) (m : Meaning) (o : Option scopes.Meaning) → MeaningIs written s x h.scope m o → NamedIs x o None (names.named_of m) (begun_form h x o)
   meaning_holds x (meaning.Constant b z) o i = (z, i)
@@ -154,13 +144,11 @@ module _ (tokens : Tokens) (s : Scopes) (h : Here) where
   meaning_holds x (meaning.Variable v) o i = variable_holds x v o i
   meaning_holds x (meaning.Parameter v) o i = variable_holds x v o i
   meaning_holds x (meaning.Reference v) o i = variable_holds x v o i
-  meaning_holds x (meaning.Routine n) o i = i
-  meaning_holds x (meaning.Predeclared q) o i = i
+  meaning_holds x _ o i = i
 
   found_holds : (at : ℕ) (x : Name) (o : Option (Option Meaning)) → ((m : Meaning) → o ≡ Some (Some m) → MeaningIs written s x h.scope m (find x h.scope)) → HasDesignated x (find x h.scope) None (names.found at o >>= names.unselected at) (begun_form h x (find x h.scope))
-  found_holds at x None k = tt
-  found_holds at x (Some None) k = tt
   found_holds at x (Some (Some m)) k = meaning_holds x m (find x h.scope) (k m refl)
+  found_holds at x _ k = tt
 
   pub begun_typed : (agree : ScopesAgree tokens s h) (i : Identifier) → HasDesignated i.name (find i.name h.scope) None (names.begun s i) (begun_form h i.name (find i.name h.scope))
   unfolding names.begun names.visible
@@ -202,24 +190,11 @@ module _ (tokens : Tokens) (s : Scopes) (h : Here) where
   entry_of : (agree : ScopesAgree tokens s h) (k r : ℕ) (t : Ty) (i y : Name) → OfSystem k t → member_at (tokens.systems k) y s ≡ Some (Some (meaning.Routine r)) → IsCalled r i (Some (scopes.permanent_variable t)) (Some y)
   entry_of agree k r (named.component_of n) i y o e = record { is = refl; heading = agree.entries n r y (subst (λ j. member_at (tokens.systems j) y s ≡ Some (Some (meaning.Routine r))) (sym o) e) }
   entry_of agree k r (named.array_over q (named.component_of n)) i y o e = record { is = refl; heading = agree.entries n r y (subst (λ j. member_at (tokens.systems j) y s ≡ Some (Some (meaning.Routine r))) (sym o) e) }
-  entry_of agree k r (named.array_over q (named.ordinal z)) i y o e = absurd o
-  entry_of agree k r (named.array_over q named.queue_type) i y o e = absurd o
-  entry_of agree k r (named.array_over q (named.set_over z)) i y o e = absurd o
-  entry_of agree k r (named.array_over q (named.array_over z t)) i y o e = absurd o
-  entry_of agree k r (named.array_over q (named.record_with ts)) i y o e = absurd o
-  entry_of agree k r (named.ordinal q) i y o e = absurd o
-  entry_of agree k r named.queue_type i y o e = absurd o
-  entry_of agree k r (named.set_over q) i y o e = absurd o
-  entry_of agree k r (named.record_with ts) i y o e = absurd o
+  entry_of agree k r _ i y o e = absurd o
 
   entry_called : (agree : ScopesAgree tokens s h) (k r : ℕ) (m : Option scopes.Meaning) (i y : Name) → IsComponentMeaning k m → member_at (tokens.systems k) y s ≡ Some (Some (meaning.Routine r)) → IsCalled r i m (Some y)
   entry_called agree k r (Some (scopes.permanent_variable t)) i y o e = entry_of agree k r t i y o e
-  entry_called agree k r (Some (scopes.local_variable t)) i y o e = absurd o
-  entry_called agree k r (Some (scopes.constant_meaning b z)) i y o e = absurd o
-  entry_called agree k r (Some (scopes.type_meaning t)) i y o e = absurd o
-  entry_called agree k r (Some (scopes.routine_meaning q)) i y o e = absurd o
-  entry_called agree k r (Some (scopes.standard_meaning f)) i y o e = absurd o
-  entry_called agree k r None i y o e = absurd o
+  entry_called agree k r _ i y o e = absurd o
 
   component_of_plain : (j : SystemKind) (token : ℕ) (t : Ty) → TypeIs written t (types.Component j token) → is_plain t ≡ true → ⊥
   component_of_plain j token (named.component_of n) i p = absurd (cc)
@@ -278,25 +253,11 @@ module _ (tokens : Tokens) (s : Scopes) (h : Here) where
   module _ (agrees : ScopesAgree tokens s h) (x0 : Name) (m : Option scopes.Meaning) where
     with_field_typed : (at a : ℕ) (u : Use) (n : Named) (y : Name) (O : Option Designated) (q : Option (Option Meaning)) → ((v : ValueType) → q ≡ Some (Some (meaning.Variable v)) → NamedIs x0 m (Some y) (names.part_of n v) O) → HasDesignated x0 m (Some y) (names.with_field at (names.designated a u n) q) O
     with_field_typed at a u n y O (Some (Some (meaning.Variable v))) k = k v refl
-    with_field_typed at a u n y O None k = tt
-    with_field_typed at a u n y O (Some None) k = tt
-    with_field_typed at a u n y O (Some (Some (meaning.Constant b z))) k = tt
-    with_field_typed at a u n y O (Some (Some (meaning.Kind v))) k = tt
-    with_field_typed at a u n y O (Some (Some (meaning.Parameter v))) k = tt
-    with_field_typed at a u n y O (Some (Some (meaning.Reference v))) k = tt
-    with_field_typed at a u n y O (Some (Some (meaning.Routine r))) k = tt
-    with_field_typed at a u n y O (Some (Some (meaning.Predeclared r))) k = tt
+    with_field_typed at a u n y O _ k = tt
 
     with_entry_typed : (at a : ℕ) (u : Use) (n : Named) (y : Name) (O : Option Designated) (q : Option (Option Meaning)) → ((r : ℕ) → q ≡ Some (Some (meaning.Routine r)) → IsCalled r x0 m (Some y)) → HasDesignated x0 m (Some y) (names.with_entry at (names.designated a u n) q) O
     with_entry_typed at a u n y O (Some (Some (meaning.Routine r))) k = k r refl
-    with_entry_typed at a u n y O None k = tt
-    with_entry_typed at a u n y O (Some None) k = tt
-    with_entry_typed at a u n y O (Some (Some (meaning.Constant b z))) k = tt
-    with_entry_typed at a u n y O (Some (Some (meaning.Kind v))) k = tt
-    with_entry_typed at a u n y O (Some (Some (meaning.Parameter v))) k = tt
-    with_entry_typed at a u n y O (Some (Some (meaning.Reference v))) k = tt
-    with_entry_typed at a u n y O (Some (Some (meaning.Variable v))) k = tt
-    with_entry_typed at a u n y O (Some (Some (meaning.Predeclared r))) k = tt
+    with_entry_typed at a u n y O _ k = tt
 
     -- n is a variable or a parameter of the type
     selected_value : (x : Option Name) (i : Identifier) (a : ℕ) (u : Use) (n : Named) (o : Option Designated) (v : ValueType) → Holds written m x v o →
@@ -306,20 +267,12 @@ module _ (tokens : Tokens) (s : Scopes) (h : Here) where
         with_field_typed i.at a u n i.name (then_form o (λ c. with_field_form c i.name)) (field_at token i.name s) (λ v e. k v (field_held token v m x i.name o d e))
     selected_value x i a u n o (types.Component j token) d k =
         with_entry_typed i.at a u n i.name (then_form o (λ c. with_field_form c i.name)) (member_at token i.name s) (λ r e. entry_held agrees j token r m x x0 i.name o d e)
-    selected_value x i a u n o (types.Ordinal r) d k = tt
-    selected_value x i a u n o types.Queue d k = tt
-    selected_value x i a u n o (types.Set r) d k = tt
-    selected_value x i a u n o (types.Array token) d k = tt
+    selected_value x i a u n o _ d k = tt
 
     field_step : (x : Option Name) (i : Identifier) (a : ℕ) (u : Use) (n : Named) (o : Option Designated) → NamedIs x0 m x n o → HasDesignated x0 m (Some i.name) (names.selected s i (names.designated a u n)) (then_form o (λ c. with_field_form c i.name))
     field_step x i a u (name.Variable v) o d = selected_value x i a u (name.Variable v) o v d (λ y k. k)
     field_step x i a u (name.Parameter v) o d = selected_value x i a u (name.Parameter v) o v d (λ y k. k)
-    field_step x i a u name.Nothing o d = tt
-    field_step x i a u (name.Constant b) o d = tt
-    field_step x i a u name.Kind o d = tt
-    field_step x i a u (name.Routine r) o d = tt
-    field_step x i a u (name.Entry r) o d = tt
-    field_step x i a u (name.Predeclared q) o d = tt
+    field_step x i a u _ o d = tt
 
     pub field_selected : (x : Option Name) (i : Identifier) (j : Judged check_designated.DesignatedName) (o : Option Designated) → HasDesignated x0 m x j o → HasDesignated x0 m (Some i.name) (j >>= names.selected s i) (then_form o (λ c. with_field_form c i.name))
     field_selected x i (Ok d) o e = field_step x i d.name_at d.uses d.named o e
@@ -329,11 +282,7 @@ module _ (tokens : Tokens) (s : Scopes) (h : Here) where
 
     pub index_ordinal : (r : Range) (v : ValueType) (f : Option Formed) → agree (types.Ordinal r) v ≡ true → Expressed written v f → (q : named.Range) × (c : code.Expression) × (f ≡ Some (formed (named.ordinal q) (as_ordinal c)))
     index_ordinal r (types.Ordinal y) f e d = (let g : OrdinalForm tokens y f = ordinal_found written y f d in (g.range, g.code, g.is))
-    index_ordinal r types.Queue f e d = absurd (cc)
-    index_ordinal r (types.Set y) f e d = absurd (cc)
-    index_ordinal r (types.Array y) f e d = absurd (cc)
-    index_ordinal r (types.Record y) f e d = absurd (cc)
-    index_ordinal r (types.Component j y) f e d = absurd (cc)
+    index_ordinal r x f e d = absurd (cc)
 
     module _ (a : ℕ) (u : Use) (n : Named) (o : Option Designated) (v : Operand) (f : Option Formed) (d : Expressed written v.value_type f) where
       abbrev Chosen' : Option Designated
@@ -352,37 +301,21 @@ module _ (tokens : Tokens) (s : Scopes) (h : Here) where
           element_typed (array_at token s) (λ z e g.
           let at = index_ordinal z.index v.value_type f g d in
           k z.element (subst (λ (q : Option Formed). Holds written m None z.element (then_form o (λ c. then_form q (with_index_form h c)))) (sym at.2) (element_held token z m x o at.0 at.1 i e)))
-      indexed_value x (types.Ordinal y) i k = tt
-      indexed_value x types.Queue i k = tt
-      indexed_value x (types.Set y) i k = tt
-      indexed_value x (types.Record y) i k = tt
-      indexed_value x (types.Component j y) i k = tt
+      indexed_value x _ i k = tt
 
     index_step : (x : Option Name) (a : ℕ) (u : Use) (n : Named) (o : Option Designated) (v : Operand) (f : Option Formed) → NamedIs x0 m x n o → Expressed written v.value_type f → NamedIs x0 m None (names.indexed_of s (names.designated a u n) v (names.type_of n)) (then_form o (λ c. then_form f (with_index_form h c)))
     index_step x a u (name.Variable y) o v f i d = indexed_value a u (name.Variable y) o v f d x y i (λ z k. k)
     index_step x a u (name.Parameter y) o v f i d = indexed_value a u (name.Parameter y) o v f d x y i (λ z k. k)
-    index_step x a u name.Nothing o v f i d = tt
-    index_step x a u (name.Constant b) o v f i d = tt
-    index_step x a u name.Kind o v f i d = tt
-    index_step x a u (name.Routine r) o v f i d = tt
-    index_step x a u (name.Entry r) o v f i d = tt
-    index_step x a u (name.Predeclared q) o v f i d = tt
+    index_step x a u _ o v f i d = tt
 
     pub index_selected : (x : Option Name) (j : Judged check_designated.DesignatedName) (k : Judged Operand) (o : Option Designated) (f : Option Formed) → HasDesignated x0 m x j o → HasForm written k f → HasDesignated x0 m None (both j k >>= expressions.at_index s) (then_form o (λ c. then_form f (with_index_form h c)))
     index_selected x (Ok d) (Ok v) o f i e = index_step x d.name_at d.uses d.named o v f i e
-    index_selected x (Ok d) (Err fs) o f i e = tt
     index_selected x (Err fs) (Ok v) o f i e = tt
-    index_selected x (Err fs) (Err gs) o f i e = tt
+    index_selected x _ _ o f i e = tt
 
     known_step : (at a : ℕ) (u : Use) (n : Named) (x : Option Name) (o : Option Designated) → NamedIs x0 m x n o → HasDesignated x0 m x (names.known at (names.designated a u n)) o
     known_step at a u name.Nothing x o d = tt
-    known_step at a u (name.Variable v) x o d = d
-    known_step at a u (name.Parameter v) x o d = d
-    known_step at a u (name.Constant b) x o d = d
-    known_step at a u name.Kind x o d = d
-    known_step at a u (name.Routine r) x o d = d
-    known_step at a u (name.Entry r) x o d = d
-    known_step at a u (name.Predeclared q) x o d = d
+    known_step at a u _ x o d = d
 
     pub known_selected : (at : ℕ) (x : Option Name) (j : Judged check_designated.DesignatedName) (o : Option Designated) → HasDesignated x0 m x j o → HasDesignated x0 m x (j >>= names.known at) o
     known_selected at x (Ok d) o e = known_step at d.name_at d.uses d.named x o e
@@ -395,10 +328,8 @@ last_or x (more_selectors (field i) ss) = last_or (Some i.name) ss
 last_or x (more_selectors (index e) ss) = last_or None ss
 
 pub last_same : (ss : Selectors) → last_or None ss ≡ last_field ss
-last_same no_selectors = refl
-last_same (more_selectors (field i) no_selectors) = refl
-last_same (more_selectors (index e) no_selectors) = refl
 last_same (more_selectors (field i) (more_selectors (field j) ss)) = last_same (more_selectors (field j) ss)
 last_same (more_selectors (field i) (more_selectors (index e) ss)) = last_same (more_selectors (index e) ss)
 last_same (more_selectors (index d) (more_selectors (field j) ss)) = last_same (more_selectors (field j) ss)
 last_same (more_selectors (index d) (more_selectors (index e) ss)) = last_same (more_selectors (index e) ss)
+last_same _ = refl

@@ -25,10 +25,12 @@ use Rattle.cp_check.specs.Operations as operations
 use Rattle.cp_check.specs.Expressions as expressions
 use Rattle.cp_slots.specs.Code as code
 use Rattle.cp_meaning.specs.Types as named
-use Rattle.cp_meaning.specs.Types.{Ty, all_integers, all_booleans}
+use Rattle.cp_meaning.specs.Types.{Ty}
 use Rattle.cp_resolved.specs.Compiled.{as_ordinal, as_set, Formed, then_form, is_integer_base, is_boolean_base, compared_forms, added_ordinals, added_forms, multiplied_ordinals, multiplied_forms, signed_ordinal, signed_form, not_form_of, not_form}
 use Rattle.cp_resolved.specs.Typed.{Written, Expressed, HasForm}
-use Rattle.cp_resolved.proofs.forms.Typing.{formed, integer_base, boolean_base, OrdinalForm, ordinal_found, set_found, an_integer, a_truth, a_set, then_one, then_two, both_true, first_true, second_true}
+use Rattle.cp_resolved.proofs.forms.Typing.{formed, integer_base, boolean_base, OrdinalForm, ordinal_found, set_found, an_integer, a_truth, a_set, then_one, then_two, both_true}
+use Rattle.cp_resolved.proofs.frames.LeastCells.{right_true as second_true}
+use Rattle.cp_resolved.proofs.counts.FewCells.{left_of as first_true}
 
 -- a sum or term so far
 abbrev pub PartForm : Written → Option Operand → Option Formed → Type 0
@@ -51,21 +53,13 @@ module _ (w : Written) where
   integer_found (types.Ordinal r) o h e =
       let f : OrdinalForm w.tokens r o = ordinal_found w r o h in
       record { range = f.range; code = f.code; is = f.is; belongs = integer_base w.tokens f.range.base r.base f.belongs.base e }
-  integer_found types.Queue o h e = absurd (cc)
-  integer_found (types.Set s) o h e = absurd (cc)
-  integer_found (types.Array n) o h e = absurd (cc)
-  integer_found (types.Record n) o h e = absurd (cc)
-  integer_found (types.Component k n) o h e = absurd (cc)
+  integer_found x o h e = absurd (cc)
 
   pub boolean_found : (v : ValueType) (o : Option Formed) → Expressed w v o → is_of base.Boolean v ≡ true → BaseForm (λ b. is_boolean_base b ≡ true) o
   boolean_found (types.Ordinal r) o h e =
       let f : OrdinalForm w.tokens r o = ordinal_found w r o h in
       record { range = f.range; code = f.code; is = f.is; belongs = boolean_base w.tokens f.range.base r.base f.belongs.base e }
-  boolean_found types.Queue o h e = absurd (cc)
-  boolean_found (types.Set s) o h e = absurd (cc)
-  boolean_found (types.Array n) o h e = absurd (cc)
-  boolean_found (types.Record n) o h e = absurd (cc)
-  boolean_found (types.Component k n) o h e = absurd (cc)
+  boolean_found x o h e = absurd (cc)
 
   -- ---- what is there only under a condition
 
@@ -109,16 +103,7 @@ module _ (w : Written) where
         whole : (a : Option Range) → ((s : Option Range) → Expressed w (types.Set s) (Both f g)) → Expressed w (operations.set_type a b) (Both f g)
         whole None of = of b
         whole (Some r) of = of (Some r)
-    sets_of at (types.Set a) (types.Ordinal r) n f g h i k = tt
-    sets_of at (types.Set a) types.Queue n f g h i k = tt
-    sets_of at (types.Set a) (types.Array m) n f g h i k = tt
-    sets_of at (types.Set a) (types.Record m) n f g h i k = tt
-    sets_of at (types.Set a) (types.Component j m) n f g h i k = tt
-    sets_of at (types.Ordinal r) u n f g h i k = tt
-    sets_of at types.Queue u n f g h i k = tt
-    sets_of at (types.Array m) u n f g h i k = tt
-    sets_of at (types.Record m) u n f g h i k = tt
-    sets_of at (types.Component j m) u n f g h i k = tt
+    sets_of at _ _ n f g h i k = tt
 
     truths_or_sets : (at : ℕ) (l r : Operand) (f g : Option Formed) → Expressed w l.value_type f → Expressed w r.value_type g →
         ((p q : named.Range) (c d : code.Expression) → is_boolean_base p.base ≡ true → is_boolean_base q.base ≡ true →
@@ -204,40 +189,23 @@ module _ (w : Written) where
   compared_of r x y = compared_forms r x.form y.form
 
   ordinals_compared : (r : Relation) (a b : Range) (c d : code.Expression) → operations.relates r (types.Ordinal a) (types.Ordinal b) ≡ true → Expressed w (values_of base.Boolean) (compared_forms r (as_ordinal c) (as_ordinal d))
-  ordinals_compared relation.Equal a b c d e = a_truth w _
-  ordinals_compared relation.NotEqual a b c d e = a_truth w _
-  ordinals_compared relation.Less a b c d e = a_truth w _
-  ordinals_compared relation.Greater a b c d e = a_truth w _
-  ordinals_compared relation.AtMost a b c d e = a_truth w _
-  ordinals_compared relation.AtLeast a b c d e = a_truth w _
   ordinals_compared relation.In a b c d e = absurd (cc)
+  ordinals_compared _ a b c d e = a_truth w _
 
   member_compared : (r : Relation) (a : Range) (s : Option Range) (c : code.Expression) (d : code.SetExpression) → operations.relates r (types.Ordinal a) (types.Set s) ≡ true → Expressed w (values_of base.Boolean) (compared_forms r (as_ordinal c) (as_set d))
   member_compared relation.In a s c d e = a_truth w _
-  member_compared relation.Equal a s c d e = absurd (cc)
-  member_compared relation.NotEqual a s c d e = absurd (cc)
-  member_compared relation.Less a s c d e = absurd (cc)
-  member_compared relation.Greater a s c d e = absurd (cc)
-  member_compared relation.AtMost a s c d e = absurd (cc)
-  member_compared relation.AtLeast a s c d e = absurd (cc)
+  member_compared x a s c d e = absurd (cc)
 
   sets_compared : (r : Relation) (a s : Option Range) (c d : code.SetExpression) → operations.relates r (types.Set a) (types.Set s) ≡ true → Expressed w (values_of base.Boolean) (compared_forms r (as_set c) (as_set d))
   sets_compared relation.Equal a s c d e = a_truth w _
   sets_compared relation.NotEqual a s c d e = a_truth w _
-  sets_compared relation.In a s c d e = absurd (cc)
-  sets_compared relation.Less a s c d e = absurd (cc)
-  sets_compared relation.Greater a s c d e = absurd (cc)
-  sets_compared relation.AtMost a s c d e = absurd (cc)
-  sets_compared relation.AtLeast a s c d e = absurd (cc)
+  sets_compared x a s c d e = absurd (cc)
 
   never : (r : Relation) (v u : ValueType) → operations.is_in v u ≡ false → operations.are_equal v u ≡ false → operations.are_ordered v u ≡ false → operations.relates r v u ≡ false
   never relation.In v u h i j = h
   never relation.Equal v u h i j = i
   never relation.NotEqual v u h i j = i
-  never relation.Less v u h i j = j
-  never relation.Greater v u h i j = j
-  never relation.AtMost v u h i j = j
-  never relation.AtLeast v u h i j = j
+  never _ v u h i j = j
 
   unrelated : (r : Relation) (v u : ValueType) → operations.relates r v u ≡ true → operations.is_in v u ≡ false → operations.are_equal v u ≡ false → operations.are_ordered v u ≡ false → ⊥
   unrelated r v u e h i j = (let bad : true ≡ false = sym e ∙ never r v u h i j in absurd (cc))
@@ -277,8 +245,7 @@ module _ (w : Written) where
 
   pub agreed_form : (at : ℕ) (j : Judged (Option Operand)) (f : Option Formed) → HasPartForm w j f → HasForm w (j >>= operations.agreed at) f
   agreed_form at (Ok (Some o)) f h = h
-  agreed_form at (Ok None) f h = tt
-  agreed_form at (Err fs) f h = tt
+  agreed_form at _ f h = tt
 
   pub first_form : (j : Judged Operand) (f : Option Formed) → HasForm w j f → HasPartForm w (j >>= expressions.some_operand) f
   first_form (Ok o) f h = h
@@ -298,20 +265,17 @@ module _ (w : Written) where
 
   pub added_form : (at : ℕ) (a : Addition) (j : Judged (Option Operand)) (k : Judged Operand) (f g : Option Formed) → HasPartForm w j f → HasForm w k g → HasPartForm w (both j k >>= expressions.added at a) (then_form f (λ x. then_form g (λ y. added_forms a x y x.form y.form)))
   added_form at a (Ok (Some l)) (Ok r) f g h i = added_part at a l r f g h i
-  added_form at a (Ok None) (Ok r) f g h i = tt
   added_form at a (Ok o) (Err fs) f g h i = tt
   added_form at a (Err fs) (Ok r) f g h i = tt
-  added_form at a (Err fs) (Err gs) f g h i = tt
+  added_form at a _ _ f g h i = tt
 
   pub multiplied_form : (at : ℕ) (m : Multiplication) (j : Judged (Option Operand)) (k : Judged Operand) (f g : Option Formed) → HasPartForm w j f → HasForm w k g → HasPartForm w (both j k >>= expressions.multiplied at m) (then_form f (λ x. then_form g (λ y. multiplied_forms m x y x.form y.form)))
   multiplied_form at m (Ok (Some l)) (Ok r) f g h i = multiplied_part at m l r f g h i
-  multiplied_form at m (Ok None) (Ok r) f g h i = tt
   multiplied_form at m (Ok o) (Err fs) f g h i = tt
   multiplied_form at m (Err fs) (Ok r) f g h i = tt
-  multiplied_form at m (Err fs) (Err gs) f g h i = tt
+  multiplied_form at m _ _ f g h i = tt
 
   pub related_form : (at : ℕ) (r : Relation) (j k : Judged Operand) (f g : Option Formed) → HasForm w j f → HasForm w k g → HasForm w (both j k >>= operations.related at r) (then_form f (λ x. then_form g (λ y. compared_forms r x.form y.form)))
   related_form at r (Ok l) (Ok k) f g h i = related_part at r l k f g h i
-  related_form at r (Ok l) (Err fs) f g h i = tt
   related_form at r (Err fs) (Ok k) f g h i = tt
-  related_form at r (Err fs) (Err gs) f g h i = tt
+  related_form at r _ _ f g h i = tt

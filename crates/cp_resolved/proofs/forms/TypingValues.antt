@@ -26,7 +26,7 @@ use Rattle.cp_slots.specs.Code as code
 use Rattle.cp_tree.specs.Syntax.{Selectors, Designator, designator}
 use Rattle.cp_meaning.specs.Names.{Name}
 use Rattle.cp_meaning.specs.Types as named
-use Rattle.cp_meaning.specs.Types.{Ty, is_within, all_integers, all_characters}
+use Rattle.cp_meaning.specs.Types.{Ty, is_within, all_integers}
 use Rattle.cp_meaning.specs.Scopes as scopes
 use Rattle.cp_meaning.specs.Scopes.{Standard, find}
 use Rattle.cp_meaning.specs.Declarations.{RoutineMeaning}
@@ -51,13 +51,11 @@ whole_is k (named.enumerated at xs) b h = subst (λ (x : check_base.Base). Range
 
 -- integers hold the last value of a base
 pub last_number : (k : Tokens) (c : named.Base) (b : check_base.Base) → BaseIs k c b → is_within all_integers (range_of_base c).high ≡ true
-last_number k named.integers b h = refl
-last_number k named.booleans b h = refl
-last_number k named.characters b h = refl
 last_number k (named.enumerated at xs) b h = few (length xs - 1) (omega (arith, h.1))
   where
     few : (n : ℕ) → n ≤ 32767 → is_within all_integers (pos n) ≡ true
     few n h = search (arith, h)
+last_number k _ b h = refl
 
 module _ (tokens : Tokens) (s : Scopes) (h : Here) (w : Context) where
   base_value : (c : named.Base) (b : check_base.Base) (e : code.Expression) → BaseIs tokens c b → Expressed (written tokens s h) (values_of b) (Some (formed (named.ordinal (range_of_base c)) (as_ordinal e)))
@@ -77,11 +75,9 @@ module _ (tokens : Tokens) (s : Scopes) (h : Here) (w : Context) where
 
   loaded_typed : (p : code.Place) (t : Ty) (v : ValueType) → TypeIs (written tokens s h) t v → is_plain t ≡ true → FormIs (written tokens s h) v t (loaded_form p t)
   loaded_typed p (named.ordinal q) v i e = (code.load p, refl, i)
-  loaded_typed p named.queue_type v i e = (p, refl, i)
   loaded_typed p (named.set_over q) v i e = (code.load_set p, refl, (Some i.range, i.is))
-  loaded_typed p (named.array_over q t) v i e = (p, refl, i)
-  loaded_typed p (named.record_with ts) v i e = (p, refl, i)
   loaded_typed p (named.component_of n) v i e = absurd (cc)
+  loaded_typed p _ v i e = (p, refl, i)
 
   held_typed : (m : Option scopes.Meaning) (x : Option Name) (v : ValueType) (o : Option Designated) → Holds (written tokens s h) m x v o → Expressed (written tokens s h) v (then_form o valued_form)
   held_typed m x v (Some (a_variable p t)) i = loaded_typed p t v i.0 i.1
@@ -98,20 +94,11 @@ module _ (tokens : Tokens) (s : Scopes) (h : Here) (w : Context) where
   plain_value (Some (scopes.local_variable t)) x i = record { call = refl; value = (λ at d o f. refl) }
   plain_value (Some (scopes.permanent_variable t)) None i = record { call = refl; value = (λ at d o f. refl) }
   plain_value (Some (scopes.permanent_variable t)) (Some y) i = record { call = i; value = (λ at d o f. refl) }
-  plain_value (Some (scopes.constant_meaning b z)) x i = absurd i
-  plain_value (Some (scopes.type_meaning t)) x i = absurd i
-  plain_value (Some (scopes.routine_meaning q)) x i = absurd i
-  plain_value (Some (scopes.standard_meaning f)) x i = absurd i
-  plain_value None x i = absurd i
+  plain_value _ x i = absurd i
 
   component_value : (k : ℕ) (m : Option scopes.Meaning) (x : Option Name) → IsComponentMeaning k m → x ≡ None → IsValue m x
   component_value k (Some (scopes.permanent_variable t)) x i e = record { call = ap (is_call_meant (Some (scopes.permanent_variable t))) e; value = (λ at d o f. refl) }
-  component_value k (Some (scopes.local_variable t)) x i e = absurd i
-  component_value k (Some (scopes.constant_meaning b z)) x i e = absurd i
-  component_value k (Some (scopes.type_meaning t)) x i e = absurd i
-  component_value k (Some (scopes.routine_meaning q)) x i e = absurd i
-  component_value k (Some (scopes.standard_meaning f)) x i e = absurd i
-  component_value k None x i e = absurd i
+  component_value k _ x i e = absurd i
 
   pub held_value : (m : Option scopes.Meaning) (x : Option Name) (v : ValueType) (o : Option Designated) → Holds (written tokens s h) m x v o → IsValue m x
   held_value m x v (Some (a_variable p t)) i = plain_value m x i.2
@@ -130,12 +117,7 @@ module _ (tokens : Tokens) (s : Scopes) (h : Here) (w : Context) where
   result_typed : (at : ℕ) (v : ValueType) (j : Judged Use) (o : Option Ty) → IsOrdinalResult tokens v o → HasForm (written tokens s h) (j >>= calls.with_result at v) (call_form h at (result_type o))
   result_typed at v (Err fs) o i = tt
   result_typed at v (Ok n) (Some (named.ordinal q)) i = (_, refl, i)
-  result_typed at v (Ok n) (Some named.queue_type) i = absurd i
-  result_typed at v (Ok n) (Some (named.set_over q)) i = absurd i
-  result_typed at v (Ok n) (Some (named.array_over q t)) i = absurd i
-  result_typed at v (Ok n) (Some (named.record_with ts)) i = absurd i
-  result_typed at v (Ok n) (Some (named.component_of k)) i = absurd i
-  result_typed at v (Ok n) None i = absurd i
+  result_typed at v (Ok n) _ i = absurd i
 
   function_typed : (at name_at : ℕ) (b : Bool) (n : ℕ) (os : List Operand) (u : Use) (v : Option ValueType) (r : Option RoutineMeaning) → ResultIs tokens v r → HasForm (written tokens s h) (calls.function_of s w at name_at b n os u v) (call_form h at (result_called r))
   function_typed at name_at b n os u None r i = tt
@@ -156,32 +138,20 @@ module _ (tokens : Tokens) (s : Scopes) (h : Here) (w : Context) where
   stepped_next at (types.Ordinal r) u f e =
       let g : OrdinalForm tokens r f = ordinal_found W r f e in
       then_one (Expressed W (values_of r.base)) (applied_form scopes.succ_function) f (formed (named.ordinal g.range) (as_ordinal g.code)) g.is (base_value g.range.base r.base _ g.belongs.base)
-  stepped_next at types.Queue u f e = tt
-  stepped_next at (types.Set r) u f e = tt
-  stepped_next at (types.Array n) u f e = tt
-  stepped_next at (types.Record n) u f e = tt
-  stepped_next at (types.Component k n) u f e = tt
+  stepped_next at _ u f e = tt
 
   stepped_back : (at : ℕ) (v : ValueType) (u : Use) (f : Option Formed) → Expressed W v f → HasForm W (operations.stepped at v u) (then_form f (applied_form scopes.pred_function))
   stepped_back at (types.Ordinal r) u f e =
       let g : OrdinalForm tokens r f = ordinal_found W r f e in
       then_one (Expressed W (values_of r.base)) (applied_form scopes.pred_function) f (formed (named.ordinal g.range) (as_ordinal g.code)) g.is (base_value g.range.base r.base _ g.belongs.base)
-  stepped_back at types.Queue u f e = tt
-  stepped_back at (types.Set r) u f e = tt
-  stepped_back at (types.Array n) u f e = tt
-  stepped_back at (types.Record n) u f e = tt
-  stepped_back at (types.Component k n) u f e = tt
+  stepped_back at _ u f e = tt
 
   numbered_typed : (at : ℕ) (v : ValueType) (u : Use) (f : Option Formed) → Expressed W v f → HasForm W (operations.numbered at v u) (then_form f (applied_form scopes.ord_function))
   numbered_typed at (types.Ordinal r) u f e =
       let g : OrdinalForm tokens r f = ordinal_found W r f e in
       then_one (Expressed W (values_of base.Integer)) (applied_form scopes.ord_function) f (formed (named.ordinal g.range) (as_ordinal g.code)) g.is
       (subst (λ (b : Bool). Expressed W (values_of base.Integer) (if b then integer_form g.code else None)) (sym (last_number tokens g.range.base r.base g.belongs.base)) (an_integer W g.code))
-  numbered_typed at types.Queue u f e = tt
-  numbered_typed at (types.Set r) u f e = tt
-  numbered_typed at (types.Array n) u f e = tt
-  numbered_typed at (types.Record n) u f e = tt
-  numbered_typed at (types.Component k n) u f e = tt
+  numbered_typed at _ u f e = tt
 
   -- a function of integers
   of_integer : (q : Standard) (v : ValueType) (b : check_base.Base) (f : Option Formed) → Expressed W v f → is_of base.Integer v ≡ true →
@@ -195,11 +165,7 @@ module _ (tokens : Tokens) (s : Scopes) (h : Here) (w : Context) where
   emptied types.Queue p f e i =
       let g : QueueForm f = queue_found W f e in
       then_one (Expressed W (values_of base.Boolean)) (applied_form scopes.empty_function) f (formed named.queue_type (as_place g.place)) g.is (a_truth W _)
-  emptied (types.Ordinal r) p f e i = absurd (cc)
-  emptied (types.Set r) p f e i = absurd (cc)
-  emptied (types.Array n) p f e i = absurd (cc)
-  emptied (types.Record n) p f e i = absurd (cc)
-  emptied (types.Component k n) p f e i = absurd (cc)
+  emptied x p f e i = absurd (cc)
 
   applied_typed : (at : ℕ) (q : Standard) (o : Operand) (u : Use) (f : Option Formed) → Expressed W o.value_type f → HasForm W (operations.applied_to at (predeclared_of q) o u) (then_form f (applied_form q))
   applied_typed at scopes.succ_function o u f e = stepped_next at o.value_type u f e
@@ -211,9 +177,7 @@ module _ (tokens : Tokens) (s : Scopes) (h : Here) (w : Context) where
       ok_if W (is_of base.Integer o.value_type) (value at (values_of base.Integer) u) at _ (then_form f (applied_form scopes.abs_function)) (λ i. of_integer scopes.abs_function o.value_type base.Integer f e i (λ t c. an_integer W _))
   applied_typed at scopes.empty_function o u f e =
       ok_if W (is_queue_in o.value_type o.place) (value at (values_of base.Boolean) u) at _ (then_form f (applied_form scopes.empty_function)) (λ i. emptied o.value_type o.place f e i)
-  applied_typed at scopes.delay_procedure o u f e = tt
-  applied_typed at scopes.continue_procedure o u f e = tt
-  applied_typed at scopes.display_procedure o u f e = tt
+  applied_typed at _ o u f e = tt
 
   -- the first argument
   abbrev pub ArgumentIs : List Operand → Option Formed → Type 0
@@ -221,9 +185,8 @@ module _ (tokens : Tokens) (s : Scopes) (h : Here) (w : Context) where
   ArgumentIs (o ∷ os) f = Expressed W o.value_type f
 
   applied_all_typed : (at : ℕ) (q : Standard) (os : List Operand) (u : Use) (f : Option Formed) → ArgumentIs os f → HasForm W (operations.applied_all at (predeclared_of q) os u) (then_form f (applied_form q))
-  applied_all_typed at q [] u f e = tt
   applied_all_typed at q (o ∷ []) u f e = applied_typed at q o u f e
-  applied_all_typed at q (o ∷ p ∷ os) u f e = tt
+  applied_all_typed at q _ u f e = tt
 
   standard_applied : (at : ℕ) (q : Standard) (os : List Operand) (u : Use) (f : Option Formed) → ArgumentIs os f → HasForm W (operations.applied at (predeclared_of q) os u) (then_form f (applied_form q))
   standard_applied at q os u f e = go (operations.is_function (predeclared_of q))
@@ -236,31 +199,16 @@ module _ (tokens : Tokens) (s : Scopes) (h : Here) (w : Context) where
 
   standard_typed : (at : ℕ) (d : Designator) (p : Predeclared) (os : List Operand) (u : Use) (m : Option scopes.Meaning) (x : Option Name) (o : Option Designated) (f : Option Formed) → StandardIs p m → ArgumentIs os f → HasForm W (operations.applied at p os u) (named_form h at d (is_call_meant m x) m o f)
   standard_typed at d p os u (Some (scopes.standard_meaning q)) x o f i e = subst (λ (r : Predeclared). HasForm W (operations.applied at r os u) (then_form f (applied_form q))) i (standard_applied at q os u f e)
-  standard_typed at d p os u (Some (scopes.constant_meaning b z)) x o f i e = absurd i
-  standard_typed at d p os u (Some (scopes.type_meaning t)) x o f i e = absurd i
-  standard_typed at d p os u (Some (scopes.local_variable t)) x o f i e = absurd i
-  standard_typed at d p os u (Some (scopes.permanent_variable t)) x o f i e = absurd i
-  standard_typed at d p os u (Some (scopes.routine_meaning r)) x o f i e = absurd i
-  standard_typed at d p os u None x o f i e = absurd i
+  standard_typed at d p os u _ x o f i e = absurd i
 
   number_typed : (at : ℕ) (d : Designator) (b : check_base.Base) (z : ℤ) (m : Option scopes.Meaning) (x : Option Name) (o : Option Designated) (f : Option Formed) → ConstantIs tokens b z m → Expressed W (values_of b) (named_form h at d (is_call_meant m x) m o f)
   number_typed at d b z (Some (scopes.constant_meaning c y)) x o f i = constant_typed b c z y i.0 i.2
-  number_typed at d b z (Some (scopes.standard_meaning q)) x o f i = absurd i
-  number_typed at d b z (Some (scopes.type_meaning t)) x o f i = absurd i
-  number_typed at d b z (Some (scopes.local_variable t)) x o f i = absurd i
-  number_typed at d b z (Some (scopes.permanent_variable t)) x o f i = absurd i
-  number_typed at d b z (Some (scopes.routine_meaning r)) x o f i = absurd i
-  number_typed at d b z None x o f i = absurd i
+  number_typed at d b z _ x o f i = absurd i
 
   -- a routine's own name, with the selectors after it
   pub own_called : (i : Name) (n : ℕ) (m : Option scopes.Meaning) (x : Option Name) → RoutineIs (written tokens s h) (heading_at n s) i h.scope m → IsCalled tokens s h n i m x
   own_called i n (Some (scopes.routine_meaning r)) x e = record { is = refl; heading = e }
-  own_called i n (Some (scopes.constant_meaning b z)) x e = absurd e
-  own_called i n (Some (scopes.standard_meaning q)) x e = absurd e
-  own_called i n (Some (scopes.type_meaning t)) x e = absurd e
-  own_called i n (Some (scopes.local_variable t)) x e = absurd e
-  own_called i n (Some (scopes.permanent_variable t)) x e = absurd e
-  own_called i n None x e = absurd e
+  own_called i n _ x e = absurd e
 
   called_typed : (at name_at : ℕ) (b : Bool) (i : Identifier) (ss : Selectors) (n : ℕ) (os : List Operand) (u : Use) (o : Option Designated) (f : Option Formed) → IsCalled tokens s h n i.name (find i.name h.scope) (last_field ss) →
       HasForm W (calls.function_value s w at name_at b n os u) (named_form h at (designator i ss) (is_call_meant (find i.name h.scope) (last_field ss)) (find i.name h.scope) o f)
@@ -271,8 +219,6 @@ module _ (tokens : Tokens) (s : Scopes) (h : Here) (w : Context) where
   value_typed : (at : ℕ) (i : Identifier) (ss : Selectors) (d : check_designated.DesignatedName) (n : Named) (os : List Operand) (o : Option Designated) (f : Option Formed) →
       NamedIs tokens s h i.name (find i.name h.scope) (last_field ss) n o → ArgumentIs os f →
       HasForm W (calls.value_named s w at d os n) (named_form h at (designator i ss) (is_call_meant (find i.name h.scope) (last_field ss)) (find i.name h.scope) o f)
-  value_typed at i ss d name.Nothing os o f e a = tt
-  value_typed at i ss d name.Kind os o f e a = tt
   value_typed at i ss d (name.Constant b) os o f e a =
       alone_typed (value at (values_of b) d.uses) os _ (number_typed at (designator i ss) b e.0 (find i.name h.scope) (last_field ss) o f e.1)
   value_typed at i ss d (name.Variable v) os o f e a =
@@ -282,6 +228,7 @@ module _ (tokens : Tokens) (s : Scopes) (h : Here) (w : Context) where
   value_typed at i ss d (name.Predeclared p) os o f e a = standard_typed at (designator i ss) p os (calls.total_use d.uses os) (find i.name h.scope) (last_field ss) o f e a
   value_typed at i ss d (name.Routine n) os o f e a = called_typed at d.name_at true i ss n os d.uses o f (own_called i.name n (find i.name h.scope) (last_field ss) e)
   value_typed at i ss d (name.Entry n) os o f e a = called_typed at d.name_at false i ss n os d.uses o f e
+  value_typed at i ss d _ os o f e a = tt
 
   abbrev pub AreArguments : Judged (List Operand) → Option Formed → Type 0
   AreArguments (Ok os) f = ArgumentIs os f
@@ -292,6 +239,5 @@ module _ (tokens : Tokens) (s : Scopes) (h : Here) (w : Context) where
       HasForm W (both j k >>= calls.value_of s w at) (named_form h at (designator i ss) (is_call_meant (find i.name h.scope) (last_field ss)) (find i.name h.scope) o f)
   unfolding calls.value_of
   name_typed at i ss (Ok d) (Ok os) o f e a = value_typed at i ss d d.named os o f e a
-  name_typed at i ss (Ok d) (Err fs) o f e a = tt
   name_typed at i ss (Err fs) (Ok os) o f e a = tt
-  name_typed at i ss (Err fs) (Err gs) o f e a = tt
+  name_typed at i ss _ _ o f e a = tt

@@ -1,8 +1,8 @@
 -- Expressions that break no rule use names as the rules want it, and the arguments of their function calls fit the parameters.
-use Rattle.std.proofs.Common.{◌≡◌, ℕ, ◌+◌, ℤ, Bool, true, false, ◌&&◌, if◌then◌else◌, List, [], ◌∷◌, ◌++◌, Option, Some, None, Ok, Err, refl, sym, ap, subst, ◌∙◌}
+use Rattle.std.proofs.Common.{◌≡◌, ℕ, ◌+◌, ℤ, Bool, true, false, ◌&&◌, if◌then◌else◌, List, [], ◌∷◌, ◌++◌, Option, Some, None, Ok, refl, sym, ap, subst, ◌∙◌}
 use Rattle.cp_tree.specs.declared.constant.Identifier.{Identifier}
 use Rattle.cp_tree.specs.declared.constant.Sign.{Sign}
-use Rattle.cp_tree.specs.Syntax.{Expression, alone, related, Sum, sum, Terms, no_terms, more_terms as terms_more, Term, term, Factors, no_factors, more_factors as factors_more, Factor, number, character, named as factor_named, group, negated, set_of, Expressions, no_expressions, more_expressions, Designator, designator as name_with, Selectors, no_selectors, more_selectors, field, index}
+use Rattle.cp_tree.specs.Syntax.{Expression, alone, related, Sum, sum, Terms, no_terms, more_terms as terms_more, Term, term, Factors, no_factors, more_factors as factors_more, Factor, named as factor_named, group, negated, set_of, Expressions, no_expressions, more_expressions, Designator, designator as name_with, Selectors, no_selectors, more_selectors, field, index}
 use Rattle.cp_scope.specs.declared.fault.Rule.TheVariants.{C5}
 use Rattle.cp_scope.specs.declared.types.Base as check_base
 use Rattle.cp_scope.specs.declared.types.ValueType.{ValueType}
@@ -17,12 +17,12 @@ use Rattle.cp_check.specs.declared.operand.Operand.{Operand}
 use Rattle.cp_check.specs.declared.operand.OperandUse.TheVariants as place
 use Rattle.cp_check.specs.declared.operand.DesignatedName as check_designated
 use Rattle.cp_check.specs.declared.operand.Named.{Named}
-use Rattle.cp_check.specs.declared.operand.Named.TheVariants.{Nothing, Constant, Variable, Parameter, Kind, Routine, Entry, Predeclared as Predeclared'}
+use Rattle.cp_check.specs.declared.operand.Named.TheVariants.{Constant, Variable, Parameter, Routine, Entry, Predeclared as Predeclared'}
 use Rattle.cp_check.specs.Operands.{value, is_function}
 use Rattle.cp_check.specs.Operations as operations
 use Rattle.cp_check.specs.Names as names
 use Rattle.cp_check.specs.Calls as calls
-use Rattle.cp_check.specs.Expressions.{expression, sum_value, more_terms, term_value, more_factors, factor, designator, selectors, selector, arguments, is_unsigned, has_no_terms, has_no_factors, has_none}
+use Rattle.cp_check.specs.Expressions.{expression, sum_value, more_terms, term_value, more_factors, factor, designator, selectors, arguments, is_unsigned, has_no_terms, has_no_factors, has_none}
 use Rattle.cp_check.specs.Expressions as expressions
 use Rattle.cp_meaning.specs.Names.{Name}
 use Rattle.cp_meaning.specs.Types as named
@@ -32,34 +32,28 @@ use Rattle.cp_meaning.specs.Scopes.{find}
 use Rattle.cp_meaning.specs.Declarations as meant
 use Rattle.cp_meaning.specs.Declarations.{RoutineMeaning}
 use Rattle.cp_meaning.specs.Expressions.{routine_called}
-use Rattle.cp_meaning.specs.State.{Item, statement_item, function_call, start_item, until, successor, return, init_end, end}
+use Rattle.cp_meaning.specs.State.{Item, function_call}
 use Rattle.cp_meaning.specs.Lifting.{last_field, is_call_meant, own_call, expression_calls, sum_calls, terms_calls, term_calls, factors_calls, factor_calls, expressions_calls, selectors_calls}
 use Rattle.cp_resolved.specs.BodiesStand.{CallsFormed}
-use Rattle.cp_resolved.specs.Compiled.{Designated, a_variable, some_components, a_component, designator_form}
+use Rattle.cp_resolved.specs.Compiled.{Designated, a_variable, a_component, designator_form}
 use Rattle.cp_resolved.specs.FormedParts.{CanGiveAll, CallFormed}
 use Rattle.cp_resolved.specs.Layouts.{Here}
 use Rattle.cp_resolved.specs.Typed.{Tokens, IsOrdinalResult, HeadingIs, ResultIs, RoutineIs, ConstantIs, StandardIs, ScopesAgree, IsSmallExpression, IsSmallSum, AreSmallTerms, IsSmallTerm, AreSmallFactors, IsSmallFactor, AreSmallExpressions, AreSmallSelectors}
 use Rattle.cp_resolved.specs.Used.{IsBare, AreNone, IsOne, IsFunction, HasResult, AreFormed, UsedAs, IsUsed, SumUsed, TermsUsed, TermUsed, FactorsUsed, FactorUsed, AreUsed, SelectorsUsed}
 use Rattle.cp_resolved.proofs.forms.GivenArguments.{plain_arguments, call_given}
-use Rattle.cp_resolved.proofs.forms.Typing.{second_true}
 use Rattle.cp_resolved.proofs.forms.TypingNames.{Holds, written, IsCalled, NamedIs, HasDesignated}
 use Rattle.cp_resolved.proofs.forms.TypingValues.{IsValue, held_value, own_called}
 use Rattle.cp_resolved.proofs.forms.TypingExpressions.{designator_typed}
 use Rattle.cp_resolved.proofs.forms.UsedNames.{IsVariableMeaning, other_bare, EntryUsed, entry_used}
 use Rattle.cp_resolved.proofs.agreeing.WithoutFaults.{ok_same, Then, then_of, both_of}
+use Rattle.cp_resolved.proofs.frames.LeastCells.{right_true as second_true}
 
 -- ---- what is called
 
 pub calls_both : (h : Here) (xs ys : List Item) → CallsFormed h xs → CallsFormed h ys → CallsFormed h (xs ++ ys)
 calls_both h [] ys f g = g
 calls_both h (function_call at d es ∷ xs) ys f g = (f.0, calls_both h xs ys f.1 g)
-calls_both h (statement_item t ∷ xs) ys f g = absurd f
-calls_both h (start_item t ∷ xs) ys f g = absurd f
-calls_both h (until ts e ∷ xs) ys f g = absurd f
-calls_both h (successor n i z d y t ∷ xs) ys f g = absurd f
-calls_both h (return x ∷ xs) ys f g = absurd f
-calls_both h (init_end n ∷ xs) ys f g = absurd f
-calls_both h (end ∷ xs) ys f g = absurd f
+calls_both h _ ys f g = absurd f
 
 ordinal_result : (k : Tokens) (v : ValueType) (o : Option Ty) → IsOrdinalResult k v o → HasResult o
 ordinal_result k v (Some t) i = tt
@@ -68,8 +62,7 @@ ordinal_result k v None i = absurd i
 arguments_formed : (h : Here) (qs : List meant.Parameter) (es : Expressions) → CanGiveAll h qs es → AreFormed h es
 arguments_formed h [] no_expressions g = tt
 arguments_formed h (q ∷ qs) (more_expressions e es) g = ((g.0.given.form, g.0.given.formed), arguments_formed h qs es g.1)
-arguments_formed h [] (more_expressions e es) g = absurd g
-arguments_formed h (q ∷ qs) no_expressions g = absurd g
+arguments_formed h _ _ g = absurd g
 
 none_given : (s : Scopes) (w : Context) (es : Expressions) → arguments s w [] 0 es ≡ Ok [] → AreNone es
 unfolding expression
@@ -142,33 +135,21 @@ module _ (tokens : Tokens) (s : Scopes) (h : Here) (w : Context) (agrees : Scope
 
   constant_used : (at : ℕ) (d : Designator) (es : Expressions) (b : check_base.Base) (z : ℤ) (m : Option scopes.Meaning) (x : Option Name) → ConstantIs tokens b z m → ((IsVariableMeaning m → ⊥) → IsBare d) → AreNone es → NameUsed at d es (is_call_meant m x) m
   constant_used at d es b z (Some (scopes.constant_meaning c y)) x i bare none = ((bare (λ k. k), none), tt)
-  constant_used at d es b z (Some (scopes.standard_meaning q)) x i bare none = absurd i
-  constant_used at d es b z (Some (scopes.type_meaning t)) x i bare none = absurd i
-  constant_used at d es b z (Some (scopes.local_variable t)) x i bare none = absurd i
-  constant_used at d es b z (Some (scopes.permanent_variable t)) x i bare none = absurd i
-  constant_used at d es b z (Some (scopes.routine_meaning r)) x i bare none = absurd i
-  constant_used at d es b z None x i bare none = absurd i
+  constant_used at d es b z _ x i bare none = absurd i
 
   standard_used : (at : ℕ) (d : Designator) (es : Expressions) (p : Predeclared) (m : Option scopes.Meaning) (x : Option Name) → StandardIs p m → ((IsVariableMeaning m → ⊥) → IsBare d) → IsOne es → NameUsed at d es (is_call_meant m x) m
   standard_used at d es p (Some (scopes.standard_meaning q)) x i bare one = ((bare (λ k. k), one), tt)
-  standard_used at d es p (Some (scopes.constant_meaning b z)) x i bare one = absurd i
-  standard_used at d es p (Some (scopes.type_meaning t)) x i bare one = absurd i
-  standard_used at d es p (Some (scopes.local_variable t)) x i bare one = absurd i
-  standard_used at d es p (Some (scopes.permanent_variable t)) x i bare one = absurd i
-  standard_used at d es p (Some (scopes.routine_meaning r)) x i bare one = absurd i
-  standard_used at d es p None x i bare one = absurd i
+  standard_used at d es p _ x i bare one = absurd i
 
   holds_no_constant : (b : named.Base) (z : ℤ) (x : Option Name) (v : ValueType) (o : Option Designated) → Holds (written tokens s h) (Some (scopes.constant_meaning b z)) x v o → ⊥
   holds_no_constant b z x v (Some (a_variable p t)) i = i.2
-  holds_no_constant b z x v (Some (some_components first q k)) i = i.1
-  holds_no_constant b z x v (Some (a_component c k)) i = i.1
   holds_no_constant b z x v None i = i
+  holds_no_constant b z x v _ i = i.1
 
   holds_no_standard : (q : scopes.Standard) (x : Option Name) (v : ValueType) (o : Option Designated) → Holds (written tokens s h) (Some (scopes.standard_meaning q)) x v o → ⊥
   holds_no_standard r x v (Some (a_variable p t)) i = i.2
-  holds_no_standard r x v (Some (some_components first q k)) i = i.1
-  holds_no_standard r x v (Some (a_component c k)) i = i.1
   holds_no_standard r x v None i = i
+  holds_no_standard r x v _ i = i.1
 
   variable_used : (at : ℕ) (d : Designator) (es : Expressions) (m : Option scopes.Meaning) (x : Option Name) (v : ValueType) (o : Option Designated) → Holds (written tokens s h) m x v o → AreNone es → NameUsed at d es (is_call_meant m x) m
   variable_used at d es m x v o i none =
@@ -186,23 +167,14 @@ module _ (tokens : Tokens) (s : Scopes) (h : Here) (w : Context) (agrees : Scope
 
   routine_used : (at : ℕ) (d : Designator) (es : Expressions) (i : Name) (m : Option scopes.Meaning) (x : Option Name) (n : ℕ) → RoutineIs (written tokens s h) (heading_at n s) i h.scope m → ((IsVariableMeaning m → ⊥) → IsBare d) → Called d es → NameUsed at d es (is_call_meant m x) m
   routine_used at d es i (Some (scopes.routine_meaning r)) x n k bare c = ((bare (λ z. z), c.function, c.formed), (c.call, tt))
-  routine_used at d es i (Some (scopes.constant_meaning b z)) x n k bare c = absurd k
-  routine_used at d es i (Some (scopes.standard_meaning q)) x n k bare c = absurd k
-  routine_used at d es i (Some (scopes.type_meaning t)) x n k bare c = absurd k
-  routine_used at d es i (Some (scopes.local_variable t)) x n k bare c = absurd k
-  routine_used at d es i (Some (scopes.permanent_variable t)) x n k bare c = absurd k
-  routine_used at d es i None x n k bare c = absurd k
+  routine_used at d es i _ x n k bare c = absurd k
 
   entry_meant : (at : ℕ) (i : Identifier) (ss : Selectors) (es : Expressions) (r : ℕ) (m : Option scopes.Meaning) → is_call_meant m (last_field ss) ≡ true → ((IsVariableMeaning m → ⊥) → IsBare (name_with i ss)) → EntryUsed tokens s h w agrees i ss r → Called (name_with i ss) es → NameUsed at (name_with i ss) es (is_call_meant m (last_field ss)) m
   entry_meant at i ss es r (Some (scopes.routine_meaning f)) call bare e c = ((bare (λ z. z), c.function, c.formed), (c.call, tt))
   entry_meant at i ss es r (Some (scopes.permanent_variable t)) call bare e c =
       subst (λ (b : Bool). NameUsed at (name_with i ss) es b (Some (scopes.permanent_variable t))) (sym call)
       ((e.found.entry, c.function, c.formed, (a_component e.found.part e.system, e.found.formed)), (c.call, tt))
-  entry_meant at i ss es r (Some (scopes.local_variable t)) call bare e c = absurd (cc)
-  entry_meant at i ss es r (Some (scopes.constant_meaning b z)) call bare e c = absurd (cc)
-  entry_meant at i ss es r (Some (scopes.standard_meaning q)) call bare e c = absurd (cc)
-  entry_meant at i ss es r (Some (scopes.type_meaning t)) call bare e c = absurd (cc)
-  entry_meant at i ss es r None call bare e c = absurd (cc)
+  entry_meant at i ss es r x call bare e c = absurd (cc)
 
   value_used : (at : ℕ) (i : Identifier) (ss : Selectors) (es : Expressions) (d : check_designated.DesignatedName) (n : Named) (os : List Operand) (o : Option Designated) (p : Operand) → d.named ≡ n → NamedIs tokens s h i.name (find i.name h.scope) (last_field ss) n o → AreSmallSelectors ss → AreSmallExpressions es →
       designator s w (name_with i ss) ≡ Ok d → arguments s w [] 0 es ≡ Ok os → calls.value_named s w at d os n ≡ Ok p → NameUsed at (name_with i ss) es (is_call_meant (find i.name h.scope) (last_field ss)) (find i.name h.scope)
@@ -222,8 +194,7 @@ module _ (tokens : Tokens) (s : Scopes) (h : Here) (w : Context) (agrees : Scope
   value_used at i ss es d (Entry n) os o p same k small less is a g =
       entry_meant at i ss es n (find i.name h.scope) k.is (λ other. other_bare tokens s h w agrees i ss d other is) (entry_used tokens s h w agrees i ss d n small k.is same is)
       (function_called at d.name_at false n os d.uses (name_with i ss) es p k.heading less a g)
-  value_used at i ss es d Kind os o p same k small less is a g = absurd (cc)
-  value_used at i ss es d Nothing os o p same k small less is a g = absurd (cc)
+  value_used at i ss es d x os o p same k small less is a g = absurd (cc)
 
   -- a name alone or with its arguments
   record NameParts (d : Designator) (es : Expressions) (at : ℕ) (p : Operand) : Type 0 where
@@ -261,8 +232,7 @@ module _ (tokens : Tokens) (s : Scopes) (h : Here) (w : Context) (agrees : Scope
 
   agreed_some : (at : ℕ) (j : Judged (Option Operand)) (p : Operand) → (j >>= operations.agreed at) ≡ Ok p → j ≡ Ok (Some p)
   agreed_some at (Ok (Some o)) p e = ap (λ (z : Operand). Ok (Some z)) (ok_same o p e)
-  agreed_some at (Ok None) p e = absurd (cc)
-  agreed_some at (Err fs) p e = absurd (cc)
+  agreed_some at x p e = absurd (cc)
 
   no_more : (v b : Bool) → b ≡ false → (v && b) ≡ true → ⊥
   no_more v b e i = (let bad : false ≡ true = sym e ∙ second_true v b i in cc)
@@ -280,8 +250,7 @@ module _ (tokens : Tokens) (s : Scopes) (h : Here) (w : Context) (agrees : Scope
   sum_only at v None no_terms q a p x only is i =
       let one : a ≡ p = some_same a p (sym (ap (λ (z : Judged Operand). z >>= expressions.signed at None) x) ∙ is) in
       ap (λ (z : Operand). is_function z.place) one ∙ only (first_of v true i)
-  sum_only at v None (terms_more b t ts) q a p x only is i = absurd (no_more v false refl i)
-  sum_only at v (Some g) ts q a p x only is i = absurd (no_more v false refl i)
+  sum_only at v _ _ q a p x only is i = absurd (no_more v false refl i)
 
   term_only : (at : ℕ) (v : Bool) (fs : Factors) (q : Judged Operand) (a p : Operand) → q ≡ Ok a → (v ≡ true → is_function p.place ≡ false) → more_factors s w at (q >>= expressions.some_operand) fs ≡ Ok (Some p) → (v && has_no_factors fs) ≡ true → is_function a.place ≡ false
   unfolding expression
@@ -373,8 +342,6 @@ module _ (tokens : Tokens) (s : Scopes) (h : Here) (w : Context) (agrees : Scope
         record { value = k.value.0; is = q.first; rest = ((x.0, rest.rest.0), calls_both h (factor_calls h.scope f) (factors_calls h.scope fs) x.1 rest.rest.1) }
 
     factor_used : (v : Bool) (f : Factor) → IsSmallFactor f → (p : Operand) → (v ≡ true → is_function p.place ≡ false) → factor s w v f ≡ Ok p → FactorUsed h f × CallsFormed h (factor_calls h.scope f)
-    factor_used v (number at n) m p only is = (tt, tt)
-    factor_used v (character at c) m p only is = (tt, tt)
     factor_used v (factor_named at (name_with i ss) es) m p only is =
         let d : Designator = name_with i ss in
         let k : NameParts d es at p = name_parts (v && has_none es) d es at p (name_only v es p only) is in
@@ -393,6 +360,7 @@ module _ (tokens : Tokens) (s : Scopes) (h : Here) (w : Context) (agrees : Scope
     factor_used v (set_of at es) m p only is =
         let t : Then (arguments s w [] 0 es) (expressions.constructed at) p = then_of (arguments s w [] 0 es) (expressions.constructed at) p is in
         arguments_used 0 es m t.value t.is
+    factor_used v _ m p only is = (tt, tt)
 
     -- where no parameter is said to be `var`
     pub arguments_used : (k : ℕ) (es : Expressions) → AreSmallExpressions es → (os : List Operand) → arguments s w [] k es ≡ Ok os → AreUsed h es × CallsFormed h (expressions_calls h.scope es)

@@ -44,12 +44,7 @@ IsUntyped n = Unit {0}
 untyped_type : (n : Named) → IsUntyped n → names.type_of n ≡ None
 untyped_type (name.Variable v) h = absurd h
 untyped_type (name.Parameter v) h = absurd h
-untyped_type name.Nothing h = refl
-untyped_type (name.Constant b) h = refl
-untyped_type name.Kind h = refl
-untyped_type (name.Routine n) h = refl
-untyped_type (name.Entry n) h = refl
-untyped_type (name.Predeclared q) h = refl
+untyped_type _ h = refl
 
 abbrev pub IsNothing : Judged check_designated.DesignatedName → Type 0
 IsNothing (Ok d) = d.named ≡ name.Nothing
@@ -136,20 +131,11 @@ IsVariableMeaning o = ⊥
 plain_variable : (m : Option scopes.Meaning) → IsPlainMeaning m → IsVariableMeaning m
 plain_variable (Some (scopes.local_variable t)) h = tt
 plain_variable (Some (scopes.permanent_variable t)) h = tt
-plain_variable (Some (scopes.constant_meaning b z)) h = h
-plain_variable (Some (scopes.type_meaning t)) h = h
-plain_variable (Some (scopes.routine_meaning r)) h = h
-plain_variable (Some (scopes.standard_meaning q)) h = h
-plain_variable None h = h
+plain_variable _ h = h
 
 component_variable : (k : ℕ) (m : Option scopes.Meaning) → IsComponentMeaning k m → IsVariableMeaning m
 component_variable k (Some (scopes.permanent_variable t)) h = tt
-component_variable k (Some (scopes.local_variable t)) h = absurd h
-component_variable k (Some (scopes.constant_meaning b z)) h = absurd h
-component_variable k (Some (scopes.type_meaning t)) h = absurd h
-component_variable k (Some (scopes.routine_meaning r)) h = absurd h
-component_variable k (Some (scopes.standard_meaning q)) h = absurd h
-component_variable k None h = absurd h
+component_variable k _ h = absurd h
 
 module _ (tokens : Tokens) (s : Scopes) (h : Here) (w : Context) (agrees : ScopesAgree tokens s h) where
   pub holds_variable : (m : Option scopes.Meaning) (x : Option Name) (v : ValueType) (o : Option Designated) → Holds (written tokens s h) m x v o → IsVariableMeaning m
@@ -161,12 +147,7 @@ module _ (tokens : Tokens) (s : Scopes) (h : Here) (w : Context) (agrees : Scope
   other_untyped : (i : Name) (m : Option scopes.Meaning) (x : Option Name) (n : Named) (o : Option Designated) → (IsVariableMeaning m → ⊥) → NamedIs tokens s h i m x n o → IsUntyped n
   other_untyped i m x (name.Variable v) o other k = other (holds_variable m x v o k)
   other_untyped i m x (name.Parameter v) o other k = other (holds_variable m x v o k)
-  other_untyped i m x name.Nothing o other k = tt
-  other_untyped i m x (name.Constant b) o other k = tt
-  other_untyped i m x name.Kind o other k = tt
-  other_untyped i m x (name.Routine n) o other k = tt
-  other_untyped i m x (name.Entry n) o other k = tt
-  other_untyped i m x (name.Predeclared q) o other k = tt
+  other_untyped i m x _ o other k = tt
 
   bare_of : (i : Identifier) (ss : Selectors) (j : Judged check_designated.DesignatedName) (d : check_designated.DesignatedName) → names.begun s i ≡ j → (IsVariableMeaning (find i.name h.scope) → ⊥) → (selectors s w j ss >>= names.known i.at) ≡ Ok d → ss ≡ no_selectors
   bare_of i ss (Ok c) d is other k =
@@ -232,24 +213,12 @@ module _ (tokens : Tokens) (s : Scopes) (h : Here) (w : Context) (agrees : Scope
 
       found : (o : Option (Option Meaning)) → member_at (tokens.systems k) i.name s ≡ o → (selectors s w (names.with_entry i.at c o) ss >>= names.known at) ≡ Ok d → EntryFound (more_selectors (field i) ss) (Some (a_component part k)) r k
       found (Some (Some (meaning.Routine n))) m y = after n ss m (untyped_bare s w at ss (names.designated i.at c.uses (name.Entry n)) d tt y) y
-      found None m y = bad _ y
-      found (Some None) m y = bad _ y
-      found (Some (Some (meaning.Constant b z))) m y = bad _ y
-      found (Some (Some (meaning.Kind v))) m y = bad _ y
-      found (Some (Some (meaning.Variable v))) m y = bad _ y
-      found (Some (Some (meaning.Parameter v))) m y = bad _ y
-      found (Some (Some (meaning.Reference v))) m y = bad _ y
-      found (Some (Some (meaning.Predeclared q))) m y = bad _ y
+      found _ m y = bad _ y
 
   part_type : (n : Named) (v u : ValueType) → names.type_of n ≡ Some v → names.type_of (names.part_of n u) ≡ Some u
   part_type (name.Variable y) v u e = refl
   part_type (name.Parameter y) v u e = refl
-  part_type name.Nothing v u e = absurd (cc)
-  part_type (name.Constant b) v u e = absurd (cc)
-  part_type name.Kind v u e = absurd (cc)
-  part_type (name.Routine n) v u e = absurd (cc)
-  part_type (name.Entry n) v u e = absurd (cc)
-  part_type (name.Predeclared q) v u e = absurd (cc)
+  part_type x v u e = absurd (cc)
 
   -- of one of an array
   many_entry : (at : ℕ) (ss : Selectors) (c d : check_designated.DesignatedName) (first : ℕ) (q : named.Range) (k r : ℕ) (v : ValueType) → AreSmallSelectors ss → names.type_of c.named ≡ Some v → TypeIs (written tokens s h) (named.array_over q (named.component_of k)) v → d.named ≡ name.Entry r → (selectors s w (Ok c) ss >>= names.known at) ≡ Ok d → EntryFound ss (Some (some_components first q k)) r k
@@ -313,9 +282,8 @@ module _ (tokens : Tokens) (s : Scopes) (h : Here) (w : Context) (agrees : Scope
       no_entry (meaning.Predeclared q) g = cc
 
       go : (o : Option (Option Meaning)) → (names.found i.at o >>= names.unselected i.at) ≡ Ok c → ⊥
-      go None k = cc
-      go (Some None) k = cc
       go (Some (Some m)) k = no_entry m (ap (λ (d : check_designated.DesignatedName). d.named) (ok_same (names.designated i.at no_use (names.named_of m)) c k) ∙ e)
+      go x k = cc
 
   bare_entry : (i : Identifier) (c d : check_designated.DesignatedName) (r : ℕ) → names.begun s i ≡ Ok c → d.named ≡ name.Entry r → (selectors s w (Ok c) no_selectors >>= names.known i.at) ≡ Ok d → ⊥
   unfolding expression
@@ -335,11 +303,7 @@ module _ (tokens : Tokens) (s : Scopes) (h : Here) (w : Context) (agrees : Scope
   plain_call (Some (scopes.local_variable t)) x p e = cc
   plain_call (Some (scopes.permanent_variable t)) None p e = cc
   plain_call (Some (scopes.permanent_variable t)) (Some y) p e = (let bad : false ≡ true = sym p ∙ e in cc)
-  plain_call (Some (scopes.constant_meaning b z)) x p e = p
-  plain_call (Some (scopes.type_meaning t)) x p e = p
-  plain_call (Some (scopes.routine_meaning r)) x p e = p
-  plain_call (Some (scopes.standard_meaning q)) x p e = p
-  plain_call None x p e = p
+  plain_call _ x p e = p
 
   held_entry : (i : Identifier) (ss : Selectors) (c d : check_designated.DesignatedName) (r : ℕ) (v : ValueType) (o : Option Designated) → begun_form h i.name (find i.name h.scope) ≡ o → AreSmallSelectors ss → names.type_of c.named ≡ Some v → Holds (written tokens s h) (find i.name h.scope) None v o → is_call_meant (find i.name h.scope) (last_field ss) ≡ true →
       d.named ≡ name.Entry r → (selectors s w (Ok c) ss >>= names.known i.at) ≡ Ok d → EntryUsed i ss r
@@ -354,12 +318,8 @@ module _ (tokens : Tokens) (s : Scopes) (h : Here) (w : Context) (agrees : Scope
       d.named ≡ name.Entry r → (selectors s w (Ok c) ss >>= names.known i.at) ≡ Ok d → EntryUsed i ss r
   named_entry i ss c d r (name.Variable v) is b small k call e g = held_entry i ss c d r v (begun_form h i.name (find i.name h.scope)) refl small (ap names.type_of is) k call e g
   named_entry i ss c d r (name.Parameter v) is b small k call e g = held_entry i ss c d r v (begun_form h i.name (find i.name h.scope)) refl small (ap names.type_of is) k call e g
-  named_entry i ss c d r name.Nothing is b small k call e g = absurd (untyped_entry i ss c d r b (subst IsUntyped (sym is) tt) e g)
-  named_entry i ss c d r (name.Constant z) is b small k call e g = absurd (untyped_entry i ss c d r b (subst IsUntyped (sym is) tt) e g)
-  named_entry i ss c d r name.Kind is b small k call e g = absurd (untyped_entry i ss c d r b (subst IsUntyped (sym is) tt) e g)
-  named_entry i ss c d r (name.Routine n) is b small k call e g = absurd (untyped_entry i ss c d r b (subst IsUntyped (sym is) tt) e g)
   named_entry i ss c d r (name.Entry n) is b small k call e g = absurd (begun_entry i c n b is)
-  named_entry i ss c d r (name.Predeclared q) is b small k call e g = absurd (untyped_entry i ss c d r b (subst IsUntyped (sym is) tt) e g)
+  named_entry i ss c d r _ is b small k call e g = absurd (untyped_entry i ss c d r b (subst IsUntyped (sym is) tt) e g)
 
   begun_is : (i : Identifier) (ss : Selectors) (j : Judged check_designated.DesignatedName) (d : check_designated.DesignatedName) (r : ℕ) → names.begun s i ≡ j → AreSmallSelectors ss → is_call_meant (find i.name h.scope) (last_field ss) ≡ true → d.named ≡ name.Entry r → (selectors s w j ss >>= names.known i.at) ≡ Ok d → EntryUsed i ss r
   begun_is i ss (Ok c) d r is small call e g =

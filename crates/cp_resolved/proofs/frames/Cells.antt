@@ -41,14 +41,11 @@ elements (suc n) x y h i =
 module _ (k : Numbering) (ts : Compounds) where
   mutual
     pub cells_same : (t : Ty) (v : CellType) → TypeIs k ts t v → cells_of t ≤ most → kinds.cells_of ts v ≡ cells_of t
-    cells_same (named.ordinal s) v h i = ap (kinds.cells_of ts) h
-    cells_same named.queue_type v h i = ap (kinds.cells_of ts) h
-    cells_same (named.set_over s) v h i = ap (kinds.cells_of ts) h
     cells_same (named.array_over s t) v h i =
         ap (kinds.cells_of ts) h.is ∙ ap compound_cells h.there ∙ ap (times (kinds.cells_of ts h.element)) (count_same k s)
         ∙ elements (length_of_range s) (cells_of t) (kinds.cells_of ts h.element) i (λ j. cells_same t h.element h.belongs j)
     cells_same (named.record_with us) v h i = ap (kinds.cells_of ts) h.is ∙ ap compound_cells h.there ∙ fields_end us h.fields 0 h.cells h.each (let z : 0 + cells_in us ≤ most = omega (arith, i) in z) ∙ (let z : 0 + cells_in us ≡ cells_in us = omega arith in z)
-    cells_same (named.component_of n) v h i = ap (kinds.cells_of ts) h
+    cells_same _ v h i = ap (kinds.cells_of ts) h
 
     pub fields_end : (us : FieldTypes) (fs : List Field) (n end : ℕ) → FieldsAre k ts us fs n end → n + cells_in us ≤ most → end ≡ n + cells_in us
     fields_end named.no_field_types fs n end h i = omega (arith, h.1)

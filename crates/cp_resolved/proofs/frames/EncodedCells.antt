@@ -1,19 +1,21 @@
 -- The cells with which a variable begins are those of the least value of its type, and as many as are counted for it.
-use Rattle.std.proofs.Common.{◌≡◌, ℕ, zero, suc, ◌+◌, ◌*◌, ◌<◌, ◌==◌, ℤ, pos, negsuc, Bool, true, false, if◌then◌else◌, List, [], ◌∷◌, ◌++◌, length, Some, slice_get, refl, sym, ap, subst, ◌∙◌, arith, append_assoc, append-nil, length-append}
-use Rattle.std.specs.Prelude.{min, int_le, int_lt}
+use Rattle.std.proofs.Common.{◌≡◌, ℕ, zero, suc, ◌+◌, ◌*◌, ◌<◌, ◌==◌, ℤ, Bool, true, false, if◌then◌else◌, List, [], ◌∷◌, ◌++◌, length, Some, slice_get, refl, sym, ap, subst, ◌∙◌, arith, append_assoc, append-nil, length-append}
+use Rattle.std.specs.Prelude.{min}
 use Rattle.std.proofs.lemmas.Bool.{eqb-true, eqb-false}
 use Rattle.std.proofs.lemmas.Option.{slice_get_within}
 use Rattle.cp_layout.specs.declared.kinds.CellType.{CellType}
 use Rattle.cp_layout.specs.declared.kinds.CellType.TheVariants as types
 use Rattle.cp_layout.specs.Kinds as kinds
-use Rattle.cp_layout.specs.Kinds.{Field, Compound, array, record_with, Compounds, array_type, compound_cells, count_of, least_of, least_by, fields_least, compound_least, compound_below, most, plus, times}
+use Rattle.cp_layout.specs.Kinds.{Field, Compound, array, record_with, Compounds, array_type, compound_cells, count_of, least_by, fields_least, compound_least, compound_below, most, plus, times}
 use Rattle.cp_meaning.specs.Types as named
 use Rattle.cp_meaning.specs.Types.{Ty, FieldTypes, length_of_range}
 use Rattle.cp_meaning.specs.Values as values
-use Rattle.cp_meaning.specs.Values.{least_number, least_fields}
+use Rattle.cp_meaning.specs.Values.{least_fields}
 use Rattle.cp_resolved.specs.InStep.{Numbering, range_on, TypeIs, FieldsAre}
 use Rattle.cp_resolved.specs.Encoded.{encode, encode_all, encode_fields}
 use Rattle.cp_resolved.proofs.frames.Cells.{count_same}
+use Rattle.cp_resolved.proofs.frames.LeastCells.{least_of_same as range_least}
+use Rattle.cp_resolved.proofs.systems.Sizes.{copies_length}
 
 -- ---- types that hold earlier ones alone
 
@@ -36,12 +38,9 @@ HoldEarlier ts = (n : ℕ) (c : Compound) → slice_get ts n ≡ Some c → Hold
 
 module _ (f g : ℕ → List ℤ) (n : ℕ) (same : (m : ℕ) → m < n → f m ≡ g m) where
   type_same : (v : CellType) → IsBelow n v → least_by f v ≡ least_by g v
-  type_same (types.Ordinal r) h = refl
-  type_same types.Queue h = refl
-  type_same (types.Set r) h = refl
   type_same (types.Array m) h = same m h
   type_same (types.Record m) h = same m h
-  type_same (types.System m) h = refl
+  type_same _ h = refl
 
   fields_same : (fs : List Field) → AreBelow n fs → fields_least f fs ≡ fields_least g fs
   unfolding fields_least
@@ -52,7 +51,7 @@ module _ (f g : ℕ → List ℤ) (n : ℕ) (same : (m : ℕ) → m < n → f m 
   compound_same (array a) h = ap (λ zs. kinds.copies (count_of a.index) zs) (type_same a.element h)
   compound_same (record_with fs cells) h = fields_same fs h
 
-less : (n bound : ℕ) → n < suc bound → (n ≡ bound → ⊥) → n < bound
+pub less : (n bound : ℕ) → n < suc bound → (n ≡ bound → ⊥) → n < bound
 less zero zero lt other = absurd (other refl)
 less zero (suc bound) lt other = omega arith
 less (suc n) zero lt other = absurd (omega (arith, lt))
@@ -94,25 +93,16 @@ module _ (ts : Compounds) where
 
 abbrev mutual
   pub IsValued : Ty → Type 0
-  IsValued (named.ordinal r) = Unit {0}
-  IsValued named.queue_type = Unit {0}
-  IsValued (named.set_over r) = Unit {0}
   IsValued (named.array_over r t) = IsValued t
   IsValued (named.record_with us) = AreValued us
   IsValued (named.component_of n) = ⊥
+  IsValued _ = Unit {0}
 
   pub AreValued : FieldTypes → Type 0
   AreValued named.no_field_types = Unit {0}
   AreValued (named.more_field_types x t us) = IsValued t × AreValued us
 
 -- ---- least values
-
-range_least : (k : Numbering) (r : named.Range) → least_of (range_on k r) ≡ least_number r
-range_least k r = go r.low
-  where
-    go : (z : ℤ) → (if int_le z (negsuc 32767) then pos 0 else z) ≡ (if int_lt z (negsuc 32766) then pos 0 else z)
-    go (pos n) = refl
-    go (negsuc n) = refl
 
 copies_last : (n : ℕ) (zs : List ℤ) → zs ++ kinds.copies n zs ≡ kinds.copies n zs ++ zs
 unfolding kinds.copies
@@ -123,11 +113,6 @@ copies_encoded : (n : ℕ) (w : values.Value) → kinds.copies n (encode w) ≡ 
 unfolding kinds.copies
 copies_encoded zero w = refl
 copies_encoded (suc n) w = sym (copies_last n (encode w)) ∙ ap (λ zs. encode w ++ zs) (copies_encoded n w)
-
-copies_length : (n : ℕ) (zs : List ℤ) → length (kinds.copies n zs) ≡ n * length zs
-unfolding kinds.copies
-copies_length zero zs = omega arith
-copies_length (suc n) zs = length-append (kinds.copies n zs) zs ∙ (let e = copies_length n zs in omega (arith, e))
 
 none_before : (n : ℕ) → 0 + n ≡ n
 none_before n = omega arith
@@ -150,14 +135,13 @@ module _ (k : Numbering) (ts : Compounds) (earlier : HoldEarlier ts) where
 
     cells_encoded : (t : Ty) (v : CellType) → IsValued t → TypeIs k ts t v → cells v ≡ encode (values.least t)
     cells_encoded (named.ordinal r) v w h = ap cells h ∙ ap (λ z. z ∷ []) (range_least k r)
-    cells_encoded named.queue_type v w h = ap cells h
-    cells_encoded (named.set_over r) v w h = ap cells h
     cells_encoded (named.array_over r t) v w h =
         ap cells h.is ∙ compound_least_is ts earlier h.number (array (array_type ts (range_on k r) h.element)) h.there
         ∙ ap (λ n. kinds.copies n (cells h.element)) (count_same k r) ∙ ap (kinds.copies (length_of_range r)) (cells_encoded t h.element w h.belongs) ∙ copies_encoded (length_of_range r) (values.least t)
     cells_encoded (named.record_with us) v w h =
         ap cells h.is ∙ compound_least_is ts earlier h.number (record_with h.fields h.cells) h.there ∙ fields_encoded us h.fields 0 h.cells w h.each
     cells_encoded (named.component_of n) v w h = absurd w
+    cells_encoded _ v w h = ap cells h
 
     fields_encoded : (us : FieldTypes) (fs : List Field) (n end : ℕ) → AreValued us → FieldsAre k ts us fs n end → fields_least (compound_below ts (length ts)) fs ≡ encode_fields (least_fields us)
     fields_encoded named.no_field_types fs n end w h = ap (fields_least (compound_below ts (length ts))) h.0
@@ -169,9 +153,6 @@ module _ (k : Numbering) (ts : Compounds) (earlier : HoldEarlier ts) where
     unfolding fields_least
 
     cells_counted : (t : Ty) (v : CellType) → TypeIs k ts t v → kinds.cells_of ts v ≡ min (length (cells v)) most
-    cells_counted (named.ordinal r) v h = rw h (omega arith)
-    cells_counted named.queue_type v h = rw h (omega arith)
-    cells_counted (named.set_over r) v h = rw h (omega arith)
     cells_counted (named.array_over r t) v h =
         let n : ℕ = count_of (range_on k r) in
         let e : cells v ≡ kinds.copies n (cells h.element) = ap cells h.is ∙ compound_least_is ts earlier h.number (array (array_type ts (range_on k r) h.element)) h.there in
@@ -180,7 +161,7 @@ module _ (k : Numbering) (ts : Compounds) (earlier : HoldEarlier ts) where
     cells_counted (named.record_with us) v h =
         let e : cells v ≡ fields_least (compound_below ts (length ts)) h.fields = ap cells h.is ∙ compound_least_is ts earlier h.number (record_with h.fields h.cells) h.there in
         ap (kinds.cells_of ts) h.is ∙ ap compound_cells h.there ∙ fields_counted us h.fields 0 h.cells 0 (omega arith) h.each ∙ ap (λ m. min m most) (none_before (length (fields_least (compound_below ts (length ts)) h.fields)) ∙ sym (ap (λ (zs : List ℤ). length zs) e))
-    cells_counted (named.component_of n) v h = rw h (omega arith)
+    cells_counted x v h = rw h (omega arith)
 
     fields_counted : (us : FieldTypes) (fs : List Field) (n end m : ℕ) → n ≡ min m most → FieldsAre k ts us fs n end → end ≡ min (m + length (fields_least (compound_below ts (length ts)) fs)) most
     fields_counted named.no_field_types fs n end m i h = rw h.0 (let e : n ≡ end = h.1 in omega (arith, e, i))

@@ -61,14 +61,6 @@ look_either x t vs ws h = go (look x vs) refl
     go None e = inr (e, sym (look_right x vs ws e) ∙ h)
     go (Some u) e = inl (e ∙ ap (λ y. Some y) (same_Some u t (sym (look_left x u vs ws e) ∙ h)))
 
-pub each_left : {A : Type 0} (P : A → Type 0) (xs ys : List A) → Each P (xs ++ ys) → Each P xs
-each_left P [] ys h = tt
-each_left P (x ∷ xs) ys h = (h.0, each_left P xs ys h.1)
-
-pub each_right : {A : Type 0} (P : A → Type 0) (xs ys : List A) → Each P (xs ++ ys) → Each P ys
-each_right P [] ys h = h
-each_right P (x ∷ xs) ys h = each_right P xs ys h.1
-
 pub each_both : {A : Type 0} (P : A → Type 0) (xs ys : List A) → Each P xs → Each P ys → Each P (xs ++ ys)
 each_both P [] ys h i = i
 each_both P (x ∷ xs) ys h i = (h.0, each_both P xs ys h.1 i)
@@ -154,7 +146,7 @@ before_apart x y t u (v ∷ vs) o h i = go (same_name x v.name) (same_name y v.n
 
 -- ---- cells that stand among others
 
-index_left : (xs ys : List ℤ) (n : ℕ) → n < length xs → slice_index_or (xs ++ ys) n (pos 0) ≡ slice_index_or xs n (pos 0)
+pub index_left : (xs ys : List ℤ) (n : ℕ) → n < length xs → slice_index_or (xs ++ ys) n (pos 0) ≡ slice_index_or xs n (pos 0)
 index_left [] ys n h = absurd (omega (arith, h))
 index_left (x ∷ xs) ys zero h = refl
 index_left (x ∷ xs) ys (suc n) h = index_left xs ys n (omega (arith, h))

@@ -14,7 +14,7 @@ use Rattle.cp_resolved.specs.Once.{IsWord, AreWords, AreSized}
 use Rattle.cp_resolved.specs.Small.{Each}
 use Rattle.cp_resolved.specs.Standing.{IsFreeVariable}
 use Rattle.cp_resolved.specs.TreeLayouts.{result_variables, parameters_by}
-use Rattle.cp_resolved.proofs.frames.FrameCells.{each_right, none_left, none_right, none_both}
+use Rattle.cp_resolved.proofs.frames.FrameCells.{none_left, none_right, none_both}
 use Rattle.cp_resolved.proofs.frames.FrameKnown.{word_found, Visible}
 use Rattle.cp_resolved.proofs.frames.FrameStands.{is_result}
 use Rattle.cp_resolved.proofs.frames.FrameSteps.{HasCells, Fits, fits_left, fits_right}
@@ -22,6 +22,7 @@ use Rattle.cp_resolved.proofs.frames.FramesBegun.{no_parameter, ResultHasCells, 
 use Rattle.cp_resolved.proofs.systems.Sizes.{Counted}
 use Rattle.cp_resolved.proofs.systems.SystemKnown.{later_new}
 use Rattle.cp_resolved.proofs.names.TreeKnown.{local_sized}
+use Rattle.cp_resolved.proofs.agreeing.AgreeingWritten.{each_right}
 
 -- ---- types
 
@@ -39,11 +40,7 @@ have_cells s (v ∷ vs) z h f =
 
 ordinal_cells : (t : Ty) → IsOrdinal t → HasCells t
 ordinal_cells (named.ordinal r) h = record { free = h; few = one_cell; full = tt }
-ordinal_cells named.queue_type h = absurd h
-ordinal_cells (named.set_over r) h = absurd h
-ordinal_cells (named.array_over r t) h = absurd h
-ordinal_cells (named.record_with us) h = absurd h
-ordinal_cells (named.component_of n) h = absurd h
+ordinal_cells _ h = absurd h
 
 -- ---- names
 

@@ -24,9 +24,8 @@ enumerated_cells l b n (i ∷ is) = enumerated_cells (with_constant l i.name (me
 
 simple_cells : (l : Layer) (s : syntax.Simple) → cells (simple_type l s).1 ≡ cells l
 unfolding simple_type
-simple_cells l (syntax.type_name at x) = refl
 simple_cells l (syntax.enumeration at is) = enumerated_cells l (enumeration_base (length l.constants) (length is)) 0 is
-simple_cells l (syntax.subrange at c d) = refl
+simple_cells l _ = refl
 
 mutual
   unfolding written_type field_groups field_group

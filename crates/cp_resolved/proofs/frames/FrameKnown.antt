@@ -1,6 +1,6 @@
 -- In the frame of a routine each variable has its cells, with its first value, and no two have any in common.
 use Rattle.std.proofs.Common.{◌≡◌, ◌+◌, ◌<◌, ◌==◌, ◌⊎◌, inl, inr, ℕ, zero, suc, ℤ, pos, Bool, true, false, if◌then◌else◌, List, [], ◌∷◌, ◌++◌, length, Option, Some, None, slice_index_or, refl, sym, subst, ◌∙◌, arith}
-use Rattle.std.proofs.Math.Dec.{T, eqb_refl}
+use Rattle.std.proofs.Math.Dec.{eqb_refl}
 use Rattle.std.proofs.lemmas.Bool.{eqb-true}
 use Rattle.std.proofs.lemmas.Option.{none-some, same_Some}
 use Rattle.cp_tree.specs.Syntax as syntax
@@ -9,11 +9,11 @@ use Rattle.cp_meaning.specs.Types.{Ty}
 use Rattle.cp_meaning.specs.Scopes as scopes
 use Rattle.cp_meaning.specs.Scopes.{Scope, local_variable, find}
 use Rattle.cp_meaning.specs.Declarations.{Variable, Parameter}
-use Rattle.cp_meaning.specs.State.{Item, statement_item, function_call, start_item, until, successor, return, init_end, end}
+use Rattle.cp_meaning.specs.State.{Item, function_call}
 use Rattle.cp_meaning.specs.Expressions.{result_called, routine_called}
 use Rattle.cp_meaning.specs.Steps.{parameter_variables}
 use Rattle.cp_resolved.specs.Calls as calls
-use Rattle.cp_resolved.specs.Calls.{all_calls_laid, calls_before, IsAmong}
+use Rattle.cp_resolved.specs.Calls.{calls_before, IsAmong}
 use Rattle.cp_resolved.specs.Framed.{AreDifferent, IsOrdinal}
 use Rattle.cp_resolved.specs.Layouts.{look}
 use Rattle.cp_resolved.specs.Once.{IsWord, AreWords}
@@ -24,6 +24,7 @@ use Rattle.cp_resolved.proofs.frames.FrameCells.{same_is, look_each}
 use Rattle.cp_resolved.proofs.agreeing.ScopeVariables.{Among, among_left, among_right, never_missing}
 use Rattle.cp_resolved.proofs.systems.SystemKnown.{among_either}
 use Rattle.cp_resolved.proofs.laid.ZeroCells.{AreZeros}
+use Rattle.cp_resolved.proofs.frames.LeastCells.{holds as holds_true}
 
 -- ---- names that are no words
 
@@ -103,10 +104,6 @@ never_both x t u (q ∷ qs) vs d h i = go q.is_var h i (never_both x t u qs vs d
 
 -- ---- the temporary names of calls
 
-holds_true : (b : Bool) → T b → b ≡ true
-holds_true true t = refl
-holds_true false t = absurd t
-
 pub record IsTemporary (x : Name) (t : Ty) (items : List Item) : Type 0 where
   pub at : ℕ
   pub is : x ≡ temporary at
@@ -121,13 +118,7 @@ module _ (p : syntax.Program) (s : Scope) where
       go : (b : Bool) → same_name x (temporary at) ≡ b → (if b then Some (result_called (routine_called p s d)) else look x (call_variables p s is)) ≡ Some t → (look x (call_variables p s is) ≡ Some t → IsTemporary x t is) → IsTemporary x t (function_call at d es ∷ is)
       go true w f rest = record { at = at; is = same_is x (temporary at) w; among = inl (holds_true (at == at) (eqb_refl at)); ordinal = subst IsOrdinal (same_Some (result_called (routine_called p s d)) t f) o.0 }
       go false w f rest = let r = rest f in record { at = r.at; is = r.is; among = inr r.among; ordinal = r.ordinal }
-  temporary_of x t (statement_item q ∷ is) a o e = absurd a.0
-  temporary_of x t (start_item q ∷ is) a o e = absurd a.0
-  temporary_of x t (until ts q ∷ is) a o e = absurd a.0
-  temporary_of x t (successor at i z d w q ∷ is) a o e = absurd a.0
-  temporary_of x t (return q ∷ is) a o e = absurd a.0
-  temporary_of x t (init_end j ∷ is) a o e = absurd a.0
-  temporary_of x t (end ∷ is) a o e = absurd a.0
+  temporary_of x t _ a o e = absurd a.0
 
 -- fewer calls than all stand before one of them, and not as many before another
 pub before_all : (at : ℕ) (is : List Item) → IsAmong at is → calls_before at is < length is
@@ -151,13 +142,7 @@ before_other m n (function_call at d es ∷ is) a h i e = go (at == m) (at == n)
     go false false f g (inl u) v w rest = absurd (let bad : false ≡ true = u in cc)
     go false false f g (inr u) (inl v) w rest = absurd (let bad : false ≡ true = v in cc)
     go false false f g (inr u) (inr v) w rest = rest u v (omega (arith, w))
-before_other m n (statement_item q ∷ is) a h i e = absurd a.0
-before_other m n (start_item q ∷ is) a h i e = absurd a.0
-before_other m n (until ts q ∷ is) a h i e = absurd a.0
-before_other m n (successor at j z d w q ∷ is) a h i e = absurd a.0
-before_other m n (return q ∷ is) a h i e = absurd a.0
-before_other m n (init_end j ∷ is) a h i e = absurd a.0
-before_other m n (end ∷ is) a h i e = absurd a.0
+before_other m n _ a h i e = absurd a.0
 
 pub zero_stands : (zs : List ℤ) (n : ℕ) → AreZeros zs → n < length zs → StandsAt zs n (pos 0 ∷ [])
 zero_stands zs n h lt = record { inside = omega (arith, lt); same = λ j less. go j less }

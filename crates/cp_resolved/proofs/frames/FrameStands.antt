@@ -10,7 +10,7 @@ use Rattle.cp_layout.specs.Layers as layers
 use Rattle.cp_layout.specs.Layers.{Layer, own_result}
 use Rattle.cp_meaning.specs.Names.{Name, same_name, temporary, result_name}
 use Rattle.cp_meaning.specs.Types as named
-use Rattle.cp_meaning.specs.Types.{Ty, has_components}
+use Rattle.cp_meaning.specs.Types.{Ty}
 use Rattle.cp_meaning.specs.Values.{number_value}
 use Rattle.cp_meaning.specs.Scopes as scopes
 use Rattle.cp_meaning.specs.Scopes.{Scope, local_variable, find}
@@ -18,7 +18,7 @@ use Rattle.cp_meaning.specs.Declarations.{Variable, RoutineMeaning}
 use Rattle.cp_meaning.specs.State.{Item}
 use Rattle.cp_meaning.specs.Steps.{parameter_variables}
 use Rattle.cp_resolved.specs.Calls as calls
-use Rattle.cp_resolved.specs.Calls.{all_calls_laid, calls_before, IsAmong}
+use Rattle.cp_resolved.specs.Calls.{all_calls_laid, calls_before}
 use Rattle.cp_resolved.specs.Encoded.{HasType}
 use Rattle.cp_resolved.specs.Framed.{AreDeclared, routine_variables, IsOrdinal}
 use Rattle.cp_resolved.specs.InStep.{Numbering, IsInFrame, InStep, FoundIs}
@@ -27,7 +27,7 @@ use Rattle.cp_resolved.specs.Once.{IsWord, AreWords}
 use Rattle.cp_resolved.specs.Resolved.{AreApart}
 use Rattle.cp_resolved.specs.Small.{Each}
 use Rattle.cp_resolved.specs.TreeLayouts.{call_variables, result_variables, parameters_by, frame_layout, hidden_origin, origin_in}
-use Rattle.cp_resolved.proofs.frames.FrameCells.{itself, same_is, look_left, look_right, look_either, look_each, none_left, none_right, none_both, total, cells_before, images_length, before_inside, before_apart, number_among}
+use Rattle.cp_resolved.proofs.frames.FrameCells.{itself, same_is, look_left, look_right, look_either, look_each, none_left, none_both, total, cells_before, images_length, before_inside, before_apart, number_among}
 use Rattle.cp_resolved.proofs.frames.FrameSteps.{Lies, Frames}
 use Rattle.cp_resolved.proofs.frames.FramesBegun.{no_parameter}
 use Rattle.cp_resolved.proofs.frames.LeastCells.{zero_typed}
@@ -48,19 +48,11 @@ differ (suc a) (suc b) h = go (differ a b (λ e. h (ap suc e)))
 
 one_cell : (t : Ty) → IsOrdinal t → cells_of t ≡ 1
 one_cell (named.ordinal r) h = refl
-one_cell named.queue_type h = absurd h
-one_cell (named.set_over r) h = absurd h
-one_cell (named.array_over r t) h = absurd h
-one_cell (named.record_with us) h = absurd h
-one_cell (named.component_of n) h = absurd h
+one_cell _ h = absurd h
 
 pub zero_has : (t : Ty) → IsOrdinal t → HasType t (number_value (pos 0))
 zero_has (named.ordinal r) h = zero_typed r
-zero_has named.queue_type h = absurd h
-zero_has (named.set_over r) h = absurd h
-zero_has (named.array_over r t) h = absurd h
-zero_has (named.record_with us) h = absurd h
-zero_has (named.component_of n) h = absurd h
+zero_has _ h = absurd h
 
 pub is_result : (x : Name) (t : Ty) (o : Option Ty) → look x (result_variables o) ≡ Some t → x ≡ result_name
 is_result x t None e = absurd (none-some t e)
@@ -92,9 +84,6 @@ module _ (k : Numbering) (p : syntax.Program) (m : RoutineMeaning) (l : Layer) (
 
   no_first : (x : Name) → (IsWord x → ⊥) → look x first ≡ None
   no_first x bad = no_parameter false x m.parameters (none_left x (parameter_variables m.parameters) m.variables (no_local x bad))
-
-  no_variable : (x : Name) → (IsWord x → ⊥) → look x m.variables ≡ None
-  no_variable x bad = none_right x (parameter_variables m.parameters) m.variables (no_local x bad)
 
   -- in the layout the result stands before the parameters
   turned : (x : Name) (t : Ty) → look x (result_variables m.result ++ (first ++ m.variables)) ≡ Some t → look x all ≡ Some t
@@ -138,9 +127,6 @@ module _ (k : Numbering) (p : syntax.Program) (m : RoutineMeaning) (l : Layer) (
   seen x t a = look_each (λ v. find v.name m.scope ≡ Some (local_variable v.ty)) x t (routine_variables m) declared.visible (among_look x t (routine_variables m) declared.different a)
 
   module _ (frames : Frames l all refs) where
-    abbrev At : Name → PlaceOrigin → Type 0
-    At x o = (f.origins x ≡ o) × Lies all refs x o
-
     lies_at : (x : Name) (t : Ty) → find x m.scope ≡ Some (local_variable t) → (o : PlaceOrigin) × (f.origins x ≡ o) × IsInFrame o × Lies all refs x o
     lies_at x t e = go (layers.find x l.names) refl (subst (λ q. FoundIs k l.types (layers.find x l.names) q (scopes.since x m.scope)) e (found_in k l.types x l.names m.scope steps))
       where

@@ -1,5 +1,5 @@
 -- One more variable of a routine has its cells after those before it, and no other declaration moves any.
-use Rattle.std.proofs.Common.{◌≡◌, ◌+◌, ◌≤◌, ℕ, zero, suc, true, if◌then◌else◌, List, [], ◌∷◌, ◌++◌, length, take, Option, Some, None, slice_get, refl, sym, ap, subst, ◌∙◌, ◌⊎◌, inl, inr, arith, append_assoc, append-nil}
+use Rattle.std.proofs.Common.{◌≡◌, ◌+◌, ◌≤◌, true, if◌then◌else◌, List, [], ◌∷◌, ◌++◌, length, take, Option, Some, None, slice_get, refl, sym, ap, subst, ◌∙◌, ◌⊎◌, inl, inr, arith, append_assoc, append-nil}
 use Rattle.std.specs.Str.{bytes_eq}
 use Rattle.std.proofs.lemmas.Option.{none-some, slice_get_within}
 use Rattle.cp_tree.specs.Syntax as syntax
@@ -9,7 +9,7 @@ use Rattle.cp_layout.specs.declared.kinds.CellType.{CellType}
 use Rattle.cp_layout.specs.declared.names.LayoutMeaning.{LayoutMeaning}
 use Rattle.cp_layout.specs.declared.names.LayoutMeaning.TheVariants as meaning
 use Rattle.cp_layout.specs.Kinds as kinds
-use Rattle.cp_layout.specs.Kinds.{Compound, Compounds, most}
+use Rattle.cp_layout.specs.Kinds.{Compounds, most}
 use Rattle.cp_layout.specs.Layers.{Names, find, Layer}
 use Rattle.cp_layout.specs.LaidTypes.{written_type}
 use Rattle.cp_layout.specs.LaidDeclarations.{constants, type_definitions, with_local, local, Parameters, var_parameter}
@@ -32,14 +32,9 @@ use Rattle.cp_resolved.proofs.names.KeptNames as kept
 use Rattle.cp_resolved.proofs.frames.LeastCells.{least_laid}
 use Rattle.cp_resolved.proofs.names.PermanentNames.{found_cases}
 use Rattle.cp_resolved.proofs.names.Steps.{bytes_turned}
-use Rattle.cp_resolved.proofs.systems.Sizes.{Counts, Counted}
+use Rattle.cp_resolved.proofs.systems.Sizes.{Counts, Counted, take_more}
 
 -- ---- types that are among later ones
-
-take_more : {X : Type 0} (xs ys : List X) (n : ℕ) → n ≤ length xs → take n (xs ++ ys) ≡ take n xs
-take_more xs ys zero le = refl
-take_more [] ys (suc n) le = absurd (omega (arith, le))
-take_more (x ∷ xs) ys (suc n) le = ap (λ zs. x ∷ zs) (take_more xs ys n (omega (arith, le)))
 
 pub counted_first : (ts all : Compounds) → Longer ts all → Counted all → Counted ts
 counted_first ts all x h n c e =

@@ -16,7 +16,7 @@ use Rattle.cp_meaning.specs.Expressions.{result_called, routine_called}
 use Rattle.cp_resolved.proofs.frames.FrameStands.{zero_has, is_result, all, refs, case_of}
 use Rattle.cp_meaning.specs.Steps.{parameter_variables}
 use Rattle.cp_resolved.specs.Calls as calls
-use Rattle.cp_resolved.specs.Calls.{all_calls_laid, calls_before, IsAmong}
+use Rattle.cp_resolved.specs.Calls.{all_calls_laid}
 use Rattle.cp_resolved.specs.Encoded.{encode, HasType}
 use Rattle.cp_resolved.specs.Framed.{AreDeclared, routine_variables, IsOrdinal}
 use Rattle.cp_resolved.specs.InStep.{Numbering, InStep}
@@ -26,27 +26,21 @@ use Rattle.cp_resolved.specs.Resolved.{StandsAt, first_value, ParameterIs, Param
 use Rattle.cp_resolved.specs.Small.{Each}
 use Rattle.cp_resolved.specs.Standing.{is_free, is_indexed, IsFreeVariable}
 use Rattle.cp_resolved.specs.TreeLayouts.{call_variables, result_variables, parameters_by, frame_layout, components_among}
-use Rattle.cp_resolved.proofs.frames.FrameCells.{each_right, same_is, look_right, look_either, look_each, none_right, cells_before, stands_after}
+use Rattle.cp_resolved.proofs.frames.FrameCells.{same_is, look_right, look_either, look_each, none_right, cells_before, stands_after}
 use Rattle.cp_resolved.proofs.frames.FrameSteps.{Frames}
 use Rattle.cp_resolved.proofs.frames.FramesBegun.{no_parameter}
 use Rattle.cp_resolved.proofs.frames.LeastCells.{right_true, least_typed}
 use Rattle.cp_resolved.proofs.agreeing.ScopeVariables.{Among, among_left, among_right, among_look, AreOf, of_local}
-use Rattle.cp_resolved.proofs.systems.SystemKnown.{found_among, among_either, content_left, content_right, least_none, least_some}
+use Rattle.cp_resolved.proofs.systems.SystemKnown.{found_among, among_either, content_left, least_none, least_some}
 use Rattle.cp_resolved.proofs.laid.ZeroCells.{AreZeros}
 use Rattle.cp_resolved.proofs.frames.FrameKnown.{word_found, no_word, by_all, either_by, missing_all, IsTemporary, zero_stands}
+use Rattle.cp_meaning.proofs.OwnLocal.{nothing_append as content_right}
+use Rattle.cp_resolved.proofs.agreeing.AgreeingWritten.{each_right}
 
 free_plain : (t : Ty) → is_free t ≡ true → has_components t ≡ false
-free_plain (named.ordinal r) h = refl
-free_plain named.queue_type h = refl
-free_plain (named.set_over r) h = refl
-free_plain (named.array_over r (named.ordinal q)) h = refl
-free_plain (named.array_over r named.queue_type) h = refl
-free_plain (named.array_over r (named.set_over q)) h = refl
-free_plain (named.array_over r (named.array_over q t)) h = refl
-free_plain (named.array_over r (named.record_with us)) h = refl
 free_plain (named.array_over r (named.component_of n)) h = absurd (let bad : false ≡ true = right_true (is_indexed r (named.component_of n)) false h in cc)
-free_plain (named.record_with us) h = refl
 free_plain (named.component_of n) h = absurd (let bad : false ≡ true = h in cc)
+free_plain _ h = refl
 
 all_plain : (vs : List Variable) → Each IsFreeVariable vs → components_among false vs ≡ vs
 all_plain [] h = refl

@@ -42,9 +42,8 @@ variables_grow m b (g ∷ gs) =
     longer_trans b.variables c.variables (meant.variables_in m c gs).variables (named_variables (names_of g.names) y.0, refl) (variables_grow m c gs)
 
 pub part_grows : (m : Ty → scopes.Meaning) (b : Block) (p : syntax.Part) → Longer b.variables (meant.part_in m b p).variables
-part_grows m b (syntax.constants at ds) = ([], sym (append-nil b.variables))
-part_grows m b (syntax.types at ds) = ([], sym (append-nil b.variables))
 part_grows m b (syntax.variables at gs) = variables_grow m b gs
+part_grows m b _ = ([], sym (append-nil b.variables))
 
 pub parts_grow : (m : Ty → scopes.Meaning) (b : Block) (ps : List syntax.Part) → Longer b.variables (meant.parts_in m b ps).variables
 parts_grow m b [] = ([], sym (append-nil b.variables))

@@ -2,13 +2,12 @@
 use Rattle.std.proofs.Common.{◌≡◌, ◌+◌, ◌-◌, ◌*◌, ◌<◌, ◌≤◌, ◌==◌, ℕ, zero, suc, ℤ, pos, negsuc, Bool, true, false, ◌&&◌, if◌then◌else◌, List, [], ◌∷◌, ◌++◌, take, drop, length, Some, None, slice_get, refl, sym, ap, subst, ◌∙◌, ◌⊎◌, inl, inr, arith, length-append, append_assoc, append-nil}
 use Rattle.std.specs.Prelude.{min, int_le, int_lt}
 use Rattle.std.proofs.lemmas.Option.{slice_get_within}
-use Rattle.std.proofs.lemmas.Bool.{eqb-true}
 use Rattle.std.proofs.Math.Dec.{T, eqb_refl, leb-zero}
 use Rattle.std.proofs.Math.Nat.{mul_comm}
 use Rattle.cp_layout.specs.declared.kinds.CellType.{CellType}
 use Rattle.cp_layout.specs.declared.kinds.CellType.TheVariants as types
 use Rattle.cp_layout.specs.Kinds as kinds
-use Rattle.cp_layout.specs.Kinds.{Compound, array, record_with, Compounds, Field, compound_cells, count_of, most, times, array_type, least_by, fields_least, elements_least, compound_least, compound_below, least_below}
+use Rattle.cp_layout.specs.Kinds.{array, record_with, Compounds, Field, compound_cells, count_of, most, times, array_type, fields_least, compound_least, compound_below, least_below}
 use Rattle.cp_meaning.specs.Types as named
 use Rattle.cp_meaning.specs.Types.{Base, Range, Ty, FieldTypes, length_of_range, is_within, has_components}
 use Rattle.cp_meaning.specs.Operations.{range_of_base}
@@ -19,7 +18,8 @@ use Rattle.cp_resolved.specs.Layouts.{cells_of, cells_in}
 use Rattle.cp_resolved.specs.Standing.{is_bounded, is_indexed, are_few, is_free, are_free, is_element, is_standing}
 use Rattle.cp_resolved.specs.Valued.{IsFull, AreFull}
 use Rattle.cp_resolved.proofs.frames.Cells.{capped, count_same, one_more, cells_same, fields_end}
-use Rattle.cp_resolved.proofs.systems.Sizes.{Counted, fields_cells, cells_more}
+use Rattle.cp_resolved.proofs.systems.Sizes.{Counted, fields_cells, cells_more, times_more as times_apart}
+use Rattle.cp_layout.proofs.Least.{compound_inside as below_at, compound_outside as below_past}
 
 left_true : (a b : Bool) → (a && b) ≡ true → a ≡ true
 left_true true b h = refl
@@ -40,12 +40,10 @@ copied_length (suc n) v =
 
 mutual
   pub least_length : (t : Ty) → is_free t ≡ true → length (encode (least t)) ≡ cells_of t
-  least_length (named.ordinal r) h = refl
-  least_length named.queue_type h = refl
-  least_length (named.set_over r) h = refl
   least_length (named.array_over r t) h = copied_length (length_of_range r) (least t) ∙ ap (λ n. length_of_range r * n) (least_length t (right_true (is_indexed r t) (is_free t) h))
   least_length (named.record_with ts) h = fields_length ts (right_true (are_few (cells_in ts)) (are_free ts) h)
   least_length (named.component_of n) h = absurd (let bad : false ≡ true = h in cc)
+  least_length _ h = refl
 
   fields_length : (ts : FieldTypes) → are_free ts ≡ true → length (encode_fields (least_fields ts)) ≡ cells_in ts
   fields_length named.no_field_types h = refl
@@ -61,10 +59,8 @@ nothing_left (x ∷ xs) h = absurd (omega (arith, h))
 -- ---- a value of the type
 
 zero_within : (b : Base) → is_within (range_of_base b) (pos 0) ≡ true
-zero_within named.integers = refl
-zero_within named.booleans = refl
-zero_within named.characters = refl
 zero_within (named.enumerated at xs) = leb-zero (length xs - 1)
+zero_within _ = refl
 
 number_typed : (r : Range) → is_bounded r ≡ true → is_within (range_of_base r.base) (least_number r) ≡ true
 number_typed r h = go (int_lt r.low (negsuc 32766))
@@ -84,11 +80,10 @@ all_have Has (suc n) v h = (h, all_have Has n v h)
 mutual
   pub least_typed : (t : Ty) → is_free t ≡ true → HasType t (least t)
   least_typed (named.ordinal r) h = number_typed r h
-  least_typed named.queue_type h = tt
-  least_typed (named.set_over r) h = tt
   least_typed (named.array_over r t) h = all_have (HasType t) (length_of_range r) (least t) (least_typed t (right_true (is_indexed r t) (is_free t) h))
   least_typed (named.record_with ts) h = fields_typed ts (right_true (are_few (cells_in ts)) (are_free ts) h)
   least_typed (named.component_of n) h = absurd (let bad : false ≡ true = h in cc)
+  least_typed _ h = tt
 
   fields_typed : (ts : FieldTypes) → are_free ts ≡ true → HaveTypes ts (least_fields ts)
   fields_typed named.no_field_types h = tt
@@ -96,24 +91,22 @@ mutual
 
 element_typed : (r : Range) (t : Ty) → is_element t ≡ true → has_components (named.array_over r t) ≡ false → HasType t (least t)
 element_typed r (named.ordinal q) h w = least_typed (named.ordinal q) h
-element_typed r named.queue_type h w = tt
-element_typed r (named.set_over q) h w = tt
 element_typed r (named.array_over q t) h w = least_typed (named.array_over q t) h
 element_typed r (named.record_with ts) h w = least_typed (named.record_with ts) h
 element_typed r (named.component_of n) h w = absurd (let bad : true ≡ false = w in cc)
+element_typed r _ h w = tt
 
 -- of a permanent variable that has cells
 pub standing_typed : (t : Ty) → is_standing t ≡ true → has_components t ≡ false → HasType t (least t)
 standing_typed (named.ordinal r) h w = least_typed (named.ordinal r) h
-standing_typed named.queue_type h w = tt
-standing_typed (named.set_over r) h w = tt
 standing_typed (named.array_over r t) h w = all_have (HasType t) (length_of_range r) (least t) (element_typed r t (right_true (is_indexed r t) (is_element t) h) w)
 standing_typed (named.record_with ts) h w = least_typed (named.record_with ts) h
 standing_typed (named.component_of n) h w = absurd (let bad : true ≡ false = w in cc)
+standing_typed _ h w = tt
 
 -- ---- the cells that are laid out
 
-least_of_same : (k : Numbering) (r : Range) → kinds.least_of (range_on k r) ≡ least_number r
+pub least_of_same : (k : Numbering) (r : Range) → kinds.least_of (range_on k r) ≡ least_number r
 least_of_same k r = go r.low
   where
     go : (z : ℤ) → (if int_le z (negsuc 32767) then pos 0 else z) ≡ (if int_lt z (negsuc 32766) then pos 0 else z)
@@ -131,11 +124,11 @@ unfolding kinds.copies
 copies_same zero zs v e = refl
 copies_same (suc n) zs v e = copies_turned n zs ∙ ap (λ ys. ys ++ kinds.copies n zs) e ∙ ap (λ ys. encode v ++ ys) (copies_same n zs v e)
 
-holds : (b : Bool) → T b → b ≡ true
+pub holds : (b : Bool) → T b → b ≡ true
 holds true t = refl
 holds false t = absurd t
 
-same_number : (n : ℕ) → (n == n) ≡ true
+pub same_number : (n : ℕ) → (n == n) ≡ true
 same_number n = holds (n == n) (eqb_refl n)
 
 below_or_not : (n bound : ℕ) → (n < bound) ⊎ (bound ≤ n)
@@ -147,47 +140,14 @@ below_or_not (suc n) (suc bound) = go (below_or_not n bound)
     go (inl h) = inl (omega (arith, h))
     go (inr h) = inr (omega (arith, h))
 
-at_or_before : (n bound : ℕ) → n < suc bound → (n ≡ bound) ⊎ (n < bound)
-at_or_before n bound h = go (below_or_not n bound)
-  where
-    go : (n < bound) ⊎ (bound ≤ n) → (n ≡ bound) ⊎ (n < bound)
-    go (inl i) = inr i
-    go (inr i) = inl (omega (arith, h, i))
-
--- a compound type by those before it alone
-below_at : (ts : Compounds) (bound n : ℕ) → n < bound → compound_below ts bound n ≡ compound_least (compound_below ts n) (slice_get ts n)
-unfolding compound_below
-below_at ts zero n h = absurd (omega (arith, h))
-below_at ts (suc bound) n h = go (n == bound) refl (at_or_before n bound h) (below_at ts bound n)
-  where
-    go : (b : Bool) → (n == bound) ≡ b → (n ≡ bound) ⊎ (n < bound) → (n < bound → compound_below ts bound n ≡ compound_least (compound_below ts n) (slice_get ts n)) → (if b then compound_least (compound_below ts bound) (slice_get ts bound) else compound_below ts bound n) ≡ compound_least (compound_below ts n) (slice_get ts n)
-    go true e i rest = ap (λ m. compound_least (compound_below ts m) (slice_get ts m)) (sym (eqb-true n bound e))
-    go false e (inl i) rest = absurd (let bad : true ≡ false = sym (same_number n) ∙ subst (λ m. (n == m) ≡ false) (sym i) e in cc)
-    go false e (inr i) rest = rest i
-
-below_past : (ts : Compounds) (bound n : ℕ) → bound ≤ n → compound_below ts bound n ≡ []
-unfolding compound_below
-below_past ts zero n h = refl
-below_past ts (suc bound) n h = go (n == bound) refl (below_past ts bound n (omega (arith, h)))
-  where
-    go : (b : Bool) → (n == bound) ≡ b → compound_below ts bound n ≡ [] → (if b then compound_least (compound_below ts bound) (slice_get ts bound) else compound_below ts bound n) ≡ []
-    go true e rest = absurd (let same : n ≡ bound = eqb-true n bound e in omega (arith, same, h))
-    go false e rest = rest
-
 -- of one among several
 fewer : (m x : ℕ) → 1 ≤ m → m * x ≤ most → x ≤ most
 fewer zero x h few = absurd (omega (arith, h))
 fewer (suc m) x h few = omega (arith, few, one_more m x)
 
--- fewer each are fewer in all
-times_apart : (m a b : ℕ) → a ≤ b → m * a ≤ m * b
-times_apart zero a b le = omega arith
-times_apart (suc m) a b le = let h = times_apart m a b le in omega (arith, h, le, one_more m a, one_more m b)
-
 take_drop : {X : Type 0} (n : ℕ) (xs : List X) → take n xs ++ drop n xs ≡ xs
-take_drop zero xs = refl
-take_drop (suc n) [] = refl
 take_drop (suc n) (x ∷ xs) = ap (λ ys. x ∷ ys) (take_drop n xs)
+take_drop _ _ = refl
 
 past_taken : {X : Type 0} (n j : ℕ) (xs : List X) → n ≤ j → slice_get (take n xs) j ≡ None
 past_taken zero j xs h = refl
@@ -216,10 +176,7 @@ module _ (k : Numbering) (ts : Compounds) where
   reaches : (n c : ℕ) (v : CellType) → kinds.cells_of (take n ts) v ≡ c → Reaches n v c
   reaches n c (types.Array j) e = compound_reaches n j c e
   reaches n c (types.Record j) e = compound_reaches n j c e
-  reaches n c (types.Ordinal r) e = tt
-  reaches n c types.Queue e = tt
-  reaches n c (types.Set r) e = tt
-  reaches n c (types.System s) e = tt
+  reaches n c _ e = tt
 
   fields_before : (n : ℕ) (us : FieldTypes) (fs : List Field) (from end : ℕ) → FieldsAre k ts us fs from end → cells_in us ≤ most → fields_cells (take n ts) fs ≤ cells_in us
   fields_before n named.no_field_types fs from end h i = rw h.0 (omega arith)
@@ -279,7 +236,6 @@ module _ (k : Numbering) (ts : Compounds) where
 
       pub least_same : (bound : ℕ) (t : Ty) (v : CellType) → TypeIs k ts t v → is_free t ≡ true → cells_of t ≤ most → IsFull t → Reaches bound v (cells_of t) → least_below ts bound v ≡ encode (least t)
       least_same bound (named.ordinal s) v h f few full r = ap (least_below ts bound) h ∙ ap (λ z. z ∷ []) (least_of_same k s)
-      least_same bound named.queue_type v h f few full r = absurd (let bad : false ≡ true = f in cc)
       least_same bound (named.set_over s) v h f few full r = ap (least_below ts bound) h
       least_same bound (named.array_over s t) v h f few full r =
           let free : is_free t ≡ true = right_true (is_indexed s t) (is_free t) f in
@@ -288,7 +244,7 @@ module _ (k : Numbering) (ts : Compounds) where
       least_same bound (named.record_with us) v h f few full r =
           let inner = fields_same h.number us h.fields 0 h.cells h.each (right_true (are_few (cells_in us)) (are_free us) f) few full (record_reaches h.number us h.fields h.cells h.there h.each few) in
           ap (least_below ts bound) h.is ∙ record_least bound h.number us h.fields h.cells h.there (right_true (are_few (cells_in us)) (are_free us) f) inner (subst (λ u. Reaches bound u (cells_of (named.record_with us))) h.is r)
-      least_same bound (named.component_of n) v h f few full r = absurd (let bad : false ≡ true = f in cc)
+      least_same bound x v h f few full r = absurd (let bad : false ≡ true = f in cc)
 
       fields_same : (n : ℕ) (us : FieldTypes) (fs : List Field) (from end : ℕ) → FieldsAre k ts us fs from end → are_free us ≡ true → cells_in us ≤ most → AreFull us → cells_in us ≤ fields_cells (take n ts) fs → fields_least (compound_below ts n) fs ≡ encode_fields (least_fields us)
       fields_same n named.no_field_types fs from end h f few full c = ap (fields_least (compound_below ts n)) h.0
@@ -304,12 +260,9 @@ module _ (k : Numbering) (ts : Compounds) where
 
     -- the cells of a variable are those of its least value
     there_reaches : (t : Ty) (v : CellType) → TypeIs k ts t v → Reaches (length ts) v (cells_of t)
-    there_reaches (named.ordinal s) v h = rw h tt
-    there_reaches named.queue_type v h = rw h tt
-    there_reaches (named.set_over s) v h = rw h tt
     there_reaches (named.array_over s t) v h = rw h.is (inl (slice_get_within ts h.number _ h.there))
     there_reaches (named.record_with us) v h = rw h.is (inl (slice_get_within ts h.number _ h.there))
-    there_reaches (named.component_of n) v h = rw h tt
+    there_reaches x v h = rw h tt
 
     pub least_laid : (t : Ty) (v : CellType) → TypeIs k ts t v → is_free t ≡ true → cells_of t ≤ most → IsFull t → kinds.least ts v ≡ encode (least t)
     unfolding kinds.least

@@ -12,6 +12,7 @@ use Rattle.cp_resolved.specs.Layouts.{cells_of, cells_in}
 use Rattle.cp_resolved.proofs.frames.Cells.{count_same}
 use Rattle.cp_resolved.proofs.names.Entries.{still_there}
 use Rattle.cp_resolved.proofs.systems.Sizes.{copies_length}
+use Rattle.cp_layout.proofs.Least.{compound_outside as below_none}
 
 -- ---- where a type is one of the first
 
@@ -29,8 +30,6 @@ module _ (k : Numbering) (ts : Compounds) where
     unfolding fields_least
 
     below_cells : (bound : ℕ) (t : Ty) (v : CellType) → TypeIs k ts t v → length (least_below ts bound v) ≤ cells_of t
-    below_cells bound (named.ordinal s) v h = subst (λ u. length (least_below ts bound u) ≤ 1) (sym h) (omega arith)
-    below_cells bound named.queue_type v h = subst (λ u. length (least_below ts bound u) ≤ 1) (sym h) (omega arith)
     below_cells bound (named.set_over s) v h = subst (λ u. length (least_below ts bound u) ≤ 8) (sym h) (omega arith)
     below_cells bound (named.array_over s t) v h =
         subst (λ u. length (least_below ts bound u) ≤ length_of_range s * cells_of t) (sym h.is)
@@ -41,6 +40,7 @@ module _ (k : Numbering) (ts : Compounds) where
         subst (λ u. length (least_below ts bound u) ≤ cells_in us) (sym h.is)
         (below_at ts h.number (cells_in us) (λ b. subst (λ o. length (compound_least (compound_below ts b) o) ≤ cells_in us) (sym h.there) (fields_below b us h.fields 0 h.cells h.each)) bound)
     below_cells bound (named.component_of n) v h = subst (λ u. length (least_below ts bound u) ≤ 0) (sym h) (omega arith)
+    below_cells bound x v h = subst (λ u. length (least_below ts bound u) ≤ 1) (sym h) (omega arith)
 
     fields_below : (bound : ℕ) (us : FieldTypes) (fs : List Field) (n end : ℕ) → FieldsAre k ts us fs n end → length (fields_least (compound_below ts bound) fs) ≤ cells_in us
     fields_below bound named.no_field_types fs n end h = subst (λ gs. length (fields_least (compound_below ts bound) gs) ≤ 0) (sym h.0) (omega arith)
@@ -56,24 +56,12 @@ module _ (k : Numbering) (ts : Compounds) where
 
 -- ---- more types
 
-below_none : (ts : Compounds) (bound n : ℕ) → bound ≤ n → compound_below ts bound n ≡ []
-unfolding compound_below
-below_none ts zero n le = refl
-below_none ts (suc b) n le = go (n == b) refl (below_none ts b n (omega (arith, le)))
-  where
-    go : (c : Bool) → (n == b) ≡ c → compound_below ts b n ≡ [] → (if c then compound_least (compound_below ts b) (slice_get ts b) else compound_below ts b n) ≡ []
-    go true e rest = let same : n ≡ b = eqb-true n b e in absurd (omega (arith, same, le))
-    go false e rest = rest
-
 -- by what gives more for each number
 module _ (f g : ℕ → List ℤ) (more : (n : ℕ) → length (f n) ≤ length (g n)) where
   by_more : (t : CellType) → length (least_by f t) ≤ length (least_by g t)
   by_more (types.Array n) = more n
   by_more (types.Record n) = more n
-  by_more (types.Ordinal r) = omega arith
-  by_more types.Queue = omega arith
-  by_more (types.Set r) = omega arith
-  by_more (types.System n) = omega arith
+  by_more x = omega arith
 
   fields_by_more : (fs : List Field) → length (fields_least f fs) ≤ length (fields_least g fs)
   unfolding fields_least

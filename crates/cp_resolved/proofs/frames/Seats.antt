@@ -15,9 +15,9 @@ use Rattle.cp_layout.specs.LaidDeclarations.{Parameters, heading_with, routine, 
 use Rattle.cp_slots.specs.Tables.{no_system}
 use Rattle.cp_meaning.specs.Names.{Name}
 use Rattle.cp_meaning.specs.Scopes as scopes
-use Rattle.cp_meaning.specs.Scopes.{Scope, permanent_variable, local_variable, seen_inside}
+use Rattle.cp_meaning.specs.Scopes.{Scope, permanent_variable, local_variable}
 use Rattle.cp_meaning.specs.Declarations as meant
-use Rattle.cp_meaning.specs.Declarations.{Variable, Parameter, Block, Heading, routine_in, with_group, with_groups}
+use Rattle.cp_meaning.specs.Declarations.{Variable, Parameter, Heading, routine_in, with_group, with_groups}
 use Rattle.cp_meaning.specs.Steps.{parameter_variables}
 use Rattle.cp_meaning.specs.Systems.{SystemMeaning, system_in, with_routines, system_of}
 use Rattle.cp_resolved.specs.Begun.{routine_begun, routines_begun, initial_begun}
@@ -33,12 +33,11 @@ use Rattle.cp_resolved.proofs.frames.FrameSteps.{AreLying, Lies, Frames}
 use Rattle.cp_resolved.proofs.frames.FramesBegun.{RoutineFits, SlotIs, all_locals, routine_framed, routine_slot}
 use Rattle.cp_resolved.proofs.names.EntriesKnown.{heading_of, begun_headings}
 use Rattle.cp_resolved.proofs.laid.Grown.{statements_grew}
-use Rattle.cp_resolved.proofs.names.Knowing.{begun_same}
 use Rattle.cp_resolved.proofs.systems.PermanentCells.{Holds, AreHolding, Owns, Follow, Firsts}
 use Rattle.cp_resolved.proofs.agreeing.ScopeVariables.{AreOf, of_local, of_permanent, local_parts_of, local_groups_of, local_parameters_of, permanent_parts_of, permanent_groups_of}
 use Rattle.cp_resolved.proofs.names.Steps.{found_in}
 use Rattle.cp_resolved.proofs.names.StepsOfParts.{Reached}
-use Rattle.cp_resolved.proofs.names.StepsOfRoutines.{routine_count, routine_systems, routine_reached}
+use Rattle.cp_resolved.proofs.names.StepsOfRoutines.{routine_count, routine_systems, routine_reached, begun_systems as begun_same}
 use Rattle.cp_resolved.proofs.systems.Sizes.{Counted}
 use Rattle.cp_resolved.proofs.names.StepsOfTypes.{numbered_left, numbered_after}
 
@@ -69,9 +68,8 @@ module _ (k : Numbering) (ts : Compounds) where
   holding_found x s m (Some (scopes.local_variable t)) u h e f = absurd (of_local x t [] [] s h e)
   holding_found x s m (Some (scopes.permanent_variable t)) u h e f = absurd (of_permanent x t [] [] s h e)
   holding_found x s m (Some (scopes.constant_meaning b z)) u h e f = subst (Holds [] x) (sym f.0) tt
-  holding_found x s m (Some (scopes.type_meaning t)) u h e f = subst (Holds [] x) (sym f.1) tt
-  holding_found x s m (Some (scopes.routine_meaning r)) u h e f = subst (Holds [] x) (sym f.1) tt
   holding_found x s m (Some (scopes.standard_meaning q)) u h e f = subst (Holds [] x) (sym f) tt
+  holding_found x s m _ u h e f = subst (Holds [] x) (sym f.1) tt
 
   pub nothing_held : (ns : layers.Names) (s : Scope) → InStep k ts ns s → AreOf [] [] s → AreHolding [] ns
   nothing_held ns s i h x m e = holding_found x s m (scopes.find x s) (scopes.since x s) h refl (subst (λ o. FoundIs k ts o (scopes.find x s) (scopes.since x s)) e (found_in k ts x ns s i))
@@ -137,9 +135,8 @@ module _ (k : Numbering) (p : syntax.Program) (end : Layer) (counted : Counted e
 
   pub seated_append : (ls ms : List Layer) (os qs : List Opening) → AreSeated ls os → AreSeated ms qs → AreSeated (ls ++ ms) (os ++ qs)
   seated_append [] ms [] qs h i = i
-  seated_append [] ms (o ∷ os) qs h i = absurd h
-  seated_append (l ∷ ls) ms [] qs h i = absurd h
   seated_append (l ∷ ls) ms (o ∷ os) qs h i = (h.0, seated_append ls ms os qs h.1 i)
+  seated_append _ ms _ qs h i = absurd h
 
   abbrev pub initial_number : ℕ → ℕ
   initial_number n = initial_or (length end.routines - 1) (slice_get end.systems n)

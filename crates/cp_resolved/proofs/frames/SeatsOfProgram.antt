@@ -25,7 +25,6 @@ use Rattle.cp_resolved.proofs.names.Entries.{entry_at, last_entry, past_there}
 use Rattle.cp_resolved.proofs.laid.Extends.{Longer, longer_trans, routines_extend, initial_extends, program_parts_extend}
 use Rattle.cp_resolved.proofs.frames.FramesBegun.{variables_grow}
 use Rattle.cp_resolved.proofs.names.KnowingSystems.{IsFirst, first_before, parts_longer}
-use Rattle.cp_resolved.proofs.laid.OwnedCells.{body_owned, routines_owned}
 use Rattle.cp_resolved.proofs.systems.PermanentCells.{holding_added, Owns, constants_own, type_owns, Follow, follow_left, variables_own}
 use Rattle.cp_resolved.proofs.agreeing.ScopeVariables.{AreOf, of_constants, permanent_variables_of}
 use Rattle.cp_resolved.proofs.frames.SeatsOfSystems.{definitions_of, definitions_seated}
@@ -36,6 +35,7 @@ use Rattle.cp_resolved.proofs.names.BegunKnown.{part_many, parts_many}
 use Rattle.cp_resolved.proofs.frames.Seats.{nothing_held, routines_of, Seated, AreSeated, seated_append, initial_number, SystemFits, Settled, AreSettled, settled_append, routines_seated, initial_seated}
 use Rattle.cp_resolved.proofs.systems.Sizes.{Counted}
 use Rattle.cp_resolved.proofs.names.StepsOfTypes.{numbered_left, numbered_after}
+use Rattle.cp_resolved.proofs.components.Handed.{body_owned, routines_owned}
 
 -- ---- the cells of the program
 
@@ -51,7 +51,7 @@ unfolding system_definitions
 definitions_owned l [] ws h = h
 definitions_owned l (n ∷ ns) ws h = definitions_owned (system_definition l n) ns ws (definition_owned l n.name.name n.value ws h)
 
-definitions_keep_variables : (d : Declared) (ns : List syntax.SystemDefinition) → (definitions_in d ns).variables ≡ d.variables
+pub definitions_keep_variables : (d : Declared) (ns : List syntax.SystemDefinition) → (definitions_in d ns).variables ≡ d.variables
 definitions_keep_variables d [] = refl
 definitions_keep_variables d (n ∷ ns) = definitions_keep_variables (definition_in d n n.value) ns ∙ one n.value
   where
@@ -109,9 +109,8 @@ module _ (k : Numbering) (p : syntax.Program) (end : Layer) (counted : Counted e
 
   part_seated : (l : Layer) (d : Declared) (q : syntax.ProgramPart) → IsSmallProgramPart q → IsFitPart d q → AreNumbered k.firsts (length l.constants) (in_program_part q) → AreOpened k.routines (length l.routines) (part_openings d q) → Standing k l d →
       AreOf [] d.variables d.scope → IsFirst k p (program_part_in d q).systems → Longer (program_part l q).types end.types → Longer (program_part l q).systems end.systems → Both (part_begun l q) (part_openings d q) (length d.systems) (part_parts l q)
-  part_seated l d (syntax.program_constants at ds) h f e o i a w x y = (tt, tt)
   part_seated l d (syntax.program_types at ns) h f e o i a w x y = definitions_seated k p end counted l d ns h f e o i a w x y
-  part_seated l d (syntax.program_variables at gs) h f e o i a w x y = (tt, tt)
+  part_seated l d _ h f e o i a w x y = (tt, tt)
 
   pub parts_seated : (l : Layer) (d : Declared) (qs : List syntax.ProgramPart) → Each IsSmallProgramPart qs → AreFitParts d qs → AreNumbered k.firsts (length l.constants) (each_in in_program_part qs) → AreOpened k.routines (length l.routines) (parts_openings d qs) → Standing k l d →
       AreOf [] d.variables d.scope → IsFirst k p (program_parts_in d qs).systems → Longer (program_parts l qs).types end.types → Longer (program_parts l qs).systems end.systems → Both (program_parts_begun l qs) (parts_openings d qs) (length d.systems) (program_parts_parts l qs)
@@ -145,7 +144,7 @@ nothing_of = (tt, (tt, (tt, (tt, (tt, (tt, (tt, (tt, (tt, (tt, (tt, (tt, (tt, (t
 last_entry_of : (xs : List SystemView) (y : SystemView) → slice_index_or (xs ++ y ∷ []) (length xs) no_system ≡ y
 last_entry_of xs y = entry_at (xs ++ y ∷ []) (length xs) no_system y (last_entry xs y)
 
-types_length : (ss : List System) → length (types_of ss) ≡ length ss
+pub types_length : (ss : List System) → length (types_of ss) ≡ length ss
 types_length [] = refl
 types_length (s ∷ ss) = ap suc (types_length ss)
 

@@ -5,7 +5,7 @@ use Rattle.cp_layout.specs.Laid.{system_type, types_of, system_types}
 use Rattle.cp_layout.specs.Layers as layers
 use Rattle.cp_layout.specs.Layers.{Layer, System}
 use Rattle.cp_layout.specs.LaidDeclarations as laid
-use Rattle.cp_layout.specs.LaidDeclarations.{Parameters, routine, routines, entered, system_groups, system, initial_statement, system_definition, system_definitions, definition}
+use Rattle.cp_layout.specs.LaidDeclarations.{Parameters, routines, entered, system_groups, system, initial_statement, system_definition, system_definitions, definition}
 use Rattle.cp_slots.specs.Tables.{SystemView, no_system}
 use Rattle.cp_meaning.specs.Scopes.{Scope, permanent_variable, seen_inside}
 use Rattle.cp_meaning.specs.Declarations.{Parameter, Heading, with_groups}
@@ -23,7 +23,6 @@ use Rattle.cp_resolved.specs.TreeLayouts.{definition_parts, definitions_parts, i
 use Rattle.cp_resolved.proofs.names.Entries.{entry_at, last_entry, still_there}
 use Rattle.cp_resolved.proofs.laid.Extends.{Longer, longer_trans, system_definitions_extend, initial_extends}
 use Rattle.cp_resolved.proofs.names.KnowingSystems.{begun_many, IsFirst, first_before, first_is, definitions_longer}
-use Rattle.cp_resolved.proofs.laid.OwnedCells.{body_owned, routines_owned}
 use Rattle.cp_resolved.proofs.systems.PermanentCells.{Owns, groups_own, parts_own}
 use Rattle.cp_resolved.proofs.agreeing.ScopeVariables.{AreOf, of_type, inside_of}
 use Rattle.cp_resolved.proofs.names.Steps.{all_inside}
@@ -35,6 +34,7 @@ use Rattle.cp_resolved.proofs.frames.Seats.{nothing_held, system_parts_of, routi
 use Rattle.cp_resolved.proofs.systems.Sizes.{Counted}
 use Rattle.std.proofs.lemmas.Option.{none-some, same_Some}
 use Rattle.cp_resolved.proofs.names.StepsOfTypes.{numbered_left, numbered_after}
+use Rattle.cp_resolved.proofs.components.Handed.{body_owned, routines_owned}
 
 module _ (k : Numbering) (p : syntax.Program) (end : Layer) (counted : Counted end.types) where
   type_there : (ss : List System) (o : layers.Owned) (n : ℕ) (s : System) → slice_get ss n ≡ Some s → slice_get (system_types ss o) n ≡ Some (system_type s.owned)

@@ -59,23 +59,7 @@ module _ (t : Tables) (h : Here) (r : RoutineView) (P : ℕ → Type 0) where
       IsFit : Option code.Place → Type 0
       IsFit None = Unit {0}
       IsFit (Some q) = PlaceFits r q u
-  place_held u (as_component c) p i e = absurd (cc)
-  place_held u (as_ordinal (code.number z)) p i e = absurd (cc)
-  place_held u (as_ordinal (code.negate c)) p i e = absurd (cc)
-  place_held u (as_ordinal (code.absolute c)) p i e = absurd (cc)
-  place_held u (as_ordinal (code.opposite c)) p i e = absurd (cc)
-  place_held u (as_ordinal (code.successor c z)) p i e = absurd (cc)
-  place_held u (as_ordinal (code.predecessor c z)) p i e = absurd (cc)
-  place_held u (as_ordinal (code.character c)) p i e = absurd (cc)
-  place_held u (as_ordinal (code.arithmetic o a b)) p i e = absurd (cc)
-  place_held u (as_ordinal (code.logic o a b)) p i e = absurd (cc)
-  place_held u (as_ordinal (code.compare o a b)) p i e = absurd (cc)
-  place_held u (as_ordinal (code.same_set w a b)) p i e = absurd (cc)
-  place_held u (as_ordinal (code.member a b)) p i e = absurd (cc)
-  place_held u (as_ordinal (code.is_empty q)) p i e = absurd (cc)
-  place_held u (as_set code.empty_set) p i e = absurd (cc)
-  place_held u (as_set (code.with_element b c)) p i e = absurd (cc)
-  place_held u (as_set (code.combine o a b)) p i e = absurd (cc)
+  place_held u x p i e = absurd (cc)
 
   -- what each kind of argument gives
   record Gives (callee : RoutineView) (extent slot : ℕ) (is_var : Bool) (u : Ty) (g : code.ArgumentValue) : Type 1 where
@@ -132,22 +116,7 @@ module _ (t : Tables) (h : Here) (r : RoutineView) (P : ℕ → Type 0) where
       subst (Gives callee extent slot false (named.array_over q u)) (sym (e.1 ∙ ap (λ w. code.copy p (cells_of w)) e.0)) (array_gives callee extent slot q u p (subst (λ w. PlaceFits r p w) e.0 i) le)
   value_gives callee extent slot (named.record_with us) v (as_place p) g e i le =
       subst (Gives callee extent slot false (named.record_with us)) (sym (e.1 ∙ ap (λ w. code.copy p (cells_of w)) e.0)) (record_gives callee extent slot us p (subst (λ w. PlaceFits r p w) e.0 i) le)
-  value_gives callee extent slot named.queue_type v f g e i le = absurd e
-  value_gives callee extent slot (named.ordinal q) v (as_set c) g e i le = absurd e
-  value_gives callee extent slot (named.ordinal q) v (as_place p) g e i le = absurd e
-  value_gives callee extent slot (named.ordinal q) v (as_component c) g e i le = absurd e
-  value_gives callee extent slot (named.set_over q) v (as_ordinal c) g e i le = absurd e
-  value_gives callee extent slot (named.set_over q) v (as_place p) g e i le = absurd e
-  value_gives callee extent slot (named.set_over q) v (as_component c) g e i le = absurd e
-  value_gives callee extent slot (named.component_of k) v (as_ordinal c) g e i le = absurd e
-  value_gives callee extent slot (named.component_of k) v (as_set c) g e i le = absurd e
-  value_gives callee extent slot (named.component_of k) v (as_place p) g e i le = absurd e
-  value_gives callee extent slot (named.array_over q u) v (as_ordinal c) g e i le = absurd e
-  value_gives callee extent slot (named.array_over q u) v (as_set c) g e i le = absurd e
-  value_gives callee extent slot (named.array_over q u) v (as_component c) g e i le = absurd e
-  value_gives callee extent slot (named.record_with us) v (as_ordinal c) g e i le = absurd e
-  value_gives callee extent slot (named.record_with us) v (as_set c) g e i le = absurd e
-  value_gives callee extent slot (named.record_with us) v (as_component c) g e i le = absurd e
+  value_gives callee extent slot _ v _ g e i le = absurd e
 
   place_gives : (callee : RoutineView) (extent slot : ℕ) (u v : Ty) (f : Form) (o : Option code.Place) (g : code.ArgumentValue) → place_form f ≡ o → PlaceGiven u v o g → Fits v f → SlotFits callee extent slot true u → Gives callee extent slot true u g
   place_gives callee extent slot u v f None g e k i s = absurd k
@@ -167,10 +136,7 @@ module _ (t : Tables) (h : Here) (r : RoutineView) (P : ℕ → Type 0) where
     given_inside (q ∷ qs) (syntax.more_expressions e es) (x ∷ xs) n g s =
         let a = gives q e x (held_first h (expression_calls h.scope e) (expressions_calls h.scope es) n) g.0 g.1 s.0 in
         both (argument_in r callee extent x.slot x.value) (arguments_in r callee extent xs) a.inside (given_inside qs es xs (held_rest h (expression_calls h.scope e) (expressions_calls h.scope es) n) g.2 s.1)
-    given_inside [] syntax.no_expressions (x ∷ xs) n g s = absurd g
-    given_inside [] (syntax.more_expressions e es) xs n g s = absurd g
-    given_inside (q ∷ qs) syntax.no_expressions xs n g s = absurd g
-    given_inside (q ∷ qs) (syntax.more_expressions e es) [] n g s = absurd g
+    given_inside _ _ _ n g s = absurd g
 
     numbered_least : (next count : ℕ) (qs : List Parameter) → AreNumbered slots next count qs → next ≤ count
     numbered_least next count [] a = omega (arith, a)
@@ -190,20 +156,14 @@ module _ (t : Tables) (h : Here) (r : RoutineView) (P : ℕ → Type 0) where
             NumberedBy b x.slot next (λ m. AreNumbered slots m count qs) → binds_on (follows_in x.value count x.slot next) (λ further. binds_in count further xs) ≡ true
         go true f follows k = ap (λ o. binds_on o (λ further. binds_in count further xs)) (follows count next (k.0, numbered_least (next + 1) count qs k.1)) ∙ f (next + 1) k.1
         go false f follows k = ap (λ o. binds_on o (λ further. binds_in count further xs)) (follows count next (numbered_least next count qs k)) ∙ f next k
-    given_binds count next [] syntax.no_expressions (x ∷ xs) n g s a = absurd g
-    given_binds count next [] (syntax.more_expressions e es) xs n g s a = absurd g
-    given_binds count next (q ∷ qs) syntax.no_expressions xs n g s a = absurd g
-    given_binds count next (q ∷ qs) (syntax.more_expressions e es) [] n g s a = absurd g
+    given_binds count next _ _ _ n g s a = absurd g
 
     pub given_plain : (qs : List Parameter) (es : syntax.Expressions) (xs : List code.Argument) → AreHeld h (expressions_calls h.scope es) → AreGiven h slots qs es xs → ParametersFit callee extent slots qs → Each (λ (q : Parameter). IsNoComponent q.ty) qs → PlainNone xs
     given_plain [] syntax.no_expressions [] n g s c = tt
     given_plain (q ∷ qs) (syntax.more_expressions e es) (x ∷ xs) n g s c =
         let a = gives q e x (held_first h (expression_calls h.scope e) (expressions_calls h.scope es) n) g.0 g.1 s.0 in
         (a.plain c.0, given_plain qs es xs (held_rest h (expression_calls h.scope e) (expressions_calls h.scope es) n) g.2 s.1 c.1)
-    given_plain [] syntax.no_expressions (x ∷ xs) n g s c = absurd g
-    given_plain [] (syntax.more_expressions e es) xs n g s c = absurd g
-    given_plain (q ∷ qs) syntax.no_expressions xs n g s c = absurd g
-    given_plain (q ∷ qs) (syntax.more_expressions e es) [] n g s c = absurd g
+    given_plain _ _ _ n g s c = absurd g
 
     pub given_handed : (system next : ℕ) (qs : List Parameter) (es : syntax.Expressions) (xs : List code.Argument) → AreHeld h (expressions_calls h.scope es) → AreGiven h slots qs es xs → ParametersFit callee extent slots qs → Each (λ (q : Parameter). q.is_var ≡ false) qs → AreHanded t system slots next qs → PlainHands t h.system system next xs
     given_handed system next [] syntax.no_expressions [] n g s c a = a
@@ -211,7 +171,4 @@ module _ (t : Tables) (h : Here) (r : RoutineView) (P : ℕ → Type 0) where
         let y = gives q e x (held_first h (expression_calls h.scope e) (expressions_calls h.scope es) n) g.0 g.1 s.0 in
         y.handed system next (λ m. AreHanded t system slots m qs) (λ m. PlainHands t h.system system m xs) c.0
         (λ m b. given_handed system m qs es xs (held_rest h (expression_calls h.scope e) (expressions_calls h.scope es) n) g.2 s.1 c.1 b) (subst (λ j. HandedBy t system q.ty j next (λ m. AreHanded t system slots m qs)) (sym g.0) a)
-    given_handed system next [] syntax.no_expressions (x ∷ xs) n g s c a = absurd g
-    given_handed system next [] (syntax.more_expressions e es) xs n g s c a = absurd g
-    given_handed system next (q ∷ qs) syntax.no_expressions xs n g s c a = absurd g
-    given_handed system next (q ∷ qs) (syntax.more_expressions e es) [] n g s c a = absurd g
+    given_handed system next _ _ _ n g s c a = absurd g

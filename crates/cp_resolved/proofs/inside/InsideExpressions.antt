@@ -1,5 +1,5 @@
 -- What has a form reads inside the cells of its routine: expressions, and variables with their selectors.
-use Rattle.std.proofs.Common.{◌≡◌, ℕ, pos, Bool, true, false, List, [], ◌∷◌, ◌++◌, Option, Some, None, refl, subst, arith}
+use Rattle.std.proofs.Common.{◌≡◌, ℕ, pos, Bool, true, false, List, [], ◌∷◌, ◌++◌, Option, Some, refl, subst, arith}
 use Rattle.cp_tree.specs.declared.constant.Identifier.{Identifier}
 use Rattle.cp_tree.specs.Syntax as syntax
 use Rattle.cp_slots.specs.declared.place.PlaceOrigin.TheVariants.{Permanent}
@@ -9,11 +9,11 @@ use Rattle.cp_meaning.specs.Names.{Name, temporary, result_name}
 use Rattle.cp_meaning.specs.Types as named
 use Rattle.cp_meaning.specs.Types.{Ty, has_components, integers, characters}
 use Rattle.cp_meaning.specs.Scopes as scopes
-use Rattle.cp_meaning.specs.State.{Item, function_call, statement_item, start_item, until, successor, return, init_end, end}
+use Rattle.cp_meaning.specs.State.{Item, function_call}
 use Rattle.cp_meaning.specs.Places.{result_type}
 use Rattle.cp_meaning.specs.Lifting.{last_field, is_call_meant, own_call, expression_calls, sum_calls, terms_calls, term_calls, factors_calls, factor_calls, expressions_calls, designator_calls, selectors_calls}
 use Rattle.cp_meaning.specs.Expressions.{routine_called, result_called}
-use Rattle.cp_resolved.specs.Compiled.{Form, as_ordinal, as_set, as_place, as_component, Formed, then_form, Designated, a_variable, some_components, a_component, permanent_begun, result_begun, begun_form, with_field_form, with_element_form, ordinal_form, with_index_form, valued_form, signed_form, added_forms, multiplied_forms, compared_forms, not_form, applied_form, with_member_form, set_form, call_form, named_form, expression_form, sum_form, terms_form, term_form, factors_form, factor_form, members_form, first_form, designator_form, selected_form}
+use Rattle.cp_resolved.specs.Compiled.{Form, as_ordinal, Formed, then_form, Designated, a_variable, some_components, a_component, permanent_begun, result_begun, begun_form, with_field_form, with_element_form, ordinal_form, with_index_form, valued_form, signed_form, added_forms, multiplied_forms, compared_forms, not_form, applied_form, with_member_form, set_form, call_form, named_form, expression_form, sum_form, terms_form, term_form, factors_form, factor_form, members_form, first_form, designator_form, selected_form}
 use Rattle.cp_resolved.specs.Layouts.{cells_of, Here, system_here, frame_here, is_own, look}
 use Rattle.cp_resolved.specs.Meant.{AreHeld}
 use Rattle.cp_resolved.proofs.names.Alike.{same_inside}
@@ -28,24 +28,12 @@ module _ (h : Here) where
   pub held_first : (is js : List Item) → AreHeld h (is ++ js) → AreHeld h is
   held_first [] js a = tt
   held_first (function_call at d es ∷ is) js a = (a.0, held_first is js a.1)
-  held_first (statement_item t ∷ is) js a = absurd a
-  held_first (start_item t ∷ is) js a = absurd a
-  held_first (until ts e ∷ is) js a = absurd a
-  held_first (successor at i z d w t ∷ is) js a = absurd a
-  held_first (return o ∷ is) js a = absurd a
-  held_first (init_end k ∷ is) js a = absurd a
-  held_first (end ∷ is) js a = absurd a
+  held_first _ js a = absurd a
 
   pub held_rest : (is js : List Item) → AreHeld h (is ++ js) → AreHeld h js
   held_rest [] js a = a
   held_rest (function_call at d es ∷ is) js a = held_rest is js a.1
-  held_rest (statement_item t ∷ is) js a = absurd a
-  held_rest (start_item t ∷ is) js a = absurd a
-  held_rest (until ts e ∷ is) js a = absurd a
-  held_rest (successor at i z d w t ∷ is) js a = absurd a
-  held_rest (return o ∷ is) js a = absurd a
-  held_rest (init_end k ∷ is) js a = absurd a
-  held_rest (end ∷ is) js a = absurd a
+  held_rest _ js a = absurd a
 
 -- ---- what is known of the variables
 
@@ -68,8 +56,7 @@ module _ (C : code.ComponentPlace → ℕ → Type 0) (h : Here) (r : RoutineVie
 
   variable_designates : (d : Designated) → VariableFits r d → Designates d
   variable_designates (a_variable p t) f = f
-  variable_designates (some_components first q k) f = absurd f
-  variable_designates (a_component c k) f = absurd f
+  variable_designates _ f = absurd f
 
   designates_as : (d q : Designated) → Some d ≡ Some q → Designates d → Designates q
   designates_as d q e f = subst Designates (same_inside d q e) f
@@ -97,10 +84,7 @@ module _ (C : code.ComponentPlace → ℕ → Type 0) (h : Here) (r : RoutineVie
   begun_fits x (Some (scopes.permanent_variable t)) d e g = designates_as _ d g (permanent_fits x t e)
   begun_fits x (Some (scopes.local_variable t)) d e g = designates_as _ d g (v.local x t e)
   begun_fits x (Some (scopes.routine_meaning y)) d e g = result_fits x y (is_own h x) d e refl g
-  begun_fits x (Some (scopes.constant_meaning b z)) d e g = absurd (cc)
-  begun_fits x (Some (scopes.type_meaning t)) d e g = absurd (cc)
-  begun_fits x (Some (scopes.standard_meaning s)) d e g = absurd (cc)
-  begun_fits x None d e g = absurd (cc)
+  begun_fits x y d e g = absurd (cc)
 
   field_of_fits : (d q : Designated) (x : Name) → Designates d → with_field_form d x ≡ Some q → Designates q
   field_of_fits (a_variable p t) q x f e = variable_designates q (field_fits r p t x q f e)
@@ -114,20 +98,14 @@ module _ (C : code.ComponentPlace → ℕ → Type 0) (h : Here) (r : RoutineVie
 
   ordinal_inside : (t : Ty) (f : Form) (c : code.Expression) → FormFits C h r t f → ordinal_form f ≡ Some c → expression_in r c ≡ true
   ordinal_inside t (as_ordinal a) c i e = subst (λ x. expression_in r x ≡ true) (same_inside a c e) i.0
-  ordinal_inside t (as_set b) c i e = absurd (cc)
-  ordinal_inside t (as_place p) c i e = absurd (cc)
-  ordinal_inside t (as_component p) c i e = absurd (cc)
+  ordinal_inside t x c i e = absurd (cc)
 
   -- the result of a call
   call_fits : (at : ℕ) (t : Ty) (z : Formed) → look (temporary at) (frame_here h).variables ≡ Some t → call_form h at t ≡ Some z → Fits z
   call_fits at (named.ordinal q) z e g =
       let p : PlaceFits r (code.place ((frame_here h).origins (temporary at)) 0 code.no_indices) (named.ordinal q) = whole_fits r ((frame_here h).origins (temporary at)) (named.ordinal q) (v.frame (temporary at) (named.ordinal q) e) tt in
       fits_as C h r _ z g (has_place r (code.place ((frame_here h).origins (temporary at)) 0 code.no_indices) (named.ordinal q) 1 p (omega arith), refl)
-  call_fits at named.queue_type z e g = absurd (cc)
-  call_fits at (named.set_over q) z e g = absurd (cc)
-  call_fits at (named.array_over q t) z e g = absurd (cc)
-  call_fits at (named.record_with us) z e g = absurd (cc)
-  call_fits at (named.component_of k) z e g = absurd (cc)
+  call_fits at x z e g = absurd (cc)
 
   named_fits : (at : ℕ) (d : syntax.Designator) (es : syntax.Expressions) (z : Formed) (c : Bool) (m : Option scopes.Meaning) → AreHeld h (own_call c at d es) → ((q : Designated) → designator_form h d ≡ Some q → Designates q) → ((x : Formed) → first_form h es ≡ Some x → Fits x) →
       named_form h at d c m (designator_form h d) (first_form h es) ≡ Some z → Fits z
@@ -136,11 +114,7 @@ module _ (C : code.ComponentPlace → ℕ → Type 0) (h : Here) (r : RoutineVie
   named_fits at d es z false (Some (scopes.standard_meaning s)) a go first e =
       let p = inside (first_form h es) (applied_form s) z e in
       applied_fits C h r s p.0 z (first p.0 p.1) p.2
-  named_fits at d es z false (Some (scopes.local_variable t)) a go first e = let p = inside (designator_form h d) valued_form z e in valued_fits C h r p.0 z (go p.0 p.1) p.2
-  named_fits at d es z false (Some (scopes.permanent_variable t)) a go first e = let p = inside (designator_form h d) valued_form z e in valued_fits C h r p.0 z (go p.0 p.1) p.2
-  named_fits at d es z false (Some (scopes.routine_meaning y)) a go first e = let p = inside (designator_form h d) valued_form z e in valued_fits C h r p.0 z (go p.0 p.1) p.2
-  named_fits at d es z false (Some (scopes.type_meaning t)) a go first e = let p = inside (designator_form h d) valued_form z e in valued_fits C h r p.0 z (go p.0 p.1) p.2
-  named_fits at d es z false None a go first e = let p = inside (designator_form h d) valued_form z e in valued_fits C h r p.0 z (go p.0 p.1) p.2
+  named_fits at d es z false _ a go first e = let p = inside (designator_form h d) valued_form z e in valued_fits C h r p.0 z (go p.0 p.1) p.2
 
   -- a name with its selectors
   after_begun : (x : Identifier) (ss : syntax.Selectors) (q : Designated) → ((d : Designated) → Designates d → selected_form h ss d ≡ Some q → Designates q) → designator_form h (syntax.designator x ss) ≡ Some q → Designates q

@@ -53,10 +53,7 @@ module _ (C : code.ComponentPlace → ℕ → Type 0) (here : Here) (r : Routine
   pub loaded_fits : (p : code.Place) (t : Ty) → PlaceFits r p t → FormFits t (loaded_form p t)
   loaded_fits p (named.ordinal q) h = (has_place r p (named.ordinal q) 1 h (omega arith), refl)
   loaded_fits p (named.set_over q) h = (has_place r p (named.set_over q) 8 h (omega arith), refl)
-  loaded_fits p named.queue_type h = h
-  loaded_fits p (named.array_over q t) h = h
-  loaded_fits p (named.record_with us) h = h
-  loaded_fits p (named.component_of k) h = h
+  loaded_fits p _ h = h
 
   pub valued_fits : (d : Designated) (z : Formed) → DesignatedFits d → valued_form d ≡ Some z → ValueFits z
   valued_fits (a_variable p t) z h e = fits_as _ z e (loaded_fits p t h)
@@ -79,77 +76,40 @@ module _ (C : code.ComponentPlace → ℕ → Type 0) (here : Here) (r : Routine
   compared_fits relation.Greater t u (as_ordinal a) (as_ordinal b) z h i e = fits_as _ z e (both_in (expression_in r a) (expression_in r b) h.0 i.0, refl)
   compared_fits relation.AtMost t u (as_ordinal a) (as_ordinal b) z h i e = fits_as _ z e (both_in (expression_in r a) (expression_in r b) h.0 i.0, refl)
   compared_fits relation.AtLeast t u (as_ordinal a) (as_ordinal b) z h i e = fits_as _ z e (both_in (expression_in r a) (expression_in r b) h.0 i.0, refl)
-  compared_fits relation.In t u (as_ordinal a) (as_ordinal b) z h i e = absurd (cc)
   compared_fits relation.In t u (as_ordinal a) (as_set b) z h i e = fits_as _ z e (both_in (expression_in r a) (set_in r b) h.0 i.0, refl)
-  compared_fits relation.Equal t u (as_ordinal a) (as_set b) z h i e = absurd (cc)
-  compared_fits relation.NotEqual t u (as_ordinal a) (as_set b) z h i e = absurd (cc)
-  compared_fits relation.Less t u (as_ordinal a) (as_set b) z h i e = absurd (cc)
-  compared_fits relation.Greater t u (as_ordinal a) (as_set b) z h i e = absurd (cc)
-  compared_fits relation.AtMost t u (as_ordinal a) (as_set b) z h i e = absurd (cc)
-  compared_fits relation.AtLeast t u (as_ordinal a) (as_set b) z h i e = absurd (cc)
   compared_fits relation.Equal t u (as_set a) (as_set b) z h i e = fits_as _ z e (both_in (set_in r a) (set_in r b) h.0 i.0, refl)
   compared_fits relation.NotEqual t u (as_set a) (as_set b) z h i e = fits_as _ z e (both_in (set_in r a) (set_in r b) h.0 i.0, refl)
-  compared_fits relation.Less t u (as_set a) (as_set b) z h i e = absurd (cc)
-  compared_fits relation.Greater t u (as_set a) (as_set b) z h i e = absurd (cc)
-  compared_fits relation.AtMost t u (as_set a) (as_set b) z h i e = absurd (cc)
-  compared_fits relation.AtLeast t u (as_set a) (as_set b) z h i e = absurd (cc)
-  compared_fits relation.In t u (as_set a) (as_set b) z h i e = absurd (cc)
   compared_fits o t u (as_ordinal a) (as_place p) z h i e = absurd (cc)
-  compared_fits o t u (as_ordinal a) (as_component p) z h i e = absurd (cc)
   compared_fits o t u (as_set a) (as_ordinal b) z h i e = absurd (cc)
-  compared_fits o t u (as_set a) (as_place p) z h i e = absurd (cc)
-  compared_fits o t u (as_set a) (as_component p) z h i e = absurd (cc)
-  compared_fits o t u (as_place p) g z h i e = absurd (cc)
-  compared_fits o t u (as_component p) g z h i e = absurd (cc)
+  compared_fits x t u y v z h i e = absurd (cc)
 
   -- ---- sums and products
 
   added_numbers : (o : Addition) (n t : Bool) (a b : code.Expression) (z : Formed) → expression_in r a ≡ true → expression_in r b ≡ true → added_ordinals o n t a b ≡ Some z → ValueFits z
-  added_numbers addition.Plus true t a b z h i e = fits_as _ z e (both_in (expression_in r a) (expression_in r b) h i, refl)
   added_numbers addition.Plus false t a b z h i e = absurd (cc)
-  added_numbers addition.Minus true t a b z h i e = fits_as _ z e (both_in (expression_in r a) (expression_in r b) h i, refl)
   added_numbers addition.Minus false t a b z h i e = absurd (cc)
-  added_numbers addition.Or n true a b z h i e = fits_as _ z e (both_in (expression_in r a) (expression_in r b) h i, refl)
   added_numbers addition.Or n false a b z h i e = absurd (cc)
+  added_numbers _ _ _ a b z h i e = fits_as _ z e (both_in (expression_in r a) (expression_in r b) h i, refl)
 
   pub added_fits : (o : Addition) (x y : Formed) (f g : Form) (t u : Ty) (z : Formed) → FormFits t f → FormFits u g → added_forms o x y f g ≡ Some z → ValueFits z
   added_fits o x y (as_ordinal a) (as_ordinal b) t u z h i e = added_numbers o (is_integer x.ty && is_integer y.ty) (is_boolean x.ty && is_boolean y.ty) a b z h.0 i.0 e
-  added_fits addition.Plus x y (as_set a) (as_set b) t u z h i e = absurd (cc)
   added_fits addition.Minus x y (as_set a) (as_set b) t u z h i e = fits_as _ z e (both_in (set_in r a) (set_in r b) h.0 i.0, refl)
   added_fits addition.Or x y (as_set a) (as_set b) t u z h i e = fits_as _ z e (both_in (set_in r a) (set_in r b) h.0 i.0, refl)
-  added_fits o x y (as_ordinal a) (as_set b) t u z h i e = absurd (cc)
-  added_fits o x y (as_ordinal a) (as_place p) t u z h i e = absurd (cc)
-  added_fits o x y (as_ordinal a) (as_component p) t u z h i e = absurd (cc)
   added_fits o x y (as_set a) (as_ordinal b) t u z h i e = absurd (cc)
-  added_fits o x y (as_set a) (as_place p) t u z h i e = absurd (cc)
-  added_fits o x y (as_set a) (as_component p) t u z h i e = absurd (cc)
-  added_fits o x y (as_place p) g t u z h i e = absurd (cc)
-  added_fits o x y (as_component p) g t u z h i e = absurd (cc)
+  added_fits v x y w a t u z h i e = absurd (cc)
 
   multiplied_numbers : (o : Multiplication) (n t : Bool) (a b : code.Expression) (z : Formed) → expression_in r a ≡ true → expression_in r b ≡ true → multiplied_ordinals o n t a b ≡ Some z → ValueFits z
-  multiplied_numbers multiplication.Times true t a b z h i e = fits_as _ z e (both_in (expression_in r a) (expression_in r b) h i, refl)
   multiplied_numbers multiplication.Times false t a b z h i e = absurd (cc)
-  multiplied_numbers multiplication.Div true t a b z h i e = fits_as _ z e (both_in (expression_in r a) (expression_in r b) h i, refl)
   multiplied_numbers multiplication.Div false t a b z h i e = absurd (cc)
-  multiplied_numbers multiplication.Mod true t a b z h i e = fits_as _ z e (both_in (expression_in r a) (expression_in r b) h i, refl)
   multiplied_numbers multiplication.Mod false t a b z h i e = absurd (cc)
-  multiplied_numbers multiplication.And n true a b z h i e = fits_as _ z e (both_in (expression_in r a) (expression_in r b) h i, refl)
   multiplied_numbers multiplication.And n false a b z h i e = absurd (cc)
+  multiplied_numbers _ _ _ a b z h i e = fits_as _ z e (both_in (expression_in r a) (expression_in r b) h i, refl)
 
   pub multiplied_fits : (o : Multiplication) (x y : Formed) (f g : Form) (t u : Ty) (z : Formed) → FormFits t f → FormFits u g → multiplied_forms o x y f g ≡ Some z → ValueFits z
   multiplied_fits o x y (as_ordinal a) (as_ordinal b) t u z h i e = multiplied_numbers o (is_integer x.ty && is_integer y.ty) (is_boolean x.ty && is_boolean y.ty) a b z h.0 i.0 e
-  multiplied_fits multiplication.Times x y (as_set a) (as_set b) t u z h i e = absurd (cc)
-  multiplied_fits multiplication.Div x y (as_set a) (as_set b) t u z h i e = absurd (cc)
-  multiplied_fits multiplication.Mod x y (as_set a) (as_set b) t u z h i e = absurd (cc)
   multiplied_fits multiplication.And x y (as_set a) (as_set b) t u z h i e = fits_as _ z e (both_in (set_in r a) (set_in r b) h.0 i.0, refl)
-  multiplied_fits o x y (as_ordinal a) (as_set b) t u z h i e = absurd (cc)
-  multiplied_fits o x y (as_ordinal a) (as_place p) t u z h i e = absurd (cc)
-  multiplied_fits o x y (as_ordinal a) (as_component p) t u z h i e = absurd (cc)
   multiplied_fits o x y (as_set a) (as_ordinal b) t u z h i e = absurd (cc)
-  multiplied_fits o x y (as_set a) (as_place p) t u z h i e = absurd (cc)
-  multiplied_fits o x y (as_set a) (as_component p) t u z h i e = absurd (cc)
-  multiplied_fits o x y (as_place p) g t u z h i e = absurd (cc)
-  multiplied_fits o x y (as_component p) g t u z h i e = absurd (cc)
+  multiplied_fits v x y w a t u z h i e = absurd (cc)
 
   -- ---- signs, `not`, standard functions and members of sets
 
@@ -157,33 +117,21 @@ module _ (C : code.ComponentPlace → ℕ → Type 0) (here : Here) (r : Routine
   sign_fits None x z n f j i e = fits_as x z e i
   sign_fits (Some sign.Plus) x z true (as_ordinal a) j i e = fits_as _ z e ((subst (FormFits x.ty) j i).0, refl)
   sign_fits (Some sign.Minus) x z true (as_ordinal a) j i e = fits_as _ z e ((subst (FormFits x.ty) j i).0, refl)
-  sign_fits (Some sign.Plus) x z false f j i e = absurd (cc)
-  sign_fits (Some sign.Minus) x z false f j i e = absurd (cc)
-  sign_fits (Some sign.Plus) x z true (as_set a) j i e = absurd (cc)
-  sign_fits (Some sign.Minus) x z true (as_set a) j i e = absurd (cc)
-  sign_fits (Some sign.Plus) x z true (as_place p) j i e = absurd (cc)
-  sign_fits (Some sign.Minus) x z true (as_place p) j i e = absurd (cc)
-  sign_fits (Some sign.Plus) x z true (as_component p) j i e = absurd (cc)
-  sign_fits (Some sign.Minus) x z true (as_component p) j i e = absurd (cc)
+  sign_fits y x z u v j i e = absurd (cc)
 
   pub signed_fits : (o : Option Sign) (x z : Formed) → ValueFits x → signed_form o x ≡ Some z → ValueFits z
   signed_fits o x z i e = sign_fits o x z (is_integer x.ty) x.form refl i e
 
   turned : (b : Bool) (t : Ty) (f : Form) (z : Formed) → FormFits t f → not_form_of b f ≡ Some z → ValueFits z
   turned true t (as_ordinal a) z i e = fits_as _ z e (i.0, refl)
-  turned true t (as_set a) z i e = absurd (cc)
-  turned true t (as_place p) z i e = absurd (cc)
-  turned true t (as_component p) z i e = absurd (cc)
-  turned false t f z i e = absurd (cc)
+  turned x t y z i e = absurd (cc)
 
   pub not_fits : (x z : Formed) → ValueFits x → not_form x ≡ Some z → ValueFits z
   not_fits x z i e = turned (is_boolean x.ty) x.ty x.form z i e
 
   pub member_fits : (b c : code.SetExpression) (t : Ty) (f : Form) → set_in r b ≡ true → FormFits t f → with_member_form b f ≡ Some c → set_in r c ≡ true
   member_fits b c t (as_ordinal a) h i e = subst (λ s. set_in r s ≡ true) (same_inside (code.with_element b a) c e) (both_in (set_in r b) (expression_in r a) h i.0)
-  member_fits b c t (as_set a) h i e = absurd (cc)
-  member_fits b c t (as_place p) h i e = absurd (cc)
-  member_fits b c t (as_component p) h i e = absurd (cc)
+  member_fits b c t x h i e = absurd (cc)
 
   number_fits : (b : Bool) (c : code.Expression) (z : Formed) → expression_in r c ≡ true → (if b then integer_form c else None) ≡ Some z → ValueFits z
   number_fits true c z h e = fits_as _ z e (h, refl)
@@ -193,61 +141,18 @@ module _ (C : code.ComponentPlace → ℕ → Type 0) (here : Here) (r : Routine
   ordinal_applied scopes.succ_function (named.ordinal q) b c z h e = fits_as _ z e (h, refl)
   ordinal_applied scopes.pred_function (named.ordinal q) b c z h e = fits_as _ z e (h, refl)
   ordinal_applied scopes.chr_function (named.ordinal q) true c z h e = fits_as _ z e (h, refl)
-  ordinal_applied scopes.chr_function (named.ordinal q) false c z h e = absurd (cc)
   ordinal_applied scopes.ord_function (named.ordinal q) b c z h e = number_fits (is_within all_integers (range_of_base q.base).high) c z h e
   ordinal_applied scopes.abs_function (named.ordinal q) true c z h e = fits_as _ z e (h, refl)
-  ordinal_applied scopes.abs_function (named.ordinal q) false c z h e = absurd (cc)
-  ordinal_applied scopes.empty_function t b c z h e = absurd (cc)
-  ordinal_applied scopes.delay_procedure t b c z h e = absurd (cc)
-  ordinal_applied scopes.continue_procedure t b c z h e = absurd (cc)
-  ordinal_applied scopes.display_procedure t b c z h e = absurd (cc)
-  ordinal_applied scopes.succ_function named.queue_type b c z h e = absurd (cc)
-  ordinal_applied scopes.succ_function (named.set_over q) b c z h e = absurd (cc)
-  ordinal_applied scopes.succ_function (named.array_over q t) b c z h e = absurd (cc)
-  ordinal_applied scopes.succ_function (named.record_with us) b c z h e = absurd (cc)
-  ordinal_applied scopes.succ_function (named.component_of n) b c z h e = absurd (cc)
-  ordinal_applied scopes.pred_function named.queue_type b c z h e = absurd (cc)
-  ordinal_applied scopes.pred_function (named.set_over q) b c z h e = absurd (cc)
-  ordinal_applied scopes.pred_function (named.array_over q t) b c z h e = absurd (cc)
-  ordinal_applied scopes.pred_function (named.record_with us) b c z h e = absurd (cc)
-  ordinal_applied scopes.pred_function (named.component_of n) b c z h e = absurd (cc)
-  ordinal_applied scopes.chr_function named.queue_type b c z h e = absurd (cc)
-  ordinal_applied scopes.chr_function (named.set_over q) b c z h e = absurd (cc)
-  ordinal_applied scopes.chr_function (named.array_over q t) b c z h e = absurd (cc)
-  ordinal_applied scopes.chr_function (named.record_with us) b c z h e = absurd (cc)
-  ordinal_applied scopes.chr_function (named.component_of n) b c z h e = absurd (cc)
-  ordinal_applied scopes.ord_function named.queue_type b c z h e = absurd (cc)
-  ordinal_applied scopes.ord_function (named.set_over q) b c z h e = absurd (cc)
-  ordinal_applied scopes.ord_function (named.array_over q t) b c z h e = absurd (cc)
-  ordinal_applied scopes.ord_function (named.record_with us) b c z h e = absurd (cc)
-  ordinal_applied scopes.ord_function (named.component_of n) b c z h e = absurd (cc)
-  ordinal_applied scopes.abs_function named.queue_type b c z h e = absurd (cc)
-  ordinal_applied scopes.abs_function (named.set_over q) b c z h e = absurd (cc)
-  ordinal_applied scopes.abs_function (named.array_over q t) b c z h e = absurd (cc)
-  ordinal_applied scopes.abs_function (named.record_with us) b c z h e = absurd (cc)
-  ordinal_applied scopes.abs_function (named.component_of n) b c z h e = absurd (cc)
+  ordinal_applied x y u c z h e = absurd (cc)
 
   place_applied : (s : Standard) (t : Ty) (p : code.Place) (z : Formed) → PlaceFits r p t → applied_place s t p ≡ Some z → ValueFits z
   place_applied scopes.empty_function named.queue_type p z h e = fits_as _ z e (has_place r p named.queue_type 1 h (omega arith), refl)
-  place_applied scopes.empty_function (named.ordinal q) p z h e = absurd (cc)
-  place_applied scopes.empty_function (named.set_over q) p z h e = absurd (cc)
-  place_applied scopes.empty_function (named.array_over q t) p z h e = absurd (cc)
-  place_applied scopes.empty_function (named.record_with us) p z h e = absurd (cc)
-  place_applied scopes.empty_function (named.component_of n) p z h e = absurd (cc)
-  place_applied scopes.succ_function t p z h e = absurd (cc)
-  place_applied scopes.pred_function t p z h e = absurd (cc)
-  place_applied scopes.chr_function t p z h e = absurd (cc)
-  place_applied scopes.ord_function t p z h e = absurd (cc)
-  place_applied scopes.abs_function t p z h e = absurd (cc)
-  place_applied scopes.delay_procedure t p z h e = absurd (cc)
-  place_applied scopes.continue_procedure t p z h e = absurd (cc)
-  place_applied scopes.display_procedure t p z h e = absurd (cc)
+  place_applied x y p z h e = absurd (cc)
 
   form_applied : (s : Standard) (x z : Formed) (f : Form) → FormFits x.ty f → applied_form_of s x f ≡ Some z → ValueFits z
   form_applied s x z (as_ordinal c) h e = ordinal_applied s x.ty (is_integer x.ty) c z h.0 e
   form_applied s x z (as_place p) h e = place_applied s x.ty p z h e
-  form_applied s x z (as_set a) h e = absurd (cc)
-  form_applied s x z (as_component c) h e = absurd (cc)
+  form_applied s x z y h e = absurd (cc)
 
   pub applied_fits : (s : Standard) (x z : Formed) → ValueFits x → applied_form s x ≡ Some z → ValueFits z
   applied_fits s x z h e = form_applied s x z x.form h e

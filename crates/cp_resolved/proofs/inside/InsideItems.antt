@@ -12,7 +12,7 @@ use Rattle.cp_meaning.specs.Scopes as scopes
 use Rattle.cp_meaning.specs.Declarations.{Parameter, RoutineMeaning}
 use Rattle.cp_meaning.specs.Expressions.{name_of}
 use Rattle.cp_meaning.specs.Systems.{system_of}
-use Rattle.cp_resolved.specs.Compiled.{Form, as_ordinal, as_set, as_place, as_component, a_variable, a_component, designator_form}
+use Rattle.cp_resolved.specs.Compiled.{Form, as_ordinal, as_set, as_place, a_variable, a_component, designator_form}
 use Rattle.cp_resolved.specs.Headed.{IsNoComponent, AreNumbered, AreHanded}
 use Rattle.cp_resolved.specs.Layouts.{cells_of, Here, frame_here, cell_named, look}
 use Rattle.cp_resolved.specs.Meant.{IsCell, IsQueue, IsCounter, Assigns, Calls, Starts, Means}
@@ -78,20 +78,7 @@ module _ (t : Tables) (h : Here) (r : RoutineView) (P : ℕ → Type 0) (v : Var
       subst (AssignedIn r) (sym (e.1 ∙ ap (λ y. code.copy_cells p c (cells_of y)) e.0)) (has_place r c (named.array_over q u) (cells_of (named.array_over q u)) (subst (λ y. PlaceFits r c y) e.0 j) (omega arith), has_place r p (named.array_over q u) (cells_of (named.array_over q u)) i (omega arith))
   assigned_in (named.record_with us) w (as_place c) p a e i j =
       subst (AssignedIn r) (sym (e.1 ∙ ap (λ y. code.copy_cells p c (cells_of y)) e.0)) (has_place r c (named.record_with us) (cells_of (named.record_with us)) (subst (λ y. PlaceFits r c y) e.0 j) (omega arith), has_place r p (named.record_with us) (cells_of (named.record_with us)) i (omega arith))
-  assigned_in named.queue_type w f p a e i j = absurd e
-  assigned_in (named.component_of n) w f p a e i j = absurd e
-  assigned_in (named.ordinal q) w (as_set c) p a e i j = absurd e
-  assigned_in (named.ordinal q) w (as_place c) p a e i j = absurd e
-  assigned_in (named.ordinal q) w (as_component c) p a e i j = absurd e
-  assigned_in (named.set_over q) w (as_ordinal c) p a e i j = absurd e
-  assigned_in (named.set_over q) w (as_place c) p a e i j = absurd e
-  assigned_in (named.set_over q) w (as_component c) p a e i j = absurd e
-  assigned_in (named.array_over q u) w (as_ordinal c) p a e i j = absurd e
-  assigned_in (named.array_over q u) w (as_set c) p a e i j = absurd e
-  assigned_in (named.array_over q u) w (as_component c) p a e i j = absurd e
-  assigned_in (named.record_with us) w (as_ordinal c) p a e i j = absurd e
-  assigned_in (named.record_with us) w (as_set c) p a e i j = absurd e
-  assigned_in (named.record_with us) w (as_component c) p a e i j = absurd e
+  assigned_in _ w _ p a e i j = absurd e
 
   assigns_inside : (a : code.Action) → Assigns h a → AssignedIn r a
   assigns_inside a m =
@@ -112,12 +99,7 @@ module _ (t : Tables) (h : Here) (r : RoutineView) (P : ℕ → Type 0) (v : Var
 
   called_fits : (d : syntax.Designator) (m : Option scopes.Meaning) (part : code.ComponentPlace) (b : Bool) (number : ℕ) → ((k : ℕ) → designator_form h d ≡ Some (a_component part k) → Leads t h r P part k) → CalleeIs h d m part b number → Called part b number
   called_fits d (Some (scopes.routine_meaning y)) part b number f i = own_called part b number i.0 i.1 i.2
-  called_fits d (Some (scopes.constant_meaning x z)) part b number f i = entry_called part b number (f (h.layouts.owners number) i.0) i.1
-  called_fits d (Some (scopes.type_meaning u)) part b number f i = entry_called part b number (f (h.layouts.owners number) i.0) i.1
-  called_fits d (Some (scopes.local_variable u)) part b number f i = entry_called part b number (f (h.layouts.owners number) i.0) i.1
-  called_fits d (Some (scopes.permanent_variable u)) part b number f i = entry_called part b number (f (h.layouts.owners number) i.0) i.1
-  called_fits d (Some (scopes.standard_meaning s)) part b number f i = entry_called part b number (f (h.layouts.owners number) i.0) i.1
-  called_fits d None part b number f i = entry_called part b number (f (h.layouts.owners number) i.0) i.1
+  called_fits d _ part b number f i = entry_called part b number (f (h.layouts.owners number) i.0) i.1
 
   less_true : (a b : ℕ) → a < b → nat_lt a b ≡ true
   less_true a b lt = search (rules, lt)
@@ -178,37 +160,22 @@ module _ (t : Tables) (h : Here) (r : RoutineView) (P : ℕ → Type 0) (v : Var
   -- ---- all actions
 
   pub means_inside : (a : code.Action) → IsThere t a → Means h a → action_in t r a ≡ true
-  means_inside code.nothing i m = refl
   means_inside (code.assign p e low high) i m = let z = assigns_inside (code.assign p e low high) m in both (expression_in r e) (has 1 (place_in r p)) z.0 z.1
   means_inside (code.assign_set p e low high) i m = let z = assigns_inside (code.assign_set p e low high) m in both (set_in r e) (has 8 (place_in r p)) z.0 z.1
   means_inside (code.copy_cells p q size) i m = let z = assigns_inside (code.copy_cells p q size) m in both (has size (place_in r q)) (has size (place_in r p)) z.0 z.1
-  means_inside (code.block list) i m = refl
   means_inside (code.choose c list other) i m = cell_inside c m
   means_inside (code.select c arms) i m = cell_inside c m
   means_inside (code.while_do c list again) i m = cell_inside c m
   means_inside (code.until c list again) i m = cell_inside c m
   means_inside (code.for_do o low high from to down list) i m = both (has 1 (room_from r o)) (expression_in r from && expression_in r to) (counter_inside o m.0) (both (expression_in r from) (expression_in r to) (cell_inside from m.1) (cell_inside to m.2))
-  means_inside (code.cycle list) i m = refl
   means_inside (code.call number part b xs o) i m = (call_fits number part b xs o i m).inside
   means_inside (code.start part number xs) i m = (start_fits part number xs m).inside
   means_inside (code.delay p) i m = queue_inside p m
   means_inside (code.continue_at p) i m = queue_inside p m
   means_inside (code.display c kind) i m = cell_inside c m
+  means_inside _ i m = refl
 
   pub means_names : (a : code.Action) → IsThere t a → Means h a → PlainActionNames t h.system a
-  means_names code.nothing i m = tt
-  means_names (code.assign p e low high) i m = tt
-  means_names (code.assign_set p e low high) i m = tt
-  means_names (code.copy_cells p q size) i m = tt
-  means_names (code.block list) i m = tt
-  means_names (code.choose c list other) i m = tt
-  means_names (code.select c arms) i m = tt
-  means_names (code.while_do c list again) i m = tt
-  means_names (code.until c list again) i m = tt
-  means_names (code.for_do o low high from to down list) i m = tt
-  means_names (code.cycle list) i m = tt
   means_names (code.call number part b xs o) i m = (call_fits number part b xs o i m).names
   means_names (code.start part number xs) i m = (start_fits part number xs m).names
-  means_names (code.delay p) i m = tt
-  means_names (code.continue_at p) i m = tt
-  means_names (code.display c kind) i m = tt
+  means_names _ i m = tt

@@ -58,20 +58,12 @@ extent_there es n lt = (let e : nat_lt n (length es) ≡ true = search (rules, l
 result_full : (o : Option Ty) → IsOrdinalResult o → IsFull (result_type o)
 result_full None i = tt
 result_full (Some (named.ordinal q)) i = tt
-result_full (Some named.queue_type) i = absurd i
-result_full (Some (named.set_over q)) i = absurd i
-result_full (Some (named.array_over q u)) i = absurd i
-result_full (Some (named.record_with us)) i = absurd i
-result_full (Some (named.component_of k)) i = absurd i
+result_full _ i = absurd i
 
 result_cells : (o : Option Ty) (u : Ty) → IsOrdinalResult o → o ≡ Some u → cells_of u ≡ 1
 result_cells None u i e = absurd (cc)
 result_cells (Some (named.ordinal q)) u i e = ap cells_of (sym (same_Some (named.ordinal q) u e))
-result_cells (Some named.queue_type) u i e = absurd i
-result_cells (Some (named.set_over q)) u i e = absurd i
-result_cells (Some (named.array_over q w)) u i e = absurd i
-result_cells (Some (named.record_with us)) u i e = absurd i
-result_cells (Some (named.component_of k)) u i e = absurd i
+result_cells _ u i e = absurd i
 
 -- ---- cells of variables
 
@@ -159,21 +151,7 @@ module _ (t : Tree) (r : Tables) (same : plain r ≡ laid t) (few : length r.ite
       go : (number ≡ routine) ⊎ CallsOne l routine need number → number < length r.routines
       go (inl e) = let k = routines_length r l d.shows w in omega (arith, k, lt, e)
       go (inr i) = let k = routines_length r l d.shows w in let v : number < length l.routines = slice_get_within l.routines number i.view i.there in omega (arith, k, v)
-  callee_there code.nothing routine need lt f = tt
-  callee_there (code.assign p e low high) routine need lt f = tt
-  callee_there (code.assign_set p e low high) routine need lt f = tt
-  callee_there (code.copy_cells p q size) routine need lt f = tt
-  callee_there (code.block list) routine need lt f = tt
-  callee_there (code.choose e list other) routine need lt f = tt
-  callee_there (code.select e arms) routine need lt f = tt
-  callee_there (code.while_do e list again) routine need lt f = tt
-  callee_there (code.until e list again) routine need lt f = tt
-  callee_there (code.for_do v low high e g down list) routine need lt f = tt
-  callee_there (code.cycle list) routine need lt f = tt
-  callee_there (code.start part number xs) routine need lt f = tt
-  callee_there (code.delay p) routine need lt f = tt
-  callee_there (code.continue_at p) routine need lt f = tt
-  callee_there (code.display e kind) routine need lt f = tt
+  callee_there _ routine need lt f = tt
 
   -- ---- variables
 

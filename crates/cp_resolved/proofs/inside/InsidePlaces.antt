@@ -74,10 +74,7 @@ part_fits r o n is us x (Some c) d g h e =
 pub field_fits : (r : RoutineView) (p : code.Place) (t : Ty) (x : Name) (d : Designated) → PlaceFits r p t → field_of_form t p x ≡ Some d → VariableFits r d
 field_fits r (code.place o n is) (named.record_with us) x d h e = part_fits r o n is us x (field_chosen us x) d refl h e
 field_fits r p (named.ordinal q) x d h e = absurd (cc)
-field_fits r p named.queue_type x d h e = absurd (cc)
-field_fits r p (named.set_over q) x d h e = absurd (cc)
-field_fits r p (named.array_over q t) x d h e = absurd (cc)
-field_fits r p (named.component_of m) x d h e = absurd (cc)
+field_fits r p y x d h e = absurd (cc)
 
 -- ---- elements
 
@@ -112,7 +109,4 @@ element_fits r (code.place o n is) (named.array_over q t) c d h i e =
       full = h.full.1;
     })
 element_fits r p (named.ordinal q) c d h i e = absurd (cc)
-element_fits r p named.queue_type c d h i e = absurd (cc)
-element_fits r p (named.set_over q) c d h i e = absurd (cc)
-element_fits r p (named.record_with us) c d h i e = absurd (cc)
-element_fits r p (named.component_of m) c d h i e = absurd (cc)
+element_fits r p x c d h i e = absurd (cc)

@@ -108,7 +108,7 @@ index_by x r left e =
 
 -- ---- operands that are what their views are
 
-both_same : (a b c d : Bool) → a ≡ b → c ≡ d → (a && c) ≡ (b && d)
+pub both_same : (a b c d : Bool) → a ≡ b → c ≡ d → (a && c) ≡ (b && d)
 both_same a b c d e k = ap (λ x. x && c) e ∙ ap (λ x. b && x) k
 
 value_layer : (y : Expression-F Values Sets Elements Variables) → IsValue (roll-Expression (bare_expression y))

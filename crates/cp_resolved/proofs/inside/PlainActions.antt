@@ -11,7 +11,7 @@ use Rattle.cp_slots.specs.Code as code
 use Rattle.cp_slots.specs.Inside.{has, SET_CELLS, is_within, room_from, result_inside, binds_on, component_inside, argument_inside, arguments_inside, follows, binds_from, action_inside}
 use Rattle.cp_slots.specs.Systems.{parameter_count, IsOf, Names, is_component, HandsNone, HandsOne, Hands, StaysInside, ActionNames}
 use Rattle.cp_slots.specs.Tables.{Tables, RoutineView, routine_at, parameter_at}
-use Rattle.cp_resolved.proofs.inside.InsideViews.{expression_views, set_views, place_views}
+use Rattle.cp_resolved.proofs.inside.InsideViews.{expression_views, set_views, place_views, both_same as both}
 use Rattle.cp_resolved.proofs.inside.PlainInside.{expression_in, set_in, place_in}
 
 -- ---- inside
@@ -63,14 +63,9 @@ action_in t r (code.delay p) = has 1 (place_in r p)
 action_in t r (code.continue_at p) = has 1 (place_in r p)
 action_in t r (code.display e kind) = expression_in r e
 
-both : (a b c d : Bool) → a ≡ b → c ≡ d → (a && c) ≡ (b && d)
-both a b c d e k = ap (λ x. x && c) e ∙ ap (λ x. b && x) k
-
 component_views : (r : RoutineView) (c : code_component.ComponentPlace) → component_inside r c ≡ component_in r (code.component_seen c)
-component_views r component.Own = refl
-component_views r (component.Contained n) = refl
 component_views r (component.Element first low high stride e) = expression_views r e.value
-component_views r (component.Parameter slot) = refl
+component_views r _ = refl
 
 argument_views : (r callee : RoutineView) (extent slot : ℕ) (x : code_value.ArgumentValue) → argument_inside r callee extent slot x ≡ argument_in r callee extent slot (code.value_seen x)
 argument_views r callee extent slot (value.Scalar e low high) = ap (λ b. b && is_within slot 1 extent) (expression_views r e)
@@ -85,10 +80,7 @@ arguments_views r callee extent (x ∷ xs) = both _ _ _ _ (argument_views r call
 
 follows_views : (x : code_value.ArgumentValue) (count slot next : ℕ) → follows x count slot next ≡ follows_in (code.value_seen x) count slot next
 follows_views (value.Scalar e low high) count slot next = refl
-follows_views (value.Set e low high) count slot next = refl
-follows_views (value.Copy p size) count slot next = refl
-follows_views (value.Reference p) count slot next = refl
-follows_views (value.Component c) count slot next = refl
+follows_views _ count slot next = refl
 
 binds_views : (count next : ℕ) (xs : List code_argument.Argument) → binds_from count next xs ≡ binds_in count next (map code.argument_seen xs)
 binds_views count next [] = refl
@@ -99,17 +91,14 @@ binds_views count next (x ∷ xs) = go (follows x.value count x.slot next) (λ n
     go (Some n) f = f n
 
 pub action_views : (t : Tables) (r : RoutineView) (a : code_action.Action) → action_inside t r a ≡ action_in t r (code.action_seen a)
-action_views t r action.Empty = refl
 action_views t r (action.Assign p e low high) = both _ _ _ _ (expression_views r e) (ap (has 1) (place_views r p))
 action_views t r (action.AssignSet p e low high) = both _ _ _ _ (set_views r e) (ap (has SET_CELLS) (place_views r p))
 action_views t r (action.Copy p q size) = both _ _ _ _ (ap (has size) (place_views r q)) (ap (has size) (place_views r p))
-action_views t r (action.Block list) = refl
 action_views t r (action.If e list other) = expression_views r e
 action_views t r (action.Case e arms) = expression_views r e
 action_views t r (action.While e list again) = expression_views r e
 action_views t r (action.Until e list again) = expression_views r e
 action_views t r (action.For v low high e f down list) = ap (λ b. has 1 (room_from r v) && b) (both _ _ _ _ (expression_views r e) (expression_views r f))
-action_views t r (action.Cycle list) = refl
 action_views t r (action.Call callee part is_entry xs result) =
     both _ _ _ _ (component_views r part) (both _ _ _ _ (arguments_views r (routine_at t callee) (length (routine_at t callee).image) xs.items) (ap (λ b. b && result_inside r (routine_at t callee) result) (binds_views (length (routine_at t callee).extents) 0 xs.items)))
 action_views t r (action.Start part callee xs) =
@@ -117,6 +106,7 @@ action_views t r (action.Start part callee xs) =
 action_views t r (action.Delay p) = ap (has 1) (place_views r p)
 action_views t r (action.Continue p) = ap (has 1) (place_views r p)
 action_views t r (action.Display e kind) = expression_views r e
+action_views t r _ = refl
 
 -- ---- components
 
@@ -174,16 +164,12 @@ PlainActionNames t system (code.display e kind) = Unit {0}
 module _ (t : Tables) where
   names_seen : (system : ℕ) (c : code_component.ComponentPlace) (named : ℕ) → PlainNames t system (code.component_seen c) named → Names t system c named
   names_seen system component.Own named h = h
-  names_seen system (component.Contained n) named h = h
-  names_seen system (component.Element first low high stride e) named h = h
-  names_seen system (component.Parameter slot) named h = h
+  names_seen system _ named h = h
 
   stays_seen : (is_entry : Bool) (c : code_component.ComponentPlace) → PlainStays is_entry (code.component_seen c) → StaysInside is_entry c
   stays_seen true c h = tt
   stays_seen false component.Own h = tt
-  stays_seen false (component.Contained n) h = absurd (cc)
-  stays_seen false (component.Element first low high stride e) h = absurd (cc)
-  stays_seen false (component.Parameter slot) h = absurd (cc)
+  stays_seen false x h = absurd (cc)
 
   none_seen : (xs : List code_argument.Argument) → PlainNone (map code.argument_seen xs) → HandsNone xs
   none_seen [] h = tt
@@ -198,10 +184,7 @@ module _ (t : Tables) where
 
   one_seen : (system started : ℕ) (v : code_value.ArgumentValue) (slot next : ℕ) (P O : ℕ → Type 0) → ((n : ℕ) → P n → O n) → PlainOne t system started (code.value_seen v) slot next P → HandsOne t system started v slot next O
   one_seen system started (value.Component c) slot next P O f h = (h.0, h.1, names_seen system c (parameter_at t started next).system h.2, f (next + 1) h.3)
-  one_seen system started (value.Scalar e low high) slot next P O f h = f next h
-  one_seen system started (value.Set e low high) slot next P O f h = f next h
-  one_seen system started (value.Copy p size) slot next P O f h = f next h
-  one_seen system started (value.Reference p) slot next P O f h = f next h
+  one_seen system started _ slot next P O f h = f next h
 
   hands_seen : (system started next : ℕ) (xs : List code_argument.Argument) → PlainHands t system started next (map code.argument_seen xs) → Hands t system started next xs
   hands_seen system started next [] h = h
@@ -210,17 +193,4 @@ module _ (t : Tables) where
   pub action_names : (system : ℕ) (a : code_action.Action) → PlainActionNames t system (code.action_seen a) → ActionNames t system a
   action_names system (action.Call callee part is_entry xs result) h = (names_seen system part (routine_at t callee).system h.0, stays_seen is_entry part h.1, none_seen xs.items h.2)
   action_names system (action.Start part callee xs) h = (names_seen system part (routine_at t callee).system h.0, hands_seen system (routine_at t callee).system 0 xs.items h.1, h.2)
-  action_names system action.Empty h = tt
-  action_names system (action.Assign p e low high) h = tt
-  action_names system (action.AssignSet p e low high) h = tt
-  action_names system (action.Copy p q size) h = tt
-  action_names system (action.Block list) h = tt
-  action_names system (action.If e list other) h = tt
-  action_names system (action.Case e arms) h = tt
-  action_names system (action.While e list again) h = tt
-  action_names system (action.Until e list again) h = tt
-  action_names system (action.For v low high e f down list) h = tt
-  action_names system (action.Cycle list) h = tt
-  action_names system (action.Delay p) h = tt
-  action_names system (action.Continue p) h = tt
-  action_names system (action.Display e kind) h = tt
+  action_names system _ h = tt

@@ -1,6 +1,5 @@
 -- The items of each routine and of each initial statement of a tree stand for its statements.
 use Rattle.std.proofs.Common.{◌≡◌, ◌+◌, ◌==◌, ℕ, zero, suc, Bool, true, false, if◌then◌else◌, List, [], ◌∷◌, ◌++◌, length, map, Option, Some, None, slice_get, refl, sym, ap, subst, ◌∙◌, inl, inr, arith}
-use Rattle.std.proofs.Math.Dec.{T, eqb_refl}
 use Rattle.std.proofs.lemmas.Option.{none-some, same_Some, slice_get_within}
 use Rattle.std.proofs.lemmas.Slice.Eq.{bytes_eq-Decides}
 use Rattle.cp_tree.specs.Syntax as syntax
@@ -11,11 +10,11 @@ use Rattle.cp_layout.specs.Layers.{Layer, nothing_laid, routine_of}
 use Rattle.cp_layout.specs.Laid.{PlainTables, laid, tables_laid}
 use Rattle.cp_layout.specs.LaidStatements.{statements}
 use Rattle.cp_layout.specs.LaidDeclarations.{routines, program_parts, program}
-use Rattle.cp_meaning.specs.Names.{Name, same_name, temporary}
+use Rattle.cp_meaning.specs.Names.{same_name, temporary}
 use Rattle.cp_meaning.specs.Types.{Ty}
 use Rattle.cp_meaning.specs.Scopes.{Scope}
 use Rattle.cp_meaning.specs.Declarations.{Variable, RoutineMeaning}
-use Rattle.cp_meaning.specs.State.{Item, function_call, statement_item, start_item, until, successor, return, init_end, end}
+use Rattle.cp_meaning.specs.State.{Item, function_call, statement_item}
 use Rattle.cp_meaning.specs.Expressions.{result_called, routine_called}
 use Rattle.cp_resolved.specs.Begun.{all_begun}
 use Rattle.cp_resolved.specs.BodiesStand.{ground_of, CallsFormed, BodyFormed, BodiesLaw}
@@ -34,18 +33,10 @@ use Rattle.cp_resolved.proofs.laid.Extends.{Longer, routines_extend, initial_ext
 use Rattle.cp_resolved.proofs.names.ResultKnown.{result_known}
 use Rattle.cp_resolved.proofs.items.StatementsStand.{statements_law}
 use Rattle.cp_resolved.proofs.names.TreeKnown.{layouts_law}
+use Rattle.cp_resolved.proofs.frames.LeastCells.{same_number as same_token}
+use Rattle.cp_resolved.proofs.frames.FrameCells.{itself}
 
 -- ---- temporary names are variables of the frame
-
-holds : (b : Bool) → T b → b ≡ true
-holds true t = refl
-holds false t = absurd t
-
-same_token : (n : ℕ) → (n == n) ≡ true
-same_token n = holds (n == n) (eqb_refl n)
-
-itself : (x : Name) → same_name x x ≡ true
-itself x = (bytes_eq-Decides x x).1 refl
 
 abbrev second : List ℕ → ℕ
 second [] = 0
@@ -88,12 +79,7 @@ module _ (h : Here) (rest : List Variable) where
     ready (suc n) is a.1 x.1 c.1 (shows_rest h.program h.scope rest (frame_here h).variables at d es is a.0 v),
   )
   ready n (statement_item t ∷ is) a x c v = absurd c
-  ready n (start_item t ∷ is) a x c v = absurd c
-  ready n (until ts e ∷ is) a x c v = absurd c
-  ready n (successor at i z d w t ∷ is) a x c v = absurd c
-  ready n (return o ∷ is) a x c v = absurd c
-  ready n (init_end k ∷ is) a x c v = absurd c
-  ready n (end ∷ is) a x c v = absurd c
+  ready n _ a x c v = absurd c
 
 -- ---- items of the tables
 

@@ -17,9 +17,8 @@ use Rattle.cp_meaning.specs.Declarations.{routine_in}
 use Rattle.cp_resolved.specs.TreeLayouts.{whole_laid}
 use Rattle.cp_resolved.proofs.laid.Declares.{Declares, heading_declares, local_parts_declare, permanent_parts_declare, system_groups_declare, type_declares, constants_declare, variables_declare}
 use Rattle.cp_resolved.proofs.names.Entries.{still_there, last_entry}
-use Rattle.cp_resolved.proofs.laid.Extends.{Longer, Extends, routines_extend, initial_extends, system_definitions_extend, program_parts_extend}
+use Rattle.cp_resolved.proofs.laid.Extends.{Longer, Extends, routines_extend, initial_extends, system_definitions_extend, program_parts_extend, longer_trans as longer_both}
 use Rattle.cp_resolved.proofs.laid.Grown.{statements_grew}
-use Rattle.cp_resolved.proofs.names.KnowingSystems.{longer_both}
 use Rattle.cp_resolved.proofs.laid.SettledItems.{all_pending}
 use Rattle.cp_resolved.proofs.names.StepsOfProgram.{system_count}
 use Rattle.cp_resolved.proofs.names.StepsOfRoutines.{routine_count, routines_count, groups_routines}
@@ -129,9 +128,8 @@ module _ (end : Layer) where
 
   ended_append : (n : ℕ) (ls ms : List Layer) (os qs : List Opening) → AreEnded n ls os → AreEnded (n + length ls) ms qs → AreEnded n (ls ++ ms) (os ++ qs)
   ended_append n [] ms [] qs h i = subst (λ j. AreEnded j ms qs) (let e : n + 0 ≡ n = omega arith in e) i
-  ended_append n [] ms (o ∷ os) qs h i = absurd h
-  ended_append n (l ∷ ls) ms [] qs h i = absurd h
   ended_append n (l ∷ ls) ms (o ∷ os) qs h i = (h.0, ended_append (suc n) ls ms os qs h.1 (subst (λ j. AreEnded j ms qs) (let e : n + suc (length ls) ≡ suc n + length ls = omega arith in e) i))
+  ended_append n _ ms _ qs h i = absurd h
 
   -- a body, whose routine is the next one
   one_ends : (l : Layer) (o : Opening) (n : ℕ) → length l.routines ≡ n → l.pending ≡ [] → Leads (with_routine (statements l o.meaning.body).1 (statements l o.meaning.body).0) end → Ends n l o

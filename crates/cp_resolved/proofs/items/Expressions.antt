@@ -19,7 +19,7 @@ use Rattle.cp_meaning.specs.Names.{Name, temporary}
 use Rattle.cp_meaning.specs.Types as named
 use Rattle.cp_meaning.specs.Types.{Base, Ty, has_components, is_within}
 use Rattle.cp_meaning.specs.Scopes as scopes
-use Rattle.cp_meaning.specs.State.{Item, function_call, statement_item, start_item, until, successor, return, init_end, end}
+use Rattle.cp_meaning.specs.State.{Item, function_call}
 use Rattle.cp_meaning.specs.Operations.{range_of_base}
 use Rattle.cp_meaning.specs.Declarations.{RoutineMeaning, routine_in}
 use Rattle.cp_meaning.specs.Places.{result_type}
@@ -28,7 +28,7 @@ use Rattle.cp_meaning.specs.Systems.{system_of}
 use Rattle.cp_meaning.specs.Expressions.{routine_called, routine_meant, routine_of_type, result_called}
 use Rattle.cp_resolved.specs.Layouts.{Here, frame_here, is_parameter}
 use Rattle.cp_resolved.specs.Encoded.{Chosen, field_chosen}
-use Rattle.cp_resolved.specs.Compiled.{component_begun, element_of_form, field_of_form, part_of_form, Form, as_ordinal, as_set, as_place, as_component, Formed, then_form, Designated, a_variable, some_components, a_component, constant_form, call_form, named_form, valued_form, compared_forms, with_element_form, with_field_form, with_index_form, ordinal_form, permanent_begun, begun_form, signed_form, added_forms, multiplied_forms, not_form, applied_form, with_member_form, set_form, expression_form, sum_form, terms_form, term_form, factors_form, factor_form, members_form, first_form, designator_form, selected_form}
+use Rattle.cp_resolved.specs.Compiled.{component_begun, element_of_form, field_of_form, part_of_form, Form, as_ordinal, Formed, then_form, Designated, a_variable, some_components, a_component, constant_form, call_form, named_form, valued_form, compared_forms, with_element_form, with_field_form, with_index_form, ordinal_form, permanent_begun, begun_form, signed_form, added_forms, multiplied_forms, not_form, applied_form, with_member_form, set_form, expression_form, sum_form, terms_form, term_form, factors_form, factor_form, members_form, first_form, designator_form, selected_form}
 use Rattle.cp_resolved.specs.InStep.{Numbering, base_of, TypeIs, FoundIs, predeclared_as}
 use Rattle.cp_resolved.specs.Valued.{FormIs, ValueIs, DesignatedIs}
 use Rattle.cp_resolved.specs.Knows.{Knows}
@@ -70,24 +70,12 @@ module _ (h : Here) where
   pub next_first : (n : ℕ) (is js : List Item) → AreNext h n (is ++ js) → AreNext h n is
   next_first n [] js a = tt
   next_first n (function_call at d es ∷ is) js a = (a.0, next_first (suc n) is js a.1)
-  next_first n (statement_item t ∷ is) js a = absurd a
-  next_first n (start_item t ∷ is) js a = absurd a
-  next_first n (until ts e ∷ is) js a = absurd a
-  next_first n (successor at i z d w t ∷ is) js a = absurd a
-  next_first n (return o ∷ is) js a = absurd a
-  next_first n (init_end k ∷ is) js a = absurd a
-  next_first n (end ∷ is) js a = absurd a
+  next_first n _ js a = absurd a
 
   next_after : (n : ℕ) (is js : List Item) → AreNext h n (is ++ js) → AreNext h (n + length is) js
   next_after n [] js a = subst (λ m. AreNext h m js) (omega arith) a
   next_after n (function_call at d es ∷ is) js a = subst (λ m. AreNext h m js) (omega arith) (next_after (suc n) is js a.1)
-  next_after n (statement_item t ∷ is) js a = absurd a
-  next_after n (start_item t ∷ is) js a = absurd a
-  next_after n (until ts e ∷ is) js a = absurd a
-  next_after n (successor at i z d w t ∷ is) js a = absurd a
-  next_after n (return o ∷ is) js a = absurd a
-  next_after n (init_end k ∷ is) js a = absurd a
-  next_after n (end ∷ is) js a = absurd a
+  next_after n _ js a = absurd a
 
   pub next_rest : (n : ℕ) (l : Layer) (is js : List Item) → TakesFrom n l is → AreNext h n (is ++ js) → AreNext h (cells l) js
   next_rest n l is js e a = subst (λ m. AreNext h m js) (sym e) (next_after n is js a)
@@ -107,8 +95,7 @@ NoEntry (a_component c k) ss = last_field ss ≡ None
 
 pub no_entry : (d : Designated) (ss : syntax.Selectors) → last_field ss ≡ None → NoEntry d ss
 no_entry (a_variable p t) ss e = tt
-no_entry (some_components first r k) ss e = e
-no_entry (a_component c k) ss e = e
+no_entry _ ss e = e
 
 last_after : (e : syntax.Expression) (ss : syntax.Selectors) → last_field (syntax.more_selectors (syntax.index e) ss) ≡ None → last_field ss ≡ None
 last_after e syntax.no_selectors h = refl
@@ -116,15 +103,13 @@ last_after e (syntax.more_selectors s ss) h = h
 
 base_kept : (k : Numbering) (b : Base) → base_of k (range_of_base b).base ≡ base_of k b
 base_kept k named.integers = refl
-base_kept k named.booleans = refl
-base_kept k named.characters = refl
-base_kept k (named.enumerated at xs) = refl
+base_kept k _ = refl
 
 number_kept : (n : ℕ) (b : Bool) → nat_le n 32767 ≡ b → (z f : Formed) → (if b then Some f else None) ≡ Some z → as_integer n ≡ pos n
 number_kept n true e z f h = ap (λ c. if c then pos n else pos 32767) e
 number_kept n false e z f h = absurd (cc)
 
-regrouped : (is js ks : List Item) → is ++ js ++ ks ≡ is ++ (js ++ ks)
+pub regrouped : (is js ks : List Item) → is ++ js ++ ks ≡ is ++ (js ++ ks)
 regrouped [] js ks = refl
 regrouped (i ∷ is) js ks = ap (λ xs. i ∷ xs) (regrouped is js ks)
 
@@ -192,11 +177,7 @@ module _ (k : Numbering) (h : Here) (b : Layer) (g : Knows k h b) (calls : Knows
   cell_is : (at : ℕ) (n : ℕ) (t : Ty) (z : Formed) (v : FunctionResult) → (frame_here h).origins (temporary at) ≡ origin.Local n → TypeIs k b.types t v.value_type → call_form h at t ≡ Some z → ValueIs k b.types z (loaded (place_at (origin.Local n)) v.value_type)
   cell_is at n (named.ordinal r) z v o t e = subst (λ y. ValueIs k b.types y (loaded (place_at (origin.Local n)) v.value_type)) (same_inside _ z e) (
       (r, refl, ap (loaded (place_at (origin.Local n))) t ∙ ap (λ q. ordinal_value (code.load (place_at q)) (base_of k r.base)) (sym o)))
-  cell_is at n named.queue_type z v o t e = absurd (cc)
-  cell_is at n (named.set_over r) z v o t e = absurd (cc)
-  cell_is at n (named.array_over r u) z v o t e = absurd (cc)
-  cell_is at n (named.record_with us) z v o t e = absurd (cc)
-  cell_is at n (named.component_of c) z v o t e = absurd (cc)
+  cell_is at n x z v o t e = absurd (cc)
 
   room_kept : (f : layers.Frame) (o : Option RoutineView) → length (layers.frame_with f o).image ≡ length f.image
   room_kept f None = refl
@@ -234,9 +215,7 @@ module _ (k : Numbering) (h : Here) (b : Layer) (g : Knows k h b) (calls : Knows
 
   pub ordinal_is : (t : Ty) (f : Form) (v : Value) (c : code.Expression) → FormIs k b.types t f v → ordinal_form f ≡ Some c → ordinal_of v ≡ c
   ordinal_is t (as_ordinal e) v c i f = ap ordinal_of i.2 ∙ same_inside e c f
-  ordinal_is t (as_set e) v c i f = absurd (cc)
-  ordinal_is t (as_place e) v c i f = absurd (cc)
-  ordinal_is t (as_component e) v c i f = absurd (cc)
+  ordinal_is t x v c i f = absurd (cc)
 
   pub index_is : (d q : Designated) (x : values.Designated) (a : Formed) (v : Value) → DesignatedIs k b.types d x → ValueIs k b.types a v → with_index_form h d a ≡ Some q → DesignatedIs k b.types q (element_selected b x (ordinal_of v))
   index_is d q x a v i j f =
@@ -245,18 +224,13 @@ module _ (k : Numbering) (h : Here) (b : Layer) (g : Knows k h b) (calls : Knows
 
   element_stays : (t : Ty) (w : code.Place) (c : code.Expression) (q : Designated) (ss : syntax.Selectors) → element_of_form t w c ≡ Some q → NoEntry q ss
   element_stays (named.array_over r u) (code.place o n is) c q ss e = subst (λ y. NoEntry y ss) (same_inside _ q e) tt
-  element_stays (named.ordinal r) w c q ss e = absurd (cc)
-  element_stays named.queue_type w c q ss e = absurd (cc)
-  element_stays (named.set_over r) w c q ss e = absurd (cc)
-  element_stays (named.record_with us) w c q ss e = absurd (cc)
-  element_stays (named.component_of n) w c q ss e = absurd (cc)
+  element_stays x w c q ss e = absurd (cc)
 
   pub goes_on : (d : Designated) (a : Formed) (q : Designated) (o : syntax.Expression) (ss : syntax.Selectors) → NoEntry d (syntax.more_selectors (syntax.index o) ss) → with_index_form h d a ≡ Some q → NoEntry q ss
   goes_on (a_variable w t) a q o ss e f =
       let p : (c : code.Expression) × (ordinal_form a.form ≡ Some c) × (with_element_form h (a_variable w t) c ≡ Some q) = inside (ordinal_form a.form) (with_element_form h (a_variable w t)) q f in
       element_stays t w p.0 q ss p.2
-  goes_on (some_components c r n) a q o ss e f = no_entry q ss (last_after o ss e)
-  goes_on (a_component c n) a q o ss e f = no_entry q ss (last_after o ss e)
+  goes_on _ a q o ss e f = no_entry q ss (last_after o ss e)
 
   field_stays : (w : code.Place) (us : named.FieldTypes) (y : Name) (q : Designated) (ss : syntax.Selectors) → field_of_form (named.record_with us) w y ≡ Some q → NoEntry q ss
   field_stays (code.place o n is) us y q ss e =
@@ -265,11 +239,7 @@ module _ (k : Numbering) (h : Here) (b : Layer) (g : Knows k h b) (calls : Knows
 
   pub stays : (w : code.Place) (t : Ty) (y : Name) (q : Designated) (ss : syntax.Selectors) → with_field_form (a_variable w t) y ≡ Some q → NoEntry q ss
   stays w (named.record_with us) y q ss e = field_stays w us y q ss e
-  stays w (named.ordinal r) y q ss e = absurd (cc)
-  stays w named.queue_type y q ss e = absurd (cc)
-  stays w (named.set_over r) y q ss e = absurd (cc)
-  stays w (named.array_over r u) y q ss e = absurd (cc)
-  stays w (named.component_of n) y q ss e = absurd (cc)
+  stays w x y q ss e = absurd (cc)
 
   part_of : (c : ℕ) (d : Designated) (a : Formed) (q : Designated) → Parts c d → with_index_form h d a ≡ Some q → Parts c q
   part_of c (a_variable w t) a q e f = absurd e
@@ -297,15 +267,7 @@ module _ (k : Numbering) (h : Here) (b : Layer) (g : Knows k h b) (calls : Knows
       go true = refl
       go false = refl
   parts_begun x (named.array_over r (named.component_of n)) e = refl
-  parts_begun x (named.array_over r (named.ordinal s)) e = absurd (cc)
-  parts_begun x (named.array_over r named.queue_type) e = absurd (cc)
-  parts_begun x (named.array_over r (named.set_over s)) e = absurd (cc)
-  parts_begun x (named.array_over r (named.array_over s u)) e = absurd (cc)
-  parts_begun x (named.array_over r (named.record_with us)) e = absurd (cc)
-  parts_begun x (named.ordinal r) e = absurd (cc)
-  parts_begun x named.queue_type e = absurd (cc)
-  parts_begun x (named.set_over r) e = absurd (cc)
-  parts_begun x (named.record_with us) e = absurd (cc)
+  parts_begun x y e = absurd (cc)
 
   -- a variable of components is named without an entry, or has no components
   pub no_entry_of : (x : Name) (t : Ty) (ss : syntax.Selectors) (o : Option Name) → last_field ss ≡ o → is_call_meant (Some (scopes.permanent_variable t)) o ≡ false → NoEntry (permanent_begun h x t) ss
@@ -428,11 +390,6 @@ module _ (k : Numbering) (h : Here) (b : Layer) (g : Knows k h b) (calls : Knows
         value = w.value;
         taken = takes_both (cells l) m (named_as m at (selectors l (begun l x.name) ss).0 (λ m. first_value m es) as').1 (selectors_calls h.scope ss) (expressions_calls h.scope es ++ function_call at d es ∷ []) e.taken w.taken;
       }
-  named_is l at x ss es z true (Some (scopes.local_variable t)) p ce me pe fi s us en ta fs u n f = absurd (cc)
-  named_is l at x ss es z true (Some (scopes.constant_meaning a v)) p ce me pe fi s us en ta fs u n f = absurd (cc)
-  named_is l at x ss es z true (Some (scopes.type_meaning t)) p ce me pe fi s us en ta fs u n f = absurd (cc)
-  named_is l at x ss es z true (Some (scopes.standard_meaning q)) p ce me pe fi s us en ta fs u n f = absurd (cc)
-  named_is l at x ss es z true None p ce me pe fi s us en ta fs u n f = absurd (cc)
   named_is l at x syntax.no_selectors syntax.no_expressions z false (Some (scopes.constant_meaning a v)) p ce me pe fi s us en ta fs u n f =
       let first : Layer → Value × Layer = λ m. first_value m syntax.no_expressions in
       let as' : Layer → ℕ → List code.Argument × Layer = λ m i. arguments_from m i 0 syntax.no_expressions in
@@ -461,9 +418,9 @@ module _ (k : Numbering) (h : Here) (b : Layer) (g : Knows k h b) (calls : Knows
       variable_is l at x ss (permanent_begun h x.name t) z (subst IsNoRoutine (sym me) tt) (ap (begun_form h x.name) me) s us (no_entry_of x.name t ss (last_field ss) refl ce) n f
   named_is l at x ss (syntax.more_expressions e es) z false (Some (scopes.local_variable t)) p ce me pe fi s us en ta fs u n f = absurd u
   named_is l at x ss (syntax.more_expressions e es) z false (Some (scopes.permanent_variable t)) p ce me pe fi s us en ta fs u n f = absurd u
-  named_is l at x ss es z false (Some (scopes.routine_meaning r)) p ce me pe fi s us en ta fs u n f = absurd (cc)
   named_is l at x ss es z false (Some (scopes.type_meaning t)) p ce me pe fi s us en ta fs u n f = absurd (nothing_begun x.name ss (Some (scopes.type_meaning t)) z me refl f)
   named_is l at x ss es z false None p ce me pe fi s us en ta fs u n f = absurd (nothing_begun x.name ss None z me refl f)
+  named_is l at x ss es z y v p ce me pe fi s us en ta fs u n f = absurd (cc)
 
   -- ---- expressions
 
@@ -630,10 +587,9 @@ module _ (k : Numbering) (h : Here) (b : Layer) (g : Knows k h b) (calls : Knows
 
     -- the one argument of a standard function
     pub first_is : (l : Layer) (es : syntax.Expressions) (z : Formed) → Kept b l → AreUsed h es → IsOne es → AreNext h (cells l) (expressions_calls h.scope es) → first_form h es ≡ Some z → Is z (cells l) (first_value l es) (expressions_calls h.scope es)
-    first_is l syntax.no_expressions z s u i n f = absurd i
-    first_is l (syntax.more_expressions e (syntax.more_expressions o es)) z s u i n f = absurd i
     first_is l (syntax.more_expressions e syntax.no_expressions) z s u i n f =
         let m : Layer = (expression l e).1 in
         let c : List Item = expression_calls h.scope e in
         let j : Is z (cells l) (expression l e) c = expression_is l e z s u.0 (next_first h (cells l) c [] n) f in
         record { value = j.value; taken = takes_both (cells l) m m c [] j.taken (takes_none m) }
+    first_is l _ z s u i n f = absurd i

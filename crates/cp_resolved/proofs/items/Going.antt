@@ -15,11 +15,11 @@ use Rattle.cp_layout.specs.Values.{Value, ordinal_of, number_value}
 use Rattle.cp_layout.specs.Layers as layers
 use Rattle.cp_layout.specs.Layers.{Layer, Pending, parameter_at, parameter_of, result_of}
 use Rattle.cp_layout.specs.LaidExpressions as laid
-use Rattle.cp_layout.specs.LaidExpressions.{begun, element_selected, field_selected, entry_of, entry_found, passed, named_as, function_as, called, counted, expression, sum, more_terms, term, more_factors, factor, elements, first_value, arguments_from, designator, selectors, selector}
+use Rattle.cp_layout.specs.LaidExpressions.{begun, element_selected, field_selected, entry_found, passed, named_as, function_as, called, counted, expression, sum, more_terms, term, more_factors, factor, elements, first_value, arguments_from, designator, selectors, selector}
 use Rattle.cp_meaning.specs.Names.{Name, temporary}
 use Rattle.cp_meaning.specs.Types.{Ty}
 use Rattle.cp_meaning.specs.Scopes as scopes
-use Rattle.cp_meaning.specs.State.{Item, function_call, statement_item, start_item, until, successor, return, init_end, end}
+use Rattle.cp_meaning.specs.State.{Item, function_call}
 use Rattle.cp_meaning.specs.Declarations.{Parameter, RoutineMeaning, routine_in}
 use Rattle.cp_meaning.specs.Places.{result_type}
 use Rattle.cp_meaning.specs.Lifting.{last_field, is_call_meant, own_call, expression_calls, sum_calls, terms_calls, term_calls, factors_calls, factor_calls, expressions_calls, designator_calls, selectors_calls}
@@ -35,7 +35,7 @@ use Rattle.cp_resolved.specs.Used.{AreNext, AreEntry, IsOne, HasResult, IsFuncti
 use Rattle.cp_resolved.specs.Valued.{ValueIs, DesignatedIs}
 use Rattle.cp_resolved.proofs.forms.Designating.{IsNoRoutine, begun_same}
 use Rattle.cp_resolved.proofs.items.Expressions as known
-use Rattle.cp_resolved.proofs.items.Expressions.{inside, cells, TakesFrom, takes_none, takes_both, NoEntry}
+use Rattle.cp_resolved.proofs.items.Expressions.{inside, cells, TakesFrom, takes_none, takes_both, NoEntry, regrouped}
 use Rattle.cp_resolved.proofs.laid.Kept.{Kept, kept_trans, expression_kept, sum_kept, term_kept, factor_kept, designator_kept, arguments_kept}
 use Rattle.cp_resolved.proofs.forms.Moved.{given_same}
 use Rattle.cp_resolved.proofs.names.Steps.{found_in}
@@ -63,15 +63,7 @@ PendingAre lines h ps is = ⊥
 pending_both : (lines : List ℕ) (h : Here) (ps qs : List Pending) (is js : List Item) → PendingAre lines h ps is → PendingAre lines h qs js → PendingAre lines h (ps ++ qs) (is ++ js)
 pending_both lines h [] qs [] js a c = c
 pending_both lines h (p ∷ ps) qs (function_call at d es ∷ is) js a c = (a.0, pending_both lines h ps qs is js a.1 c)
-pending_both lines h [] qs (i ∷ is) js a c = absurd a
-pending_both lines h (p ∷ ps) qs [] js a c = absurd a
-pending_both lines h (p ∷ ps) qs (statement_item t ∷ is) js a c = absurd a
-pending_both lines h (p ∷ ps) qs (start_item t ∷ is) js a c = absurd a
-pending_both lines h (p ∷ ps) qs (until ts e ∷ is) js a c = absurd a
-pending_both lines h (p ∷ ps) qs (successor at i z d w t ∷ is) js a c = absurd a
-pending_both lines h (p ∷ ps) qs (return o ∷ is) js a c = absurd a
-pending_both lines h (p ∷ ps) qs (init_end n ∷ is) js a c = absurd a
-pending_both lines h (p ∷ ps) qs (end ∷ is) js a c = absurd a
+pending_both lines h _ qs _ js a c = absurd a
 
 -- From one state to another the frame has a cell more for each call, and there is an item to come for each.
 pub record Goes (lines : List ℕ) (h : Here) (l m : Layer) (is : List Item) : Type 0 where
@@ -96,53 +88,25 @@ module _ (h : Here) where
   pub ready_next : (n : ℕ) (is : List Item) → AreReady h n is → AreNext h n is
   ready_next n [] a = tt
   ready_next n (function_call at d es ∷ is) a = (a.0.cell, ready_next (suc n) is a.1)
-  ready_next n (statement_item t ∷ is) a = absurd a
-  ready_next n (start_item t ∷ is) a = absurd a
-  ready_next n (until ts e ∷ is) a = absurd a
-  ready_next n (successor at i z d w t ∷ is) a = absurd a
-  ready_next n (return o ∷ is) a = absurd a
-  ready_next n (init_end k ∷ is) a = absurd a
-  ready_next n (end ∷ is) a = absurd a
+  ready_next n _ a = absurd a
 
   pub ready_held : (n : ℕ) (is : List Item) → AreReady h n is → AreHeld h is
   ready_held n [] a = tt
   ready_held n (function_call at d es ∷ is) a = (a.0.held, ready_held (suc n) is a.1)
-  ready_held n (statement_item t ∷ is) a = absurd a
-  ready_held n (start_item t ∷ is) a = absurd a
-  ready_held n (until ts e ∷ is) a = absurd a
-  ready_held n (successor at i z d w t ∷ is) a = absurd a
-  ready_held n (return o ∷ is) a = absurd a
-  ready_held n (init_end k ∷ is) a = absurd a
-  ready_held n (end ∷ is) a = absurd a
+  ready_held n _ a = absurd a
 
   pub ready_first : (n : ℕ) (is js : List Item) → AreReady h n (is ++ js) → AreReady h n is
   ready_first n [] js a = tt
   ready_first n (function_call at d es ∷ is) js a = (a.0, ready_first (suc n) is js a.1)
-  ready_first n (statement_item t ∷ is) js a = absurd a
-  ready_first n (start_item t ∷ is) js a = absurd a
-  ready_first n (until ts e ∷ is) js a = absurd a
-  ready_first n (successor at i z d w t ∷ is) js a = absurd a
-  ready_first n (return o ∷ is) js a = absurd a
-  ready_first n (init_end k ∷ is) js a = absurd a
-  ready_first n (end ∷ is) js a = absurd a
+  ready_first n _ js a = absurd a
 
   ready_after : (n : ℕ) (is js : List Item) → AreReady h n (is ++ js) → AreReady h (n + length is) js
   ready_after n [] js a = subst (λ m. AreReady h m js) (omega arith) a
   ready_after n (function_call at d es ∷ is) js a = subst (λ m. AreReady h m js) (omega arith) (ready_after (suc n) is js a.1)
-  ready_after n (statement_item t ∷ is) js a = absurd a
-  ready_after n (start_item t ∷ is) js a = absurd a
-  ready_after n (until ts e ∷ is) js a = absurd a
-  ready_after n (successor at i z d w t ∷ is) js a = absurd a
-  ready_after n (return o ∷ is) js a = absurd a
-  ready_after n (init_end k ∷ is) js a = absurd a
-  ready_after n (end ∷ is) js a = absurd a
+  ready_after n _ js a = absurd a
 
   pub ready_rest : (n : ℕ) (m : Layer) (is js : List Item) → TakesFrom n m is → AreReady h n (is ++ js) → AreReady h (cells m) js
   ready_rest n m is js e a = subst (λ c. AreReady h c js) (sym e) (ready_after n is js a)
-
-pub regrouped : (is js ks : List Item) → is ++ js ++ ks ≡ is ++ (js ++ ks)
-regrouped [] js ks = refl
-regrouped (i ∷ is) js ks = ap (λ xs. i ∷ xs) (regrouped is js ks)
 
 module _ (k : Numbering) (h : Here) (b : Layer) (g : Knows k h b) (calls : KnowsCalls k h b) (headings : KnowsHeadings k h b) (lines : List ℕ) (same_lines : b.lines ≡ lines) where
   abbrev GoesOn : Layer → Layer → List Item → Type 0
@@ -319,11 +283,6 @@ module _ (k : Numbering) (h : Here) (b : Layer) (g : Knows k h b) (calls : Knows
   named_goes l at x syntax.no_selectors es z true (Some (scopes.routine_meaning r)) p ce me pe fi s us go ar fs u n f = own_goes l at x es r p me pe fi s ar u.1 n
   named_goes l at x (syntax.more_selectors y ss) es z true (Some (scopes.routine_meaning r)) p ce me pe fi s us go ar fs u n f = absurd u.0
   named_goes l at x ss es z true (Some (scopes.permanent_variable t)) p ce me pe fi s us go ar fs u n f = component_goes l at x ss es t ce me s us go ar u.0 u.1 u.3 n
-  named_goes l at x ss es z true (Some (scopes.local_variable t)) p ce me pe fi s us go ar fs u n f = absurd (cc)
-  named_goes l at x ss es z true (Some (scopes.constant_meaning a v)) p ce me pe fi s us go ar fs u n f = absurd (cc)
-  named_goes l at x ss es z true (Some (scopes.type_meaning t)) p ce me pe fi s us go ar fs u n f = absurd (cc)
-  named_goes l at x ss es z true (Some (scopes.standard_meaning q)) p ce me pe fi s us go ar fs u n f = absurd (cc)
-  named_goes l at x ss es z true None p ce me pe fi s us go ar fs u n f = absurd (cc)
   named_goes l at x syntax.no_selectors syntax.no_expressions z false (Some (scopes.constant_meaning a v)) p ce me pe fi s us go ar fs u n f =
       let first : Layer → Value × Layer = λ m. first_value m syntax.no_expressions in
       let as' : Layer → ℕ → List code.Argument × Layer = λ m i. arguments_from m i 0 syntax.no_expressions in
@@ -346,9 +305,9 @@ module _ (k : Numbering) (h : Here) (b : Layer) (g : Knows k h b) (calls : Knows
       variable_goes l at x ss (permanent_begun h x.name t) z (subst IsNoRoutine (sym me) tt) (ap (begun_form h x.name) me) s us go (known.no_entry_of k h b g calls x.name t ss (last_field ss) refl ce) n f
   named_goes l at x ss (syntax.more_expressions e es) z false (Some (scopes.local_variable t)) p ce me pe fi s us go ar fs u n f = absurd u
   named_goes l at x ss (syntax.more_expressions e es) z false (Some (scopes.permanent_variable t)) p ce me pe fi s us go ar fs u n f = absurd u
-  named_goes l at x ss es z false (Some (scopes.routine_meaning r)) p ce me pe fi s us go ar fs u n f = absurd (cc)
   named_goes l at x ss es z false (Some (scopes.type_meaning t)) p ce me pe fi s us go ar fs u n f = absurd (known.nothing_begun k h b g calls x.name ss (Some (scopes.type_meaning t)) z me refl f)
   named_goes l at x ss es z false None p ce me pe fi s us go ar fs u n f = absurd (known.nothing_begun k h b g calls x.name ss None z me refl f)
+  named_goes l at x ss es z y v p ce me pe fi s us go ar fs u n f = absurd (cc)
 
   -- ---- expressions
 
@@ -401,8 +360,6 @@ module _ (k : Numbering) (h : Here) (b : Layer) (g : Knows k h b) (calls : Knows
         goes_both lines h l m (more_factors m c fs).1 (factor_calls h.scope a) (factors_calls h.scope fs) i (factors_goes m c q.0 fs z (kept_trans b l m s (factor_kept l a)) u.1 (ready_rest h (cells l) m (factor_calls h.scope a) (factors_calls h.scope fs) i.taken n) q.2)
 
     factor_goes : (l : Layer) (a : syntax.Factor) (z : Formed) → Kept b l → FactorUsed h a → AreReady h (cells l) (factor_calls h.scope a) → factor_form h a ≡ Some z → GoesOn l (factor l a).1 (factor_calls h.scope a)
-    factor_goes l (syntax.number at c) z s u n f = goes_none lines h l
-    factor_goes l (syntax.character at c) z s u n f = goes_none lines h l
     factor_goes l (syntax.named at (syntax.designator x ss) es) z s u n f =
         let own : List Item = own_call (is_call_meant (scopes.find x.name h.scope) (last_field ss)) at (syntax.designator x ss) es in
         let same : selectors_calls h.scope ss ++ expressions_calls h.scope es ++ own ≡ selectors_calls h.scope ss ++ (expressions_calls h.scope es ++ own) = regrouped (selectors_calls h.scope ss) (expressions_calls h.scope es) own in
@@ -417,6 +374,7 @@ module _ (k : Numbering) (h : Here) (b : Layer) (g : Knows k h b) (calls : Knows
     factor_goes l (syntax.set_of at es) z s u n f =
         let p : (x : code.SetExpression) × (members_form h es code.empty_set ≡ Some x) × (set_form x ≡ Some z) = inside (members_form h es code.empty_set) _ z f in
         members_go l code.empty_set code.empty_set es p.0 s u n p.1
+    factor_goes l _ z s u n f = goes_none lines h l
 
     members_go : (l : Layer) (y c : code.SetExpression) (es : syntax.Expressions) (z : code.SetExpression) → Kept b l → AreUsed h es → AreReady h (cells l) (expressions_calls h.scope es) → members_form h es c ≡ Some z → GoesOn l (elements l y es).1 (expressions_calls h.scope es)
     members_go l y c syntax.no_expressions z s u n f = goes_none lines h l
@@ -432,8 +390,6 @@ module _ (k : Numbering) (h : Here) (b : Layer) (g : Knows k h b) (calls : Knows
     pub arguments_go : (l : Layer) (r n : ℕ) (es : syntax.Expressions) (slots : Name → ℕ) (qs : List Parameter) (ps : List code_parameter.ParameterLayout) → Kept b l → AreUsed h es → AreReady h (cells l) (expressions_calls h.scope es) → ParametersAre k b.types slots qs ps → ((i : ℕ) → parameter_of b r (n + i) ≡ slice_get ps i) →
         CanGiveAll h qs es → ArgumentsGo l r n es slots qs
     arguments_go l r n syntax.no_expressions slots [] ps s u a w d c = (goes_none lines h l, tt)
-    arguments_go l r n syntax.no_expressions slots (q ∷ qs) ps s u a w d c = absurd c
-    arguments_go l r n (syntax.more_expressions e es) slots [] ps s u a w d c = absurd c
     arguments_go l r n (syntax.more_expressions e es) slots (q ∷ qs) [] s u a w d c = absurd w
     arguments_go l r n (syntax.more_expressions e es) slots (q ∷ qs) (p ∷ ps) s u a w d c =
         let f : CanGive h q e = c.0 in
@@ -451,6 +407,7 @@ module _ (k : Numbering) (h : Here) (b : Layer) (g : Knows k h b) (calls : Knows
         let same : passed m p.passing (expression l e).0 ≡ f.value = given_same k m q.is_var q.ty f.given.form (expression l e).0 p.passing f.value (subst (λ ts. ValueIs k ts f.given.form (expression l e).0) (sym types) value.value) (subst (λ ts. PassedBy k ts q.is_var q.ty p.passing) (sym types) w.1) f.given.given f.moved in
         let own : AreGiven h slots (q ∷ qs) (syntax.more_expressions e es) (laid.with_argument m (Some p) (expression l e).0 (arguments_from m r (n + 1) es).0) = (w.0, subst (IsGiven h q e) (sym same) f.given, rest.1) in
         (goes_both lines h l m (arguments_from m r (n + 1) es).1 is js i rest.0, subst (λ o. AreGiven h slots (q ∷ qs) (syntax.more_expressions e es) (laid.with_argument m o (expression l e).0 (arguments_from m r (n + 1) es).0)) (sym here) own)
+    arguments_go l r n _ slots _ ps s u a w d c = absurd c
 
     -- selectors
     pub selectors_go : (l : Layer) (d q : Designated) (x : values.Designated) (ss : syntax.Selectors) → Kept b l → SelectorsUsed h ss → AreReady h (cells l) (selectors_calls h.scope ss) → selected_form h ss d ≡ Some q → GoesOn l (selectors l x ss).1 (selectors_calls h.scope ss)
@@ -468,7 +425,6 @@ module _ (k : Numbering) (h : Here) (b : Layer) (g : Knows k h b) (calls : Knows
 
     -- the one argument of a standard function
     pub first_goes : (l : Layer) (es : syntax.Expressions) (z : Formed) → Kept b l → AreUsed h es → IsOne es → AreReady h (cells l) (expressions_calls h.scope es) → first_form h es ≡ Some z → GoesOn l (first_value l es).1 (expressions_calls h.scope es)
-    first_goes l syntax.no_expressions z s u i n f = absurd i
-    first_goes l (syntax.more_expressions e (syntax.more_expressions o es)) z s u i n f = absurd i
     first_goes l (syntax.more_expressions e syntax.no_expressions) z s u i n f =
         goes_same l (expression l e).1 (expression l e).1 (expression_calls h.scope e) refl (expression_goes l e z s u.0 (ready_first h (cells l) (expression_calls h.scope e) [] n) f)
+    first_goes l _ z s u i n f = absurd i

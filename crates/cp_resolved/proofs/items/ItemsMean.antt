@@ -3,7 +3,7 @@ use Rattle.std.proofs.Common.{◌≡◌, ℕ, List, [], ◌∷◌, ◌++◌, len
 use Rattle.cp_slots.specs.Code as code
 use Rattle.cp_layout.specs.Layers.{Layer, Pending, added, without_pending, settled_all}
 use Rattle.cp_meaning.specs.Names.{temporary}
-use Rattle.cp_meaning.specs.State.{Item, function_call, statement_item, start_item, until, successor, return, init_end, end}
+use Rattle.cp_meaning.specs.State.{Item, function_call}
 use Rattle.cp_resolved.specs.Layouts.{Here}
 use Rattle.cp_resolved.specs.Meant.{Calls, Means}
 use Rattle.cp_resolved.specs.Stands.{Ground}
@@ -59,15 +59,7 @@ pending_mean lines h (p ∷ ps) (function_call at d es ∷ is) a =
     let c : CallPending lines h at d es p = a.0 in
     let i : Calls h c.number c.part c.is_entry c.arguments _ = record { designator = d; expressions = es; name = Some (temporary at); called = c.called; goes = c.taken; cell = refl; chosen = c.chosen; held = c.held } in
     (subst (Means h) (sym c.action) i, pending_mean lines h ps is a.1)
-pending_mean lines h [] (i ∷ is) a = absurd a
-pending_mean lines h (p ∷ ps) [] a = absurd a
-pending_mean lines h (p ∷ ps) (statement_item t ∷ is) a = absurd a
-pending_mean lines h (p ∷ ps) (start_item t ∷ is) a = absurd a
-pending_mean lines h (p ∷ ps) (until ts e ∷ is) a = absurd a
-pending_mean lines h (p ∷ ps) (successor at i z d w t ∷ is) a = absurd a
-pending_mean lines h (p ∷ ps) (return o ∷ is) a = absurd a
-pending_mean lines h (p ∷ ps) (init_end n ∷ is) a = absurd a
-pending_mean lines h (p ∷ ps) (end ∷ is) a = absurd a
+pending_mean lines h _ _ a = absurd a
 
 all_new : (h : Here) (l : Layer) (ps : List Pending) (next : Option ℕ) → AllMean h ps → NewItems h l (settled_all l ps next).1
 all_new h l [] next a = none_new h l

@@ -16,13 +16,13 @@ use Rattle.cp_layout.specs.declared.names.PredeclaredRoutine.TheVariants as pred
 use Rattle.cp_slots.specs.Code as code
 use Rattle.cp_layout.specs.Kinds.{most}
 use Rattle.cp_layout.specs.Values as values
-use Rattle.cp_layout.specs.Values.{Value, place_at, place_of, ordinal_of}
+use Rattle.cp_layout.specs.Values.{place_at, place_of, ordinal_of}
 use Rattle.cp_layout.specs.Layers as layers
-use Rattle.cp_layout.specs.Layers.{Layer, Names, added, again, settled, need_inside, pending_need, without_pending}
+use Rattle.cp_layout.specs.Layers.{Layer, added, again, settled, need_inside, pending_need, without_pending}
 use Rattle.cp_layout.specs.LaidTypes as laid_types
 use Rattle.cp_layout.specs.LaidExpressions.{begun_as, begun, entry_found, counted, arguments_from, arguments, expression, designator, selectors, first_value}
 use Rattle.cp_layout.specs.LaidStatements as laid
-use Rattle.cp_layout.specs.LaidStatements.{statement, statements, arms, one_arm, arms_need, chosen, while_item, until_item, selected, for_item, blocked, cycled, repeated, assigned, invoked, standard, procedure, begun_component, started, starts, Target, target_of, result_target, low_of, high_of, origin_of, token_of}
+use Rattle.cp_layout.specs.LaidStatements.{statement, statements, arms, one_arm, arms_need, chosen, while_item, until_item, selected, for_item, blocked, repeated, assigned, invoked, standard, procedure, begun_component, started, starts, Target, target_of, result_target, low_of, high_of, origin_of, token_of}
 use Rattle.cp_meaning.specs.Names.{Name, result_name}
 use Rattle.cp_meaning.specs.Types as named
 use Rattle.cp_meaning.specs.Types.{Ty}
@@ -35,7 +35,7 @@ use Rattle.cp_meaning.specs.Expressions.{name_of, routine_of_type, routine_meant
 use Rattle.cp_meaning.specs.Lifting.{last_field, designator_calls, expression_calls, expressions_calls, selectors_calls}
 use Rattle.cp_meaning.specs.Steps.{at_expression}
 use Rattle.cp_resolved.specs.Calls.{starts_calls, calls_laid, all_calls_laid, arms_calls_laid, arm_calls_laid}
-use Rattle.cp_resolved.specs.Compiled.{Form, as_ordinal, as_set, as_place, as_component, Formed, then_form, Designated, a_variable, some_components, a_component, result_begun, permanent_begun, begun_form, ordinal_form, with_index_form, with_element_form, expression_form, designator_form, selected_form}
+use Rattle.cp_resolved.specs.Compiled.{Form, as_ordinal, as_set, as_place, Formed, then_form, Designated, a_variable, some_components, a_component, result_begun, permanent_begun, begun_form, ordinal_form, with_index_form, with_element_form, expression_form, designator_form, selected_form}
 use Rattle.cp_resolved.specs.FormedParts.{CanGiveAll, CallFormed, AreReady, parameters_in, HeadingIs}
 use Rattle.cp_resolved.specs.FormedStatements.{IsTarget, PerformFormed, StartFormed, StartIs, EntryFormed, InvokeFormed, TestFormed, OrdinalFormed, AssignFormed, OwnResult, ForFormed, IsNotRoutine, StatementFormed, AllFormed, ArmsFormed, ArmFormed}
 use Rattle.cp_resolved.specs.InStep.{Numbering, base_of, range_on, predeclared_as, FoundIs, TypeIs}
@@ -63,13 +63,8 @@ no_sum_stops : (n : ℕ) → n ≤ most → min n most ≡ n
 no_sum_stops n h = omega (arith, h)
 
 not_routine : (o : Option scopes.Meaning) → IsNotRoutine o → IsNoRoutine o
-not_routine None h = tt
 not_routine (Some (scopes.routine_meaning r)) h = h
-not_routine (Some (scopes.constant_meaning b z)) h = tt
-not_routine (Some (scopes.type_meaning t)) h = tt
-not_routine (Some (scopes.local_variable t)) h = tt
-not_routine (Some (scopes.permanent_variable t)) h = tt
-not_routine (Some (scopes.standard_meaning q)) h = tt
+not_routine _ h = tt
 
 place_inside : (p q : code.Place) (t u : Ty) → a_variable p t ≡ a_variable q u → p ≡ q
 place_inside p q t u e = cc
@@ -93,15 +88,7 @@ module _ (p : syntax.Program) where
   pub parts_of : (t : Ty) (y : Name) (r : meant.RoutineMeaning) → routine_of_type p t y ≡ Some r → named.has_components t ≡ true
   parts_of (named.component_of n) y r e = refl
   parts_of (named.array_over s (named.component_of n)) y r e = refl
-  parts_of (named.array_over s (named.ordinal q)) y r e = absurd (none-some r e)
-  parts_of (named.array_over s named.queue_type) y r e = absurd (none-some r e)
-  parts_of (named.array_over s (named.set_over q)) y r e = absurd (none-some r e)
-  parts_of (named.array_over s (named.array_over q u)) y r e = absurd (none-some r e)
-  parts_of (named.array_over s (named.record_with us)) y r e = absurd (none-some r e)
-  parts_of (named.ordinal q) y r e = absurd (none-some r e)
-  parts_of named.queue_type y r e = absurd (none-some r e)
-  parts_of (named.set_over q) y r e = absurd (none-some r e)
-  parts_of (named.record_with us) y r e = absurd (none-some r e)
+  parts_of _ y r e = absurd (none-some r e)
 
 module _ (k : Numbering) (h : Here) (g : Ground) (few : length g.tables.items ≤ most) (numbered : (at : ℕ) → g.firsts at ≡ k.firsts at) where
   abbrev World : Layer → Type 0
@@ -270,12 +257,8 @@ module _ (k : Numbering) (h : Here) (g : Ground) (few : length g.tables.items �
   unfolding designator selectors
   own_target l x syntax.no_selectors q t (Some (scopes.routine_meaning r)) w e i u n f = result_of_own l x q t (is_own h x.name) r w refl e i.1 (ap (λ m. then_form (begun_form h x.name m) (λ d. Some d)) (sym e) ∙ f)
   own_target l x (syntax.more_selectors s ss) q t (Some (scopes.routine_meaning r)) w e i u n f = absurd i.0
-  own_target l x ss q t None w e i u n f = variable_target l x ss q t w (subst IsNoRoutine (sym e) tt) u n f
   own_target l x ss q t (Some (scopes.constant_meaning b z)) w e i u n f = variable_target l x ss q t w (subst IsNoRoutine (sym e) tt) u n f
-  own_target l x ss q t (Some (scopes.type_meaning v)) w e i u n f = variable_target l x ss q t w (subst IsNoRoutine (sym e) tt) u n f
-  own_target l x ss q t (Some (scopes.local_variable v)) w e i u n f = variable_target l x ss q t w (subst IsNoRoutine (sym e) tt) u n f
-  own_target l x ss q t (Some (scopes.permanent_variable v)) w e i u n f = variable_target l x ss q t w (subst IsNoRoutine (sym e) tt) u n f
-  own_target l x ss q t (Some (scopes.standard_meaning c)) w e i u n f = variable_target l x ss q t w (subst IsNoRoutine (sym e) tt) u n f
+  own_target l x ss q t _ w e i u n f = variable_target l x ss q t w (subst IsNoRoutine (sym e) tt) u n f
 
   designator_goes : (l : Layer) (x : Identifier) (ss : syntax.Selectors) (q : Designated) → World l → SelectorsUsed h ss → AreReady h (cells l) (selectors_calls h.scope ss) → designator_form h (syntax.designator x ss) ≡ Some q → Goes g.lines h l (designator l (syntax.designator x ss)).1 (selectors_calls h.scope ss)
   unfolding designator
@@ -288,20 +271,7 @@ module _ (k : Numbering) (h : Here) (g : Ground) (few : length g.tables.items �
   assigns_mean (named.set_over q) u (as_set c) p a e x = subst (λ b. Assigns h b → Means h b) (sym e) (λ y. y) x
   assigns_mean (named.array_over q t) u (as_place c) p a e x = subst (λ b. Assigns h b → Means h b) (sym e.1) (λ y. y) x
   assigns_mean (named.record_with us) u (as_place c) p a e x = subst (λ b. Assigns h b → Means h b) (sym e.1) (λ y. y) x
-  assigns_mean named.queue_type u y p a e x = absurd e
-  assigns_mean (named.component_of n) u y p a e x = absurd e
-  assigns_mean (named.ordinal q) u (as_set c) p a e x = absurd e
-  assigns_mean (named.ordinal q) u (as_place c) p a e x = absurd e
-  assigns_mean (named.ordinal q) u (as_component c) p a e x = absurd e
-  assigns_mean (named.set_over q) u (as_ordinal c) p a e x = absurd e
-  assigns_mean (named.set_over q) u (as_place c) p a e x = absurd e
-  assigns_mean (named.set_over q) u (as_component c) p a e x = absurd e
-  assigns_mean (named.array_over q t) u (as_ordinal c) p a e x = absurd e
-  assigns_mean (named.array_over q t) u (as_set c) p a e x = absurd e
-  assigns_mean (named.array_over q t) u (as_component c) p a e x = absurd e
-  assigns_mean (named.record_with us) u (as_ordinal c) p a e x = absurd e
-  assigns_mean (named.record_with us) u (as_set c) p a e x = absurd e
-  assigns_mean (named.record_with us) u (as_component c) p a e x = absurd e
+  assigns_mean _ u _ p a e x = absurd e
 
   assign_does : (l : Layer) (at : ℕ) (x : Identifier) (ss : syntax.Selectors) (e : syntax.Expression) (next : Option ℕ) → World l → l.pending ≡ [] → AssignFormed h (syntax.designator x ss) e → AreReady h (cells l) (selectors_calls h.scope ss ++ expression_calls h.scope e) →
       After l (settled (assigned l at (syntax.designator x ss) e) next) (syntax.assign at (syntax.designator x ss) e) next
@@ -335,10 +305,8 @@ module _ (k : Numbering) (h : Here) (g : Ground) (few : length g.tables.items �
   -- ---- the standard procedures
 
   shown_same : (c : code.Expression) (b : named.Base) → laid.shown_kind (values.ordinal_value c (base_of k b)) ≡ kind_of g.firsts b
-  shown_same c named.integers = refl
-  shown_same c named.booleans = refl
-  shown_same c named.characters = refl
   shown_same c (named.enumerated at xs) = ap shown.Constant (sym (numbered at))
+  shown_same c _ = refl
 
   performed_does : (l : Layer) (at : ℕ) (q : PredeclaredRoutine) (e : syntax.Expression) (z : Formed) (a : code.Action) (next : Option ℕ) → World l → l.pending ≡ [] → expression_form h e ≡ Some z → IsUsed h e → AreReady h (cells l) (expression_calls h.scope e ++ []) → (ValueIs k l.types z (expression l e).0 → laid.performed q (expression l e).0 ≡ a) → Means h a →
       Does l (settled (standard l at q (syntax.more_expressions e syntax.no_expressions)) next).1 (expression_calls h.scope e ++ []) (Led g h (settled (standard l at q (syntax.more_expressions e syntax.no_expressions)) next).0 (expression_calls h.scope e ++ []) at a next)
@@ -369,12 +337,7 @@ module _ (k : Numbering) (h : Here) (g : Ground) (few : length g.tables.items �
   standard_does l at scopes.continue_procedure e next w none f n =
       then_does l _ (expression_calls h.scope e ++ []) _ _ (λ y. (y.number, y.calls, record { place = f.place; formed = f.formed; item = y.item }))
       (performed_does l at predeclared.Continue e _ (code.continue_at f.place) next w none f.formed f.used n (λ v. ap (λ y. code.continue_at (place_of y)) v.1) (record { expression = e; formed = f.formed; held = ready_held h (cells l) (expression_calls h.scope e) (ready_first h (cells l) (expression_calls h.scope e) [] n) }))
-  standard_does l at scopes.succ_function e next w none f n = absurd f
-  standard_does l at scopes.pred_function e next w none f n = absurd f
-  standard_does l at scopes.chr_function e next w none f n = absurd f
-  standard_does l at scopes.ord_function e next w none f n = absurd f
-  standard_does l at scopes.abs_function e next w none f n = absurd f
-  standard_does l at scopes.empty_function e next w none f n = absurd f
+  standard_does l at _ e next w none f n = absurd f
 
   -- ---- calls of procedures
 
@@ -417,8 +380,7 @@ module _ (k : Numbering) (h : Here) (g : Ground) (few : length g.tables.items �
       let begins : begun l x.name ≡ values.a_standard (predeclared_as q) = known.standard_found k h l w.names w.calls x.name (layers.find x.name l.names) q (scopes.since x.name h.scope) refl found in
       subst (λ y. Does l (settled (laid.invoked_as l at (laid.callee_of y) es) next).1 is ((n : ℕ) × CallsAre g h (settled (laid.invoked_as l at (laid.callee_of y) es) next).0 is (Some n) × Performed g h n at q (Some e) next)) (sym begins) (standard_does l at q e next w none f.2 n)
   invoke_standard l at x (syntax.more_selectors s ss) es q next w none me f n = absurd f.0
-  invoke_standard l at x syntax.no_selectors syntax.no_expressions q next w none me f n = absurd f.1
-  invoke_standard l at x syntax.no_selectors (syntax.more_expressions e (syntax.more_expressions d es)) q next w none me f n = absurd f.1
+  invoke_standard l at x syntax.no_selectors _ q next w none me f n = absurd f.1
 
   invoke_own : (l : Layer) (at : ℕ) (x : Identifier) (ss : syntax.Selectors) (es : syntax.Expressions) (r : syntax.Routine) (p : Option LayoutMeaning) (next : Option ℕ) → World l → l.pending ≡ [] → scopes.find x.name h.scope ≡ Some (scopes.routine_meaning r) → layers.find x.name l.names ≡ p →
       FoundIs k l.types p (Some (scopes.routine_meaning r)) (scopes.since x.name h.scope) → InvokeFormed h (Some (scopes.routine_meaning r)) (syntax.designator x ss) es → AreReady h (cells l) (selectors_calls h.scope ss ++ expressions_calls h.scope es) → InvokeDoes l at x ss es (Some (scopes.routine_meaning r)) next

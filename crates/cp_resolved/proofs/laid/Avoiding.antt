@@ -3,7 +3,7 @@ use Rattle.std.proofs.Common.{◌≡◌, ℕ, ◌+◌, Bool, true, false, if◌t
 use Rattle.std.specs.Prelude.{nat_eq, ◌&&◌, not}
 use Rattle.std.proofs.lemmas.Bool.{eq-eqb}
 use Rattle.cp_tree.specs.declared.constant.Identifier.{Identifier}
-use Rattle.cp_tree.specs.Syntax.{Expression, alone, related, Sum, sum, Terms, no_terms, more_terms, Term, term, Factors, no_factors, more_factors, Factor, number, character, named, group, negated, set_of, Expressions, no_expressions, more_expressions, Designator, designator, Selectors, no_selectors, more_selectors, Selector, field, index, Start, Statement, empty, assign, invoke, block, if_then, if_else, case_of, while_do, repeat_until, for_do, cycle, init, Statements, no_statements, more_statements, Arms, no_arms, more_arms, Arm, arm}
+use Rattle.cp_tree.specs.Syntax.{Expression, alone, related, Sum, sum, Terms, no_terms, more_terms, Term, term, Factors, no_factors, more_factors, Factor, named, group, negated, set_of, Expressions, no_expressions, more_expressions, Designator, designator, Selectors, no_selectors, more_selectors, Selector, field, index, Start, Statement, empty, assign, invoke, block, if_then, if_else, case_of, while_do, repeat_until, for_do, cycle, init, Statements, no_statements, more_statements, Arms, no_arms, more_arms, Arm, arm}
 use Rattle.cp_scope.specs.declared.count.Use.{Use}
 use Rattle.cp_scope.specs.declared.fault.CheckFault.{CheckFault}
 use Rattle.cp_scope.specs.declared.fault.CheckFault.TheVariants as check_fault
@@ -29,6 +29,7 @@ use Rattle.cp_check.specs.Cases.{joined}
 use Rattle.cp_lawful.proofs.Loud.{Loud, Heard, arguments_loud}
 use Rattle.cp_lawful.proofs.Once.{no_left, no_right, no_first}
 use Rattle.cp_meaning.specs.Names.{Name}
+use Rattle.cp_resolved.proofs.agreeing.Agreeing.{none_of_both as both_none}
 
 -- ---- statements that call none of some names
 
@@ -57,12 +58,11 @@ module _ (P : Name → Type 0) where
     AvoidFactors (more_factors m f fs) = AvoidsFactor f × AvoidFactors fs
 
     pub AvoidsFactor : Factor → Type 0
-    AvoidsFactor (number at n) = Unit {0}
-    AvoidsFactor (character at c) = Unit {0}
     AvoidsFactor (named at d es) = AvoidsCall d × AvoidExpressions es
     AvoidsFactor (group at e) = AvoidsExpression e
     AvoidsFactor (negated at f) = AvoidsFactor f
     AvoidsFactor (set_of at es) = AvoidExpressions es
+    AvoidsFactor _ = Unit {0}
 
     pub AvoidExpressions : Expressions → Type 0
     AvoidExpressions no_expressions = Unit {0}
@@ -115,12 +115,6 @@ module _ (P : Name → Type 0) where
 
 -- ---- judgements without faults
 
-both_none : {A B : Type 0} (a : Judged A) (b : Judged B) → faults (both a b) ≡ [] → (faults a ≡ []) × (faults b ≡ [])
-both_none (Ok a) (Ok b) h = (refl, refl)
-both_none (Ok a) (Err gs) h = (refl, h)
-both_none (Err fs) (Ok b) h = (h, refl)
-both_none (Err fs) (Err gs) h = (no_left fs gs h, no_right fs gs h)
-
 loud_ok : {A : Type 0} (j : Judged A) → Loud j → faults j ≡ [] → (a : A) × (j ≡ Ok a)
 loud_ok (Ok a) loud h = (a, refl)
 loud_ok (Err []) loud h = absurd loud
@@ -136,9 +130,6 @@ own_refused at n h = go (nat_eq n n) (eq-eqb n n refl) h
     go : (b : Bool) → b ≡ true → (if b then calls.fault at C10 else []) ≡ [] → ⊥
     go true e k = let bad : check_fault.Rule at C10 ∷ [] ≡ [] = k in cc
     go false e k = let bad : false ≡ true = e in cc
-
-abbrev routine_at : ℕ → DesignatedName
-routine_at n = record { named = names_for.Routine n; name_at = 0; uses = no_use }
 
 -- ---- what is called
 
@@ -251,8 +242,6 @@ module _ (s : Scopes) (w : Context) (heard : Heard s) (P : Name → Type 0) (own
         (y.0, (factor_avoids false f y.1, x.1))
 
     factor_avoids : (v : Bool) (f : Factor) → faults (expressions.factor s w v f) ≡ [] → AvoidsFactor P f
-    factor_avoids v (number at n) h = tt
-    factor_avoids v (character at c) h = tt
     factor_avoids v (named at (designator i ss) no_expressions) h =
         let x = named_parts (v && true) at (expressions.designator s w (designator i ss)) (Ok []) h in
         ((name_avoided at i ss (v && true) no_expressions h, (selectors_avoid ss (names.begun s i) (no_first (expressions.selectors s w (names.begun s i) ss) (names.known i.at) x.0)).1), tt)
@@ -263,6 +252,7 @@ module _ (s : Scopes) (w : Context) (heard : Heard s) (P : Name → Type 0) (own
     factor_avoids v (group at e) h = expression_avoids false e (no_first (expressions.expression s w false e) _ h)
     factor_avoids v (negated at f) h = factor_avoids false f (no_first (expressions.factor s w false f) _ h)
     factor_avoids v (set_of at es) h = arguments_avoid [] 0 es (no_first (expressions.arguments s w [] 0 es) _ h)
+    factor_avoids v _ h = tt
 
     selectors_avoid : (ss : Selectors) (j : Judged DesignatedName) → faults (expressions.selectors s w j ss) ≡ [] → (faults j ≡ []) × AvoidSelectors P ss
     selectors_avoid no_selectors j h = (h, tt)

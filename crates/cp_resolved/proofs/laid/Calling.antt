@@ -7,7 +7,7 @@ use Rattle.cp_slots.specs.Code as code
 use Rattle.cp_slots.specs.Code.{SetExpression, ComponentPlace, Argument, Arm, Action, Item}
 use Rattle.cp_layout.specs.Kinds.{plus}
 use Rattle.cp_slots.specs.Tables.{RoutineView}
-use Rattle.cp_layout.specs.Values.{Value, Designated, a_value, a_variable, a_contained, a_component, a_routine, an_entry, a_standard, no_designated, ordinal_of, multiplied, added}
+use Rattle.cp_layout.specs.Values.{Value, Designated, a_routine, an_entry, a_standard, ordinal_of, multiplied, added}
 use Rattle.cp_layout.specs.Layers as layers
 use Rattle.cp_layout.specs.Layers.{Layer, Frame, Pending, with_cell, with_room, frame_with, body_of, call_need, need_of, need_inside, item_need, result_of}
 use Rattle.cp_layout.specs.LaidExpressions.{expression, sum, more_terms, term, more_factors, factor, elements, first_value, arguments_from, designator, selectors, selector, begun, signed, element_selected, with_count, counted, called, function_as, named_as}
@@ -144,13 +144,7 @@ action_onward l m r n k (code.until e body again) le o h = rw (onward_items l m 
 action_onward l m r n k (code.for_do v low high e f down body) le o h = rw (onward_items l m o) (inner_onward l.items o.grew.0 r n k body le h)
 action_onward l m r n k (code.call c p b as' result) le o h = call_onward l m r n k c (length as') le o h
 action_onward l m r n k (code.start p c as') le o h = call_onward l m r n k c (length as') le o h
-action_onward l m r n k code.nothing le o h = tt
-action_onward l m r n k (code.assign p e low high) le o h = tt
-action_onward l m r n k (code.assign_set p e low high) le o h = tt
-action_onward l m r n k (code.copy_cells p q size) le o h = tt
-action_onward l m r n k (code.delay p) le o h = tt
-action_onward l m r n k (code.continue_at p) le o h = tt
-action_onward l m r n k (code.display e kind) le o h = tt
+action_onward l m r n k _ le o h = tt
 
 pub all_onward : (l m : Layer) (r : ℕ) (ps : List Pending) → Onward l m → AllFit l r ps → AllFit m r ps
 all_onward l m r [] o h = tt
@@ -294,14 +288,10 @@ function_ran l at c b r (Some x) arguments h le g =
 
 named_ran : (l : Layer) (at : ℕ) (d : Designated) (first : Layer → Value × Layer) (arguments : Layer → ℕ → List Argument × Layer)
     → ((m : Layer) → Ground m → Ran m (first m).1) → ((m : Layer) (k : ℕ) → Ground m → Ran m (arguments m k).1) → DesignatedIn l d → Ground l → Ran l (named_as l at d first arguments).1
-named_ran l at (a_value v) first arguments f h d g = ran_same l
-named_ran l at (a_variable p t) first arguments f h d g = ran_same l
-named_ran l at (a_contained n t) first arguments f h d g = ran_same l
-named_ran l at (a_component c k) first arguments f h d g = ran_same l
 named_ran l at (a_routine r) first arguments f h d g = function_ran l at code.own false r (result_of l r) arguments h d g
 named_ran l at (an_entry c r) first arguments f h d g = function_ran l at c true r (result_of l r) arguments h (omega (arith, d)) g
 named_ran l at (a_standard s) first arguments f h d g = f l g
-named_ran l at no_designated first arguments f h d g = ran_same l
+named_ran l at _ first arguments f h d g = ran_same l
 
 -- ---- designators
 
@@ -352,8 +342,6 @@ mutual
   more_factors_ran l v (syntax.more_factors a f fs) g = then_ran l (factor l f).1 (more_factors (factor l f).1 (multiplied a v (factor l f).0) fs).1 (factor_ran l f g) (more_factors_ran (factor l f).1 (multiplied a v (factor l f).0) fs) g
 
   factor_ran : (l : Layer) (f : syntax.Factor) → Ground l → Ran l (factor l f).1
-  factor_ran l (syntax.number at n) g = ran_same l
-  factor_ran l (syntax.character at c) g = ran_same l
   factor_ran l (syntax.named at d es) g =
       let x : Designated × Layer = designator l d in
       let q : Ran l x.1 = designator_ran l d g in
@@ -362,6 +350,7 @@ mutual
   factor_ran l (syntax.group at e) g = expression_ran l e g
   factor_ran l (syntax.negated at f) g = factor_ran l f g
   factor_ran l (syntax.set_of at es) g = elements_ran l code.empty_set es g
+  factor_ran l _ g = ran_same l
 
   elements_ran : (l : Layer) (s : SetExpression) (es : syntax.Expressions) → Ground l → Ran l (elements l s es).1
   elements_ran l s syntax.no_expressions g = ran_same l

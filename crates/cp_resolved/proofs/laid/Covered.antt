@@ -38,15 +38,13 @@ module _ (Q : code.Item → Type 0) where
 
   adds_parts : (ls ms : List Layer) (os qs : List Opening) → length ls ≡ length os → EachAdds (ls ++ ms) (os ++ qs) → EachAdds ls os × EachAdds ms qs
   adds_parts [] ms [] qs e a = (tt, a)
-  adds_parts [] ms (o ∷ os) qs e a = absurd (omega (arith, e))
-  adds_parts (l ∷ ls) ms [] qs e a = absurd (omega (arith, e))
   adds_parts (l ∷ ls) ms (o ∷ os) qs e a = let r = adds_parts ls ms os qs (let f : length ls ≡ length os = omega (arith, e) in f) a.1 in ((a.0, r.0), r.1)
+  adds_parts x ms y qs e a = absurd (omega (arith, e))
 
   pub each_adds : (ls : List Layer) (os : List Opening) → length ls ≡ length os → ((n : ℕ) (l : Layer) (o : Opening) → slice_get ls n ≡ Some l → slice_get os n ≡ Some o → Adds l o) → EachAdds ls os
   each_adds [] [] e f = tt
-  each_adds [] (o ∷ os) e f = absurd (omega (arith, e))
-  each_adds (l ∷ ls) [] e f = absurd (omega (arith, e))
   each_adds (l ∷ ls) (o ∷ os) e f = (f zero l o refl refl, each_adds ls os (let g : length ls ≡ length os = omega (arith, e) in g) (λ n m p g k. f (suc n) m p g k))
+  each_adds x y e f = absurd (omega (arith, e))
 
   -- ---- as many states as openings
 
@@ -69,9 +67,8 @@ module _ (Q : code.Item → Type 0) where
       both_many (definition_begun l v.value) (definitions_begun (system_definition l v) ns) (definition_openings d v.value) (definitions_openings (definition_in d v v.value) ns) (definition_many l d v.value) (definitions_many (system_definition l v) (definition_in d v v.value) ns)
 
   part_many : (l : Layer) (d : Declared) (q : syntax.ProgramPart) → length (part_begun l q) ≡ length (part_openings d q)
-  part_many l d (syntax.program_constants at ds) = refl
   part_many l d (syntax.program_types at ns) = definitions_many l d ns
-  part_many l d (syntax.program_variables at gs) = refl
+  part_many l d _ = refl
 
   parts_many : (l : Layer) (d : Declared) (qs : List syntax.ProgramPart) → length (program_parts_begun l qs) ≡ length (parts_openings d qs)
   parts_many l d [] = refl

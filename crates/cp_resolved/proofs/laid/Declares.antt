@@ -74,9 +74,8 @@ enumerated_declares l b n (i ∷ is) =
 
 pub simple_declares : (l : Layer) (s : syntax.Simple) → Declares l (simple_type l s).1
 unfolding simple_type
-simple_declares l (syntax.type_name at x) = declares_none l
 simple_declares l (syntax.enumeration at is) = enumerated_declares l (enumeration_base (length l.constants) (length is)) 0 is
-simple_declares l (syntax.subrange at c d) = declares_none l
+simple_declares l _ = declares_none l
 
 mutual
   unfolding written_type field_groups field_group
@@ -220,11 +219,7 @@ heading_declares l x (syntax.function gs i) =
 
 pub system_parameter_declares : (l : Layer) (ps : Parameters) (x : List ℕ) (t : CellType) → Declares l (system_parameter l ps x t).1
 system_parameter_declares l ps x (types.Ordinal r) = declares_names l (_ ∷ []) _ l.frame
-system_parameter_declares l ps x types.Queue = declares_names l (_ ∷ []) _ l.frame
-system_parameter_declares l ps x (types.Set r) = declares_names l (_ ∷ []) _ l.frame
-system_parameter_declares l ps x (types.Array n) = declares_names l (_ ∷ []) _ l.frame
-system_parameter_declares l ps x (types.Record n) = declares_names l (_ ∷ []) _ l.frame
-system_parameter_declares l ps x (types.System k) = declares_names l (_ ∷ []) _ l.frame
+system_parameter_declares l ps x _ = declares_names l (_ ∷ []) _ l.frame
 
 pub system_parameters_declare : (l : Layer) (ps : Parameters) (t : CellType) (is : List Identifier) → Declares l (system_parameters_of l ps t is).1
 unfolding system_parameters_of

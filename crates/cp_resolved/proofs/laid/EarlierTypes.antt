@@ -53,10 +53,7 @@ record Grouped (l : Layer) (x : Fields × Layer) : Type 0 where
 type_higher : (m n : ℕ) (v : CellType) → m ≤ n → IsBelow m v → IsBelow n v
 type_higher m n (types.Array k) le h = omega (arith, le, h)
 type_higher m n (types.Record k) le h = omega (arith, le, h)
-type_higher m n (types.Ordinal r) le h = tt
-type_higher m n types.Queue le h = tt
-type_higher m n (types.Set r) le h = tt
-type_higher m n (types.System k) le h = tt
+type_higher m n _ le h = tt
 
 fields_higher : (m n : ℕ) (fs : List Field) → m ≤ n → AreBelow m fs → AreBelow n fs
 fields_higher m n [] le h = tt
@@ -64,12 +61,7 @@ fields_higher m n (f ∷ fs) le h = (type_higher m n f.value_type le h.0, fields
 
 kind_higher : (m n : ℕ) (p : LayoutMeaning) → m ≤ n → KindBelow m p → KindBelow n p
 kind_higher m n (meaning.Kind v) le h = type_higher m n v le h
-kind_higher m n (meaning.Constant b z) le h = tt
-kind_higher m n (meaning.Variable o v) le h = tt
-kind_higher m n (meaning.Contained k v) le h = tt
-kind_higher m n (meaning.Bound k s) le h = tt
-kind_higher m n (meaning.Routine k) le h = tt
-kind_higher m n (meaning.Predeclared p) le h = tt
+kind_higher m n _ le h = tt
 
 kinds_higher : (m n : ℕ) (ns : Names) → m ≤ n → KindsBelow m ns → KindsBelow n ns
 kinds_higher m n [] le h = tt
@@ -303,11 +295,7 @@ inside_below n (d ∷ ds) h = go (is_open d.1) (inside_below n ds h.1)
 
 parameter_orderly : (l : Layer) (ps : Parameters) (x : List ℕ) (v : CellType) → Orderly l → Orderly (system_parameter l ps x v).1
 parameter_orderly l ps x (types.System k) o = record { names = (tt, o.names); types = o.types }
-parameter_orderly l ps x (types.Ordinal r) o = record { names = (tt, o.names); types = o.types }
-parameter_orderly l ps x types.Queue o = record { names = (tt, o.names); types = o.types }
-parameter_orderly l ps x (types.Set r) o = record { names = (tt, o.names); types = o.types }
-parameter_orderly l ps x (types.Array n) o = record { names = (tt, o.names); types = o.types }
-parameter_orderly l ps x (types.Record n) o = record { names = (tt, o.names); types = o.types }
+parameter_orderly l ps x _ o = record { names = (tt, o.names); types = o.types }
 
 parameters_orderly : (l : Layer) (ps : Parameters) (v : CellType) (is : List Identifier) → Orderly l → Orderly (system_parameters_of l ps v is).1
 unfolding system_parameters_of

@@ -91,7 +91,7 @@ ran_routines k j r = ap (λ (q : Layer). length q.routines) r.kept
 pub list_kept : (k j : Layer) (o : Option ℕ) → Kept k j → ListFits k.items (length k.routines) (need_of k.items o) o → ListFits j.items (length j.routines) (need_of j.items o) o
 list_kept k j o h f = subst (λ (q : Layer). ListFits q.items (length q.routines) (need_of q.items o) o) (sym h) f
 
-plain_settled : (k j : Layer) (next : Option ℕ) → Fitted k next → Ran k j → Result k (settled j next)
+pub plain_settled : (k j : Layer) (next : Option ℕ) → Fitted k next → Ran k j → Result k (settled j next)
 plain_settled k j next f r =
     let P : Pending → Type 0 = PendingFits j (length j.routines) in
     let g : Ground j = ground_kept k j r.kept f.ground in

@@ -7,13 +7,13 @@ use Rattle.cp_layout.specs.declared.kinds.CellType.TheVariants as types
 use Rattle.cp_layout.specs.declared.names.PredeclaredRoutine.{PredeclaredRoutine}
 use Rattle.cp_layout.specs.declared.names.PredeclaredRoutine.TheVariants as predeclared
 use Rattle.cp_slots.specs.Code as code
-use Rattle.cp_slots.specs.Code.{Action, Arm, Argument, ComponentPlace, Item, Place}
-use Rattle.cp_layout.specs.Values.{Value, Designated, a_value, a_variable, a_contained, a_component, a_routine, an_entry, a_standard, no_designated, ordinal_of}
+use Rattle.cp_slots.specs.Code.{Action, Arm, Argument, ComponentPlace, Place}
+use Rattle.cp_layout.specs.Values.{Value, Designated, a_component, a_routine, an_entry, ordinal_of}
 use Rattle.cp_layout.specs.Layers.{Layer, Pending, settled, added, again, need_of, need_inside, call_need, with_room}
 use Rattle.cp_layout.specs.LaidExpressions.{expression, designator, first_value, arguments, arguments_from, counted, name_at}
 use Rattle.cp_layout.specs.LaidStatements.{target_of, assignment, assigned_as, assigned, invoked, invoked_as, Callee, a_standard_procedure, a_procedure, no_callee, callee_of, performed, standard, procedure, chosen, selected, arms_need, while_item, until_item, for_item, blocked, cycled, repeated, Placed, placed_of, begun_component, started_as, started, starts, initial_of, statement, statements, arms, one_arm, token_of}
 use Rattle.cp_resolved.proofs.laid.Calling.{ActionFits, ArmsFit, IsNoLoop, Onward, onward_trans, onward_items, onward_routines, action_onward, Ran, ran_trans, then_ran, count_ran, call_step, Ground, ground_kept, designated_kept, expression_ran, first_ran, arguments_ran, designator_ran, designator_there}
-use Rattle.cp_resolved.proofs.laid.Fitted.{Result, moved, alone, own_settled, loop_settled, inside_bounded, list_kept, onward_same}
+use Rattle.cp_resolved.proofs.laid.Fitted.{Result, moved, alone, own_settled, loop_settled, inside_bounded, list_kept, onward_same, plain_settled as own_item}
 use Rattle.cp_resolved.proofs.laid.Fitting.{ListFits, list_longer, need_longer}
 use Rattle.cp_resolved.proofs.laid.Grown.{kept_grew}
 use Rattle.cp_resolved.proofs.laid.Kept.{Kept}
@@ -40,11 +40,7 @@ added_ran l at a need fits plain bound =
 
 assigned_fits : (l m : Layer) (r : ℕ) (p : Place) (v : Value) (t : CellType) → ActionFits m r 0 (assigned_as l p v t) × IsNoLoop (assigned_as l p v t)
 assigned_fits l m r p v (types.Ordinal q) = (tt, tt)
-assigned_fits l m r p v (types.Set q) = (tt, tt)
-assigned_fits l m r p v types.Queue = (tt, tt)
-assigned_fits l m r p v (types.Array n) = (tt, tt)
-assigned_fits l m r p v (types.Record n) = (tt, tt)
-assigned_fits l m r p v (types.System n) = (tt, tt)
+assigned_fits l m r p v _ = (tt, tt)
 
 assigned_ran : (l : Layer) (at : ℕ) (d : syntax.Designator) (e : syntax.Expression) → Ground l → Ran l (assigned l at d e)
 unfolding assigned
@@ -57,8 +53,6 @@ assigned_ran l at d e g =
 
 performed_fits : (m : Layer) (r : ℕ) (p : PredeclaredRoutine) (v : Value) → ActionFits m r 0 (performed p v) × IsNoLoop (performed p v)
 performed_fits m r predeclared.Delay v = (tt, tt)
-performed_fits m r predeclared.Continue v = (tt, tt)
-performed_fits m r predeclared.Display v = (tt, tt)
 performed_fits m r _ v = (tt, tt)
 
 standard_ran : (l : Layer) (at : ℕ) (p : PredeclaredRoutine) (es : syntax.Expressions) → Ground l → Ran l (standard l at p es)
@@ -95,12 +89,7 @@ CalleeIn l no_callee = Unit {0}
 callee_there : (l : Layer) (d : Designated) → DesignatedIn l d → CalleeIn l (callee_of d)
 callee_there l (a_routine r) h = h
 callee_there l (an_entry c r) h = omega arith
-callee_there l (a_standard p) h = tt
-callee_there l (a_value v) h = tt
-callee_there l (a_variable p t) h = tt
-callee_there l (a_contained n t) h = tt
-callee_there l (a_component c k) h = tt
-callee_there l no_designated h = tt
+callee_there l _ h = tt
 
 invoked_as_ran : (l : Layer) (at : ℕ) (c : Callee) (es : syntax.Expressions) → CalleeIn l c → Ground l → Ran l (invoked_as l at c es)
 invoked_as_ran l at (a_standard_procedure p) es h g = standard_ran l at p es g
@@ -120,13 +109,7 @@ PlacedIn l (Some p) = p.1 < length l.systems
 
 placed_there : (l : Layer) (d : Designated) → DesignatedIn l d → PlacedIn l (placed_of d)
 placed_there l (a_component c k) h = h
-placed_there l (a_routine r) h = tt
-placed_there l (an_entry c r) h = tt
-placed_there l (a_standard p) h = tt
-placed_there l (a_value v) h = tt
-placed_there l (a_variable p t) h = tt
-placed_there l (a_contained n t) h = tt
-placed_there l no_designated h = tt
+placed_there l _ h = tt
 
 started_as_ran : (l : Layer) (at : ℕ) (o : Option Placed) (es : syntax.Expressions) → PlacedIn l o → Ground l → Ran l (started_as l at o es)
 started_as_ran l at None es h g = added_ran l at code.nothing 0 tt tt (omega arith)
@@ -214,10 +197,6 @@ selected_ran l at e as' g h =
 list_onward : (l m : Layer) (o : Option ℕ) → Onward l m → ListIn l o → ListIn m o
 list_onward l m o w h = rw (onward_items l m w, onward_routines l m w, need_longer l.items w.grew.0 (length l.routines) (need_of l.items o) o h) (list_longer l.items w.grew.0 (length l.routines) (need_of l.items o) o h)
 
-arms_onward : (l m : Layer) (as' : List Arm) → Onward l m → ArmsIn l as' → ArmsIn m as'
-arms_onward l m [] w h = tt
-arms_onward l m (a ∷ as') w h = (list_onward l m a.body w h.0, arms_onward l m as' w h.1)
-
 -- ---- loops
 
 while_fitted : (k : Layer) (at : ℕ) (e : syntax.Expression) (body next : Option ℕ) → Fitted k next → ListIn k body → Result k (settled (while_item k at e body) next)
@@ -246,9 +225,6 @@ pub record ArmsResult (l : Layer) (x : List Arm × Layer) : Type 0 where
   pub onward : Onward l x.1
   pub fitted : Fitted x.1 None
   pub arms : ArmsIn x.1 x.0
-
-own_item : (l j : Layer) (next : Option ℕ) → Fitted l next → Ran l j → Result l (settled j next)
-own_item l j next f r = own_settled l l j next next f (onward_same l) f r
 
 starts_fitted : (l : Layer) (ts : List syntax.Start) (next : Option ℕ) → Fitted l next → Result l (starts l ts next)
 unfolding starts

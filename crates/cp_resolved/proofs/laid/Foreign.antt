@@ -1,5 +1,5 @@
 -- Where statements avoid a routine's own name, no item that is laid out of them calls the routine.
-use Rattle.std.proofs.Common.{◌≡◌, ℕ, ◌+◌, ◌<◌, Bool, List, [], ◌∷◌, ◌++◌, length, Option, Some, None, sym, ap, subst, arith}
+use Rattle.std.proofs.Common.{◌≡◌, ℕ, ◌+◌, ◌<◌, Bool, List, [], ◌∷◌, length, Option, Some, None, sym, ap, subst, arith}
 use Rattle.cp_tree.specs.declared.statement.Direction.{Direction}
 use Rattle.cp_tree.specs.Syntax as syntax
 use Rattle.cp_layout.specs.declared.kinds.CellType.{CellType}
@@ -13,7 +13,7 @@ use Rattle.cp_layout.specs.declared.names.PredeclaredRoutine.TheVariants as pred
 use Rattle.cp_slots.specs.Code as code
 use Rattle.cp_slots.specs.Code.{Place, Expression, SetExpression, ComponentPlace, Argument, Arm, Action, Item}
 use Rattle.cp_layout.specs.Kinds.{Field, field_of, array_of}
-use Rattle.cp_layout.specs.Values.{Value, Designated, a_value, a_variable, a_contained, a_component, a_routine, an_entry, a_standard, no_designated, added as values_added, multiplied as values_multiplied, ordinal_of}
+use Rattle.cp_layout.specs.Values.{Value, Designated, a_variable, a_contained, a_component, a_routine, an_entry, a_standard, added as values_added, multiplied as values_multiplied, ordinal_of}
 use Rattle.cp_layout.specs.Layers.{Layer, Frame, Pending, again, find, with_cell, with_room, settled_all, settled, without_pending, added, call_need, result_of}
 use Rattle.cp_layout.specs.LaidExpressions.{begun_as, begun, field_found, entry_found, entry_of, field_selected, element_found, component_of_array, component_found, element_selected, with_count, counted, function_as, named_as, signed, name_at, expression, sum, more_terms, term, more_factors, factor, elements, first_value, arguments_from, designator, selectors, selector, arguments}
 use Rattle.cp_layout.specs.LaidStatements.{Target, target_of, assigned_as, assignment, assigned, performed, procedure, standard, Callee, a_standard_procedure, a_procedure, no_callee, callee_of, invoked_as, invoked, blocked, cycled, chosen, while_item, until_item, token_of, repeated, selected, for_item, initial_of, begun_component, Placed, placed_of, started_as, started, starts, statements, statement, arms, one_arm}
@@ -22,6 +22,7 @@ use Rattle.cp_resolved.proofs.laid.Avoiding.{AvoidsExpression, AvoidsSum, AvoidT
 use Rattle.cp_resolved.proofs.laid.Calling.{designator_there}
 use Rattle.cp_resolved.proofs.laid.Kept.{Kept, changed, designator_kept}
 use Rattle.cp_resolved.proofs.laid.Named.{Named, IsDesignated, initial_below}
+use Rattle.cp_resolved.proofs.frames.FrameCells.{each_both as each_append}
 
 -- ---- items that call another routine
 
@@ -33,10 +34,6 @@ IsForeign n a = Unit {0}
 abbrev pub AreForeign : List Item → Type 0
 AreForeign is = Each (λ (i : Item). IsForeign i.routine i.action) is
 
-pub each_append : {A : Type 0} (Q : A → Type 0) (xs ys : List A) → Each Q xs → Each Q ys → Each Q (xs ++ ys)
-each_append Q [] ys h g = g
-each_append Q (x ∷ xs) ys h g = (h.0, each_append Q xs ys h.1 g)
-
 -- ---- designators
 
 abbrev IsElsewhere : (routine : ℕ) → Designated → Type 0
@@ -46,21 +43,12 @@ IsElsewhere n d = Unit {0}
 
 contained_elsewhere : (n first : ℕ) (t : CellType) → IsElsewhere n (begun_as (Some (meaning.Contained first t)))
 contained_elsewhere n first (types.System k) = tt
-contained_elsewhere n first (types.Ordinal q) = tt
-contained_elsewhere n first types.Queue = tt
-contained_elsewhere n first (types.Set q) = tt
-contained_elsewhere n first (types.Array k) = tt
-contained_elsewhere n first (types.Record k) = tt
+contained_elsewhere n first _ = tt
 
 begun_elsewhere : (n : ℕ) (o : Option LayoutMeaning) → (o ≡ Some (meaning.Routine n) → ⊥) → IsElsewhere n (begun_as o)
-begun_elsewhere n None h = tt
 begun_elsewhere n (Some (meaning.Contained first t)) h = contained_elsewhere n first t
-begun_elsewhere n (Some (meaning.Constant b z)) h = tt
-begun_elsewhere n (Some (meaning.Kind t)) h = tt
-begun_elsewhere n (Some (meaning.Variable o t)) h = tt
-begun_elsewhere n (Some (meaning.Bound slot k)) h = tt
 begun_elsewhere n (Some (meaning.Routine r)) h = λ e. h (ap (λ (k : ℕ). Some (meaning.Routine k)) e)
-begun_elsewhere n (Some (meaning.Predeclared p)) h = tt
+begun_elsewhere n _ h = tt
 
 -- what is selected is no routine by its name alone
 abbrev IsSelected : Designated → Type 0
@@ -78,12 +66,7 @@ entry_is c (Some r) = tt
 field_selected_is : (l : Layer) (d : Designated) (x : List ℕ) → IsSelected (field_selected l d x)
 field_selected_is l (a_variable p t) x = field_is p (field_of l.types t x)
 field_selected_is l (a_component c k) x = entry_is c (entry_of l k x)
-field_selected_is l (a_value v) x = tt
-field_selected_is l (a_contained n t) x = tt
-field_selected_is l (a_routine n) x = tt
-field_selected_is l (an_entry c n) x = tt
-field_selected_is l (a_standard p) x = tt
-field_selected_is l no_designated x = tt
+field_selected_is l _ x = tt
 
 element_is : (p : Place) (o : Option ArrayType) (e : Expression) → IsSelected (element_found p o e)
 element_is p None e = tt
@@ -91,11 +74,7 @@ element_is p (Some a) e = tt
 
 component_is : (l : Layer) (n : ℕ) (a : ArrayType) (t : CellType) (e : Expression) → IsSelected (component_of_array l n a t e)
 component_is l n a (types.System k) e = tt
-component_is l n a (types.Ordinal q) e = tt
-component_is l n a types.Queue e = tt
-component_is l n a (types.Set q) e = tt
-component_is l n a (types.Array k) e = tt
-component_is l n a (types.Record k) e = tt
+component_is l n a _ e = tt
 
 component_found_is : (l : Layer) (n : ℕ) (o : Option ArrayType) (e : Expression) → IsSelected (component_found l n o e)
 component_found_is l n None e = tt
@@ -104,12 +83,7 @@ component_found_is l n (Some a) e = component_is l n a a.element e
 element_selected_is : (l : Layer) (d : Designated) (e : Expression) → IsSelected (element_selected l d e)
 element_selected_is l (a_variable p t) e = element_is p (array_of l.types t) e
 element_selected_is l (a_contained n t) e = component_found_is l n (array_of l.types t) e
-element_selected_is l (a_value v) e = tt
-element_selected_is l (a_component c k) e = tt
-element_selected_is l (a_routine n) e = tt
-element_selected_is l (an_entry c n) e = tt
-element_selected_is l (a_standard p) e = tt
-element_selected_is l no_designated e = tt
+element_selected_is l _ e = tt
 
 selector_is : (l : Layer) (d : Designated) (s : syntax.Selector) → IsSelected (selector l d s).0
 unfolding selector
@@ -124,12 +98,7 @@ selectors_are l d (syntax.more_selectors s ss) h = selectors_are (selector l d s
 selected_elsewhere : (systems routines n : ℕ) (d : Designated) → routines ≡ n → IsDesignated systems routines d → IsSelected d → IsElsewhere n d
 selected_elsewhere systems routines n (a_routine r) e h is = absurd is
 selected_elsewhere systems routines n (an_entry c r) e h is = λ same. omega (arith, same, e, h)
-selected_elsewhere systems routines n (a_value v) e h is = tt
-selected_elsewhere systems routines n (a_variable p t) e h is = tt
-selected_elsewhere systems routines n (a_contained first t) e h is = tt
-selected_elsewhere systems routines n (a_component c k) e h is = tt
-selected_elsewhere systems routines n (a_standard p) e h is = tt
-selected_elsewhere systems routines n no_designated e h is = tt
+selected_elsewhere systems routines n _ e h is = tt
 
 -- ---- what is laid out while routine n is
 
@@ -190,14 +159,10 @@ module _ (P : List ℕ → Type 0) (n : ℕ) where
       fine_added k at (code.call r c b y.0 (Some (length m.frame.image))) (call_need (with_cell m) r) other (fine_room (with_cell m) r (fine_cell m (fine_count y.1 (length y.0) (g l r h))))
 
   named_fine : (l : Layer) (at : ℕ) (d : Designated) (first : Layer → Value × Layer) (handed : Layer → ℕ → List Argument × Layer) → ((m : Layer) → Fine P n m → Fine P n (first m).1) → ((m : Layer) (k : ℕ) → Fine P n m → Fine P n (handed m k).1) → IsElsewhere n d → Fine P n l → Fine P n (named_as l at d first handed).1
-  named_fine l at (a_value v) first handed f g other h = h
-  named_fine l at (a_variable p t) first handed f g other h = h
-  named_fine l at (a_contained k t) first handed f g other h = h
-  named_fine l at (a_component c k) first handed f g other h = h
   named_fine l at (a_routine r) first handed f g other h = function_fine l at code.own _ r (result_of l r) handed g other h
   named_fine l at (an_entry c r) first handed f g other h = function_fine l at c _ r (result_of l r) handed g other h
   named_fine l at (a_standard s) first handed f g other h = f l h
-  named_fine l at no_designated first handed f g other h = h
+  named_fine l at _ first handed f g other h = h
 
   -- ---- expressions
 
@@ -223,14 +188,13 @@ module _ (P : List ℕ → Type 0) (n : ℕ) where
     factors_fine l v (syntax.more_factors a f fs) h avoids = factors_fine (factor l f).1 (values_multiplied a v (factor l f).0) fs (factor_fine l f h avoids.0) avoids.1
 
     factor_fine : (l : Layer) (f : syntax.Factor) → Fine P n l → AvoidsFactor P f → Fine P n (factor l f).1
-    factor_fine l (syntax.number at k) h avoids = h
-    factor_fine l (syntax.character at c) h avoids = h
     factor_fine l (syntax.named at (syntax.designator i ss) es) h avoids =
         let x : Designated × Layer = designator l (syntax.designator i ss) in
         named_fine x.1 at x.0 (λ m. first_value m es) (λ m r. arguments_from m r 0 es) (λ m g. first_fine m es g avoids.1) (λ m r g. arguments_fine m r 0 es g avoids.1) (designator_elsewhere l (syntax.designator i ss) h avoids.0) (selectors_fine l (begun l i.name) ss h avoids.0.1)
     factor_fine l (syntax.group at e) h avoids = expression_fine l e h avoids
     factor_fine l (syntax.negated at f) h avoids = factor_fine l f h avoids
     factor_fine l (syntax.set_of at es) h avoids = elements_fine l code.empty_set es h avoids
+    factor_fine l _ h avoids = h
 
     elements_fine : (l : Layer) (s : SetExpression) (es : syntax.Expressions) → Fine P n l → AvoidExpressions P es → Fine P n (elements l s es).1
     elements_fine l s syntax.no_expressions h avoids = h
@@ -264,11 +228,7 @@ module _ (P : List ℕ → Type 0) (n : ℕ) where
 
   assigned_foreign : (l : Layer) (p : Place) (v : Value) (t : CellType) → IsForeign n (assigned_as l p v t)
   assigned_foreign l p v (types.Ordinal q) = tt
-  assigned_foreign l p v (types.Set q) = tt
-  assigned_foreign l p v types.Queue = tt
-  assigned_foreign l p v (types.Array k) = tt
-  assigned_foreign l p v (types.Record k) = tt
-  assigned_foreign l p v (types.System k) = tt
+  assigned_foreign l p v _ = tt
 
   assigned_fine : (l : Layer) (at : ℕ) (d : syntax.Designator) (e : syntax.Expression) → Fine P n l → AvoidsDesignator P d → AvoidsExpression P e → Fine P n (assigned l at d e)
   unfolding assigned
@@ -280,8 +240,6 @@ module _ (P : List ℕ → Type 0) (n : ℕ) where
 
   performed_foreign : (p : PredeclaredRoutine) (v : Value) → IsForeign n (performed p v)
   performed_foreign predeclared.Delay v = tt
-  performed_foreign predeclared.Continue v = tt
-  performed_foreign predeclared.Display v = tt
   performed_foreign _ v = tt
 
   standard_fine : (l : Layer) (at : ℕ) (p : PredeclaredRoutine) (es : syntax.Expressions) → Fine P n l → AvoidExpressions P es → Fine P n (standard l at p es)
@@ -312,12 +270,7 @@ module _ (P : List ℕ → Type 0) (n : ℕ) where
   callee_other : (d : Designated) → IsElsewhere n d → IsOtherCallee (callee_of d)
   callee_other (a_routine r) h = h
   callee_other (an_entry c r) h = h
-  callee_other (a_standard p) h = tt
-  callee_other (a_value v) h = tt
-  callee_other (a_variable p t) h = tt
-  callee_other (a_contained k t) h = tt
-  callee_other (a_component c k) h = tt
-  callee_other no_designated h = tt
+  callee_other _ h = tt
 
   invoked_as_fine : (l : Layer) (at : ℕ) (c : Callee) (es : syntax.Expressions) → IsOtherCallee c → Fine P n l → AvoidExpressions P es → Fine P n (invoked_as l at c es)
   invoked_as_fine l at (a_standard_procedure p) es other h b = standard_fine l at p es h b
@@ -334,13 +287,7 @@ module _ (P : List ℕ → Type 0) (n : ℕ) where
 
   placed_is : (k r : ℕ) (d : Designated) → IsDesignated k r d → IsPlaced k (placed_of d)
   placed_is k r (a_component c j) h = h
-  placed_is k r (a_routine j) h = tt
-  placed_is k r (an_entry c j) h = tt
-  placed_is k r (a_standard p) h = tt
-  placed_is k r (a_value v) h = tt
-  placed_is k r (a_variable p t) h = tt
-  placed_is k r (a_contained j t) h = tt
-  placed_is k r no_designated h = tt
+  placed_is k r _ h = tt
 
   started_as_fine : (l : Layer) (at : ℕ) (o : Option Placed) (es : syntax.Expressions) → IsPlaced (length l.systems) o → Fine P n l → AvoidExpressions P es → Fine P n (started_as l at o es)
   started_as_fine l at None es placed h b = fine_added l at code.nothing 0 tt h

@@ -3,7 +3,7 @@ use Rattle.std.proofs.Common.{◌≡◌, ℕ, ◌+◌, Bool, true, false, List, 
 use Rattle.cp_tree.specs.Syntax as syntax
 use Rattle.cp_slots.specs.Code.{SetExpression, ComponentPlace, Argument}
 use Rattle.cp_layout.specs.declared.layer.FunctionResult.{FunctionResult}
-use Rattle.cp_layout.specs.Values.{Value, Designated, a_value, a_variable, a_contained, a_component, a_routine, an_entry, a_standard, no_designated, ordinal_of, multiplied, added}
+use Rattle.cp_layout.specs.Values.{Value, Designated, a_routine, an_entry, a_standard, ordinal_of, multiplied, added}
 use Rattle.cp_slots.specs.Code as code
 use Rattle.cp_layout.specs.Layers.{Layer, Frame, Pending, result_of}
 use Rattle.cp_layout.specs.LaidExpressions.{expression, sum, more_terms, term, more_factors, factor, elements, first_value, arguments_from, designator, selectors, selector, begun, signed, counted, called, function_as, named_as}
@@ -24,14 +24,10 @@ function_kept l at c b r (Some x) arguments h = kept_trans l (arguments l r).1 (
 
 named_kept : (l : Layer) (at : ℕ) (d : Designated) (first : Layer → Value × Layer) (arguments : Layer → ℕ → List Argument × Layer)
     → ((m : Layer) → Kept m (first m).1) → ((m : Layer) (k : ℕ) → Kept m (arguments m k).1) → Kept l (named_as l at d first arguments).1
-named_kept l at (a_value v) first arguments f h = refl
-named_kept l at (a_variable p t) first arguments f h = refl
-named_kept l at (a_contained n t) first arguments f h = refl
-named_kept l at (a_component c k) first arguments f h = refl
 named_kept l at (a_routine r) first arguments f h = function_kept l at code.own false r (result_of l r) arguments h
 named_kept l at (an_entry c r) first arguments f h = function_kept l at c true r (result_of l r) arguments h
 named_kept l at (a_standard s) first arguments f h = f l
-named_kept l at no_designated first arguments f h = refl
+named_kept l at _ first arguments f h = refl
 
 mutual
   unfolding expression sum more_terms term more_factors factor elements first_value arguments_from designator selectors selector
@@ -56,8 +52,6 @@ mutual
       kept_trans l (factor l f).1 (more_factors (factor l f).1 (multiplied a v (factor l f).0) fs).1 (factor_kept l f) (more_factors_kept (factor l f).1 (multiplied a v (factor l f).0) fs)
 
   pub factor_kept : (l : Layer) (f : syntax.Factor) → Kept l (factor l f).1
-  factor_kept l (syntax.number at n) = refl
-  factor_kept l (syntax.character at c) = refl
   factor_kept l (syntax.named at d es) =
       let m : Layer = (designator l d).1 in
       kept_trans l m (named_as m at (designator l d).0 (λ n. first_value n es) (λ n r. arguments_from n r 0 es)).1 (designator_kept l d)
@@ -65,6 +59,7 @@ mutual
   factor_kept l (syntax.group at e) = expression_kept l e
   factor_kept l (syntax.negated at f) = factor_kept l f
   factor_kept l (syntax.set_of at es) = elements_kept l code.empty_set es
+  factor_kept l _ = refl
 
   elements_kept : (l : Layer) (s : SetExpression) (es : syntax.Expressions) → Kept l (elements l s es).1
   elements_kept l s syntax.no_expressions = refl

@@ -8,7 +8,7 @@ use Rattle.cp_layout.specs.declared.names.LayoutMeaning.{LayoutMeaning}
 use Rattle.cp_layout.specs.declared.names.LayoutMeaning.TheVariants as meaning
 use Rattle.cp_slots.specs.Code.{ComponentPlace, Expression, Place}
 use Rattle.cp_layout.specs.Kinds.{Compound, array, record_with, Compounds, array_of, as_array, field_of, Field}
-use Rattle.cp_layout.specs.Values.{Designated, a_value, a_variable, a_contained, a_component, a_routine, an_entry, a_standard, no_designated}
+use Rattle.cp_layout.specs.Values.{Designated, a_variable, a_contained, a_component, a_routine, an_entry}
 use Rattle.cp_layout.specs.Layers.{Names, find, seen_inside, with_open, is_open, Layer, Heading, System}
 use Rattle.cp_layout.specs.LaidExpressions.{begun_as, begun, entry_among, entry_in, entry_of, entry_found, field_found, field_selected, element_found, component_of_array, component_found, element_selected}
 use Rattle.cp_layout.specs.LaidStatements.{initial_in, initial_of}
@@ -61,20 +61,14 @@ IsDesignated s r d = Unit {0}
 
 pub type_more : (s t : ℕ) (v : CellType) → s ≤ t → IsType s v → IsType t v
 type_more s t (types.System k) le h = omega arith
-type_more s t (types.Ordinal r) le h = tt
-type_more s t types.Queue le h = tt
-type_more s t (types.Set r) le h = tt
-type_more s t (types.Array n) le h = tt
-type_more s t (types.Record n) le h = tt
+type_more s t _ le h = tt
 
 meaning_more : (s t r q : ℕ) (m : LayoutMeaning) → s ≤ t → r ≤ q → IsMeaning s r m → IsMeaning t q m
 meaning_more s t r q (meaning.Kind v) le lr h = type_more s t v le h
 meaning_more s t r q (meaning.Contained n v) le lr h = type_more s t v le h
 meaning_more s t r q (meaning.Bound n k) le lr h = omega arith
 meaning_more s t r q (meaning.Routine n) le lr h = omega arith
-meaning_more s t r q (meaning.Constant b z) le lr h = tt
-meaning_more s t r q (meaning.Variable o v) le lr h = tt
-meaning_more s t r q (meaning.Predeclared p) le lr h = tt
+meaning_more s t r q _ le lr h = tt
 
 pub names_more : (s t r q : ℕ) (ds : Names) → s ≤ t → r ≤ q → AreNames s r ds → AreNames t q ds
 names_more s t r q [] le lr h = tt
@@ -124,21 +118,13 @@ found s r x (d ∷ ds) h = go (bytes_eq d.0 x) (found s r x ds h.1)
 
 begun_contained : (s r n : ℕ) (t : CellType) → IsType s t → IsDesignated s r (begun_as (Some (meaning.Contained n t)))
 begun_contained s r n (types.System k) h = h
-begun_contained s r n (types.Ordinal q) h = tt
-begun_contained s r n types.Queue h = tt
-begun_contained s r n (types.Set q) h = tt
-begun_contained s r n (types.Array k) h = tt
-begun_contained s r n (types.Record k) h = tt
+begun_contained s r n _ h = tt
 
 begun_named : (s r : ℕ) (o : Option LayoutMeaning) → IsFound s r o → IsDesignated s r (begun_as o)
-begun_named s r None h = tt
 begun_named s r (Some (meaning.Contained n t)) h = begun_contained s r n t h
-begun_named s r (Some (meaning.Constant b z)) h = tt
-begun_named s r (Some (meaning.Kind t)) h = tt
-begun_named s r (Some (meaning.Variable o t)) h = tt
 begun_named s r (Some (meaning.Bound n k)) h = h
 begun_named s r (Some (meaning.Routine n)) h = h
-begun_named s r (Some (meaning.Predeclared p)) h = tt
+begun_named s r _ h = tt
 
 abbrev pub DesignatedIn : Layer → Designated → Type 0
 DesignatedIn l d = IsDesignated (length l.systems) (length l.routines) d
@@ -181,12 +167,7 @@ field_designated s r p (Some f) = tt
 pub field_there : (l : Layer) (d : Designated) (x : List ℕ) → Named l → DesignatedIn l (field_selected l d x)
 field_there l (a_variable p t) x h = field_designated (length l.systems) (length l.routines) p (field_of l.types t x)
 field_there l (a_component c k) x h = entry_designated (length l.systems) (length l.routines) c (entry_of l k x) (entry_there (length l.routines) (slice_get l.systems k) l.headings x (h.systems k))
-field_there l (a_value v) x h = tt
-field_there l (a_contained n t) x h = tt
-field_there l (a_routine n) x h = tt
-field_there l (an_entry c n) x h = tt
-field_there l (a_standard p) x h = tt
-field_there l no_designated x h = tt
+field_there l _ x h = tt
 
 IsElement : (systems : ℕ) → Option ArrayType → Type 0
 IsElement s None = Unit {0}
@@ -194,26 +175,17 @@ IsElement s (Some a) = IsType s a.element
 
 as_array_there : (s : ℕ) (o : Option Compound) → ((c : Compound) → o ≡ Some c → IsCompound s c) → IsElement s (as_array o)
 unfolding IsElement
-as_array_there s None h = tt
 as_array_there s (Some (array a)) h = h (array a) refl
-as_array_there s (Some (record_with fs n)) h = tt
+as_array_there s _ h = tt
 
 array_there : (s : ℕ) (ts : Compounds) (t : CellType) → AreTypes s ts → IsElement s (array_of ts t)
 unfolding IsElement
 array_there s ts (types.Array n) h = as_array_there s (slice_get ts n) (h n)
-array_there s ts (types.Ordinal q) h = tt
-array_there s ts types.Queue h = tt
-array_there s ts (types.Set q) h = tt
-array_there s ts (types.Record n) h = tt
-array_there s ts (types.System n) h = tt
+array_there s ts _ h = tt
 
 component_there : (l : Layer) (n : ℕ) (a : ArrayType) (t : CellType) (e : Expression) → IsType (length l.systems) t → DesignatedIn l (component_of_array l n a t e)
 component_there l n a (types.System k) e h = h
-component_there l n a (types.Ordinal q) e h = tt
-component_there l n a types.Queue e h = tt
-component_there l n a (types.Set q) e h = tt
-component_there l n a (types.Array k) e h = tt
-component_there l n a (types.Record k) e h = tt
+component_there l n a _ e h = tt
 
 component_found_there : (l : Layer) (n : ℕ) (o : Option ArrayType) (e : Expression) → IsElement (length l.systems) o → DesignatedIn l (component_found l n o e)
 unfolding IsElement
@@ -227,12 +199,7 @@ element_designated s r p (Some a) e = tt
 pub element_there : (l : Layer) (d : Designated) (e : Expression) → Named l → DesignatedIn l (element_selected l d e)
 element_there l (a_variable p t) e h = element_designated (length l.systems) (length l.routines) p (array_of l.types t) e
 element_there l (a_contained n t) e h = component_found_there l n (array_of l.types t) e (array_there (length l.systems) l.types t h.types)
-element_there l (a_value v) e h = tt
-element_there l (a_component c k) e h = tt
-element_there l (a_routine n) e h = tt
-element_there l (an_entry c n) e h = tt
-element_there l (a_standard p) e h = tt
-element_there l no_designated e h = tt
+element_there l _ e h = tt
 
 -- ---- starts
 

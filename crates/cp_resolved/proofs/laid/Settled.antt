@@ -1,7 +1,7 @@
 -- The items of a statement go into the tables: each is followed by one that is there, and has what it needs.
 use Rattle.std.proofs.Common.{◌≡◌, ℕ, suc, ◌+◌, ◌*◌, ◌≤◌, min, max, List, [], ◌∷◌, ◌++◌, length, Option, Some, slice_get, refl, sym, ap, subst, ◌∙◌, ◌⊎◌, inl, inr, append_assoc, append-nil, arith, length-append}
 use Rattle.cp_slots.specs.Code as code
-use Rattle.cp_slots.specs.Code.{Action, Item, Expression}
+use Rattle.cp_slots.specs.Code.{Action, Item}
 use Rattle.cp_layout.specs.Kinds.{most}
 use Rattle.cp_layout.specs.Layers.{Layer, Pending, with_item, settled_all, need_of, item_need}
 use Rattle.cp_resolved.proofs.laid.Calling.{ActionFits, IsNoLoop, Onward, onward_items, onward_routines, action_onward, Ground}

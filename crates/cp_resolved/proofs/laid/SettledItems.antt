@@ -3,7 +3,7 @@ use Rattle.std.proofs.Common.{◌≡◌, ◌+◌, ◌<◌, max, ℕ, suc, List, 
 use Rattle.cp_slots.specs.Code as code
 use Rattle.cp_layout.specs.Layers.{Layer, Pending, need_of, added, without_pending, settled_all, settled}
 use Rattle.cp_meaning.specs.Names.{temporary}
-use Rattle.cp_meaning.specs.State.{Item, function_call, statement_item, start_item, until, successor, return, init_end, end}
+use Rattle.cp_meaning.specs.State.{Item, function_call}
 use Rattle.cp_resolved.specs.ItemsStand.{ItemIs, AreItems}
 use Rattle.cp_resolved.specs.Layouts.{Here}
 use Rattle.cp_resolved.specs.Stands.{Ground, ItemAt, CallItem, CallsAre}
@@ -71,15 +71,7 @@ module _ (g : Ground) (h : Here) where
         taken = c.taken;
       } in
       (length rest.1.items, rest.0, refl, item, calls_settled l ps tail is next a.1 (holds_first rest.1.items (i ∷ []) b))
-  calls_settled l [] tail (i ∷ is) next a b = absurd a
-  calls_settled l (p ∷ ps) tail [] next a b = absurd a
-  calls_settled l (p ∷ ps) tail (statement_item t ∷ is) next a b = absurd a
-  calls_settled l (p ∷ ps) tail (start_item t ∷ is) next a b = absurd a
-  calls_settled l (p ∷ ps) tail (until ts e ∷ is) next a b = absurd a
-  calls_settled l (p ∷ ps) tail (successor at i z d w t ∷ is) next a b = absurd a
-  calls_settled l (p ∷ ps) tail (return o ∷ is) next a b = absurd a
-  calls_settled l (p ∷ ps) tail (init_end n ∷ is) next a b = absurd a
-  calls_settled l (p ∷ ps) tail (end ∷ is) next a b = absurd a
+  calls_settled l _ tail _ next a b = absurd a
 
   -- the items of calls lead to the own item
   pub record Led (first : Option ℕ) (is : List Item) (at : ℕ) (a : code.Action) (next : Option ℕ) : Type 0 where

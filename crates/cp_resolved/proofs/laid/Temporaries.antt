@@ -1,22 +1,15 @@
 -- Where calls are at different tokens and each temporary name has its cell, the cells are one after the other.
-use Rattle.std.proofs.Common.{◌≡◌, ℕ, suc, ◌+◌, ◌==◌, Bool, true, false, if◌then◌else◌, List, [], ◌∷◌, refl, ap, ◌∙◌, inl, inr, arith}
-use Rattle.std.proofs.Math.Dec.{T, eqb_refl}
+use Rattle.std.proofs.Common.{◌≡◌, ℕ, suc, ◌+◌, ◌==◌, Bool, false, if◌then◌else◌, List, [], ◌∷◌, refl, ap, ◌∙◌, inl, inr, arith}
 use Rattle.cp_slots.specs.declared.place.PlaceOrigin.TheVariants.{Local}
-use Rattle.cp_meaning.specs.State.{Item, statement_item, function_call, start_item, until, successor, return, init_end, end}
+use Rattle.cp_meaning.specs.State.{Item, statement_item, function_call}
 use Rattle.cp_resolved.specs.Layouts.{Here}
 use Rattle.cp_resolved.specs.Used.{AreNext}
 use Rattle.cp_resolved.specs.Calls.{calls_before, AreApart, AreTemporaries}
+use Rattle.cp_resolved.proofs.frames.LeastCells.{same_number as same_token}
 
 -- a call that is at another token than the first
 after_first : (n at : ℕ) (b : Bool) (m : ℕ) → (n == at) ≡ b → b ≡ false → (if n == at then 0 else suc m) ≡ suc m
 after_first n at b m e f = ap (λ c. if c then 0 else suc m) (e ∙ f)
-
-holds : (b : Bool) → T b → b ≡ true
-holds true t = refl
-holds false t = absurd t
-
-same_token : (n : ℕ) → (n == n) ≡ true
-same_token n = holds (n == n) (eqb_refl n)
 
 first_itself : (n m : ℕ) → (if n == n then 0 else suc m) ≡ 0
 first_itself n m = ap (λ b. if b then 0 else suc m) (same_token n)
@@ -29,9 +22,4 @@ module _ (h : Here) where
     temporaries_next (suc n) is a.1 (λ at i. t at (inr i) ∙ ap (λ c. Local (n + c)) (after_first m at (m == at) (calls_before at is) refl (a.0 at i)) ∙ ap Local (omega arith)),
   )
   temporaries_next n (statement_item t' ∷ is) a t = absurd a.0
-  temporaries_next n (start_item t' ∷ is) a t = absurd a.0
-  temporaries_next n (until ts e ∷ is) a t = absurd a.0
-  temporaries_next n (successor at i z d w t' ∷ is) a t = absurd a.0
-  temporaries_next n (return o ∷ is) a t = absurd a.0
-  temporaries_next n (init_end k ∷ is) a t = absurd a.0
-  temporaries_next n (end ∷ is) a t = absurd a.0
+  temporaries_next n _ a t = absurd a.0

@@ -5,7 +5,7 @@ use Rattle.cp_tree.specs.Syntax as syntax
 use Rattle.cp_layout.specs.declared.layer.FunctionResult.{FunctionResult}
 use Rattle.cp_slots.specs.Code as code
 use Rattle.cp_slots.specs.Code.{SetExpression, ComponentPlace, Argument, Arm, Action}
-use Rattle.cp_layout.specs.Values.{Value, Designated, a_value, a_variable, a_contained, a_component, a_routine, an_entry, a_standard, no_designated, added as values_added, multiplied as values_multiplied, ordinal_of}
+use Rattle.cp_layout.specs.Values.{Value, Designated, a_routine, an_entry, a_standard, added as values_added, multiplied as values_multiplied, ordinal_of}
 use Rattle.cp_layout.specs.Layers.{Layer, again, with_cell, with_room, settled, added, call_need, result_of, need_inside, pending_need}
 use Rattle.cp_layout.specs.LaidExpressions.{begun, with_count, counted, function_as, named_as, signed, name_at, expression, sum, more_terms, term, more_factors, factor, elements, first_value, arguments_from, designator, selectors, selector, arguments}
 use Rattle.cp_layout.specs.LaidStatements.{Target, target_of, assignment, assigned, performed, procedure, standard, Callee, a_standard_procedure, a_procedure, no_callee, callee_of, invoked_as, invoked, blocked, cycled, chosen, while_item, until_item, token_of, repeated, arms_need, selected, origin_of, low_of, high_of, is_down, for_item, initial_of, begun_component, Placed, placed_of, started_as, started, starts, statements, statement, arms, one_arm}
@@ -19,14 +19,10 @@ module _ (F : Layer → Type 0) (call : (l : Layer) (r at : ℕ) (a : Action) (n
       call m r at (code.call r c b y.0 (Some (length m.frame.image))) (call_need (with_cell m) r) (counts y.1 (length y.0) (g l r h))
 
   named_walked : (l : Layer) (at : ℕ) (d : Designated) (first : Layer → Value × Layer) (handed : Layer → ℕ → List Argument × Layer) → ((m : Layer) → F m → F (first m).1) → ((m : Layer) (k : ℕ) → F m → F (handed m k).1) → F l → F (named_as l at d first handed).1
-  named_walked l at (a_value v) first handed f g h = h
-  named_walked l at (a_variable p t) first handed f g h = h
-  named_walked l at (a_contained k t) first handed f g h = h
-  named_walked l at (a_component c k) first handed f g h = h
   named_walked l at (a_routine r) first handed f g h = function_walked l at code.own _ r (result_of l r) handed g h
   named_walked l at (an_entry c r) first handed f g h = function_walked l at c _ r (result_of l r) handed g h
   named_walked l at (a_standard s) first handed f g h = f l h
-  named_walked l at no_designated first handed f g h = h
+  named_walked l at _ first handed f g h = h
 
   mutual
     unfolding expression sum more_terms term more_factors factor elements first_value arguments_from designator selectors selector
@@ -50,14 +46,13 @@ module _ (F : Layer → Type 0) (call : (l : Layer) (r at : ℕ) (a : Action) (n
     factors_walked l v (syntax.more_factors a f fs) h = factors_walked (factor l f).1 (values_multiplied a v (factor l f).0) fs (factor_walked l f h)
 
     factor_walked : (l : Layer) (f : syntax.Factor) → F l → F (factor l f).1
-    factor_walked l (syntax.number at k) h = h
-    factor_walked l (syntax.character at c) h = h
     factor_walked l (syntax.named at (syntax.designator i ss) es) h =
         let x : Designated × Layer = designator l (syntax.designator i ss) in
         named_walked x.1 at x.0 (λ m. first_value m es) (λ m r. arguments_from m r 0 es) (λ m g. first_walked m es g) (λ m r g. arguments_walked m r 0 es g) (selectors_walked l (begun l i.name) ss h)
     factor_walked l (syntax.group at e) h = expression_walked l e h
     factor_walked l (syntax.negated at f) h = factor_walked l f h
     factor_walked l (syntax.set_of at es) h = elements_walked l code.empty_set es h
+    factor_walked l _ h = h
 
     elements_walked : (l : Layer) (s : SetExpression) (es : syntax.Expressions) → F l → F (elements l s es).1
     elements_walked l s syntax.no_expressions h = h

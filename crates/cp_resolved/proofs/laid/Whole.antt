@@ -20,10 +20,11 @@ use Rattle.cp_resolved.proofs.names.Entries.{there, not_there, still_there, last
 use Rattle.cp_resolved.proofs.laid.Fitted.{Result}
 use Rattle.cp_resolved.proofs.laid.FittedStatements.{statements_fitted}
 use Rattle.cp_resolved.proofs.laid.Fitting.{ListFits}
-use Rattle.cp_resolved.proofs.laid.Named.{Named, AreNames, AreSystems, IsType, names_more, types_more, systems_more, names_dropped, names_inside}
+use Rattle.cp_resolved.proofs.laid.Named.{Named, AreNames, IsType, names_more, types_more, systems_more, names_dropped, names_inside}
 use Rattle.cp_resolved.proofs.systems.Owning.{OwnedStep, step_same, none_owned, SystemIs, RoutineIn, RoutineIs, Owning, Outside, owning_step, owning_ended}
 use Rattle.cp_resolved.proofs.systems.Sized.{Sized, SizedBy, by_more, sized_same, resized_same}
 use Rattle.cp_resolved.proofs.laid.Settled.{ItemsFit, Fitted}
+use Rattle.cp_resolved.proofs.names.KnowingSystems.{systems_with}
 
 -- a routine's own frame is inside its room, where the numbers are words
 pub record HasRoom (r : RoutineView) : Type 0 where
@@ -130,9 +131,6 @@ module _ (l : Layer) (start : Option ℕ) (f : Fitted l start) where
   action_ended r n (code.call c p b as' result) le h = call_ended r n c (length as') le h
   action_ended r n (code.start p c as') le h = call_ended r n c (length as') le h
   action_ended r n _ le h = h
-
-  one_more : length ended.routines ≡ length l.routines + 1
-  one_more = length-append l.routines (routine_of l start ∷ [])
 
   ended_named : Named ended
   ended_named =
@@ -310,13 +308,6 @@ pub record SystemLaid (x : CellType × Layer) : Type 0 where
   pub whole : Whole x.1
   pub is : IsType (length x.1.systems) x.0
   pub outside : Outside x.1
-
-systems_with : (r : ℕ) (ss : List System) (s : System) → s.initial < r → AreSystems r ss → AreSystems r (ss ++ s ∷ [])
-systems_with r ss s lt h k t e = go (last_or_before ss s k t e)
-  where
-    go : (slice_get ss k ≡ Some t) ⊎ ((k ≡ length ss) × (t ≡ s)) → t.initial < r
-    go (inl g) = h k t g
-    go (inr g) = rw g.1 lt
 
 pub outside_declared : (l m : Layer) → Declared l m → Outside l → Outside m
 outside_declared l m h o = subst (λ (j : Layer). Outside j) (sym h.same) o

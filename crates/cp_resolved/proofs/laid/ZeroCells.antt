@@ -7,7 +7,7 @@ use Rattle.cp_layout.specs.declared.names.PredeclaredRoutine.{PredeclaredRoutine
 use Rattle.cp_slots.specs.Code as code
 use Rattle.cp_slots.specs.Code.{SetExpression, ComponentPlace, Argument, Arm}
 use Rattle.cp_slots.specs.Tables.{RoutineView}
-use Rattle.cp_layout.specs.Values.{Value, Designated, a_value, a_variable, a_contained, a_component, a_routine, an_entry, a_standard, no_designated, ordinal_of, multiplied, added as sum_of}
+use Rattle.cp_layout.specs.Values.{Value, Designated, a_routine, an_entry, a_standard, ordinal_of, multiplied, added as sum_of}
 use Rattle.cp_layout.specs.Layers.{Layer, Frame, Pending, result_of, with_cell, frame_with, settled_all, settled, without_pending, added}
 use Rattle.cp_layout.specs.LaidExpressions.{expression, sum, more_terms, term, more_factors, factor, elements, first_value, arguments_from, arguments, designator, selectors, selector, begun, signed, counted, called, function_as, named_as, name_at}
 use Rattle.cp_layout.specs.LaidStatements.{assigned, invoked, invoked_as, Callee, a_standard_procedure, a_procedure, no_callee, callee_of, standard, procedure, chosen, selected, while_item, until_item, for_item, blocked, cycled, repeated, Placed, placed_of, begun_component, started_as, started, starts, initial_of, statement, statements, arms, one_arm, token_of}
@@ -61,14 +61,10 @@ function_zeroed l at c b r (Some x) arguments h = zeros_trans l (arguments l r).
 
 named_zeroed : (l : Layer) (at : ℕ) (d : Designated) (first : Layer → Value × Layer) (arguments : Layer → ℕ → List Argument × Layer)
     → ((m : Layer) → Zeros m (first m).1) → ((m : Layer) (k : ℕ) → Zeros m (arguments m k).1) → Zeros l (named_as l at d first arguments).1
-named_zeroed l at (a_value v) first arguments f h = zeros_same l
-named_zeroed l at (a_variable p t) first arguments f h = zeros_same l
-named_zeroed l at (a_contained n t) first arguments f h = zeros_same l
-named_zeroed l at (a_component c k) first arguments f h = zeros_same l
 named_zeroed l at (a_routine r) first arguments f h = function_zeroed l at code.own false r (result_of l r) arguments h
 named_zeroed l at (an_entry c r) first arguments f h = function_zeroed l at c true r (result_of l r) arguments h
 named_zeroed l at (a_standard s) first arguments f h = f l
-named_zeroed l at no_designated first arguments f h = zeros_same l
+named_zeroed l at _ first arguments f h = zeros_same l
 
 mutual
   unfolding expression sum more_terms term more_factors factor elements first_value arguments_from designator selectors selector
@@ -93,8 +89,6 @@ mutual
       zeros_trans l (factor l f).1 (more_factors (factor l f).1 (multiplied a v (factor l f).0) fs).1 (factor_zeroed l f) (more_factors_zeroed (factor l f).1 (multiplied a v (factor l f).0) fs)
 
   factor_zeroed : (l : Layer) (f : syntax.Factor) → Zeros l (factor l f).1
-  factor_zeroed l (syntax.number at n) = zeros_same l
-  factor_zeroed l (syntax.character at c) = zeros_same l
   factor_zeroed l (syntax.named at d es) =
       let m : Layer = (designator l d).1 in
       zeros_trans l m (named_as m at (designator l d).0 (λ n. first_value n es) (λ n r. arguments_from n r 0 es)).1 (designator_zeroed l d)
@@ -102,6 +96,7 @@ mutual
   factor_zeroed l (syntax.group at e) = expression_zeroed l e
   factor_zeroed l (syntax.negated at f) = factor_zeroed l f
   factor_zeroed l (syntax.set_of at es) = elements_zeroed l code.empty_set es
+  factor_zeroed l _ = zeros_same l
 
   elements_zeroed : (l : Layer) (s : SetExpression) (es : syntax.Expressions) → Zeros l (elements l s es).1
   elements_zeroed l s syntax.no_expressions = zeros_same l

@@ -19,19 +19,16 @@ use Rattle.cp_resolved.specs.Resolved.{initial_meaning}
 use Rattle.cp_resolved.specs.Small.{Each, IsSmallRoutine, IsSmallSystem, IsSmallDefinition, IsSmallProgramPart, IsSmallProgram, AreNumbered}
 use Rattle.cp_resolved.specs.TreeLayouts.{definition_parts, definitions_parts, part_parts, program_parts_parts, all_parts, whole_laid}
 use Rattle.cp_resolved.proofs.names.Entries.{past_there}
-use Rattle.cp_resolved.proofs.laid.Extends.{Longer, Extends, system_definition_extends, system_definitions_extend, program_parts_extend}
-use Rattle.cp_resolved.proofs.names.Knowing.{begun_same, begun_routines, Knowing, begun_knows, begun_count, routine_knows, routine_even, routines_even, initial_knows, initial_count, parts_know, parts_even}
-use Rattle.cp_resolved.proofs.names.KnowingSystems.{longer_both, routines_know, begun_many, definitions_longer, parts_longer, IsFirst, first_before, first_is, Known, definition_known, part_known, parts_known, nothing_known}
+use Rattle.cp_resolved.proofs.laid.Extends.{Longer, Extends, system_definition_extends, system_definitions_extend, program_parts_extend, longer_trans as longer_both}
+use Rattle.cp_resolved.proofs.names.Knowing.{Knowing, begun_knows, begun_count, routine_knows, routine_even, routines_even, initial_knows, initial_count, parts_know, parts_even}
+use Rattle.cp_resolved.proofs.names.KnowingSystems.{routines_know, begun_many, definitions_longer, parts_longer, IsFirst, first_before, first_is, Known, definition_known, part_known, parts_known, nothing_known}
 use Rattle.cp_resolved.proofs.names.PermanentNames.{Under, under_same, under_routine, under_after, under_routines, own_number, BoundIn, program_bound, parts_bound, FirstsApart, parts_first}
 use Rattle.cp_resolved.proofs.names.Steps.{outermost_in}
 use Rattle.cp_resolved.proofs.names.StepsOfParts.{Reached}
 use Rattle.cp_resolved.proofs.names.StepsOfProgram.{Standing, Stood, definition_stood, part_stood, parts_stood, opened_after, program_reached, all_outer}
-use Rattle.cp_resolved.proofs.names.StepsOfRoutines.{body_systems, routine_count, routine_systems, routines_systems, routines_count, openings_count, opened_left, opened_right, begun_reached, routine_reached, parts_begun_reached, parts_opened, system_begun_reached, groups_systems}
+use Rattle.cp_resolved.proofs.names.StepsOfRoutines.{body_systems, routine_count, routine_systems, routines_systems, routines_count, openings_count, opened_left, opened_right, begun_reached, routine_reached, parts_begun_reached, parts_opened, system_begun_reached, groups_systems, begun_routines, begun_systems as begun_same}
 use Rattle.cp_resolved.proofs.names.StepsOfTypes.{numbered_left, numbered_after}
-
-pub seam : {A : Type 0} (xs : List A) (y : A) (ys : List A) → slice_get (xs ++ y ∷ ys) (length xs) ≡ Some y
-seam [] y ys = refl
-seam (x ∷ xs) y ys = seam xs y ys
+use Rattle.cp_resolved.proofs.components.ComponentsStand.{entry_there as seam}
 
 -- ---- as many states as system types
 
@@ -47,9 +44,8 @@ definitions_many l d (n ∷ ns) =
     omega (arith, a, b, length-append (definition_parts l n.value) (definitions_parts (system_definition l n) ns))
 
 pub part_many : (l : Layer) (d : Declared) (q : syntax.ProgramPart) → length d.systems + length (part_parts l q) ≡ length (program_part_in d q).systems
-part_many l d (syntax.program_constants at ds) = omega arith
 part_many l d (syntax.program_types at ns) = definitions_many l d ns
-part_many l d (syntax.program_variables at gs) = omega arith
+part_many l d x = omega arith
 
 pub parts_many : (l : Layer) (d : Declared) (qs : List syntax.ProgramPart) → length d.systems + length (program_parts_parts l qs) ≡ length (program_parts_in d qs).systems
 parts_many l d [] = omega arith
@@ -87,9 +83,8 @@ module _ (k : Numbering) (p : syntax.Program) (once : IsOnce p) (all : List Laye
 
   begun_append : (ls ms : List Layer) (os qs : List Opening) → AreBegun ls os → AreBegun ms qs → AreBegun (ls ++ ms) (os ++ qs)
   begun_append [] ms [] qs h i = i
-  begun_append [] ms (o ∷ os) qs h i = absurd h
-  begun_append (l ∷ ls) ms [] qs h i = absurd h
   begun_append (l ∷ ls) ms (o ∷ os) qs h i = (h.0, begun_append ls ms os qs h.1 i)
+  begun_append _ ms _ qs h i = absurd h
 
   abbrev IsLonger : List System → Type 0
   IsLonger ss = Longer ss end.systems
@@ -204,9 +199,8 @@ module _ (k : Numbering) (p : syntax.Program) (once : IsOnce p) (all : List Laye
 
   part_begins : (l : Layer) (d : Declared) (q : syntax.ProgramPart) → IsSmallProgramPart q → IsFitPart d q → IsOncePart q → AreNumbered k.firsts (length l.constants) (in_program_part q) → AreOpened k.routines (length l.routines) (part_openings d q) → Standing k l d →
       Known k p l → IsFirst k p (program_part_in d q).systems → (before rest : List Layer) → all ≡ before ++ (part_parts l q ++ rest) → length before ≡ length d.systems → IsLonger (program_part l q).systems → AreBegun (part_begun l q) (part_openings d q)
-  part_begins l d (syntax.program_constants at ds) h f once e o i a w before rest place len x = tt
   part_begins l d (syntax.program_types at ns) h f once e o i a w before rest place len x = definitions_begin l d ns h f once e o i a w before rest place len x
-  part_begins l d (syntax.program_variables at gs) h f once e o i a w before rest place len x = tt
+  part_begins l d _ h f once e o i a w before rest place len x = tt
 
   parts_begin : (l : Layer) (d : Declared) (qs : List syntax.ProgramPart) → Each IsSmallProgramPart qs → AreFitParts d qs → Each IsOncePart qs → AreNumbered k.firsts (length l.constants) (each_in in_program_part qs) → AreOpened k.routines (length l.routines) (parts_openings d qs) → Standing k l d →
       Known k p l → IsFirst k p (program_parts_in d qs).systems → (before rest : List Layer) → all ≡ before ++ (program_parts_parts l qs ++ rest) → length before ≡ length d.systems → IsLonger (program_parts l qs).systems → AreBegun (program_parts_begun l qs) (parts_openings d qs)

@@ -6,7 +6,7 @@ use Rattle.cp_layout.specs.LaidDeclarations.{initial_statement, routine, routine
 use Rattle.cp_resolved.specs.Begun.{routine_begun, routines_begun, initial_begun, parameters_of, parts_begun, system_begun, definition_begun, definitions_begun, part_begun, program_parts_begun, all_begun}
 use Rattle.cp_resolved.specs.Small.{Each}
 use Rattle.cp_resolved.proofs.laid.Extends.{Longer, longer_trans, body_extends, initial_extends, routines_extend, system_definitions_extend, program_parts_extend}
-use Rattle.cp_resolved.proofs.laid.Foreign.{each_append}
+use Rattle.cp_resolved.proofs.frames.FrameCells.{each_both as each_append}
 
 module _ (end : Layer) where
   abbrev IsWithin : Layer → Type 0
@@ -40,9 +40,8 @@ module _ (end : Layer) where
       each_append IsWithin (definition_begun l d.value) (definitions_begun m ds) (definition_within l d.value a) (definitions_within m ds h)
 
   part_within : (l : Layer) (p : syntax.ProgramPart) → IsWithin (program_part l p) → Each IsWithin (part_begun l p)
-  part_within l (syntax.program_constants at ds) h = tt
   part_within l (syntax.program_types at ds) h = definitions_within l ds h
-  part_within l (syntax.program_variables at gs) h = tt
+  part_within l _ h = tt
 
   parts_within : (l : Layer) (ps : List syntax.ProgramPart) → IsWithin (program_parts l ps) → Each IsWithin (program_parts_begun l ps)
   unfolding program_parts

@@ -22,9 +22,8 @@ use Rattle.cp_resolved.proofs.names.StepsOfProgram.{Standing, Stood, definition_
 module _ (k : Numbering) where
   in_step_append : (ls ms : List Layer) (os ps : List Opening) → AreInStep k ls os → AreInStep k ms ps → AreInStep k (ls ++ ms) (os ++ ps)
   in_step_append [] ms [] ps h i = i
-  in_step_append [] ms (o ∷ os) ps h i = absurd h
-  in_step_append (l ∷ ls) ms [] ps h i = absurd h
   in_step_append (l ∷ ls) ms (o ∷ os) ps h i = (h.0, in_step_append ls ms os ps h.1 i)
+  in_step_append _ ms _ ps h i = absurd h
 
   routines_in_step : (l : Layer) (s : Scope) (owner : ℕ) (rs : List syntax.Routine) → Each IsSmallRoutine rs → AreNumbered k.firsts (length l.constants) (each_in in_routine rs) → AreOpened k.routines (length l.routines) (routine_openings owner s rs) → InStep k l.types l.names s →
       AreInStep k (routines_begun l rs) (routine_openings owner s rs)
@@ -69,9 +68,8 @@ module _ (k : Numbering) where
 
   part_in_step : (l : Layer) (d : Declared) (p : syntax.ProgramPart) → IsSmallProgramPart p → IsFitPart d p → AreNumbered k.firsts (length l.constants) (in_program_part p) → AreOpened k.routines (length l.routines) (part_openings d p) → Standing k l d →
       AreInStep k (part_begun l p) (part_openings d p)
-  part_in_step l d (syntax.program_constants at ds) h f e o i = tt
   part_in_step l d (syntax.program_types at ns) h f e o i = definitions_in_step l d ns h f e o i
-  part_in_step l d (syntax.program_variables at gs) h f e o i = tt
+  part_in_step l d _ h f e o i = tt
 
   parts_in_step : (l : Layer) (d : Declared) (ps : List syntax.ProgramPart) → Each IsSmallProgramPart ps → AreFitParts d ps → AreNumbered k.firsts (length l.constants) (each_in in_program_part ps) → AreOpened k.routines (length l.routines) (parts_openings d ps) → Standing k l d →
       AreInStep k (program_parts_begun l ps) (parts_openings d ps)

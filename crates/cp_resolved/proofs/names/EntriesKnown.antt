@@ -81,8 +81,7 @@ module _ (k : Numbering) where
   pub results_grown : (ts more : Compounds) (o : Option Ty) (f : Option FunctionResult) → ResultsAre k ts o f → ResultsAre k (ts ++ more) o f
   results_grown ts more None None h = tt
   results_grown ts more (Some t) (Some r) h = type_grown k ts more t r.value_type h
-  results_grown ts more None (Some r) h = absurd h
-  results_grown ts more (Some t) None h = absurd h
+  results_grown ts more _ _ h = absurd h
 
   pub heading_result : (l : Layer) (s : Scope) (x : List ℕ) (r : syntax.RoutineKind) → InStep k l.types l.names s → ResultsAre k (heading l x r).1.types (meant.result_of (meant.heading_of s r).scope r) (heading l x r).0.result
   unfolding heading
@@ -179,8 +178,6 @@ module _ (k : Numbering) (s : System) (more : List Heading) (y : Name) where
 
   pub entries_found : (owner : ℕ) (hs : List Heading) (n : ℕ) (sc : Scope) (rs : List syntax.Routine) → s.first ≤ n → n + length rs ≤ s.initial → AreNamed hs rs → AreOnce rs → AreOpened k.routines n (routine_openings owner sc rs) → EntryOr hs n sc (with_routines sc rs)
   entries_found owner [] n sc [] low high named once opened = inl (refl, refl)
-  entries_found owner [] n sc (r ∷ rs) low high named once opened = absurd named
-  entries_found owner (h ∷ hs) n sc [] low high named once opened = absurd named
   entries_found owner (h ∷ hs) n sc (r ∷ rs) low high named once opened =
       let e : suc n ≡ n + 1 = omega arith in
       let next : AreOpened k.routines (n + 1) (routine_openings owner (with_routine sc r) rs) = subst (λ m. AreOpened k.routines m (routine_openings owner (with_routine sc r) rs)) e opened.1 in
@@ -189,3 +186,4 @@ module _ (k : Numbering) (s : System) (more : List Heading) (y : Name) where
       go : (b : Bool) → same_name y r.name.name ≡ b → EntryOr hs (n + 1) (with_routine sc r) (with_routines (with_routine sc r) rs) → EntryOr (h ∷ hs) n sc (with_routines (with_routine sc r) rs)
       go true w rest = inr (first_entry h hs n sc r rs low (omega (arith, high)) named.0 w once.0 opened.0)
       go false w rest = later_entry h hs n sc r (with_routines (with_routine sc r) rs) named.0 w rest
+  entries_found owner _ n sc _ low high named once opened = absurd named

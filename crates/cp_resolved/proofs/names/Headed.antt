@@ -28,9 +28,9 @@ use Rattle.cp_resolved.proofs.names.EntriesKnown.{heading_of, begun_headings}
 use Rattle.cp_resolved.proofs.laid.Extends.{routine_names}
 use Rattle.cp_resolved.proofs.names.HeadingsFound.{AreFound, begun_found}
 use Rattle.cp_resolved.proofs.names.KeptNames as kept
-use Rattle.cp_resolved.proofs.names.Knowing.{begun_routines, routine_even}
+use Rattle.cp_resolved.proofs.names.Knowing.{routine_even}
 use Rattle.cp_resolved.proofs.names.StepsOfParts.{Reached}
-use Rattle.cp_resolved.proofs.names.StepsOfRoutines.{routine_count, routine_reached}
+use Rattle.cp_resolved.proofs.names.StepsOfRoutines.{routine_count, routine_reached, begun_routines}
 use Rattle.cp_resolved.proofs.names.StepsOfTypes.{numbered_left, numbered_after}
 use Rattle.cp_resolved.proofs.names.SystemsFound.{slots_in}
 
@@ -101,11 +101,10 @@ module _ (k : Numbering) (p : syntax.Program) (os : List Opening) (all : List La
   headed_both n [] ms [] ys h g =
       let e : n + 0 ≡ n = omega arith in
       subst (λ m. AreHeaded m ms ys) e g
-  headed_both n [] ms (x ∷ xs) ys h g = absurd h
-  headed_both n (l ∷ ls) ms [] ys h g = absurd h
   headed_both n (l ∷ ls) ms (x ∷ xs) ys h g =
       let e : n + suc (length xs) ≡ suc n + length xs = omega arith in
       (h.0, h.1, headed_both (suc n) ls ms xs ys h.2 (subst (λ m. AreHeaded m ms ys) e g))
+  headed_both n _ ms _ ys h g = absurd h
 
   -- ---- names
 
@@ -138,11 +137,7 @@ module _ (k : Numbering) (p : syntax.Program) (os : List Opening) (all : List La
 
   parameter_owned : (w : ℕ) (l : Layer) (ps : Parameters) (x : List ℕ) (v : CellType) → AreOwned w l.names → AreOwned w (system_parameter l ps x v).1.names
   parameter_owned w l ps x (types.System n) h = (tt, h)
-  parameter_owned w l ps x (types.Ordinal r) h = (tt, h)
-  parameter_owned w l ps x types.Queue h = (tt, h)
-  parameter_owned w l ps x (types.Set r) h = (tt, h)
-  parameter_owned w l ps x (types.Array n) h = (tt, h)
-  parameter_owned w l ps x (types.Record n) h = (tt, h)
+  parameter_owned w l ps x _ h = (tt, h)
 
   parameters_owned : (w : ℕ) (l : Layer) (ps : Parameters) (v : CellType) (is : List Identifier) → AreOwned w l.names → AreOwned w (system_parameters_of l ps v is).1.names
   unfolding system_parameters_of

@@ -18,7 +18,7 @@ use Rattle.cp_resolved.specs.InStep.{Numbering}
 use Rattle.cp_resolved.specs.Openings.{Opening, routine_openings, parts_scope, initial_opening, definition_openings, definitions_openings, part_openings, parts_openings, openings_of, AreOpened}
 use Rattle.cp_resolved.specs.Small.{Each, IsSmallSystem, IsSmallDefinition, IsSmallProgramPart, IsSmallProgram, AreNumbered}
 use Rattle.cp_resolved.specs.TreeLayouts.{definition_parts, definitions_parts, part_parts, program_parts_parts, all_parts, whole_laid}
-use Rattle.cp_resolved.proofs.names.BegunKnown.{seam, definition_many, part_many, parts_many, further}
+use Rattle.cp_resolved.proofs.names.BegunKnown.{definition_many, part_many, parts_many, further}
 use Rattle.cp_resolved.proofs.laid.Declares.{type_declares, constants_declare, variables_declare, Declares}
 use Rattle.cp_resolved.proofs.names.Entries.{last_entry, past_there}
 use Rattle.cp_resolved.proofs.laid.Extends.{routines_extend}
@@ -31,6 +31,7 @@ use Rattle.cp_resolved.proofs.names.StepsOfProgram.{Standing, Stood, definition_
 use Rattle.cp_resolved.proofs.names.StepsOfRoutines.{body_systems, routines_systems, routines_count, openings_count, opened_left, parts_begun_reached, parts_opened, groups_routines, groups_systems}
 use Rattle.cp_resolved.proofs.names.StepsOfTypes.{numbered_left, numbered_after}
 use Rattle.cp_resolved.proofs.names.SystemsFound.{slots_in, parts_found, parameters_grown}
+use Rattle.cp_resolved.proofs.components.ComponentsStand.{entry_there as seam}
 
 module _ (k : Numbering) (p : syntax.Program) (os : List Opening) (all : List Layer) (values : (n : ℕ) → AreValues (k.routines n).parameters) where
   -- ---- the numbers of a system type's routines

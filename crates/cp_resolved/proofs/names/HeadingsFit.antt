@@ -24,7 +24,7 @@ use Rattle.cp_resolved.specs.TreeLayouts.{layer_or, begun_at, parameters_by, fra
 use Rattle.cp_resolved.proofs.items.BodiesStand.{laid_routines, EndsAt, ends_at}
 use Rattle.cp_resolved.proofs.items.Ended.{all_end}
 use Rattle.cp_resolved.proofs.names.Entries.{there, entry_at}
-use Rattle.cp_resolved.proofs.frames.FrameCells.{each_left, itself, look_right, extents_length, number_among, number_right}
+use Rattle.cp_resolved.proofs.frames.FrameCells.{itself, look_right, extents_length, number_among, number_right}
 use Rattle.cp_resolved.proofs.frames.FrameFits.{routine_fits}
 use Rattle.cp_resolved.proofs.frames.FrameStands.{reference_origin}
 use Rattle.cp_resolved.proofs.frames.FrameSteps.{Frames, one_variable}
@@ -35,6 +35,7 @@ use Rattle.cp_resolved.proofs.systems.SystemKnown.{later_new}
 use Rattle.cp_resolved.proofs.names.TreeKnown.{layouts_law}
 use Rattle.cp_resolved.proofs.components.VisibleComponents.{counted, begun_there, seated_there}
 use Rattle.cp_resolved.proofs.laid.ZeroCells.{statements_zeroed}
+use Rattle.cp_resolved.proofs.agreeing.AgreeingWritten.{each_left}
 
 -- ---- types
 
@@ -56,11 +57,7 @@ no_components (q ∷ qs) h = (free_no_component (one_variable q.name q.ty) h.0, 
 ordinal_result : (o : Option Ty) → framed_specs.IsOrdinalResult o → IsOrdinalResult o
 ordinal_result None h = tt
 ordinal_result (Some (ordinal s)) h = tt
-ordinal_result (Some queue_type) h = absurd h
-ordinal_result (Some (set_over s)) h = absurd h
-ordinal_result (Some (array_over s u)) h = absurd h
-ordinal_result (Some (record_with us)) h = absurd h
-ordinal_result (Some (component_of k)) h = absurd h
+ordinal_result _ h = absurd h
 
 -- ---- `var` parameters in their order
 

@@ -29,7 +29,6 @@ use Rattle.cp_resolved.specs.InStep.{Numbering, TypeIs, InStep}
 use Rattle.cp_resolved.specs.Layouts.{slot_of}
 use Rattle.cp_resolved.specs.Openings.{with_routine}
 use Rattle.cp_resolved.specs.Small.{Each}
-use Rattle.cp_resolved.proofs.agreeing.Agreeing.{itself}
 use Rattle.cp_resolved.proofs.agreeing.AgreeingWritten.{each_left, each_right}
 use Rattle.cp_resolved.proofs.laid.Declares.{local_parts_declare}
 use Rattle.cp_resolved.proofs.names.EntriesKnown.{heading_of}
@@ -38,12 +37,10 @@ use Rattle.cp_resolved.proofs.names.NamesBeside.{find_past, local_parts_beside}
 use Rattle.cp_resolved.proofs.names.Steps.{type_grown}
 use Rattle.cp_resolved.proofs.names.StepsOfParts.{constant_groups_reached, parameter_groups_reached}
 use Rattle.cp_resolved.proofs.names.StepsOfTypes.{named_type_same}
+use Rattle.cp_resolved.proofs.frames.FrameCells.{each_both}
+use Rattle.cp_lawful.proofs.Once.{itself}
 
 -- ---- names of parameters
-
-pub each_both : {A : Type 0} (P : A → Type 0) (xs ys : List A) → Each P xs → Each P ys → Each P (xs ++ ys)
-each_both P [] ys h g = g
-each_both P (x ∷ xs) ys h g = (h.0, each_both P xs ys h.1 g)
 
 -- no parameter has one of the names
 abbrev pub AreBeside : List Parameter → List Name → Type 0
@@ -95,40 +92,32 @@ module _ (k : Numbering) where
   AreFound ts ns (q ∷ qs) [] = ⊥
 
   pub passed_value : (ts : Compounds) (t : Ty) (v : CellType) → IsNoComponent t → TypeIs k ts t v → PassedBy k ts false t (passing.Constant v)
-  passed_value ts (named.ordinal r) v o h = (v, refl, h)
-  passed_value ts named.queue_type v o h = (v, refl, h)
-  passed_value ts (named.set_over r) v o h = (v, refl, h)
-  passed_value ts (named.array_over r t) v o h = (v, refl, h)
-  passed_value ts (named.record_with us) v o h = (v, refl, h)
   passed_value ts (named.component_of n) v o h = absurd o
+  passed_value ts _ v o h = (v, refl, h)
 
   pub passed_grown : (ts more : Compounds) (b : Bool) (t : Ty) (p : Passing) → PassedBy k ts b t p → PassedBy k (ts ++ more) b t p
-  passed_grown ts more true t p h = h
   passed_grown ts more false (named.ordinal r) p h = (h.0, h.1, type_grown k ts more (named.ordinal r) h.0 h.2)
   passed_grown ts more false named.queue_type p h = (h.0, h.1, type_grown k ts more named.queue_type h.0 h.2)
   passed_grown ts more false (named.set_over r) p h = (h.0, h.1, type_grown k ts more (named.set_over r) h.0 h.2)
   passed_grown ts more false (named.array_over r t) p h = (h.0, h.1, type_grown k ts more (named.array_over r t) h.0 h.2)
   passed_grown ts more false (named.record_with us) p h = (h.0, h.1, type_grown k ts more (named.record_with us) h.0 h.2)
-  passed_grown ts more false (named.component_of n) p h = h
+  passed_grown ts more _ _ p h = h
 
   found_grown : (ts more : Compounds) (ns : Names) (qs : List Parameter) (ps : Parameters) → AreFound ts ns qs ps → AreFound (ts ++ more) ns qs ps
   found_grown ts more ns [] [] h = tt
-  found_grown ts more ns [] (p ∷ ps) h = absurd h
-  found_grown ts more ns (q ∷ qs) [] h = absurd h
   found_grown ts more ns (q ∷ qs) (p ∷ ps) h = (record { place = h.0.place; value_type = h.0.value_type; there = h.0.there; slot = h.0.slot; passed = passed_grown ts more q.is_var q.ty p.passing h.0.passed }, found_grown ts more ns qs ps h.1)
+  found_grown ts more ns _ _ h = absurd h
 
   -- where other names are the same
   found_kept : (ts : Compounds) (ns ms : Names) (qs : List Parameter) (ps : Parameters) → Each (λ (q : Parameter). find q.name ms ≡ find q.name ns) qs → AreFound ts ns qs ps → AreFound ts ms qs ps
   found_kept ts ns ms [] [] e h = tt
-  found_kept ts ns ms [] (p ∷ ps) e h = absurd h
-  found_kept ts ns ms (q ∷ qs) [] e h = absurd h
   found_kept ts ns ms (q ∷ qs) (p ∷ ps) e h = (record { place = h.0.place; value_type = h.0.value_type; there = e.0 ∙ h.0.there; slot = h.0.slot; passed = h.0.passed }, found_kept ts ns ms qs ps e.1 h.1)
+  found_kept ts ns ms _ _ e h = absurd h
 
   found_last : (ts : Compounds) (ns : Names) (qs : List Parameter) (ps : Parameters) (q : Parameter) (p : code_parameter.ParameterLayout) → AreFound ts ns qs ps → Found ts ns q p → AreFound ts ns (qs ++ q ∷ []) (ps ++ p ∷ [])
   found_last ts ns [] [] q p h g = (g, tt)
-  found_last ts ns [] (r ∷ ps) q p h g = absurd h
-  found_last ts ns (r ∷ qs) [] q p h g = absurd h
   found_last ts ns (r ∷ qs) (s ∷ ps) q p h g = (h.0, found_last ts ns qs ps q p h.1 g)
+  found_last ts ns _ _ q p h g = absurd h
 
   others_past : (qs : List Parameter) (n : Name) (m : LayoutMeaning) (ns : Names) → Each (λ (q : Parameter). same_name q.name n ≡ false) qs → Each (λ (q : Parameter). find q.name ((n, m) ∷ ns) ≡ find q.name ns) qs
   others_past [] n m ns h = tt

@@ -50,9 +50,8 @@ use Rattle.cp_resolved.proofs.names.TreeKnown.{owner_is, found_known, LowBy, var
 
 found_are : (k : Numbering) (ts : Compounds) (ns : Names) (other : Name → PlaceOrigin) (qs : List Parameter) (ps : Parameters) → AreFound k ts ns qs ps → ParametersAre k ts (λ x. slot_of (origin_in (other x) (layers.find x ns))) qs ps
 found_are k ts ns other [] [] h = tt
-found_are k ts ns other [] (p ∷ ps) h = absurd h
-found_are k ts ns other (q ∷ qs) [] h = absurd h
 found_are k ts ns other (q ∷ qs) (p ∷ ps) h = (h.0.slot ∙ sym (ap (λ o. slot_of (origin_in (other q.name) o)) h.0.there), h.0.passed, found_are k ts ns other qs ps h.1)
+found_are k ts ns other _ _ h = absurd h
 
 -- the entries of a system type lie between its numbers
 entry_bounds : (s : System) (hs : List Heading) (n : ℕ) (x : List ℕ) (i : ℕ) → entry_among s hs n x ≡ Some i → (s.first ≤ i) × (i < s.initial)
@@ -91,13 +90,12 @@ module _ (t : syntax.Tree) (place : IsPlaced t) (distinct : IsDistinct t.program
 
   head_in : (m : ℕ) (ls : List Layer) (qs : List Opening) (i : ℕ) (o : Opening) → AreHeaded k t.program os (all_parts t) distinct.values m ls qs → slice_get qs i ≡ Some o → HeadIn m ls i o
   head_in m [] [] i o h e = absurd (none-some o e)
-  head_in m [] (q ∷ qs) i o h e = absurd h
-  head_in m (l ∷ ls) [] i o h e = absurd h
   head_in m (l ∷ ls) (q ∷ qs) zero o h e = record { layer = l; there = refl; number = omega (arith, h.0); headed = subst (OneHeaded l) (same_Some q o e) h.1 }
   head_in m (l ∷ ls) (q ∷ qs) (suc i) o h e =
       let w : HeadIn (suc m) ls i o = head_in (suc m) ls qs i o h.2 e in
       let c : length w.layer.routines ≡ suc m + i = w.number in
       record { layer = w.layer; there = w.there; number = omega (arith, c); headed = w.headed }
+  head_in m _ _ i o h e = absurd h
 
   record HeadAt (i : ℕ) (o : Opening) : Type 0 where
     pub layer : Layer
@@ -217,15 +215,7 @@ module _ (t : syntax.Tree) (place : IsPlaced t) (distinct : IsDistinct t.program
     entry_known : (u : Ty) (y : Name) (r : RoutineMeaning) (i : ℕ) → LowBy t place n l w.opening e w.there w.begins u → routine_of_type t.program u y ≡ Some r → entry_of l (system_type u) y ≡ Some i → (h.layouts.owners i ≡ system_type u) × HeadingIs k h l i r
     entry_known (named.component_of j) y r i low f g = entry_is j y r i (low j (inl refl)) f g
     entry_known (named.array_over s (named.component_of j)) y r i low f g = entry_is j y r i (low j (inr (s, refl))) f g
-    entry_known (named.array_over s (named.ordinal q)) y r i low f g = absurd (none-some r f)
-    entry_known (named.array_over s named.queue_type) y r i low f g = absurd (none-some r f)
-    entry_known (named.array_over s (named.set_over q)) y r i low f g = absurd (none-some r f)
-    entry_known (named.array_over s (named.array_over q u)) y r i low f g = absurd (none-some r f)
-    entry_known (named.array_over s (named.record_with us)) y r i low f g = absurd (none-some r f)
-    entry_known (named.ordinal q) y r i low f g = absurd (none-some r f)
-    entry_known named.queue_type y r i low f g = absurd (none-some r f)
-    entry_known (named.set_over q) y r i low f g = absurd (none-some r f)
-    entry_known (named.record_with us) y r i low f g = absurd (none-some r f)
+    entry_known _ y r i low f g = absurd (none-some r f)
 
     headings_known : KnowsHeadings k h l
     headings_known = record { own = visible; entry = λ x y u r i f g v. entry_known u y r i (variable_low t place n l w.opening e w.there w.begins x u f) g v }
@@ -271,15 +261,7 @@ module _ (t : syntax.Tree) (place : IsPlaced t) (distinct : IsDistinct t.program
     permanent_low : (x : Name) (u : Ty) (d : Designated) → LowBy t place n l w.opening e w.there w.begins u → begun_form h x (Some (scopes.permanent_variable u)) ≡ Some d → IsLow d
     permanent_low x (named.component_of j) d low f = chosen_same _ d f (component_low x j (is_parameter x (system_of t.program h.system).parameters) (low j (inl refl)))
     permanent_low x (named.array_over r (named.component_of j)) d low f = chosen_same _ d f (low j (inr (r, refl)))
-    permanent_low x (named.array_over r (named.ordinal q)) d low f = chosen_same _ d f tt
-    permanent_low x (named.array_over r named.queue_type) d low f = chosen_same _ d f tt
-    permanent_low x (named.array_over r (named.set_over q)) d low f = chosen_same _ d f tt
-    permanent_low x (named.array_over r (named.array_over q u)) d low f = chosen_same _ d f tt
-    permanent_low x (named.array_over r (named.record_with us)) d low f = chosen_same _ d f tt
-    permanent_low x (named.ordinal q) d low f = chosen_same _ d f tt
-    permanent_low x named.queue_type d low f = chosen_same _ d f tt
-    permanent_low x (named.set_over q) d low f = chosen_same _ d f tt
-    permanent_low x (named.record_with us) d low f = chosen_same _ d f tt
+    permanent_low x _ d low f = chosen_same _ d f tt
 
     result_low : (b : Bool) (d : Designated) → result_begun h b ≡ Some d → IsLow d
     result_low true d f = chosen_same _ d f tt
@@ -289,21 +271,14 @@ module _ (t : syntax.Tree) (place : IsPlaced t) (distinct : IsDistinct t.program
     begun_low x (Some (scopes.permanent_variable u)) d g f = permanent_low x u d (variable_low t place n l w.opening e w.there w.begins x u g) f
     begun_low x (Some (scopes.local_variable u)) d g f = chosen_same _ d f tt
     begun_low x (Some (scopes.routine_meaning r)) d g f = result_low (is_own h x) d f
-    begun_low x (Some (scopes.constant_meaning b z)) d g f = absurd (none-some d f)
-    begun_low x (Some (scopes.type_meaning u)) d g f = absurd (none-some d f)
-    begun_low x (Some (scopes.standard_meaning q)) d g f = absurd (none-some d f)
-    begun_low x None d g f = absurd (none-some d f)
+    begun_low x _ d g f = absurd (none-some d f)
 
     part_low : (q : code.Place) (c : Chosen) (d : Designated) → Some (part_of_form q c) ≡ Some d → IsLow d
     part_low (code.place o offset is) c d f = chosen_same _ d f tt
 
     field_low : (u : Ty) (q : code.Place) (x : Name) (d : Designated) → field_of_form u q x ≡ Some d → IsLow d
     field_low (named.record_with us) q x d f = let v = inside (field_chosen us x) (λ c. Some (part_of_form q c)) d f in part_low q v.0 d v.2
-    field_low (named.ordinal r) q x d f = absurd (none-some d f)
-    field_low named.queue_type q x d f = absurd (none-some d f)
-    field_low (named.set_over r) q x d f = absurd (none-some d f)
-    field_low (named.array_over r u) q x d f = absurd (none-some d f)
-    field_low (named.component_of j) q x d f = absurd (none-some d f)
+    field_low _ q x d f = absurd (none-some d f)
 
     named_low : (c : Designated) (x : Name) (d : Designated) → IsLow c → with_field_form c x ≡ Some d → IsLow d
     named_low (a_variable q u) x d low f = field_low u q x d f
@@ -312,11 +287,7 @@ module _ (t : syntax.Tree) (place : IsPlaced t) (distinct : IsDistinct t.program
 
     element_low : (u : Ty) (q : code.Place) (i : code.Expression) (d : Designated) → element_of_form u q i ≡ Some d → IsLow d
     element_low (named.array_over r u) (code.place o offset is) i d f = chosen_same _ d f tt
-    element_low (named.ordinal r) q i d f = absurd (none-some d f)
-    element_low named.queue_type q i d f = absurd (none-some d f)
-    element_low (named.set_over r) q i d f = absurd (none-some d f)
-    element_low (named.record_with us) q i d f = absurd (none-some d f)
-    element_low (named.component_of j) q i d f = absurd (none-some d f)
+    element_low _ q i d f = absurd (none-some d f)
 
     index_low : (c : Designated) (i : code.Expression) (d : Designated) → IsLow c → with_element_form h c i ≡ Some d → IsLow d
     index_low (a_variable q u) i d low f = element_low u q i d f

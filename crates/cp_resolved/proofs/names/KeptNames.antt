@@ -27,9 +27,8 @@ module _ (Q : Names → Type 0) (A : LayoutMeaning → Type 0) (add : (x : List 
 
   simple_keep : (l : Layer) (s : syntax.Simple) → Q l.names → Q (simple_type l s).1.names
   unfolding simple_type
-  simple_keep l (syntax.type_name at x) h = h
   simple_keep l (syntax.enumeration at is) h = enumerated_keep l (enumeration_base (length l.constants) (length is)) 0 is h
-  simple_keep l (syntax.subrange at c d) h = h
+  simple_keep l _ h = h
 
   mutual
     unfolding written_type field_groups field_group

@@ -9,11 +9,10 @@ use Rattle.cp_layout.specs.LaidDeclarations.{Parameters, heading, heading_with, 
 use Rattle.cp_meaning.specs.Names.{Name, same_name}
 use Rattle.cp_meaning.specs.Types.{component_of}
 use Rattle.cp_meaning.specs.Scopes as scopes
-use Rattle.cp_meaning.specs.Scopes.{Scope, routine_meaning, permanent_variable, find, since, seen_inside, is_seen}
+use Rattle.cp_meaning.specs.Scopes.{Scope, routine_meaning, permanent_variable, find, seen_inside, is_seen}
 use Rattle.cp_meaning.specs.Declarations as meant
 use Rattle.cp_meaning.specs.Declarations.{RoutineMeaning, routine_in, Block, names_of, with_names, types_in, type_in, part_in, parts_in, with_group, with_groups, type_named as named_type}
 use Rattle.cp_meaning.specs.Systems as systems
-use Rattle.cp_meaning.specs.Systems.{system_in, with_routines}
 use Rattle.cp_meaning.specs.Expressions.{routine_of_system, routine_of_type}
 use Rattle.cp_resolved.specs.Begun.{routine_begun, initial_begun, parts_begun}
 use Rattle.cp_resolved.specs.InStep.{Numbering, InStep, IsOuter, AreOuter}
@@ -28,7 +27,7 @@ use Rattle.cp_resolved.proofs.laid.Extends.{Longer, routine_names}
 use Rattle.cp_resolved.proofs.laid.Grown.{statements_grew}
 use Rattle.cp_resolved.proofs.laid.Named.{Named, AreNames, AreTypes, AreSystems, names_more, systems_more, names_inside}
 use Rattle.cp_resolved.proofs.agreeing.Outer.{outer_type, outer_constants, outer_variables}
-use Rattle.cp_resolved.proofs.names.StepsOfRoutines.{body_count, body_systems, routine_count, routine_systems, groups_routines, groups_systems}
+use Rattle.cp_resolved.proofs.names.StepsOfRoutines.{body_count, body_systems, routine_count, routine_systems, groups_routines, groups_systems, begun_routines, begun_systems as begun_same}
 
 -- ---- no routine stands around those of a system type
 
@@ -105,18 +104,6 @@ body_named l b n =
     let g = (statements_grew l b.statements).1 in
     let names : (body l b).names ≡ l.names = ap (λ (j : Layer). j.names) g in
     named_moved l (body l b) (subst (AreNames (length l.systems) (length l.routines)) (sym names) n.names) (ap (λ (j : Layer). j.types) g) (body_systems l b) (omega (arith, body_count l b)) n
-
-pub begun_same : (l : Layer) (r : syntax.Routine) → (routine_begun l r).systems ≡ l.systems
-begun_same l r =
-    let x : Layer = (opened l r.name.name).1 in
-    let h = heading x r.name.name r.kind in
-    ap (λ (j : Layer). j.systems) (local_parts_declare (with_heading h.1 h.0) r.parts).same ∙ ap (λ (j : Layer). j.systems) (heading_declares x r.name.name r.kind).same
-
-pub begun_routines : (l : Layer) (r : syntax.Routine) → (routine_begun l r).routines ≡ l.routines
-begun_routines l r =
-    let x : Layer = (opened l r.name.name).1 in
-    let h = heading x r.name.name r.kind in
-    ap (λ (j : Layer). j.routines) (local_parts_declare (with_heading h.1 h.0) r.parts).same ∙ ap (λ (j : Layer). j.routines) (heading_declares x r.name.name r.kind).same
 
 -- after a routine its own name is visible beside those before it
 routine_named : (l : Layer) (r : syntax.Routine) → Named l → Named (routine l r)
@@ -238,9 +225,6 @@ module _ (k : Numbering) (p : syntax.Program) where
   routines_even l (r ∷ rs) c = routines_even (routine l r) rs (routine_even l r c)
 
   -- ---- initial statements
-
-  initial_headings : (l : Layer) (ps : Parameters) → (initial_begun l ps).headings ≡ l.headings ++ heading_with [] ps None ∷ []
-  initial_headings l ps = refl
 
   pub initial_knows : (l : Layer) (ps : Parameters) (m : systems.SystemMeaning) → k.routines (length l.routines) ≡ initial_meaning m → length l.headings ≡ length l.routines → Knowing l → Knowing (initial_begun l ps)
   initial_knows l ps m o c h =

@@ -28,7 +28,7 @@ use Rattle.cp_resolved.proofs.laid.Declared as declared_parts
 use Rattle.cp_resolved.proofs.laid.Declares.{Declares, type_declares, constants_declare, variables_declare}
 use Rattle.cp_resolved.proofs.names.Entries.{there, still_there, last_entry, last_or_before}
 use Rattle.cp_resolved.proofs.names.EntriesKnown.{headings_of, routines_headings, headings_named, headings_count, HeadingsAre, entry_skips, EntryOr, entries_found, AreNamed}
-use Rattle.cp_resolved.proofs.laid.Extends.{Longer}
+use Rattle.cp_resolved.proofs.laid.Extends.{Longer, longer_trans as longer_both}
 use Rattle.cp_resolved.proofs.laid.Grown.{statements_grew}
 use Rattle.cp_resolved.proofs.names.Knowing.{no_routine, outer_inside, body_named, IsThere, Knowing, still_known, entries_more, declares_know, routine_knows, routine_even, routines_even, initial_knows, parts_headings, parts_know, parts_even}
 use Rattle.cp_resolved.proofs.laid.Named.{Named, IsType, IsMeaning, AreNames, AreSystems, names_more, types_more}
@@ -37,15 +37,12 @@ use Rattle.cp_resolved.proofs.names.StepsOfProgram.{Standing, Stood, definition_
 use Rattle.cp_resolved.proofs.names.StepsOfRoutines.{body_count, body_systems, routine_count, routines_systems, routines_count, openings_count, opened_left, opened_right, routine_reached, groups_routines, groups_systems, parts_begun_reached, parts_opened}
 use Rattle.cp_resolved.proofs.names.StepsOfTypes.{numbered_left, numbered_after}
 
-systems_with : (r : ℕ) (ss : List System) (s : System) → s.initial < r → AreSystems r ss → AreSystems r (ss ++ s ∷ [])
+pub systems_with : (r : ℕ) (ss : List System) (s : System) → s.initial < r → AreSystems r ss → AreSystems r (ss ++ s ∷ [])
 systems_with r ss s lt h k t e = go (last_or_before ss s k t e)
   where
     go : (slice_get ss k ≡ Some t) ⊎ ((k ≡ length ss) × (t ≡ s)) → t.initial < r
     go (inl g) = h k t g
     go (inr g) = rw g.1 lt
-
-pub longer_both : {A : Type 0} → (xs ys zs : List A) → Longer xs ys → Longer ys zs → Longer xs zs
-longer_both xs ys zs h i = (h.0 ++ i.0, i.1 ∙ ap (λ us. us ++ i.0) h.1 ∙ append_assoc xs h.0 i.0)
 
 module _ (k : Numbering) (p : syntax.Program) where
   pub routines_know : (l : Layer) (s : Scope) (owner : ℕ) (rs : List syntax.Routine) → Each IsSmallRoutine rs → AreNumbered k.firsts (length l.constants) (each_in in_routine rs) → AreOpened k.routines (length l.routines) (routine_openings owner s rs) → InStep k l.types l.names s → length l.headings ≡ length l.routines →
@@ -193,9 +190,8 @@ module _ (k : Numbering) (p : syntax.Program) where
   definitions_longer d (n ∷ ns) = longer_both d.systems (definition_in d n n.value).systems (definitions_in (definition_in d n n.value) ns).systems (definition_longer d n n.value) (definitions_longer (definition_in d n n.value) ns)
 
   part_longer : (d : Declared) (q : syntax.ProgramPart) → Longer d.systems (program_part_in d q).systems
-  part_longer d (syntax.program_constants at ds) = ([], sym (append-nil d.systems))
   part_longer d (syntax.program_types at ns) = definitions_longer d ns
-  part_longer d (syntax.program_variables at gs) = ([], sym (append-nil d.systems))
+  part_longer d _ = ([], sym (append-nil d.systems))
 
   pub parts_longer : (d : Declared) (qs : List syntax.ProgramPart) → Longer d.systems (program_parts_in d qs).systems
   parts_longer d [] = ([], sym (append-nil d.systems))

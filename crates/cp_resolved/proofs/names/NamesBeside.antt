@@ -40,9 +40,8 @@ enumerated_beside l b n (i ∷ is) x h = enumerated_beside (with_constant l i.na
 
 simple_beside : (l : Layer) (t : syntax.Simple) → Beside (simple_names t) l (simple_type l t).1
 unfolding simple_type
-simple_beside l (syntax.type_name at n) x h = refl
 simple_beside l (syntax.enumeration at is) x h = enumerated_beside l (enumeration_base (length l.constants) (length is)) 0 is x h
-simple_beside l (syntax.subrange at c d) x h = refl
+simple_beside l _ x h = refl
 
 mutual
   unfolding written_type field_groups field_group

@@ -1,18 +1,12 @@
 -- The openings of a program have the numbers that the numbering gives them.
-use Rattle.std.proofs.Common.{◌≡◌, ◌<◌, suc, List, [], ◌∷◌, ◌++◌, length, Some, refl, sym, ap, subst, ◌∙◌, arith, append_assoc, length-append}
+use Rattle.std.proofs.Common.{◌≡◌, suc, List, [], ◌∷◌, ◌++◌, length, refl, sym, ap, subst, ◌∙◌, arith, append_assoc, length-append}
 use Rattle.std.specs.Prelude.{slice_get}
-use Rattle.std.proofs.lemmas.Option.{slice_get-get_or}
-use Rattle.std.proofs.Math.Seq.{get_or-append_seam}
 use Rattle.cp_tree.specs.Syntax.{Program}
 use Rattle.cp_meaning.specs.Declarations.{RoutineMeaning}
 use Rattle.cp_meaning.specs.Systems.{declared, own_meaning}
 use Rattle.cp_resolved.specs.Resolved.{initial_meaning}
 use Rattle.cp_resolved.specs.Openings.{Opening, AreOpened, meaning_in, meaning_at, openings_of}
-
-pub slice_seam : {X : Type 0} (xs : List X) (x : X) (ys : List X) → slice_get (xs ++ x ∷ ys) (length xs) ≡ Some x
-slice_seam xs x ys =
-    let v : length xs < length (xs ++ x ∷ ys) = omega (arith, length-append xs (x ∷ ys)) in
-    slice_get-get_or (xs ++ x ∷ ys) (length xs) x v ∙ ap (λ y. Some y) (get_or-append_seam xs x ys x)
+use Rattle.cp_resolved.proofs.components.ComponentsStand.{entry_there as slice_seam}
 
 opened_from : (m : RoutineMeaning) (all before os : List Opening) → all ≡ before ++ os → AreOpened (λ n. meaning_in m (slice_get all n)) (length before) os
 opened_from m all before [] h = tt

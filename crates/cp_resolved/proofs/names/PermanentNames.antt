@@ -30,6 +30,7 @@ use Rattle.cp_resolved.specs.Once.{AreOthers}
 use Rattle.cp_resolved.specs.Small.{Each}
 use Rattle.cp_resolved.proofs.laid.Extends.{routine_names}
 use Rattle.cp_resolved.proofs.names.KeptNames as kept
+use Rattle.cp_meaning.proofs.Good.{or_right as either_true}
 
 pub found_cases : (d : List ℕ × LayoutMeaning) (ds : Names) (x : List ℕ) (m : LayoutMeaning) → find x (d ∷ ds) ≡ Some m → ((bytes_eq d.0 x ≡ true) × (d.1 ≡ m)) ⊎ (find x ds ≡ Some m)
 found_cases d ds x m e = go (bytes_eq d.0 x) refl e
@@ -70,9 +71,8 @@ under_added outer x m ns o u y n i e = go (found_cases (x, m) ns y n e)
     go (inr f) = u y n i f
 
 in_frame_other : (o : PlaceOrigin) (v : CellType) → IsInFrame o → IsOther (meaning.Variable o v)
-in_frame_other (origin.Local n) v h i = i
-in_frame_other (origin.Reference n) v h i = i
 in_frame_other (origin.Permanent n) v h i = h
+in_frame_other _ v h i = i
 
 pub under_routine : (outer : Names) (l : Layer) (r : syntax.Routine) → Under outer l.names → Under outer (routine_begun l r).names
 under_routine outer l r u =
@@ -165,11 +165,7 @@ program_bound lines ps =
     kept.program_parts_keep (BoundIn []) IsUnbound (bound_added []) (λ b z. tt) (λ v. tt) (λ n v. tt) (λ n v. tt) (nothing_laid lines) ps
     (all_unbound outermost (tt, (tt, (tt, (tt, (tt, (tt, (tt, (tt, (tt, (tt, (tt, (tt, (tt, (tt, (tt, tt))))))))))))))))
 
-either_true : (a b : Bool) → b ≡ true → (a || b) ≡ true
-either_true true b h = refl
-either_true false b h = h
-
-left_true : (a b : Bool) → a ≡ true → (a || b) ≡ true
+pub left_true : (a b : Bool) → a ≡ true → (a || b) ≡ true
 left_true a b h = ap (λ c. c || b) h
 
 parameter_more : (x : Name) (qs rs : List Parameter) → is_parameter x qs ≡ true → is_parameter x (qs ++ rs) ≡ true

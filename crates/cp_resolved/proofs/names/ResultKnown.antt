@@ -1,6 +1,5 @@
 -- In a function of a tree, what is laid out knows its own result.
-use Rattle.std.proofs.Common.{◌≡◌, ◌==◌, ℕ, Bool, true, false, Option, Some, None, length, slice_get, refl, sym, ap, subst, ◌∙◌}
-use Rattle.std.proofs.Math.Dec.{T, eqb_refl}
+use Rattle.std.proofs.Common.{◌≡◌, ◌==◌, ℕ, true, false, Option, Some, None, length, slice_get, refl, sym, ap, subst, ◌∙◌}
 use Rattle.cp_tree.specs.Syntax as syntax
 use Rattle.cp_slots.specs.declared.place.PlaceOrigin.TheVariants as origin
 use Rattle.cp_layout.specs.declared.layer.FunctionResult.{FunctionResult}
@@ -26,6 +25,7 @@ use Rattle.cp_resolved.specs.TreeLayouts.{begun_at, layer_or, name_with, name_in
 use Rattle.cp_resolved.specs.Used.{HasResult, ResultsAre}
 use Rattle.cp_resolved.proofs.names.Steps.{found_in}
 use Rattle.cp_resolved.proofs.names.TreeKnown.{undeclared_name, opens_of, layouts_law}
+use Rattle.cp_resolved.proofs.frames.LeastCells.{same_number as same_token}
 
 record Held (k : Numbering) (ts : Compounds) (o : Option Ty) (f : Option FunctionResult) : Type 0 where
   result : FunctionResult
@@ -40,13 +40,6 @@ held k ts (Some t) (Some w) v i = record { result = w; is = refl; belongs = v }
 not_found : (k : Numbering) (ts : Compounds) (q : Option LayoutMeaning) (s : Scope) → FoundIs k ts q None s → q ≡ None
 not_found k ts None s f = refl
 not_found k ts (Some m) s f = absurd f
-
-same_token : (n : ℕ) → (n == n) ≡ true
-same_token n = go (n == n) (eqb_refl n)
-  where
-    go : (b : Bool) → T b → b ≡ true
-    go true t = refl
-    go false t = absurd t
 
 pub with_own_name : (x : Name) (y : Option Name) (o : Option Ty) → is_named x (name_with y o) ≡ true → is_named x y ≡ true
 with_own_name x y None h = absurd (let bad : false ≡ true = h in cc)

@@ -51,20 +51,15 @@ module _ (k : Numbering) (ts : Compounds) where
 
   pub small_names : (ns : Names) (s : Scope) → InStep k ts ns s → AreLimited s → AreSmallNames ts ns
   small_names [] [] h le = tt
-  small_names [] (e ∷ es) h le = absurd h
-  small_names (d ∷ ds) [] h le = absurd h
   small_names (d ∷ ds) (e ∷ es) h le = (meaning_small d.1 e.1 (e ∷ es) h.1 le.0, small_names ds es h.2 le.1)
+  small_names _ _ h le = absurd h
 
 -- ---- fewer names
 
 meaning_earlier : (ts more : Compounds) (m : LayoutMeaning) → IsSmallMeaning (ts ++ more) m → IsSmallMeaning ts m
 meaning_earlier ts more (meaning.Kind v) h = le_trans (least_more ts more v) h
 meaning_earlier ts more (meaning.Variable o v) h = le_trans (least_more ts more v) h
-meaning_earlier ts more (meaning.Constant b z) h = tt
-meaning_earlier ts more (meaning.Contained n v) h = tt
-meaning_earlier ts more (meaning.Bound n s) h = tt
-meaning_earlier ts more (meaning.Routine n) h = tt
-meaning_earlier ts more (meaning.Predeclared q) h = tt
+meaning_earlier ts more _ h = tt
 
 pub names_earlier : (ts more : Compounds) (before ns : Names) → AreSmallNames (ts ++ more) (before ++ ns) → AreSmallNames ts ns
 names_earlier ts more before ns h =

@@ -77,9 +77,6 @@ module _ (k : Numbering) where
   ComponentsAre ts t v = ((has_components t ≡ false) × (components_of ts v ≡ None)) ⊎ ((c : Contained) × (has_components t ≡ true) × (components_of ts v ≡ Some c))
 
   pub components_same : (ts : Compounds) (t : Ty) (v : CellType) → TypeIs k ts t v → ComponentsAre ts t v
-  components_same ts (named.ordinal s) v h = inl (refl, ap (components_of ts) h)
-  components_same ts named.queue_type v h = inl (refl, ap (components_of ts) h)
-  components_same ts (named.set_over s) v h = inl (refl, ap (components_of ts) h)
   components_same ts (named.array_over s (named.ordinal r)) v h = inl (refl, ap (components_of ts) h.is ∙ ap (λ o. components_in (as_array o)) h.there ∙ ap (array_components (array_type ts (range_on k s) h.element)) h.belongs)
   components_same ts (named.array_over s named.queue_type) v h = inl (refl, ap (components_of ts) h.is ∙ ap (λ o. components_in (as_array o)) h.there ∙ ap (array_components (array_type ts (range_on k s) h.element)) h.belongs)
   components_same ts (named.array_over s (named.set_over r)) v h = inl (refl, ap (components_of ts) h.is ∙ ap (λ o. components_in (as_array o)) h.there ∙ ap (array_components (array_type ts (range_on k s) h.element)) h.belongs)
@@ -88,6 +85,7 @@ module _ (k : Numbering) where
   components_same ts (named.array_over s (named.component_of n)) v h = inr (_, refl, ap (components_of ts) h.is ∙ ap (λ o. components_in (as_array o)) h.there ∙ ap (array_components (array_type ts (range_on k s) h.element)) h.belongs)
   components_same ts (named.record_with us) v h = inl (refl, ap (components_of ts) h.is)
   components_same ts (named.component_of n) v h = inr (_, refl, ap (components_of ts) h)
+  components_same ts _ v h = inl (refl, ap (components_of ts) h)
 
   variable_types : (l : Layer) (x : List ℕ) (v : CellType) (o : Option Contained) → (variable_with l x v o).types ≡ l.types
   variable_types l x v None = refl
@@ -243,11 +241,7 @@ module _ (k : Numbering) where
 
   system_parameter_types : (l : Layer) (ps : Parameters) (x : List ℕ) (v : CellType) → (system_parameter l ps x v).1.types ≡ l.types
   system_parameter_types l ps x (types.Ordinal r) = refl
-  system_parameter_types l ps x types.Queue = refl
-  system_parameter_types l ps x (types.Set r) = refl
-  system_parameter_types l ps x (types.Array n) = refl
-  system_parameter_types l ps x (types.Record n) = refl
-  system_parameter_types l ps x (types.System n) = refl
+  system_parameter_types l ps x _ = refl
 
   pub system_parameters_reached : (l : Layer) (s : Scope) (ps : Parameters) (t : Ty) (v : CellType) (is : List Identifier) → IsParameter t → TypeIs k l.types t v → InStep k l.types l.names s → Reached l (system_parameters_of l ps v is).1 (with_names (names_of is) (scopes.permanent_variable t) s) []
   unfolding system_parameters_of

@@ -25,13 +25,13 @@ use Rattle.cp_resolved.proofs.names.StepsOfParts.{Reached, reached_same, reached
 
 -- ---- how many routines and system types there are
 
-begun_routines : (l : Layer) (r : syntax.Routine) → (routine_begun l r).routines ≡ l.routines
+pub begun_routines : (l : Layer) (r : syntax.Routine) → (routine_begun l r).routines ≡ l.routines
 begun_routines l r =
     let x : Layer = (opened l r.name.name).1 in
     let h : Heading × Layer = heading x r.name.name r.kind in
     ap (λ (j : Layer). j.routines) (local_parts_declare (with_heading h.1 h.0) r.parts).same ∙ ap (λ (j : Layer). j.routines) (heading_declares x r.name.name r.kind).same
 
-begun_systems : (l : Layer) (r : syntax.Routine) → (routine_begun l r).systems ≡ l.systems
+pub begun_systems : (l : Layer) (r : syntax.Routine) → (routine_begun l r).systems ≡ l.systems
 begun_systems l r =
     let x : Layer = (opened l r.name.name).1 in
     let h : Heading × Layer = heading x r.name.name r.kind in
@@ -45,9 +45,6 @@ body_count l b =
 
 pub body_systems : (l : Layer) (b : syntax.Body) → (body l b).systems ≡ l.systems
 body_systems l b = ap (λ (j : Layer). j.systems) (statements_grew l b.statements).1
-
-body_types : (l : Layer) (b : syntax.Body) → (body l b).types ≡ l.types
-body_types l b = ap (λ (j : Layer). j.types) (statements_grew l b.statements).1
 
 pub body_constants : (l : Layer) (b : syntax.Body) → (body l b).constants ≡ l.constants
 body_constants l b = ap (λ (j : Layer). j.constants) (statements_grew l b.statements).1

@@ -1,12 +1,10 @@
 -- Names stay in step as constants and types are declared, and a written type is laid out as the type that it stands for.
 use Rattle.std.proofs.Common.{◌≡◌, ◌+◌, ◌-◌, ◌<◌, ◌≤◌, ℕ, zero, suc, ℤ, pos, negsuc, neg_ℤ, Bool, true, false, if◌then◌else◌, List, [], ◌∷◌, ◌++◌, length, map, Option, Some, None, refl, sym, ap, subst, ◌∙◌, arith, append_assoc, length-append, inl, inr}
-use Rattle.std.specs.Prelude.{◌⊎◌, nat_le, slice_get}
+use Rattle.std.specs.Prelude.{◌⊎◌, nat_le}
 use Rattle.std.specs.Str.{bytes_eq}
 use Rattle.std.proofs.lemmas.Bool.{le-leb}
 use Rattle.std.proofs.lemmas.Bool.Decides.{leb_tells}
 use Rattle.std.proofs.lemmas.List.{append-nil, length-map}
-use Rattle.std.proofs.lemmas.Option.{slice_get-get_or}
-use Rattle.std.proofs.Math.Seq.{get_or-append_seam}
 use Rattle.cp_tree.specs.declared.constant.Identifier.{Identifier}
 use Rattle.cp_tree.specs.declared.constant.Sign.{Sign}
 use Rattle.cp_tree.specs.declared.constant.Sign.TheVariants as sign
@@ -25,7 +23,7 @@ use Rattle.cp_layout.specs.declared.names.LayoutMeaning.TheVariants as meaning
 use Rattle.cp_layout.specs.Kinds as kinds
 use Rattle.cp_layout.specs.Kinds.{Compounds, Compound, Field, Fields, array, record_with, cells_of, array_type, plus, times, count_of}
 use Rattle.cp_layout.specs.Layers as layers
-use Rattle.cp_layout.specs.Layers.{Names, Layer, with_name}
+use Rattle.cp_layout.specs.Layers.{Names, Layer}
 use Rattle.cp_layout.specs.LaidExpressions.{as_integer}
 use Rattle.cp_layout.specs.LaidTypes as laid
 use Rattle.cp_layout.specs.LaidTypes.{opposite_number, signed_number, with_constant, enumerated, enumeration_base, first_constant, simple_type, written_type, field_groups, field_group, fields_of_type}
@@ -39,11 +37,7 @@ use Rattle.cp_resolved.specs.InStep.{Numbering, base_of, range_on, TypeIs, Field
 use Rattle.cp_resolved.specs.Small.{IsSmallConstant, IsSmallSimple, IsSmallType, AreSmallGroups, AreNumbered}
 use Rattle.cp_resolved.proofs.laid.Declares.{Declares, groups_declare}
 use Rattle.cp_resolved.proofs.names.Steps.{bytes_turned, found_in, cells_grown, type_grown, fields_grown, names_grown}
-
-pub slice_end : {X : Type 0} (xs : List X) (x : X) → slice_get (xs ++ x ∷ []) (length xs) ≡ Some x
-slice_end xs x =
-    let v : length xs < length (xs ++ x ∷ []) = omega (arith, length-append xs (x ∷ [])) in
-    slice_get-get_or (xs ++ x ∷ []) (length xs) x v ∙ ap (λ y. Some y) (get_or-append_seam xs x [] x)
+use Rattle.cp_resolved.proofs.names.Entries.{last_entry as slice_end}
 
 -- ---- numbers
 
@@ -63,14 +57,12 @@ opposite (pos (suc n)) h = (refl, omega (arith, h))
 opposite (negsuc n) h = (rw (not_least n h) refl, omega (arith, h))
 
 zero_signed : (o : Option Sign) → meant.signed o (pos 0) ≡ pos 0
-zero_signed None = refl
 zero_signed (Some sign.Plus) = refl
-zero_signed (Some sign.Minus) = refl
+zero_signed _ = refl
 
 sign_same : (o : Option Sign) (z : ℤ) → IsSmall z → (signed_number o z ≡ meant.signed o z) × IsSmall (meant.signed o z)
-sign_same None z h = (refl, h)
-sign_same (Some sign.Plus) z h = (refl, h)
 sign_same (Some sign.Minus) z h = opposite z h
+sign_same _ z h = (refl, h)
 
 module _ (k : Numbering) where
   -- ---- constants
@@ -91,8 +83,6 @@ module _ (k : Numbering) where
 
   name_same : (ts : Compounds) (o : Option Sign) (p : Option LayoutMeaning) (q : Option scopes.Meaning) (s : Scope) → FoundIs k ts p q s → ConstantIs (laid.constant_meant o p) ((meant.constant_meant q).0, meant.signed o (meant.constant_meant q).1)
   name_same ts o None None s h = no_constant o
-  name_same ts o None (Some n) s h = absurd h
-  name_same ts o (Some m) None s h = absurd h
   name_same ts o (Some m) (Some (scopes.constant_meaning b z)) s h =
       (ap (λ n. laid.constant_meant o (Some n)) h.0 ∙ ap (λ w. (base_of k b, w)) (sign_same o z h.1).0, (sign_same o z h.1).1)
   name_same ts o (Some m) (Some (scopes.type_meaning t)) s h = other_constant o m (ap (λ n. laid.constant_meant o (Some n)) h.1)
@@ -100,6 +90,7 @@ module _ (k : Numbering) where
   name_same ts o (Some m) (Some (scopes.permanent_variable t)) s h = other_constant o m (no_permanent ts o m t h)
   name_same ts o (Some m) (Some (scopes.routine_meaning r)) s h = other_constant o m (ap (λ n. laid.constant_meant o (Some n)) h.1)
   name_same ts o (Some m) (Some (scopes.standard_meaning q)) s h = other_constant o m (ap (λ n. laid.constant_meant o (Some n)) h)
+  name_same ts o _ _ s h = absurd h
 
   kind_same : (ts : Compounds) (ds : Names) (s : Scope) (c : ConstantKind) → IsSmallConstant c → InStep k ts ds s → ConstantIs (laid.constant_of_kind ds c) (meant.constant_of_kind s c)
   kind_same ts ds s (constant_kind.Number o n) h i =
@@ -174,12 +165,9 @@ module _ (k : Numbering) where
     pub constants : x.1.constants ≡ l.constants ++ names_among es
 
   range_same : (ts : Compounds) (t : Ty) (v : CellType) → TypeIs k ts t v → laid.range_of v ≡ range_on k (named.range_of t)
-  range_same ts (named.ordinal s) v h = ap laid.range_of h
-  range_same ts named.queue_type v h = ap laid.range_of h
-  range_same ts (named.set_over s) v h = ap laid.range_of h
   range_same ts (named.array_over s t) v h = ap laid.range_of h.is
   range_same ts (named.record_with us) v h = ap laid.range_of h.is
-  range_same ts (named.component_of n) v h = ap laid.range_of h
+  range_same ts _ v h = ap laid.range_of h
 
   first_kept : (n : ℕ) → n ≤ 65535 → first_constant n ≡ n
   first_kept n h = rw (le-leb n 65535 h) refl

@@ -26,11 +26,12 @@ use Rattle.cp_resolved.specs.InStep.{Numbering, range_on, TypeIs, InStep, AreOut
 use Rattle.cp_resolved.specs.Small.{Each, AreParameters}
 use Rattle.cp_resolved.specs.TreeLayouts.{slot_in}
 use Rattle.cp_resolved.proofs.laid.Declares.{permanent_parts_declare}
-use Rattle.cp_resolved.proofs.names.HeadingsFound.{each_both, AreBeside, beside_left, beside_right, beside_first, beside_others, distinct_left, distinct_right, named_beside, passed_value, passed_grown, find_itself, groups_others, same_after}
+use Rattle.cp_resolved.proofs.names.HeadingsFound.{AreBeside, beside_left, beside_right, beside_first, beside_others, distinct_left, distinct_right, named_beside, passed_value, passed_grown, find_itself, groups_others, same_after}
 use Rattle.cp_resolved.proofs.names.NamesBeside.{find_past, permanent_parts_beside}
 use Rattle.cp_resolved.proofs.names.Steps.{all_inside}
 use Rattle.cp_resolved.proofs.names.StepsOfParts.{system_groups_reached}
 use Rattle.cp_resolved.proofs.names.StepsOfTypes.{named_type_same}
+use Rattle.cp_resolved.proofs.frames.FrameCells.{each_both}
 
 -- the slot of a name
 abbrev pub slots_in : Names → Name → ℕ
@@ -39,21 +40,18 @@ slots_in ns x = slot_in (find x ns)
 module _ (k : Numbering) where
   pub parameters_grown : (ts more : Compounds) (f : Name → ℕ) (qs : List Parameter) (ps : Parameters) → ParametersAre k ts f qs ps → ParametersAre k (ts ++ more) f qs ps
   parameters_grown ts more f [] [] h = tt
-  parameters_grown ts more f [] (p ∷ ps) h = absurd h
-  parameters_grown ts more f (q ∷ qs) [] h = absurd h
   parameters_grown ts more f (q ∷ qs) (p ∷ ps) h = (h.0, passed_grown k ts more q.is_var q.ty p.passing h.1, parameters_grown ts more f qs ps h.2)
+  parameters_grown ts more f _ _ h = absurd h
 
   pub parameters_same : (ts : Compounds) (f g : Name → ℕ) (qs : List Parameter) (ps : Parameters) → Each (λ (q : Parameter). f q.name ≡ g q.name) qs → ParametersAre k ts f qs ps → ParametersAre k ts g qs ps
   parameters_same ts f g [] [] e h = tt
-  parameters_same ts f g [] (p ∷ ps) e h = absurd h
-  parameters_same ts f g (q ∷ qs) [] e h = absurd h
   parameters_same ts f g (q ∷ qs) (p ∷ ps) e h = (h.0 ∙ e.0, h.1, parameters_same ts f g qs ps e.1 h.2)
+  parameters_same ts f g _ _ e h = absurd h
 
   parameters_last : (ts : Compounds) (f : Name → ℕ) (qs : List Parameter) (ps : Parameters) (q : Parameter) (p : code_parameter.ParameterLayout) → ParametersAre k ts f qs ps → p.slot ≡ f q.name → PassedBy k ts q.is_var q.ty p.passing → ParametersAre k ts f (qs ++ q ∷ []) (ps ++ p ∷ [])
   parameters_last ts f [] [] q p h e i = (e, i, tt)
-  parameters_last ts f [] (r ∷ ps) q p h e i = absurd h
-  parameters_last ts f (r ∷ qs) [] q p h e i = absurd h
   parameters_last ts f (r ∷ qs) (s ∷ ps) q p h e i = (h.0, h.1, parameters_last ts f qs ps q p h.2 e i)
+  parameters_last ts f _ _ q p h e i = absurd h
 
   slots_past : (qs : List Parameter) (n : Name) (m : LayoutMeaning) (ns : Names) → Each (λ (q : Parameter). same_name q.name n ≡ false) qs → Each (λ (q : Parameter). slots_in ns q.name ≡ slots_in ((n, m) ∷ ns) q.name) qs
   slots_past [] n m ns h = tt
@@ -91,11 +89,7 @@ module _ (k : Numbering) where
 
   one_types : (l : Layer) (ps : Parameters) (x : Name) (v : CellType) → (system_parameter l ps x v).1.types ≡ l.types
   one_types l ps x (types.Ordinal r) = refl
-  one_types l ps x types.Queue = refl
-  one_types l ps x (types.Set r) = refl
-  one_types l ps x (types.Array n) = refl
-  one_types l ps x (types.Record n) = refl
-  one_types l ps x (types.System n) = refl
+  one_types l ps x _ = refl
 
   parameters_types : (l : Layer) (ps : Parameters) (v : CellType) (is : List Identifier) → (system_parameters_of l ps v is).1.types ≡ l.types
   unfolding system_parameters_of

@@ -167,15 +167,7 @@ module _ (t : syntax.Tree) (place : IsPlaced t) (n : ℕ) (l : Layer) (o : Openi
   entry_known : (u : Ty) (y : Name) (r : RoutineMeaning) → LowBy u → routine_of_type t.program u y ≡ Some r → EntryIs k l (system_type u) y r
   entry_known (named.component_of j) y r low f = entry_there j y r (low j (inl refl)) f
   entry_known (named.array_over s (named.component_of j)) y r low f = entry_there j y r (low j (inr (s, refl))) f
-  entry_known (named.array_over s (named.ordinal q)) y r low f = absurd (none-some r f)
-  entry_known (named.array_over s named.queue_type) y r low f = absurd (none-some r f)
-  entry_known (named.array_over s (named.set_over q)) y r low f = absurd (none-some r f)
-  entry_known (named.array_over s (named.array_over q u)) y r low f = absurd (none-some r f)
-  entry_known (named.array_over s (named.record_with us)) y r low f = absurd (none-some r f)
-  entry_known (named.ordinal q) y r low f = absurd (none-some r f)
-  entry_known named.queue_type y r low f = absurd (none-some r f)
-  entry_known (named.set_over q) y r low f = absurd (none-some r f)
-  entry_known (named.record_with us) y r low f = absurd (none-some r f)
+  entry_known _ y r low f = absurd (none-some r f)
 
   knows_calls : KnowsCalls k h l
   knows_calls = record { own = own_known; entry = λ x y u r e f. entry_known u y r (variable_low x u e) f }

@@ -5,7 +5,7 @@ use Rattle.std.proofs.lemmas.Slice.Eq.{bytes_eq-Decides}
 use Rattle.cp_tree.specs.declared.declaration.SystemKind.{SystemKind}
 use Rattle.cp_tree.specs.declared.constant.Identifier.{Identifier}
 use Rattle.cp_tree.specs.Syntax as syntax
-use Rattle.cp_tree.specs.Syntax.{Routine, Body, System, Definition, SystemDefinition, ProgramPart, Program, Tree}
+use Rattle.cp_tree.specs.Syntax.{Routine, Body, System, Definition, SystemDefinition, ProgramPart, Tree}
 use Rattle.cp_scope.specs.declared.types.Meaning as checked
 use Rattle.cp_scope.specs.declared.types.Meaning.TheVariants as checked_meaning
 use Rattle.cp_scope.specs.declared.types.ValueType.{ValueType}
@@ -22,19 +22,19 @@ use Rattle.cp_check.specs.Headings as headings
 use Rattle.cp_check.specs.Routines as routines
 use Rattle.cp_check.specs.Systems as systems
 use Rattle.cp_check.specs.Statements.{statements}
-use Rattle.cp_check.specs.Faults.{declarations, program_context, opened as checked_opened, limit_faults, faults_of}
+use Rattle.cp_check.specs.Faults.{declarations, program_context, opened as checked_opened, faults_of}
 use Rattle.cp_lawful.proofs.Classes as classes
 use Rattle.cp_lawful.proofs.Kept.{parts_kept, written_kept, last_is}
 use Rattle.cp_lawful.proofs.Loud.{Loud, Heard}
-use Rattle.cp_lawful.proofs.Once.{no_left, no_right, no_first, none_before, inside_sound, defined_sound, declarations_sound, parts_sound}
+use Rattle.cp_lawful.proofs.Once.{no_left, no_right, no_first, none_before, inside_sound, defined_sound, declarations_sound, parts_sound, uses_sound as limits_sound}
 use Rattle.cp_lawful.proofs.Told as told
 use Rattle.cp_lawful.proofs.Told.{Told, heard}
 use Rattle.cp_layout.specs.declared.names.LayoutMeaning as laid_meaning
 use Rattle.cp_layout.specs.declared.names.LayoutMeaning.TheVariants as meaning
 use Rattle.cp_layout.specs.Layers as layers
-use Rattle.cp_layout.specs.Layers.{Layer, Pending, find, seen_inside, with_open, is_open, nothing_laid}
+use Rattle.cp_layout.specs.Layers.{Layer, Pending, find, seen_inside, with_open, nothing_laid}
 use Rattle.cp_layout.specs.LaidDeclarations as lays
-use Rattle.cp_layout.specs.LaidDeclarations.{body, Parameters, heading, heading_with, with_heading, with_new_frame, opened, local_parts, permanent_parts, system_groups, entered, initial_statement, type_named, definition, system, system_definition, system_definitions, program_part, program_parts, program}
+use Rattle.cp_layout.specs.LaidDeclarations.{body, Parameters, heading, heading_with, with_heading, with_new_frame, opened, local_parts, permanent_parts, system_groups, entered, initial_statement, definition, system, system_definition, system_definitions, program_part, program_parts, program}
 use Rattle.cp_resolved.specs.Small.{Each}
 use Rattle.cp_resolved.proofs.laid.Avoiding.{statements_avoid}
 use Rattle.cp_resolved.proofs.laid.Declared.{Declared, then_declared, heading_declared, local_parts_declared, permanent_declared, system_groups_declared, constants_declared, variables_declared, written_typed}
@@ -63,13 +63,10 @@ if_other true m o n h g e = h e
 if_other false m o n h g e = g e
 
 open_no_routine : (y x : List ℕ) (m : laid_meaning.LayoutMeaning) (ds : layers.Names) (n : ℕ) → (find y (seen_inside ds) ≡ Some (meaning.Routine n) → ⊥) → find y (with_open (x, m) (seen_inside ds)) ≡ Some (meaning.Routine n) → ⊥
-open_no_routine y x (meaning.Routine k) ds n h e = h e
-open_no_routine y x (meaning.Variable o t) ds n h e = h e
-open_no_routine y x (meaning.Contained k t) ds n h e = h e
-open_no_routine y x (meaning.Bound k j) ds n h e = h e
 open_no_routine y x (meaning.Constant b z) ds n h e = if_other (bytes_eq x y) (meaning.Constant b z) (find y (seen_inside ds)) n (λ f. cc) h e
 open_no_routine y x (meaning.Kind t) ds n h e = if_other (bytes_eq x y) (meaning.Kind t) (find y (seen_inside ds)) n (λ f. cc) h e
 open_no_routine y x (meaning.Predeclared p) ds n h e = if_other (bytes_eq x y) (meaning.Predeclared p) (find y (seen_inside ds)) n (λ f. cc) h e
+open_no_routine y x _ ds n h e = h e
 
 seen_no_routine : (y : List ℕ) (ds : layers.Names) (n : ℕ) → find y (seen_inside ds) ≡ Some (meaning.Routine n) → ⊥
 seen_no_routine y [] n e = absurd (let bad : None ≡ Some (meaning.Routine n) = e in cc)
@@ -121,7 +118,7 @@ known_outside r (Ok t) s before loud none outer new =
 known_outside r (Err []) s before loud none outer new = absurd loud
 known_outside r (Err (f ∷ fs)) s before loud none outer new = absurd (let bad : f ∷ fs ≡ [] = none in cc)
 
-announced_names : (r : Routine) (j : Judged (Option ValueType)) (s : Scopes) → (headings.announced_of r j s).inner.names ≡ s.inner.names
+pub announced_names : (r : Routine) (j : Judged (Option ValueType)) (s : Scopes) → (headings.announced_of r j s).inner.names ≡ s.inner.names
 unfolding headings.announced add_around keep
 announced_names r (Ok t) s = refl
 announced_names r (Err fs) s = refl
@@ -390,10 +387,6 @@ outermost_none y n e =
     let none : is_routine (find y layers.outermost) ≡ false = find_no_routine y layers.outermost (refl, (refl, (refl, (refl, (refl, (refl, (refl, (refl, (refl, (refl, (refl, (refl, (refl, (refl, (refl, tt))))))))))))))) in
     let bad : true ≡ false = sym (ap is_routine e) ∙ none in
     cc
-
-limits_sound : (at : ℕ) (s : Scopes) (j : Judged Use) → limit_faults at s j ≡ [] → faults j ≡ []
-limits_sound at s (Ok u) h = refl
-limits_sound at s (Err fs) h = h
 
 body_sound : (t : Tree) → faults_of t ≡ [] → faults (statements (routines.routine_steps None (systems.program_part_steps start t.program.parts).scopes t.program.routines).scopes program_context (Ok no_use) t.program.body.statements) ≡ []
 unfolding faults_of checked_opened declarations

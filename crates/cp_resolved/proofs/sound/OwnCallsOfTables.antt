@@ -22,20 +22,7 @@ foreign_at (x ∷ xs) (suc at) lt h = foreign_at xs at (omega arith) h.1
 no_own_call : (r : ℕ) (a : code_action.Action) → IsForeign r (action_seen a) → IsOwnCall r a → ⊥
 no_own_call r (action.Call c p b as' result) h e = h e
 no_own_call r (action.Start p c as') h e = h e
-no_own_call r action.Empty h e = e
-no_own_call r (action.Assign p e' low high) h e = e
-no_own_call r (action.AssignSet p e' low high) h e = e
-no_own_call r (action.Copy p q size) h e = e
-no_own_call r (action.Block o) h e = e
-no_own_call r (action.If e' o q) h e = e
-no_own_call r (action.Case e' as') h e = e
-no_own_call r (action.While e' o named) h e = e
-no_own_call r (action.Until e' o named) h e = e
-no_own_call r (action.For v low high e' f down body) h e = e
-no_own_call r (action.Cycle o) h e = e
-no_own_call r (action.Delay p) h e = e
-no_own_call r (action.Continue p) h e = e
-no_own_call r (action.Display e' k) h e = e
+no_own_call r _ h e = e
 
 pub laid_items : (t : Tree) → (laid t).items ≡ (program (nothing_laid t.lines) t.program).items
 unfolding laid tables_laid

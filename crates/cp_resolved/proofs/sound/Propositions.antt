@@ -2,13 +2,13 @@
 use Rattle.std.proofs.Common.{◌≡◌, ℕ, ◌<◌, Bool, true, false, List, [], ◌∷◌, Option, Some, None, ap, arith, subst}
 use Rattle.std.proofs.Props.{props}
 use Rattle.cp_slots.specs.declared.item.Action.{Action}
-use Rattle.cp_slots.specs.declared.item.Action.TheVariants.{Empty, Assign, AssignSet, Copy, Block, If, Case, While, Until, For, Cycle, Call, Start, Delay, Continue, Display}
+use Rattle.cp_slots.specs.declared.item.Action.TheVariants.{Block, If, Case, While, Until, For, Cycle, Call, Start}
 use Rattle.cp_slots.specs.declared.item.Item.{Item}
 use Rattle.cp_slots.specs.declared.place.Argument.{Argument}
 use Rattle.cp_slots.specs.declared.place.ArgumentValue.{ArgumentValue}
 use Rattle.cp_slots.specs.declared.place.ArgumentValue.TheVariants as value
 use Rattle.cp_slots.specs.declared.place.ComponentPlace.{ComponentPlace}
-use Rattle.cp_slots.specs.declared.place.ComponentPlace.TheVariants.{Own, Contained, Element, Parameter}
+use Rattle.cp_slots.specs.declared.place.ComponentPlace.TheVariants.{Own, Parameter}
 use Rattle.cp_slots.specs.declared.tables.ComponentKind.{ComponentKind}
 use Rattle.cp_slots.specs.declared.tables.ComponentKind.TheVariants as kind
 use Rattle.cp_slots.specs.declared.tables.Process.{Process}
@@ -27,10 +27,6 @@ inner_fits_once t routine need None = hlevel props
 inner_fits_once t routine need (Some at) = hlevel props
 
 action_fits_once : (t : Tables) (routine need : ℕ) (a : Action) → IsProp (ActionFits t routine need a)
-action_fits_once t routine need Empty = hlevel props
-action_fits_once t routine need (Assign target value low high) = hlevel props
-action_fits_once t routine need (AssignSet target value low high) = hlevel props
-action_fits_once t routine need (Copy target source size) = hlevel props
 action_fits_once t routine need (Block list) = hlevel (props, inner_fits_once)
 action_fits_once t routine need (If test then otherwise) = hlevel (props, inner_fits_once)
 action_fits_once t routine need (Case selector arms) = hlevel (props, inner_fits_once)
@@ -40,25 +36,21 @@ action_fits_once t routine need (For variable low high from to down body) = hlev
 action_fits_once t routine need (Cycle list) = hlevel (props, inner_fits_once)
 action_fits_once t routine need (Call callee component is_entry arguments result) = hlevel (props, list_fits_once)
 action_fits_once t routine need (Start component callee arguments) = hlevel (props, list_fits_once)
-action_fits_once t routine need (Delay place) = hlevel props
-action_fits_once t routine need (Continue place) = hlevel props
-action_fits_once t routine need (Display value kind) = hlevel props
+action_fits_once t routine need _ = hlevel props
 
 item_fits_once : (t : Tables) (item : Item) → IsProp (ItemFits t item)
 item_fits_once t item = hlevel (props, action_fits_once, list_fits_once)
 
 kind_fits_once : (t : Tables) (k : ComponentKind) → IsProp (KindFits t k)
 kind_fits_once t (kind.Process number) = hlevel props
-kind_fits_once t (kind.Monitor number) = hlevel props
-kind_fits_once t kind.Class = hlevel props
+kind_fits_once t _ = hlevel props
 
 process_fits_once : (t : Tables) (p : Process) → IsProp (ProcessFits t p)
 process_fits_once t p = hlevel (props, list_fits_once)
 
 itself_once : (t : Tables) (k : ComponentKind) (component : ℕ) → IsProp (IsItself t k component)
 itself_once t (kind.Process number) component = hlevel props
-itself_once t (kind.Monitor number) component = hlevel props
-itself_once t kind.Class component = hlevel props
+itself_once t _ component = hlevel props
 
 component_owns_once : (t : Tables) (component : ℕ) → IsProp (ComponentOwns t component)
 component_owns_once t component = hlevel (props, itself_once)
@@ -82,12 +74,10 @@ module _ (t : Tables) (rising : AreRising t) where
       omega (arith, up, down)
 
   names_once : (system : ℕ) (place : ComponentPlace) (named : ℕ) → IsProp (Names t system place named)
-  names_once system Own named = hlevel props
-  names_once system (Contained number) named = hlevel props
-  names_once system (Element first low high stride index) named = hlevel props
   names_once system (Parameter slot) named =
       λ u v. subst (λ (b : ℕ). (w : HasCell t system slot named b) → u ≡ (b, w.0, w.1, w.2)) (one_parameter system slot u.0 v.0 u.1 v.1 u.2 v.2)
       (λ w. (let once : IsProp (HasCell t system slot named u.0) = hlevel props in ap (λ (x : HasCell t system slot named u.0). (u.0, x.0, x.1, x.2)) (once (u.1, u.2, u.3) w))) (v.1, v.2, v.3)
+  names_once system _ named = hlevel props
 
   hands_none_once : (xs : List Argument) → IsProp (HandsNone xs)
   hands_none_once [] = hlevel props
@@ -95,10 +85,7 @@ module _ (t : Tables) (rising : AreRising t) where
 
   hands_one_once : (system started : ℕ) (v : ArgumentValue) (slot next : ℕ) (others : ℕ → Type 0) → ((n : ℕ) → IsProp (others n)) → IsProp (HandsOne t system started v slot next others)
   hands_one_once system started (value.Component place) slot next others once = hlevel (props, names_once, once)
-  hands_one_once system started (value.Scalar e low high) slot next others once = once next
-  hands_one_once system started (value.Set e low high) slot next others once = once next
-  hands_one_once system started (value.Copy source size) slot next others once = once next
-  hands_one_once system started (value.Reference place) slot next others once = once next
+  hands_one_once system started _ slot next others once = once next
 
   hands_once : (system started next : ℕ) (xs : List Argument) → IsProp (Hands t system started next xs)
   hands_once system started next [] = hlevel props
@@ -106,31 +93,16 @@ module _ (t : Tables) (rising : AreRising t) where
 
   own_once : (place : ComponentPlace) → IsProp (IsOwn place)
   own_once Own = hlevel props
-  own_once (Contained number) = hlevel props
-  own_once (Element first low high stride index) = hlevel props
-  own_once (Parameter slot) = hlevel props
+  own_once _ = hlevel props
 
   stays_once : (is_entry : Bool) (place : ComponentPlace) → IsProp (StaysInside is_entry place)
   stays_once true place = hlevel props
   stays_once false place = own_once place
 
   action_names_once : (system : ℕ) (a : Action) → IsProp (ActionNames t system a)
-  action_names_once system Empty = hlevel props
-  action_names_once system (Assign target value low high) = hlevel props
-  action_names_once system (AssignSet target value low high) = hlevel props
-  action_names_once system (Copy target source size) = hlevel props
-  action_names_once system (Block list) = hlevel props
-  action_names_once system (If test then otherwise) = hlevel props
-  action_names_once system (Case selector arms) = hlevel props
-  action_names_once system (While test body again) = hlevel props
-  action_names_once system (Until test body again) = hlevel props
-  action_names_once system (For variable low high from to down body) = hlevel props
-  action_names_once system (Cycle list) = hlevel props
   action_names_once system (Call callee place is_entry arguments result) = hlevel (props, names_once, stays_once, hands_none_once)
   action_names_once system (Start place callee arguments) = hlevel (props, names_once, hands_once)
-  action_names_once system (Delay place) = hlevel props
-  action_names_once system (Continue place) = hlevel props
-  action_names_once system (Display value kind) = hlevel props
+  action_names_once system _ = hlevel props
 
 typed_once : (t : Tables) → IsProp (IsTyped t)
 typed_once t x y = let once : IsProp (IsTyped t) = hlevel (props, component_owns_once, action_names_once t x.rising) in once x y

@@ -15,7 +15,7 @@ use Rattle.cp_layout.specs.LaidComponents.{Listing, byte, contents_least, progra
 use Rattle.cp_layout.specs.LaidDeclarations.{program}
 use Rattle.cp_layout.specs.Layers.{Layer, System, need_of, nothing_laid}
 use Rattle.cp_slots.specs.Systems as systems
-use Rattle.cp_slots.specs.Systems.{own_of, parameter_count}
+use Rattle.cp_slots.specs.Systems.{own_of}
 use Rattle.cp_slots.specs.Tables.{Tables, RoutineView, SystemView, routine_at, no_routine, system_at, no_system, component_at, no_component, process_at, no_process}
 use Rattle.cp_resolved.specs.Soundness.{AreHeld}
 use Rattle.cp_resolved.proofs.names.Entries.{there, not_there, entry_at, still_there, last_entry}
@@ -28,6 +28,7 @@ use Rattle.cp_resolved.proofs.counts.Rooms.{Room, Holds, room_holds, some_depth}
 use Rattle.cp_resolved.proofs.systems.Sizes.{contents_length}
 use Rattle.cp_resolved.proofs.sound.SoundItems.{Shows, list, items_length}
 use Rattle.cp_resolved.proofs.laid.Whole.{Whole, Last, ProgramLaid}
+use Rattle.cp_resolved.proofs.frames.SeatsOfProgram.{types_length as types_count}
 
 -- ---- what is laid out, as tables
 
@@ -83,10 +84,6 @@ types_there : (ss : List System) (k : ℕ) (s : System) → slice_get ss k ≡ S
 types_there [] k s e = absurd (none-some s e)
 types_there (x ∷ ss) zero s e = ap (λ (y : System). Some (system_type y.owned)) (same_Some x s e)
 types_there (x ∷ ss) (suc k) s e = types_there ss k s e
-
-types_count : (ss : List System) → length (types_of ss) ≡ length ss
-types_count [] = refl
-types_count (s ∷ ss) = ap suc (types_count ss)
 
 -- a component of each has the cells that are counted
 pub record Images (l : Layer) : Type 0 where
@@ -171,8 +168,7 @@ module _ (t : Tables) (l : Layer) (c : Listing) (r : Room) (d : Tabled t l c r) 
       let same : number ≡ h.place = omega (arith, few, w, e, i) in
       let at : process_at t h.place ≡ h.process = entry_at t.processes h.place no_process h.process (ap (λ (xs : List Process). slice_get xs h.place) d.processes ∙ h.there) in
       rw (same, at) h.itself
-  itself (kind.Monitor number) n few h = tt
-  itself kind.Class n few h = tt
+  itself _ n few h = tt
 
   pub components_own : length t.processes ≤ 16 → (n : ℕ) → n < length t.components → systems.ComponentOwns t n
   components_own few n within =

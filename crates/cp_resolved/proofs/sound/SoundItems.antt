@@ -33,7 +33,7 @@ seen_there [] n lt = absurd (omega arith)
 seen_there (x ∷ xs) zero lt = refl
 seen_there (x ∷ xs) (suc n) lt = seen_there xs n (omega arith)
 
-seen_length : (xs : List code_item.Item) → length (map item_seen xs) ≡ length xs
+pub seen_length : (xs : List code_item.Item) → length (map item_seen xs) ≡ length xs
 seen_length [] = refl
 seen_length (x ∷ xs) = ap suc (seen_length xs)
 
@@ -149,13 +149,7 @@ module _ (t : Tables) (l : Layer) (s : Shows t l) (w : Whole l) where
     act r n (action.For v low high e f down o) lt not h g = inner r n o h
     act r n (action.Call c p b as' result) lt not h g = call r n c as'.items lt not h
     act r n (action.Start p c as') lt not h g = call r n c as'.items lt not h
-    act r n action.Empty lt not h g = tt
-    act r n (action.Assign p e low high) lt not h g = tt
-    act r n (action.AssignSet p e low high) lt not h g = tt
-    act r n (action.Copy p q size) lt not h g = tt
-    act r n (action.Delay p) lt not h g = tt
-    act r n (action.Continue p) lt not h g = tt
-    act r n (action.Display e k) lt not h g = tt
+    act r n _ lt not h g = tt
 
     pub items_sound : ((at : ℕ) → at < length t.items → IsOwnCall (item_at t at).routine (item_at t at).action → ⊥) → (at : ℕ) → at < length t.items → fits.ItemFits t (item_at t at)
     items_sound not at lt =

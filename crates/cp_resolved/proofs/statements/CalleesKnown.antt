@@ -4,7 +4,7 @@ use Rattle.cp_tree.specs.Syntax.{Program, Routine, Tree}
 use Rattle.cp_lawful.specs.Accepted.{IsAccepted}
 use Rattle.cp_meaning.specs.Names.{Name, same_name}
 use Rattle.cp_meaning.specs.Scopes as scopes
-use Rattle.cp_meaning.specs.Scopes.{find, since, routine_meaning, standard_meaning, delay_procedure, continue_procedure}
+use Rattle.cp_meaning.specs.Scopes.{find, since, routine_meaning}
 use Rattle.cp_meaning.specs.Declarations.{RoutineMeaning, routine_in}
 use Rattle.cp_meaning.specs.Systems.{SystemMeaning, declared, own_meaning, or_own, system_of}
 use Rattle.cp_resolved.specs.Judging.{Place, IsAgreed, AreAgreed, places_of, tokens_of}
@@ -40,14 +40,13 @@ record There (tokens : Tokens) (p : Program) (xs : List Place) (n : ℕ) (o : Op
 
 there_at : (tokens : Tokens) (p : Program) (xs : List Place) (os : List Opening) (n : ℕ) (o : Opening) → AreAgreed tokens p xs os → AreNoted p xs os → Each IsSmallOpening os → slice_get os n ≡ Some o → There tokens p xs n o
 there_at tokens p [] [] n o a h s e = absurd (let bad : None ≡ Some o = e in cc)
-there_at tokens p [] (q ∷ os) n o a h s e = absurd a
-there_at tokens p (x ∷ xs) [] n o a h s e = absurd a
 there_at tokens p (x ∷ xs) (q ∷ os) zero o a h s e =
     let same : q ≡ o = cc in
     record { place = x; is = refl; agreed = subst (IsAgreed tokens p x) same a.0; noted = subst (IsNoted p x) same h.0; small = subst IsSmallOpening same s.0 }
 there_at tokens p (x ∷ xs) (q ∷ os) (suc n) o a h s e =
     let r : There tokens p xs n o = there_at tokens p xs os n o a.1 h.1 s.1 e in
     record { place = r.place; is = r.is; agreed = r.agreed; noted = r.noted; small = r.small }
+there_at tokens p _ _ n o a h s e = absurd a
 
 waits_none : (q : Option Place) → waits_with q None ≡ false
 waits_none None = refl

@@ -1,5 +1,5 @@
 -- What the rules have found of the calls in expressions that break none of them.
-use Rattle.std.proofs.Common.{◌≡◌, ℕ, Bool, true, false, ◌&&◌, ◌||◌, if◌then◌else◌, List, [], ◌∷◌, Option, Some, None, Ok, refl, sym, ap, subst, ◌∙◌}
+use Rattle.std.proofs.Common.{◌≡◌, ℕ, Bool, true, false, ◌&&◌, if◌then◌else◌, List, [], ◌∷◌, Option, Some, None, Ok, refl, sym, ap, subst, ◌∙◌}
 use Rattle.std.specs.Prelude.{nat_eq}
 use Rattle.std.specs.Option.{option_or}
 use Rattle.std.proofs.lemmas.Bool.{eq-eqb}
@@ -33,20 +33,13 @@ use Rattle.cp_check.specs.Calls as calls
 use Rattle.cp_check.specs.Expressions as expressions
 use Rattle.cp_resolved.proofs.agreeing.Agreeing.{none_left, none_right}
 use Rattle.cp_resolved.proofs.agreeing.WithoutFaults.{ok_same, Then, then_of, if_of}
+use Rattle.cp_lawful.proofs.Once.{or_left, or_right}
 
 -- ---- what may take time in a queue
 
 -- f: whether anything may wait at all
 abbrev pub Below : Bool → Use → Type 0
 Below f u = f ≡ false → u.delays ≡ false
-
-or_left : (a b : Bool) → (a || b) ≡ false → a ≡ false
-or_left false b e = refl
-or_left true b e = absurd (let bad : true ≡ false = e in cc)
-
-or_right : (a b : Bool) → (a || b) ≡ false → b ≡ false
-or_right false b e = e
-or_right true b e = absurd (let bad : true ≡ false = e in cc)
 
 pub first_below : (f : Bool) (a b : Use) → Below f (both_uses a b) → Below f a
 first_below f a b h e = or_left a.delays b.delays (h e)
@@ -84,16 +77,7 @@ set_types_below f at (types.Set a) (types.Set b) u h = go (agree (types.Set a) (
     go : (c : Bool) → OptionBelow f (if c then Some (value at (operations.set_type a b) u) else None) → Below f u
     go true k = k
     go false k = absurd k
-set_types_below f at (types.Set a) (types.Ordinal r) u h = absurd h
-set_types_below f at (types.Set a) types.Queue u h = absurd h
-set_types_below f at (types.Set a) (types.Array n) u h = absurd h
-set_types_below f at (types.Set a) (types.Record n) u h = absurd h
-set_types_below f at (types.Set a) (types.Component k n) u h = absurd h
-set_types_below f at (types.Ordinal r) t u h = absurd h
-set_types_below f at types.Queue t u h = absurd h
-set_types_below f at (types.Array n) t u h = absurd h
-set_types_below f at (types.Record n) t u h = absurd h
-set_types_below f at (types.Component k n) t u h = absurd h
+set_types_below f at _ _ u h = absurd h
 
 set_below : (f : Bool) (at : ℕ) (l r : Operand) → OptionBelow f (operations.set at l r) → Below f l.uses × Below f r.uses
 set_below f at l r h =
@@ -148,19 +132,11 @@ Same u p = p.uses ≡ u
 
 stepped_same : (at : ℕ) (v : ValueType) (u : Use) (p : Operand) → operations.stepped at v u ≡ Ok p → Same u p
 stepped_same at (types.Ordinal r) u p e = ap (λ (o : Operand). o.uses) (sym (ok_same (value at (values_of r.base) u) p e))
-stepped_same at types.Queue u p e = absurd (cc)
-stepped_same at (types.Set r) u p e = absurd (cc)
-stepped_same at (types.Array n) u p e = absurd (cc)
-stepped_same at (types.Record n) u p e = absurd (cc)
-stepped_same at (types.Component k n) u p e = absurd (cc)
+stepped_same at x u p e = absurd (cc)
 
 numbered_same : (at : ℕ) (v : ValueType) (u : Use) (p : Operand) → operations.numbered at v u ≡ Ok p → Same u p
 numbered_same at (types.Ordinal r) u p e = ap (λ (o : Operand). o.uses) (sym (ok_same (value at (values_of base.Integer) u) p e))
-numbered_same at types.Queue u p e = absurd (cc)
-numbered_same at (types.Set r) u p e = absurd (cc)
-numbered_same at (types.Array n) u p e = absurd (cc)
-numbered_same at (types.Record n) u p e = absurd (cc)
-numbered_same at (types.Component k n) u p e = absurd (cc)
+numbered_same at x u p e = absurd (cc)
 
 applied_same : (at : ℕ) (q : Predeclared) (o : Operand) (u : Use) (p : Operand) → operations.applied_to at q o u ≡ Ok p → Same u p
 applied_same at predeclared.Succ o u p e = stepped_same at o.value_type u p e
@@ -169,9 +145,7 @@ applied_same at predeclared.Ord o u p e = numbered_same at o.value_type u p e
 applied_same at predeclared.Chr o u p e = ap (λ (z : Operand). z.uses) (sym (if_of (is_of base.Integer o.value_type) (value at (values_of base.Char) u) p _ [] e).1)
 applied_same at predeclared.Abs o u p e = ap (λ (z : Operand). z.uses) (sym (if_of (is_of base.Integer o.value_type) (value at (values_of base.Integer) u) p _ [] e).1)
 applied_same at predeclared.Empty o u p e = ap (λ (z : Operand). z.uses) (sym (if_of (is_queue o) (value at (values_of base.Boolean) u) p _ [] e).1)
-applied_same at predeclared.Delay o u p e = absurd (cc)
-applied_same at predeclared.Continue o u p e = absurd (cc)
-applied_same at predeclared.Display o u p e = absurd (cc)
+applied_same at x o u p e = absurd (cc)
 
 all_applied_same : (at : ℕ) (q : Predeclared) (os : List Operand) (u : Use) (p : Operand) → operations.applied at q os u ≡ Ok p → Same u p
 all_applied_same at q os u p e = go (operations.is_function q) os e
@@ -190,11 +164,7 @@ all_applied_same at q os u p e = go (operations.is_function q) os e
 set_like_below : (f : Bool) (at : ℕ) (os : List Operand) (v : ValueType) (p : Operand) → expressions.set_like at os v ≡ Ok p → Below f p.uses → AreBelow f os
 set_like_below f at os (types.Ordinal r) p is h =
     (total_below f no_use os (subst (λ (z : Operand). Below f z.uses) (sym (if_of (expressions.are_elements r.base os) (value at _ (calls.total_use no_use os)) p _ [] is).1) h)).1
-set_like_below f at os types.Queue p is h = absurd (cc)
-set_like_below f at os (types.Set r) p is h = absurd (cc)
-set_like_below f at os (types.Array n) p is h = absurd (cc)
-set_like_below f at os (types.Record n) p is h = absurd (cc)
-set_like_below f at os (types.Component k n) p is h = absurd (cc)
+set_like_below f at os x p is h = absurd (cc)
 
 pub constructed_below : (f : Bool) (at : ℕ) (os : List Operand) (p : Operand) → expressions.constructed at os ≡ Ok p → Below f p.uses → AreBelow f os
 constructed_below f at [] p is h = tt
@@ -336,5 +306,4 @@ module _ (s : Scopes) (w : Context) (f : Bool) where
       let k : FunctionOk false n os d.uses p = function_ok at d.name_at false n os d.uses p is in
       let x = called_below false n os d.uses k.uses k.called (k.below h) in
       record { kind = tt; called = entry_call n os d.uses k.uses k.called; result = k.result; first = x.0; others = x.1 }
-  value_said at d os Kind p is h = absurd (cc)
-  value_said at d os Nothing p is h = absurd (cc)
+  value_said at d os x p is h = absurd (cc)

@@ -54,22 +54,18 @@ use Rattle.cp_resolved.proofs.forms.TypingNames.{IsComponentMeaning, written, Is
 use Rattle.cp_resolved.proofs.forms.TypingValues.{IsValue as IsPlainValue, held_value}
 use Rattle.cp_resolved.proofs.forms.UsedNames.{IsVariableMeaning, other_bare, EntryUsed, entry_used, known_is}
 use Rattle.cp_resolved.proofs.agreeing.WithoutFaults.{Then, then_of}
+use Rattle.cp_resolved.proofs.components.ComponentImages.{both as both_are}
 
 -- ---- who waits
 
 calm : (o : Option SystemKind) (q : Option ℕ) (d b : Bool) → (calls.is_initial o q ≡ true → b ≡ false) → (d ≡ false → b ≡ false) → (is_monitor o && (is_some q && d)) ≡ false → (is_monitor o && b) ≡ false
 calm (Some system_kind.Monitor) None d b i c e = i refl
 calm (Some system_kind.Monitor) (Some k) d b i c e = c e
-calm (Some system_kind.Class) q d b i c e = refl
-calm (Some system_kind.Process) q d b i c e = refl
-calm None q d b i c e = refl
+calm _ q d b i c e = refl
 
 delay_in : (s : Scopes) (o : Option SystemKind) (q : Option ℕ) (d : Bool) → may_wait_in s predeclared.Delay o q ≡ true → d ≡ true → (is_monitor o && (is_some q && d)) ≡ true
 delay_in s (Some system_kind.Monitor) (Some k) d e f = f
-delay_in s (Some system_kind.Monitor) None d e f = absurd (let bad : false ≡ true = e in cc)
-delay_in s (Some system_kind.Class) q d e f = absurd (let bad : false ≡ true = e in cc)
-delay_in s (Some system_kind.Process) q d e f = absurd (let bad : false ≡ true = e in cc)
-delay_in s None q d e f = absurd (let bad : false ≡ true = e in cc)
+delay_in s x y d e f = absurd (let bad : false ≡ true = e in cc)
 
 -- an entry procedure
 record Continues (s : Scopes) (q : Option ℕ) : Type 0 where
@@ -79,14 +75,7 @@ record Continues (s : Scopes) (q : Option ℕ) : Type 0 where
 
 continue_in : (s : Scopes) (o : Option SystemKind) (q : Option ℕ) → may_wait_in s predeclared.Continue o q ≡ true → Continues s q
 continue_in s (Some system_kind.Monitor) (Some k) e = record { routine = k; is = refl; may = e }
-continue_in s (Some system_kind.Monitor) None e = absurd (let bad : false ≡ true = e in cc)
-continue_in s (Some system_kind.Class) q e = absurd (let bad : false ≡ true = e in cc)
-continue_in s (Some system_kind.Process) q e = absurd (let bad : false ≡ true = e in cc)
-continue_in s None q e = absurd (let bad : false ≡ true = e in cc)
-
-both_are : (a b : Bool) → (a && b) ≡ true → (a ≡ true) × (b ≡ true)
-both_are true b e = (refl, e)
-both_are false b e = absurd (let bad : false ≡ true = e in cc)
+continue_in s x y e = absurd (let bad : false ≡ true = e in cc)
 
 none_of : (o : Option ValueType) → not (is_some o) ≡ true → o ≡ None
 none_of None e = refl
@@ -114,30 +103,15 @@ called_meant p s i (Some (permanent_variable t)) (Some y) r e = of_type t e
     of_type named.queue_type f = absurd (let bad : None ≡ Some r = f in cc)
     of_type (named.set_over q) f = absurd (let bad : None ≡ Some r = f in cc)
     of_type (named.record_with us) f = absurd (let bad : None ≡ Some r = f in cc)
-called_meant p s i (Some (permanent_variable t)) None r e = absurd (let bad : None ≡ Some r = e in cc)
-called_meant p s i (Some (scopes.local_variable t)) x r e = absurd (let bad : None ≡ Some r = e in cc)
-called_meant p s i (Some (scopes.constant_meaning b z)) x r e = absurd (let bad : None ≡ Some r = e in cc)
-called_meant p s i (Some (scopes.type_meaning t)) x r e = absurd (let bad : None ≡ Some r = e in cc)
-called_meant p s i (Some (standard_meaning q)) x r e = absurd (let bad : None ≡ Some r = e in cc)
-called_meant p s i None x r e = absurd (let bad : None ≡ Some r = e in cc)
+called_meant p s i x y r e = absurd (let bad : None ≡ Some r = e in cc)
 
 constant_uncalled : (tokens : Tokens) (b : check_base.Base) (z : _) (m : Option scopes.Meaning) (x : Option Name) → ConstantIs tokens b z m → is_call_meant m x ≡ false
 constant_uncalled tokens b z (Some (scopes.constant_meaning c y)) x h = refl
-constant_uncalled tokens b z (Some (routine_meaning q)) x h = absurd h
-constant_uncalled tokens b z (Some (permanent_variable t)) x h = absurd h
-constant_uncalled tokens b z (Some (scopes.local_variable t)) x h = absurd h
-constant_uncalled tokens b z (Some (scopes.type_meaning t)) x h = absurd h
-constant_uncalled tokens b z (Some (standard_meaning q)) x h = absurd h
-constant_uncalled tokens b z None x h = absurd h
+constant_uncalled tokens b z _ x h = absurd h
 
 standard_uncalled : (q : Predeclared) (m : Option scopes.Meaning) (x : Option Name) → StandardIs q m → is_call_meant m x ≡ false
 standard_uncalled q (Some (standard_meaning g)) x h = refl
-standard_uncalled q (Some (scopes.constant_meaning c y)) x h = absurd h
-standard_uncalled q (Some (routine_meaning r)) x h = absurd h
-standard_uncalled q (Some (permanent_variable t)) x h = absurd h
-standard_uncalled q (Some (scopes.local_variable t)) x h = absurd h
-standard_uncalled q (Some (scopes.type_meaning t)) x h = absurd h
-standard_uncalled q None x h = absurd h
+standard_uncalled q _ x h = absurd h
 
 result_known : (tokens : Tokens) (v : Option ValueType) (r : RoutineMeaning) → (v ≡ None → ⊥) → ResultIs tokens v (Some r) → r.result ≡ None → ⊥
 result_known tokens None r h i e = h refl
@@ -188,13 +162,9 @@ module _ (t : Tree) (read : IsRead t.program) (accepted : IsAccepted t) (n : ℕ
   -- ---- a routine of the component itself
 
   no_variable : (k : ℕ) (y : Name) (m : Option scopes.Meaning) → RoutineIs (written tokens s h) (heading_at k s) y scope m → IsVariableMeaning m → ⊥
-  no_variable k y (Some (routine_meaning q)) i v = v
-  no_variable k y (Some (scopes.constant_meaning b z)) i v = v
-  no_variable k y (Some (scopes.type_meaning u)) i v = v
   no_variable k y (Some (scopes.local_variable u)) i v = i
   no_variable k y (Some (permanent_variable u)) i v = i
-  no_variable k y (Some (standard_meaning q)) i v = v
-  no_variable k y None i v = v
+  no_variable k y _ i v = v
 
   visible_alone : (i : Identifier) (ss : Selectors) (c : check_designated.DesignatedName) (k : ℕ) → ss ≡ no_selectors → designator s w (name_with i ss) ≡ Ok c → c.named ≡ name.Routine k → look i.name s ≡ Some (Some (meaning.Routine k))
   unfolding expression
@@ -226,11 +196,7 @@ module _ (t : Tree) (read : IsRead t.program) (accepted : IsAccepted t) (n : ℕ
             called = (d.entry ∙ no_entry, λ quiet. d.waits ∙ calm w.owner w.routine f d.body.delays (λ z. ap (λ (u : Use). u.delays) (sym body) ∙ own.initial z) (λ z. ap (λ (u : Use). u.delays) (sym body) ∙ own.calm z) (sym waits_here ∙ quiet));
           }
   own_known y x k (Some (scopes.constant_meaning b z)) r e i marked own called = absurd i
-  own_known y x k (Some (scopes.type_meaning u)) r e i marked own called = absurd i
-  own_known y x k (Some (scopes.local_variable u)) r e i marked own called = absurd i
-  own_known y x k (Some (permanent_variable u)) r e i marked own called = absurd i
-  own_known y x k (Some (standard_meaning q)) r e i marked own called = absurd i
-  own_known y x k None r e i marked own called = absurd i
+  own_known y x k _ r e i marked own called = absurd i
 
   -- ---- a routine of another component
 
@@ -244,25 +210,12 @@ module _ (t : Tree) (read : IsRead t.program) (accepted : IsAccepted t) (n : ℕ
       let d : Numbered p tokens (since y (system_of p k).scope) q = (numbered t read accepted k).routines y q e in
       let meant : routine_in (since y (system_of p k).scope) q ≡ r = cc in
       record { number = d.number; same = sym meant ∙ sym d.means; entry = d.entry ∙ (sym (routine_entry y (system_of p k).scope q e) ∙ ap (λ (z : RoutineMeaning). is_entry_in z.scope) meant) }
-  system_known y k (Some (scopes.constant_meaning b z)) r e called = absurd (let bad : None ≡ Some r = called in cc)
-  system_known y k (Some (scopes.type_meaning u)) r e called = absurd (let bad : None ≡ Some r = called in cc)
-  system_known y k (Some (scopes.local_variable u)) r e called = absurd (let bad : None ≡ Some r = called in cc)
-  system_known y k (Some (permanent_variable u)) r e called = absurd (let bad : None ≡ Some r = called in cc)
-  system_known y k (Some (standard_meaning q)) r e called = absurd (let bad : None ≡ Some r = called in cc)
-  system_known y k None r e called = absurd (let bad : None ≡ Some r = called in cc)
+  system_known y k x r e called = absurd (let bad : None ≡ Some r = called in cc)
 
   type_known : (y : Name) (u : Ty) (r : RoutineMeaning) → routine_of_type p u y ≡ Some r → EntryKnown r
   type_known y (named.component_of k) r e = system_known y k (find y (system_of p k).scope) r refl e
   type_known y (named.array_over q (named.component_of k)) r e = system_known y k (find y (system_of p k).scope) r refl e
-  type_known y (named.array_over q (named.ordinal z)) r e = absurd (let bad : None ≡ Some r = e in cc)
-  type_known y (named.array_over q named.queue_type) r e = absurd (let bad : None ≡ Some r = e in cc)
-  type_known y (named.array_over q (named.set_over z)) r e = absurd (let bad : None ≡ Some r = e in cc)
-  type_known y (named.array_over q (named.array_over z u)) r e = absurd (let bad : None ≡ Some r = e in cc)
-  type_known y (named.array_over q (named.record_with us)) r e = absurd (let bad : None ≡ Some r = e in cc)
-  type_known y (named.ordinal q) r e = absurd (let bad : None ≡ Some r = e in cc)
-  type_known y named.queue_type r e = absurd (let bad : None ≡ Some r = e in cc)
-  type_known y (named.set_over q) r e = absurd (let bad : None ≡ Some r = e in cc)
-  type_known y (named.record_with us) r e = absurd (let bad : None ≡ Some r = e in cc)
+  type_known y x r e = absurd (let bad : None ≡ Some r = e in cc)
 
   entry_known : (y : Name) (x : Option Name) (k system : ℕ) (m : Option scopes.Meaning) (r : RoutineMeaning) → IsComponentMeaning system m → HeadingIs (written tokens s h) (heading_at k s) (routine_meant p scope y m x) → (heading_at k s).is_entry ≡ true → routine_meant p scope y m x ≡ Some r → CalleeKnown p n m r
   entry_known y (Some z) k system (Some (permanent_variable u)) r of heading entry e =
@@ -271,11 +224,7 @@ module _ (t : Tree) (read : IsRead t.program) (accepted : IsAccepted t) (n : ℕ
       record { number = d.number; same = d.same; called = d.entry ∙ (sym i.2 ∙ entry) }
   entry_known y None k system (Some (permanent_variable u)) r of heading entry e = absurd (let bad : None ≡ Some r = e in cc)
   entry_known y x k system (Some (routine_meaning q)) r of heading entry e = absurd of
-  entry_known y x k system (Some (scopes.constant_meaning b z)) r of heading entry e = absurd of
-  entry_known y x k system (Some (scopes.type_meaning u)) r of heading entry e = absurd of
-  entry_known y x k system (Some (scopes.local_variable u)) r of heading entry e = absurd of
-  entry_known y x k system (Some (standard_meaning q)) r of heading entry e = absurd of
-  entry_known y x k system None r of heading entry e = absurd of
+  entry_known y x k system _ r of heading entry e = absurd of
 
   -- ---- functions and procedures
 
@@ -291,12 +240,7 @@ module _ (t : Tree) (read : IsRead t.program) (accepted : IsAccepted t) (n : ℕ
 
   own_heading : (k : ℕ) (y : Name) (x : Option Name) (m : Option scopes.Meaning) (r : RoutineMeaning) → RoutineIs (written tokens s h) (heading_at k s) y scope m → routine_meant p scope y m x ≡ Some r → HeadingIs (written tokens s h) (heading_at k s) (Some r)
   own_heading k y x (Some (routine_meaning q)) r i e = subst (HeadingIs (written tokens s h) (heading_at k s)) e i
-  own_heading k y x (Some (scopes.constant_meaning b z)) r i e = absurd i
-  own_heading k y x (Some (scopes.type_meaning u)) r i e = absurd i
-  own_heading k y x (Some (scopes.local_variable u)) r i e = absurd i
-  own_heading k y x (Some (permanent_variable u)) r i e = absurd i
-  own_heading k y x (Some (standard_meaning q)) r i e = absurd i
-  own_heading k y x None r i e = absurd i
+  own_heading k y x _ r i e = absurd i
 
   not_called : (U : Type 0) (i : Identifier) (ss : Selectors) (r : RoutineMeaning) → routine_called p scope (name_with i ss) ≡ Some r → is_call_meant (find i.name scope) (last_field ss) ≡ false → U
   not_called U i ss r e g = absurd (let bad : true ≡ false = sym (called_meant p scope i.name (find i.name scope) (last_field ss) r e) ∙ g in cc)
@@ -311,8 +255,7 @@ module _ (t : Tree) (read : IsRead t.program) (accepted : IsAccepted t) (n : ℕ
   function_named i ss c (name.Parameter u) o r small is same x v d g e = (let z : IsPlainValue tokens s h w (find i.name scope) (last_field ss) = held_value tokens s h w (find i.name scope) (last_field ss) u o x in not_called _ i ss r e z.call)
   function_named i ss c (name.Constant b) o r small is same x v d g e = not_called _ i ss r e (constant_uncalled tokens b x.0 (find i.name scope) (last_field ss) x.1)
   function_named i ss c (name.Predeclared q) o r small is same x v d g e = not_called _ i ss r e (standard_uncalled q (find i.name scope) (last_field ss) x)
-  function_named i ss c name.Kind o r small is same x v d g e = absurd v
-  function_named i ss c name.Nothing o r small is same x v d g e = absurd v
+  function_named i ss c _ o r small is same x v d g e = absurd v
 
   pub function_callee : (d : Designator) (r : RoutineMeaning) → FunctionSaid s w f scope d → routine_called p scope d ≡ Some r → CalleeKnown p n (find (name_of d) scope) r × (r.result ≡ None → ⊥)
   function_callee (name_with i ss) r x e = function_named i ss x.value x.value.named (designator_form h (name_with i ss)) r x.small x.is refl (typed i ss x.value x.small x.is) x.kind x.called x.result e
@@ -321,11 +264,7 @@ module _ (t : Tree) (read : IsRead t.program) (accepted : IsAccepted t) (n : ℕ
   procedure_named i ss c (name.Routine k) o r small is same x v own e = own_callee i ss c k r is same x own e
   procedure_named i ss c (name.Entry k) o r small is same x v entry e = entry_callee i ss c k r small is same x entry e
   procedure_named i ss c (name.Predeclared q) o r small is same x v d e = not_called _ i ss r e (standard_uncalled q (find i.name scope) (last_field ss) x)
-  procedure_named i ss c (name.Variable u) o r small is same x v d e = absurd v
-  procedure_named i ss c (name.Parameter u) o r small is same x v d e = absurd v
-  procedure_named i ss c (name.Constant b) o r small is same x v d e = absurd v
-  procedure_named i ss c name.Kind o r small is same x v d e = absurd v
-  procedure_named i ss c name.Nothing o r small is same x v d e = absurd v
+  procedure_named i ss c _ o r small is same x v d e = absurd v
 
   pub procedure_callee : (d : Designator) (r : RoutineMeaning) → InvokeSaid s w f scope d → routine_called p scope d ≡ Some r → CalleeKnown p n (find (name_of d) scope) r
   procedure_callee (name_with i ss) r x e = procedure_named i ss x.value x.value.named (designator_form h (name_with i ss)) r x.small x.is refl (typed i ss x.value x.small x.is) x.kind x.invoked e
@@ -337,11 +276,7 @@ module _ (t : Tree) (read : IsRead t.program) (accepted : IsAccepted t) (n : ℕ
   standard_named i x q (name.Predeclared g) o e k v d = subst (λ (z : Predeclared). InvokedAs s w f scope (name.Predeclared z)) (sym (subst (StandardIs g) e k)) d
   standard_named i x q (name.Routine l) o e k v d = absurd (subst (RoutineIs (written tokens s h) (heading_at l s) i.name scope) e k)
   standard_named i x q (name.Entry l) o e k v d = absurd (let bad : false ≡ true = ap (λ (z : Option scopes.Meaning). is_call_meant z x) (sym e) ∙ k.is in cc)
-  standard_named i x q (name.Variable u) o e k v d = absurd v
-  standard_named i x q (name.Parameter u) o e k v d = absurd v
-  standard_named i x q (name.Constant b) o e k v d = absurd v
-  standard_named i x q name.Kind o e k v d = absurd v
-  standard_named i x q name.Nothing o e k v d = absurd v
+  standard_named i x q _ o e k v d = absurd v
 
   standard_invoked : (d : Designator) (q : scopes.Standard) → InvokeSaid s w f scope d → find (name_of d) scope ≡ Some (standard_meaning q) → InvokedAs s w f scope (name.Predeclared (predeclared_of q))
   standard_invoked (name_with i ss) q x e = standard_named i (last_field ss) q x.value.named (designator_form h (name_with i ss)) e (typed i ss x.value x.small x.is) x.kind x.invoked

@@ -17,8 +17,8 @@ use Rattle.cp_lawful.specs.Accepted.{IsAccepted}
 use Rattle.cp_slots.specs.Code as code
 use Rattle.cp_meaning.specs.Names.{Name}
 use Rattle.cp_meaning.specs.Types as named
-use Rattle.cp_meaning.specs.Types.{Ty, Range}
-use Rattle.cp_meaning.specs.Scopes.{Meaning, constant_meaning, type_meaning, local_variable, permanent_variable, routine_meaning, standard_meaning, Scope, find}
+use Rattle.cp_meaning.specs.Types.{Ty}
+use Rattle.cp_meaning.specs.Scopes.{Meaning, permanent_variable, routine_meaning, Scope, find}
 use Rattle.cp_meaning.specs.Expressions.{routine_meant, routine_of_type, routine_of_system}
 use Rattle.cp_meaning.specs.Lifting.{is_call_meant, last_field}
 use Rattle.cp_meaning.specs.Systems.{system_of}
@@ -55,15 +55,7 @@ module _ (h : Here) where
   permanent_of : (x : Name) (t : Ty) → IsOf (Some (permanent_variable t)) (permanent_begun h x t)
   permanent_of x (named.component_of k) = component_of x k (is_parameter x (system_of h.program h.system).parameters)
   permanent_of x (named.array_over r (named.component_of k)) = refl
-  permanent_of x (named.array_over r (named.ordinal q)) = tt
-  permanent_of x (named.array_over r named.queue_type) = tt
-  permanent_of x (named.array_over r (named.set_over q)) = tt
-  permanent_of x (named.array_over r (named.array_over q t)) = tt
-  permanent_of x (named.array_over r (named.record_with ts)) = tt
-  permanent_of x (named.ordinal r) = tt
-  permanent_of x named.queue_type = tt
-  permanent_of x (named.set_over r) = tt
-  permanent_of x (named.record_with ts) = tt
+  permanent_of x _ = tt
 
   result_of : (m : Option Meaning) (b : Bool) → IsFormOf m (result_begun h b)
   result_of m true = tt
@@ -71,12 +63,8 @@ module _ (h : Here) where
 
   begun_of : (x : Name) (m : Option Meaning) → IsFormOf m (begun_form h x m)
   begun_of x (Some (permanent_variable t)) = permanent_of x t
-  begun_of x (Some (local_variable t)) = tt
   begun_of x (Some (routine_meaning r)) = result_of (Some (routine_meaning r)) (is_own h x)
-  begun_of x (Some (constant_meaning b z)) = tt
-  begun_of x (Some (type_meaning t)) = tt
-  begun_of x (Some (standard_meaning q)) = tt
-  begun_of x None = tt
+  begun_of x _ = tt
 
   module _ (m : Option Meaning) where
     field_of : (p : code.Place) (o : Option Chosen) → IsFormOf m (then_form o (λ c. Some (part_of_form p c)))
@@ -85,11 +73,7 @@ module _ (h : Here) where
 
     type_field : (t : Ty) (p : code.Place) (x : Name) → IsFormOf m (field_of_form t p x)
     type_field (named.record_with ts) p x = field_of p (field_chosen ts x)
-    type_field (named.ordinal r) p x = tt
-    type_field named.queue_type p x = tt
-    type_field (named.set_over r) p x = tt
-    type_field (named.array_over r t) p x = tt
-    type_field (named.component_of k) p x = tt
+    type_field _ p x = tt
 
     with_field_of : (d : Designated) (x : Name) → IsOf m d → IsFormOf m (with_field_form d x)
     with_field_of (a_variable p t) x i = type_field t p x
@@ -98,11 +82,7 @@ module _ (h : Here) where
 
     element_of : (t : Ty) (p : code.Place) (c : code.Expression) → IsFormOf m (element_of_form t p c)
     element_of (named.array_over r t) (code.place z n is) c = tt
-    element_of (named.ordinal r) p c = tt
-    element_of named.queue_type p c = tt
-    element_of (named.set_over r) p c = tt
-    element_of (named.record_with ts) p c = tt
-    element_of (named.component_of k) p c = tt
+    element_of _ p c = tt
 
     with_element_of : (d : Designated) (c : code.Expression) → IsOf m d → IsFormOf m (with_element_form h d c)
     with_element_of (a_variable p t) c i = element_of t p c
@@ -149,12 +129,7 @@ module _ (t : Tree) (read : IsRead t.program) (accepted : IsAccepted t) (s : Sco
   module _ (c : ℕ) (process : (system_of t.program c).kind ≡ system_kind.Process) where
     system_refused : (k : ℕ) (y : Name) (m : Option Meaning) → find y (system_of p c).scope ≡ m → HeadingIs W (heading_at k s) (routine_of_system y m (system_of p c).scope) → (heading_at k s).is_entry ≡ true → ⊥
     system_refused k y (Some (routine_meaning q)) e i entry = (numbered t read accepted c).closed process y q e (sym (routine_entry y (system_of p c).scope q e) ∙ (sym i.2 ∙ entry))
-    system_refused k y (Some (constant_meaning b z)) e i entry = absurd i
-    system_refused k y (Some (type_meaning u)) e i entry = absurd i
-    system_refused k y (Some (local_variable u)) e i entry = absurd i
-    system_refused k y (Some (permanent_variable u)) e i entry = absurd i
-    system_refused k y (Some (standard_meaning q)) e i entry = absurd i
-    system_refused k y None e i entry = absurd i
+    system_refused k y _ e i entry = absurd i
 
     own_refused : (k n : ℕ) (y : Name) → n ≡ c → HeadingIs W (heading_at k s) (routine_of_type p (named.component_of n) y) → (heading_at k s).is_entry ≡ true → ⊥
     own_refused k n y same i entry = system_refused k y (find y (system_of p c).scope) refl (subst (λ (j : ℕ). HeadingIs W (heading_at k s) (routine_of_type p (named.component_of j) y)) same i) entry
@@ -162,56 +137,28 @@ module _ (t : Tree) (read : IsRead t.program) (accepted : IsAccepted t) (s : Sco
     type_refused : (k : ℕ) (u : Ty) (y : Name) → OfSystem c u → HeadingIs W (heading_at k s) (routine_of_type p u y) → (heading_at k s).is_entry ≡ true → ⊥
     type_refused k (named.component_of n) y of i entry = own_refused k n y of i entry
     type_refused k (named.array_over r (named.component_of n)) y of i entry = own_refused k n y of i entry
-    type_refused k (named.array_over r (named.ordinal q)) y of i entry = of
-    type_refused k (named.array_over r named.queue_type) y of i entry = of
-    type_refused k (named.array_over r (named.set_over q)) y of i entry = of
-    type_refused k (named.array_over r (named.array_over q u)) y of i entry = of
-    type_refused k (named.array_over r (named.record_with ts)) y of i entry = of
-    type_refused k (named.ordinal r) y of i entry = of
-    type_refused k named.queue_type y of i entry = of
-    type_refused k (named.set_over r) y of i entry = of
-    type_refused k (named.record_with ts) y of i entry = of
+    type_refused k _ y of i entry = of
 
     entry_refused : (k : ℕ) (y : Name) (m : Option Meaning) (x : Option Name) → IsComponentMeaning c m → HeadingIs W (heading_at k s) (routine_meant p scope y m x) → (heading_at k s).is_entry ≡ true → ⊥
     entry_refused k y (Some (permanent_variable u)) (Some z) of i entry = type_refused k u z of i entry
     entry_refused k y (Some (permanent_variable u)) None of i entry = i
-    entry_refused k y (Some (local_variable u)) x of i entry = of
-    entry_refused k y (Some (constant_meaning b z)) x of i entry = of
-    entry_refused k y (Some (type_meaning u)) x of i entry = of
-    entry_refused k y (Some (routine_meaning q)) x of i entry = of
-    entry_refused k y (Some (standard_meaning q)) x of i entry = of
-    entry_refused k y None x of i entry = of
+    entry_refused k y _ x of i entry = of
 
     module _ (agrees : ScopesAgree tokens s h) where
       typed : (i : Identifier) (ss : Selectors) (d : check_designated.DesignatedName) → AreSmallSelectors ss → designator s w (name_with i ss) ≡ Ok d → NamedIs tokens s h i.name (find i.name scope) (last_field ss) d.named (designator_form h (name_with i ss))
       typed i ss d m is = subst (λ (j : Judged check_designated.DesignatedName). HasDesignated tokens s h i.name (find i.name scope) (last_field ss) j (designator_form h (name_with i ss))) is (designator_typed tokens s h w agrees i ss m)
 
       constant_other : (b : _) (z : _) (m : Option Meaning) → ConstantIs tokens b z m → IsComponentMeaning c m → ⊥
-      constant_other b z (Some (constant_meaning d y)) k of = of
-      constant_other b z (Some (routine_meaning q)) k of = of
       constant_other b z (Some (permanent_variable u)) k of = k
-      constant_other b z (Some (local_variable u)) k of = of
-      constant_other b z (Some (type_meaning u)) k of = of
-      constant_other b z (Some (standard_meaning q)) k of = of
-      constant_other b z None k of = of
+      constant_other b z _ k of = of
 
       standard_other : (q : Predeclared) (m : Option Meaning) → StandardIs q m → IsComponentMeaning c m → ⊥
       standard_other q (Some (permanent_variable u)) k of = k
-      standard_other q (Some (constant_meaning d y)) k of = of
-      standard_other q (Some (routine_meaning r)) k of = of
-      standard_other q (Some (local_variable u)) k of = of
-      standard_other q (Some (type_meaning u)) k of = of
-      standard_other q (Some (standard_meaning g)) k of = of
-      standard_other q None k of = of
+      standard_other q _ k of = of
 
       routine_other : (k : ℕ) (y : Name) (m : Option Meaning) → RoutineIs W (heading_at k s) y scope m → IsComponentMeaning c m → ⊥
       routine_other k y (Some (permanent_variable u)) i of = i
-      routine_other k y (Some (constant_meaning d z)) i of = of
-      routine_other k y (Some (routine_meaning r)) i of = of
-      routine_other k y (Some (local_variable u)) i of = of
-      routine_other k y (Some (type_meaning u)) i of = of
-      routine_other k y (Some (standard_meaning g)) i of = of
-      routine_other k y None i of = of
+      routine_other k y _ i of = of
 
       uncalled : (m : Option Meaning) (x : Option Name) (v : ValueType) (o : Option Designated) → Holds W m x v o → is_call_meant m x ≡ true → ⊥
       uncalled m x v o i call = (let k : IsPlainValue tokens s h w m x = held_value tokens s h w m x v o i in let bad : true ≡ false = sym call ∙ k.call in cc)
@@ -223,18 +170,13 @@ module _ (t : Tree) (read : IsRead t.program) (accepted : IsAccepted t) (s : Sco
       function_refused f y m x (name.Parameter u) o i v a call of = uncalled m x u o i call
       function_refused f y m x (name.Constant b) o i v a call of = constant_other b i.0 m i.1 of
       function_refused f y m x (name.Predeclared q) o i v a call of = standard_other q m i of
-      function_refused f y m x name.Kind o i v a call of = v
-      function_refused f y m x name.Nothing o i v a call of = v
+      function_refused f y m x _ o i v a call of = v
 
       procedure_refused : (f : Bool) (y : Name) (m : Option Meaning) (x : Option Name) (n : Named) (o : Option Designated) → NamedIs tokens s h y m x n o → IsInvoked s w f scope n → InvokedAs s w f scope n → IsComponentMeaning c m → ⊥
       procedure_refused f y m x (name.Entry k) o i v entry of = entry_refused k y m x of i.heading entry
       procedure_refused f y m x (name.Routine k) o i v own of = routine_other k y m i of
       procedure_refused f y m x (name.Predeclared q) o i v a of = standard_other q m i of
-      procedure_refused f y m x (name.Variable u) o i v a of = v
-      procedure_refused f y m x (name.Parameter u) o i v a of = v
-      procedure_refused f y m x (name.Constant b) o i v a of = v
-      procedure_refused f y m x name.Kind o i v a of = v
-      procedure_refused f y m x name.Nothing o i v a of = v
+      procedure_refused f y m x _ o i v a of = v
 
       pub no_function : (f : Bool) (d : Designator) (part : code.ComponentPlace) → FunctionSaid s w f scope d → designator_form h d ≡ Some (a_component part c) → ⊥
       no_function f (name_with i ss) part x e = function_refused f i.name (find i.name scope) (last_field ss) x.value.named (designator_form h (name_with i ss)) (typed i ss x.value x.small x.is) x.kind x.called x.call (component_named h i ss part c e)

@@ -69,15 +69,8 @@ pub the_statement : (P : Statement → Type 0) (t : Statement) → EachIn P t �
 the_statement P (empty at) h = h
 the_statement P (assign at d e) h = h
 the_statement P (invoke at d es) h = h
-the_statement P (block at ss) h = h.0
-the_statement P (if_then at e t) h = h.0
-the_statement P (if_else at e t u) h = h.0
-the_statement P (case_of at e as' b) h = h.0
-the_statement P (while_do at e t) h = h.0
-the_statement P (repeat_until at ss e) h = h.0
-the_statement P (for_do at i e d g t) h = h.0
-the_statement P (cycle at ss) h = h.0
 the_statement P (init at ts) h = h
+the_statement P _ h = h.0
 
 -- ---- statements without a fault
 
@@ -106,10 +99,6 @@ module _ (s : Scopes) (w : Context) where
     unfolding statement
 
     pub sound_in : (t : Statement) → IsSmallStatement t → (r : Use) → statement s w t ≡ Ok r → EachIn IsSound t
-    sound_in (empty at) m r is = record { small = m; use_of = r; is = is }
-    sound_in (assign at d e) m r is = record { small = m; use_of = r; is = is }
-    sound_in (invoke at d es) m r is = record { small = m; use_of = r; is = is }
-    sound_in (init at ts) m r is = record { small = m; use_of = r; is = is }
     sound_in (block at ts) m r is = (record { small = m; use_of = r; is = is }, (sound_of ts m (Ok no_use) r is).rest)
     sound_in (cycle at ts) m r is = (record { small = m; use_of = r; is = is }, (sound_of ts m (Ok no_use) r is).rest)
     sound_in (if_then at e t) m r is =
@@ -135,6 +124,7 @@ module _ (s : Scopes) (w : Context) where
         let j : Judged (List Label × Use) = statements.arms s w (Ok ([], no_use)) as' in
         let k : Then (both (expression s w false e) j) (cases.chosen at) r = then_of (both (expression s w false e) j) (cases.chosen at) r is in
         (record { small = m; use_of = r; is = is }, (sound_arms as' m.1 (Ok ([], no_use)) k.value.1 (both_of (expression s w false e) j k.value k.is).second).rest)
+    sound_in _ m r is = record { small = m; use_of = r; is = is }
 
     pub sound_of : (ts : Statements) → AreSmallStatements ts → (j : Judged Use) (r : Use) → statements.statements s w j ts ≡ Ok r → Inside j (EachOf IsSound ts)
     sound_of no_statements m j r is = record { value = r; is = is; rest = tt }

@@ -1,8 +1,8 @@
 -- Each function call in an expression that breaks no rule is one that the rules allow.
-use Rattle.std.proofs.Common.{◌≡◌, ℕ, ◌+◌, Bool, true, false, ◌&&◌, if◌then◌else◌, List, [], ◌∷◌, ◌++◌, Option, Some, None, Ok, Err, refl, sym, ap, subst, ◌∙◌}
+use Rattle.std.proofs.Common.{◌≡◌, ℕ, ◌+◌, Bool, true, false, ◌&&◌, if◌then◌else◌, List, [], ◌∷◌, ◌++◌, Option, Some, None, Ok, refl, sym, ap, subst, ◌∙◌}
 use Rattle.cp_tree.specs.declared.constant.Identifier.{Identifier}
 use Rattle.cp_tree.specs.declared.constant.Sign.{Sign}
-use Rattle.cp_tree.specs.Syntax.{Expression, alone, related, Sum, sum, Terms, no_terms, more_terms as terms_more, Term, term, Factors, no_factors, more_factors as factors_more, Factor, number, character, named as factor_named, group, negated, set_of, Expressions, no_expressions, more_expressions, Designator, designator as name_with, Selectors, no_selectors, more_selectors, field, index}
+use Rattle.cp_tree.specs.Syntax.{Expression, alone, related, Sum, sum, Terms, no_terms, more_terms as terms_more, Term, term, Factors, no_factors, more_factors as factors_more, Factor, named as factor_named, group, negated, set_of, Expressions, no_expressions, more_expressions, Designator, designator as name_with, Selectors, no_selectors, more_selectors, field, index}
 use Rattle.cp_scope.specs.declared.types.ValueType.{ValueType}
 use Rattle.cp_scope.specs.declared.types.ValueType.TheVariants as types
 use Rattle.cp_scope.specs.declared.types.Meaning.{Meaning}
@@ -20,15 +20,15 @@ use Rattle.cp_check.specs.Operands.{is_function}
 use Rattle.cp_check.specs.Operations as operations
 use Rattle.cp_check.specs.Names as names
 use Rattle.cp_check.specs.Calls as calls
-use Rattle.cp_check.specs.Expressions.{expression, sum_value, more_terms, term_value, more_factors, factor, designator, selectors, selector, arguments, is_unsigned, has_no_terms, has_no_factors, has_none, is_var_at}
+use Rattle.cp_check.specs.Expressions.{expression, sum_value, more_terms, term_value, more_factors, factor, designator, selectors, arguments, is_unsigned, has_no_terms, has_no_factors, has_none, is_var_at}
 use Rattle.cp_check.specs.Expressions as expressions
 use Rattle.cp_meaning.specs.Scopes.{Scope}
-use Rattle.cp_meaning.specs.State.{Item, statement_item, function_call, start_item, until, successor, return, init_end, end}
+use Rattle.cp_meaning.specs.State.{Item, function_call}
 use Rattle.cp_meaning.specs.Lifting.{is_call, own_call, expression_calls, sum_calls, terms_calls, term_calls, factors_calls, factor_calls, expressions_calls, selectors_calls}
 use Rattle.cp_resolved.specs.Typed.{IsSmallExpression, IsSmallSum, AreSmallTerms, IsSmallTerm, AreSmallFactors, IsSmallFactor, AreSmallExpressions, IsSmallDesignator, AreSmallSelectors}
 use Rattle.cp_resolved.proofs.statements.CallsJudged.{Below, first_below, second_below, AreBelow, IsValue, OptionBelow, added_below, multiplied_below, signed_below, related_below, negated_below, constructed_below, CalledAs, GivesResult, ValueSaid, value_said}
-use Rattle.cp_resolved.proofs.forms.Typing.{second_true}
 use Rattle.cp_resolved.proofs.agreeing.WithoutFaults.{ok_same, Then, then_of, both_of}
+use Rattle.cp_resolved.proofs.frames.LeastCells.{right_true as second_true}
 
 module _ (s : Scopes) (w : Context) (f : Bool) (scope : Scope) where
   -- what the designator of a call names, and that the call breaks no rule
@@ -49,13 +49,7 @@ module _ (s : Scopes) (w : Context) (f : Bool) (scope : Scope) where
   pub said_both : (xs ys : List Item) → AllSaid xs → AllSaid ys → AllSaid (xs ++ ys)
   said_both [] ys h g = g
   said_both (function_call at d es ∷ xs) ys h g = (h.0, said_both xs ys h.1 g)
-  said_both (statement_item t ∷ xs) ys h g = absurd h
-  said_both (start_item t ∷ xs) ys h g = absurd h
-  said_both (until ts e ∷ xs) ys h g = absurd h
-  said_both (successor n i z d y t ∷ xs) ys h g = absurd h
-  said_both (return x ∷ xs) ys h g = absurd h
-  said_both (init_end n ∷ xs) ys h g = absurd h
-  said_both (end ∷ xs) ys h g = absurd h
+  said_both _ ys h g = absurd h
 
   own_said : (b : Bool) (at : ℕ) (d : Designator) (es : Expressions) → (b ≡ true → FunctionSaid d) → AllSaid (own_call b at d es)
   own_said true at d es h = (h refl, tt)
@@ -65,44 +59,20 @@ module _ (s : Scopes) (w : Context) (f : Bool) (scope : Scope) where
 
   field_uses : (at : ℕ) (d e : check_designated.DesignatedName) (o : Option (Option Meaning)) → names.with_field at d o ≡ Ok e → d.uses ≡ e.uses
   field_uses at d e (Some (Some (meaning.Variable t))) is = ap (λ (z : check_designated.DesignatedName). z.uses) (ok_same (names.designated at d.uses (names.part_of d.named t)) e is)
-  field_uses at d e None is = absurd (cc)
-  field_uses at d e (Some None) is = absurd (cc)
-  field_uses at d e (Some (Some (meaning.Constant b z))) is = absurd (cc)
-  field_uses at d e (Some (Some (meaning.Kind t))) is = absurd (cc)
-  field_uses at d e (Some (Some (meaning.Parameter t))) is = absurd (cc)
-  field_uses at d e (Some (Some (meaning.Reference t))) is = absurd (cc)
-  field_uses at d e (Some (Some (meaning.Routine n))) is = absurd (cc)
-  field_uses at d e (Some (Some (meaning.Predeclared q))) is = absurd (cc)
+  field_uses at d e x is = absurd (cc)
 
   entry_uses : (at : ℕ) (d e : check_designated.DesignatedName) (o : Option (Option Meaning)) → names.with_entry at d o ≡ Ok e → d.uses ≡ e.uses
   entry_uses at d e (Some (Some (meaning.Routine n))) is = ap (λ (z : check_designated.DesignatedName). z.uses) (ok_same (names.designated at d.uses (name.Entry n)) e is)
-  entry_uses at d e None is = absurd (cc)
-  entry_uses at d e (Some None) is = absurd (cc)
-  entry_uses at d e (Some (Some (meaning.Constant b z))) is = absurd (cc)
-  entry_uses at d e (Some (Some (meaning.Kind t))) is = absurd (cc)
-  entry_uses at d e (Some (Some (meaning.Parameter t))) is = absurd (cc)
-  entry_uses at d e (Some (Some (meaning.Reference t))) is = absurd (cc)
-  entry_uses at d e (Some (Some (meaning.Variable t))) is = absurd (cc)
-  entry_uses at d e (Some (Some (meaning.Predeclared q))) is = absurd (cc)
+  entry_uses at d e x is = absurd (cc)
 
   selected_uses : (i : Identifier) (d e : check_designated.DesignatedName) (o : Option ValueType) → names.selected_of s i d o ≡ Ok e → d.uses ≡ e.uses
   selected_uses i d e (Some (types.Record n)) is = field_uses i.at d e (field_at n i.name s) is
   selected_uses i d e (Some (types.Component k n)) is = entry_uses i.at d e (member_at n i.name s) is
-  selected_uses i d e None is = ap (λ (z : check_designated.DesignatedName). z.uses) (ok_same (names.nothing i.at d.uses) e is)
-  selected_uses i d e (Some (types.Ordinal r)) is = ap (λ (z : check_designated.DesignatedName). z.uses) (ok_same (names.nothing i.at d.uses) e is)
-  selected_uses i d e (Some types.Queue) is = ap (λ (z : check_designated.DesignatedName). z.uses) (ok_same (names.nothing i.at d.uses) e is)
-  selected_uses i d e (Some (types.Set r)) is = ap (λ (z : check_designated.DesignatedName). z.uses) (ok_same (names.nothing i.at d.uses) e is)
-  selected_uses i d e (Some (types.Array n)) is = ap (λ (z : check_designated.DesignatedName). z.uses) (ok_same (names.nothing i.at d.uses) e is)
+  selected_uses i d e _ is = ap (λ (z : check_designated.DesignatedName). z.uses) (ok_same (names.nothing i.at d.uses) e is)
 
   known_uses : (at : ℕ) (d e : check_designated.DesignatedName) (n : Named) → names.known_named at d n ≡ Ok e → d ≡ e
   known_uses at d e name.Nothing is = absurd (cc)
-  known_uses at d e (name.Constant b) is = ok_same d e is
-  known_uses at d e (name.Variable t) is = ok_same d e is
-  known_uses at d e (name.Parameter t) is = ok_same d e is
-  known_uses at d e name.Kind is = ok_same d e is
-  known_uses at d e (name.Routine n) is = ok_same d e is
-  known_uses at d e (name.Entry n) is = ok_same d e is
-  known_uses at d e (name.Predeclared q) is = ok_same d e is
+  known_uses at d e _ is = ok_same d e is
 
   -- ---- arguments
 
@@ -152,8 +122,7 @@ module _ (s : Scopes) (w : Context) (f : Bool) (scope : Scope) where
 
   agreed_some : (at : ℕ) (j : Judged (Option Operand)) (p : Operand) → (j >>= operations.agreed at) ≡ Ok p → j ≡ Ok (Some p)
   agreed_some at (Ok (Some o)) p e = ap (λ (z : Operand). Ok (Some z)) (ok_same o p e)
-  agreed_some at (Ok None) p e = absurd (cc)
-  agreed_some at (Err fs) p e = absurd (cc)
+  agreed_some at x p e = absurd (cc)
 
   no_more : (v b : Bool) → b ≡ false → (v && b) ≡ true → ⊥
   no_more v b e i = (let bad : false ≡ true = sym e ∙ second_true v b i in cc)
@@ -170,8 +139,7 @@ module _ (s : Scopes) (w : Context) (f : Bool) (scope : Scope) where
   sum_only at v None no_terms q a p x only is i =
       let one : a ≡ p = some_same a p (sym (ap (λ (z : Judged Operand). z >>= expressions.signed at None) x) ∙ is) in
       ap (λ (z : Operand). is_function z.place) one ∙ only (first_of v true i)
-  sum_only at v None (terms_more b t ts) q a p x only is i = absurd (no_more v false refl i)
-  sum_only at v (Some g) ts q a p x only is i = absurd (no_more v false refl i)
+  sum_only at v _ _ q a p x only is i = absurd (no_more v false refl i)
 
   term_only : (at : ℕ) (v : Bool) (fs : Factors) (q : Judged Operand) (a p : Operand) → q ≡ Ok a → (v ≡ true → is_function p.place ≡ false) → more_factors s w at (q >>= expressions.some_operand) fs ≡ Ok (Some p) → (v && has_no_factors fs) ≡ true → is_function a.place ≡ false
   unfolding expression
@@ -246,8 +214,6 @@ module _ (s : Scopes) (w : Context) (f : Bool) (scope : Scope) where
         record { value = k.value.0; is = q.first; below = below.0; rest = said_both (factor_calls scope g) (factors_calls scope fs) (factor_said false g m.0 k.value.1 (never k.value.1) below.1 q.second) rest.rest }
 
     factor_said : (v : Bool) (g : Factor) → IsSmallFactor g → (p : Operand) → (v ≡ true → is_function p.place ≡ false) → Below f p.uses → factor s w v g ≡ Ok p → AllSaid (factor_calls scope g)
-    factor_said v (number at n) m p only h is = tt
-    factor_said v (character at c) m p only h is = tt
     factor_said v (factor_named at (name_with i ss) es) m p only h is =
         let d : Designator = name_with i ss in
         let k : NameParts d es at p = name_parts (v && has_none es) d es at p (name_only v es p only) is in
@@ -266,6 +232,7 @@ module _ (s : Scopes) (w : Context) (f : Bool) (scope : Scope) where
     factor_said v (set_of at es) m p only h is =
         let t : Then (arguments s w [] 0 es) (expressions.constructed at) p = then_of (arguments s w [] 0 es) (expressions.constructed at) p is in
         arguments_said [] 0 es m t.value (none_functions 0 t.value) (constructed_below f at t.value p t.rest h) t.is
+    factor_said v _ m p only h is = tt
 
     pub arguments_said : (ps : List check_parameter.Parameter) (k : ℕ) (es : Expressions) → AreSmallExpressions es → (os : List Operand) → NoneFunctions ps k os → AreBelow f os → arguments s w ps k es ≡ Ok os → AllSaid (expressions_calls scope es)
     arguments_said ps k no_expressions m os g h is = tt

@@ -1,6 +1,6 @@
 -- What is known of the starts of an accepted tree: where they stand no local variable is visible, and their arguments use names as the rules want it.
 use Rattle.std.proofs.Common.{◌≡◌, ℕ, [], ◌++◌, ap, subst, ◌∙◌, Some}
-use Rattle.cp_tree.specs.Syntax.{Statement, empty, assign, invoke, block, if_then, if_else, case_of, while_do, repeat_until, for_do, cycle, init, Statements, no_statements, more_statements, Arms, no_arms, more_arms, arm, Program, Tree}
+use Rattle.cp_tree.specs.Syntax.{Statement, empty, block, if_then, if_else, case_of, while_do, repeat_until, for_do, cycle, Statements, no_statements, more_statements, Arms, no_arms, more_arms, arm, Program, Tree}
 use Rattle.cp_lawful.specs.Accepted.{IsAccepted}
 use Rattle.cp_meaning.specs.Names.{Name}
 use Rattle.cp_meaning.specs.Types.{Ty}
@@ -27,9 +27,6 @@ use Rattle.cp_resolved.proofs.components.VisibleComponents.{visible}
 module _ (h : Here) where
   mutual
     formed_in : (t : Statement) → StatementFormed h t → EachIn (StatementFormed h) t
-    formed_in (empty at) f = f
-    formed_in (assign at d e) f = f
-    formed_in (invoke at d es) f = f
     formed_in (block at ss) f = (f, formed_of ss f)
     formed_in (if_then at e t) f = (f, formed_in t f.1)
     formed_in (if_else at e t u) f = (f, formed_in t f.1, formed_in u f.2)
@@ -38,7 +35,7 @@ module _ (h : Here) where
     formed_in (repeat_until at ss e) f = (f, formed_of ss f.0)
     formed_in (for_do at i e d b t) f = (f, formed_in t f.1)
     formed_in (cycle at ss) f = (f, formed_of ss f)
-    formed_in (init at ts) f = f
+    formed_in _ f = f
 
     pub formed_of : (ss : Statements) → AllFormed h ss → EachOf (StatementFormed h) ss
     formed_of no_statements f = tt

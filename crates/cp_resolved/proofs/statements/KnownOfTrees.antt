@@ -10,7 +10,7 @@ use Rattle.cp_check.specs.Statements.{statements}
 use Rattle.cp_lawful.specs.Accepted.{IsAccepted}
 use Rattle.cp_lawful.proofs.Loud.{Heard, statements_loud}
 use Rattle.cp_tree.specs.Spelling.{spell}
-use Rattle.cp_tree.specs.Syntax.{Definition, type_definition, system_definition, SystemDefinition, ProgramPart, program_constants, program_types, program_variables, Program, Tree}
+use Rattle.cp_tree.specs.Syntax.{Definition, type_definition, system_definition, SystemDefinition, ProgramPart, program_types, Program, Tree}
 use Rattle.cp_meaning.specs.Scopes.{Scope}
 use Rattle.cp_meaning.specs.Declarations.{RoutineMeaning, names_of}
 use Rattle.cp_meaning.specs.Systems.{system_in, Declared, definition_in, definitions_in, program_part_in, program_parts_in, declared, program_system, own_meaning}
@@ -24,7 +24,7 @@ use Rattle.cp_tree.specs.Read.{IsRead}
 use Rattle.cp_resolved.specs.Resolved.{initial_meaning}
 use Rattle.cp_resolved.specs.Small.{Each}
 use Rattle.cp_resolved.specs.Tokens.{all_tokens, definition_types, program_part_types, token_in, constants_among}
-use Rattle.cp_resolved.specs.TreeLayouts.{owner_in, layouts_of}
+use Rattle.cp_resolved.specs.TreeLayouts.{layouts_of}
 use Rattle.cp_resolved.proofs.agreeing.DifferentTokens.{all_numbered}
 use Rattle.cp_resolved.proofs.statements.EachStatement.{EachOf, each_of, IsSound, Inside, sound_of}
 use Rattle.cp_resolved.proofs.forms.FormedStatements.{Right, right_of}
@@ -32,12 +32,11 @@ use Rattle.cp_resolved.proofs.forms.FormsOfTrees.{all_heard}
 use Rattle.cp_resolved.proofs.statements.KnownStatements.{StatementKnown, statement_known}
 use Rattle.cp_resolved.proofs.declarations.Numbered.{AreInOrder, program_ordered}
 use Rattle.cp_resolved.proofs.statements.OwnersKnown.{IsOwned, AreOwned, all_owned}
-use Rattle.cp_resolved.proofs.agreeing.ScopeMeasures.{measure}
 use Rattle.cp_resolved.proofs.agreeing.ScopesOfTrees.{scopes_law}
 use Rattle.cp_resolved.proofs.declarations.SmallBodies.{IsSmallOpening, read_opens}
 use Rattle.cp_resolved.proofs.declarations.SmallTexts.{read_few}
-use Rattle.cp_resolved.proofs.names.StepsOfTypes.{slice_end}
 use Rattle.cp_resolved.proofs.agreeing.DifferentIndexed.{tokens_different}
+use Rattle.cp_resolved.proofs.names.Entries.{last_entry as slice_end}
 
 -- in a routine of a system type with a scope
 abbrev pub here_in : Tree → (system routine : ℕ) → Scope → Here
@@ -86,8 +85,7 @@ module _ (t : Tree) (read : IsRead t.program) (accepted : IsAccepted t) where
       let r : KnownAmong os n = among xs os n h.1 small.1 owned.1 (omega (arith, less)) in
       record { opening = r.opening; is = r.is; known = r.known; owner = r.owner }
   among [] [] n h small owned less = absurd (omega (arith, less))
-  among [] (o ∷ os) n h small owned less = absurd h
-  among (x ∷ xs) [] n h small owned less = absurd h
+  among _ _ n h small owned less = absurd h
 
   pub all_among : (n : ℕ) → n < length (openings_of p) → KnownAmong (openings_of p) n
   all_among n less = among (places_of p) (openings_of p) n (scopes_law t read accepted).places (read_opens p read) (all_owned p (all_numbered p (tokens_different p read.proper.indexed))) less
@@ -126,13 +124,6 @@ module _ (t : Tree) (read : IsRead t.program) (accepted : IsAccepted t) where
       let r : KnownAmong (openings_of p) w.0 = all_among w.0 w.1 in
       subst (KnownFor t) (sym (ap (meaning_in (initial_meaning (own_meaning (declared p) p))) r.is) ∙ w.2) r.known
 
-  -- the scope of a routine tells to which system type it belongs
-  pub owner_measured : (n : ℕ) → n < length (openings_of p) → (layouts_of t).owners n ≡ (measure (meaning_at p n).scope).0
-  owner_measured n less =
-      let r : KnownAmong (openings_of p) n = all_among n less in
-      ap (owner_in (program_system p)) r.is
-      ∙ (sym r.owner ∙ (sym r.known.owned.height ∙ (ap (λ (m : RoutineMeaning). (measure m.scope).0) r.known.same ∙ sym (ap (λ (o : Option Opening). (measure (meaning_in (initial_meaning (own_meaning (declared p) p)) o).scope).0) r.is))))
-
   -- ---- numbers of system types
 
   definition_count : (d : Declared) (n : SystemDefinition) (v : Definition) (rest : List ℕ) → length (definition_in d n v).systems + length rest ≡ length d.systems + length (definition_types v rest)
@@ -144,9 +135,8 @@ module _ (t : Tree) (read : IsRead t.program) (accepted : IsAccepted t) where
   definitions_count d (n ∷ ns) rest = definitions_count (definition_in d n n.value) ns rest ∙ definition_count d n n.value (all_tokens (λ (c : SystemDefinition). definition_types c.value) ns rest)
 
   part_count : (d : Declared) (q : ProgramPart) (rest : List ℕ) → length (program_part_in d q).systems + length rest ≡ length d.systems + length (program_part_types q rest)
-  part_count d (program_constants at ds) rest = refl
   part_count d (program_types at ns) rest = definitions_count d ns rest
-  part_count d (program_variables at gs) rest = refl
+  part_count d _ rest = refl
 
   parts_count : (d : Declared) (qs : List ProgramPart) (rest : List ℕ) → length (program_parts_in d qs).systems + length rest ≡ length d.systems + length (all_tokens program_part_types qs rest)
   parts_count d [] rest = refl

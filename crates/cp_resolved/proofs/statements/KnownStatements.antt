@@ -4,7 +4,7 @@ use Rattle.std.specs.Prelude.{nat_eq}
 use Rattle.cp_tree.specs.declared.constant.Identifier.{Identifier}
 use Rattle.cp_tree.specs.declared.declaration.SystemKind.{SystemKind}
 use Rattle.cp_tree.specs.declared.declaration.SystemKind.TheVariants.{Monitor}
-use Rattle.cp_tree.specs.Syntax.{Expression, Expressions, no_expressions, more_expressions, Designator, designator as name_with, Selectors, no_selectors, more_selectors, Start, Statement, empty, assign, invoke, block, if_then, if_else, case_of, while_do, repeat_until, for_do, cycle, init}
+use Rattle.cp_tree.specs.Syntax.{Expression, Expressions, no_expressions, more_expressions, Designator, designator as name_with, Selectors, no_selectors, more_selectors, Start, Statement, assign, invoke, init}
 use Rattle.cp_scope.specs.declared.fault.Rule.TheVariants.{C5, C6, C12}
 use Rattle.cp_scope.specs.declared.types.Parameter as check_parameter
 use Rattle.cp_scope.specs.declared.types.ValueType.{ValueType}
@@ -140,13 +140,7 @@ module _ (tokens : Tokens) (s : Scopes) (h : Here) (w : Context) (agrees : Scope
   free_movable (named.component_of n) v i f = let bad : true ≡ false = sym (ap (calls.is_fixed s) i.is) ∙ f in absurd cc
   free_movable (named.array_over q named.queue_type) v i f = let bad : true ≡ false = sym (fixed_array v q named.queue_type i (λ x e. ap calls.is_fixed_element e)) ∙ f in absurd cc
   free_movable (named.array_over q (named.component_of n)) v i f = let bad : true ≡ false = sym (fixed_array v q (named.component_of n) i (λ x e. ap calls.is_fixed_element e.is)) ∙ f in absurd cc
-  free_movable (named.ordinal r) v i f = tt
-  free_movable (named.set_over r) v i f = tt
-  free_movable (named.record_with ts) v i f = tt
-  free_movable (named.array_over q (named.ordinal r)) v i f = tt
-  free_movable (named.array_over q (named.set_over r)) v i f = tt
-  free_movable (named.array_over q (named.array_over r t)) v i f = tt
-  free_movable (named.array_over q (named.record_with ts)) v i f = tt
+  free_movable _ v i f = tt
 
   held_movable : (m : Option scopes.Meaning) (x : Option Name) (v : ValueType) (o : Option Designated) → Holds W m x v o → calls.is_fixed s v ≡ false → (spot : code.Place) (t : Ty) → o ≡ Some (a_variable spot t) → IsMovable t
   held_movable m x v (Some (a_variable p u)) k f spot t e = subst IsMovable (some_variable p spot u t e) (free_movable u v k.0 f)
@@ -184,20 +178,11 @@ module _ (tokens : Tokens) (s : Scopes) (h : Here) (w : Context) (agrees : Scope
   routine_no_variable : (n : Name) (x : ℕ) (m : Option scopes.Meaning) → RoutineIs W (heading_at x s) n h.scope m → IsVariableMeaning m → ⊥
   routine_no_variable n x (Some (scopes.local_variable t)) k v = k
   routine_no_variable n x (Some (scopes.permanent_variable t)) k v = k
-  routine_no_variable n x (Some (scopes.routine_meaning r)) k v = v
-  routine_no_variable n x (Some (scopes.constant_meaning y z)) k v = v
-  routine_no_variable n x (Some (scopes.type_meaning t)) k v = v
-  routine_no_variable n x (Some (scopes.standard_meaning q)) k v = v
-  routine_no_variable n x None k v = v
+  routine_no_variable n x _ k v = v
 
   routine_begun : (m : Option scopes.Meaning) (n : Name) (x : ℕ) → RoutineIs W (heading_at x s) n h.scope m → begun_form h n m ≡ result_begun h (is_own h n)
   routine_begun (Some (scopes.routine_meaning r)) n x k = refl
-  routine_begun (Some (scopes.constant_meaning y z)) n x k = absurd k
-  routine_begun (Some (scopes.type_meaning t)) n x k = absurd k
-  routine_begun (Some (scopes.local_variable t)) n x k = absurd k
-  routine_begun (Some (scopes.permanent_variable t)) n x k = absurd k
-  routine_begun (Some (scopes.standard_meaning q)) n x k = absurd k
-  routine_begun None n x k = absurd k
+  routine_begun _ n x k = absurd k
 
   only : (o : Option Designated) → o ≡ then_form o (λ a. Some a)
   only None = refl
@@ -216,10 +201,7 @@ module _ (tokens : Tokens) (s : Scopes) (h : Here) (w : Context) (agrees : Scope
   named_aimed i ss c (name.Routine n) is k a = λ spot t e. inr (result_aimed i ss n k (other_bare tokens s h w agrees i ss c (routine_no_variable i.name n (find i.name h.scope) k) is) spot t e)
   named_aimed i ss c (name.Entry n) is k a = absurd (no_entry n a)
   named_aimed i ss c (name.Predeclared q) is k a = absurd (no_standard q a)
-  named_aimed i ss c (name.Parameter u) is k a = absurd (let bad = a.1 in cc)
-  named_aimed i ss c (name.Constant b) is k a = absurd (let bad = a.1 in cc)
-  named_aimed i ss c name.Kind is k a = absurd (let bad = a.1 in cc)
-  named_aimed i ss c name.Nothing is k a = absurd (let bad = a.1 in cc)
+  named_aimed i ss c x is k a = absurd (let bad = a.1 in cc)
 
   -- a name with selectors that is judged without a fault
   pointed : (i : Identifier) (ss : Selectors) (c : check_designated.DesignatedName) → AreSmallSelectors ss → designator s w (name_with i ss) ≡ Ok c → NamedIs tokens s h i.name (find i.name h.scope) (last_field ss) c.named (designator_form h (name_with i ss))
@@ -296,22 +278,12 @@ module _ (tokens : Tokens) (s : Scopes) (h : Here) (w : Context) (agrees : Scope
   other_never m q o e = absurd (subst IsOther e o)
 
   routine_other : (i : Name) (n : ℕ) (m : Option scopes.Meaning) → RoutineIs W (heading_at n s) i h.scope m → IsOther m
-  routine_other i n (Some (scopes.routine_meaning r)) k = tt
-  routine_other i n (Some (scopes.constant_meaning y z)) k = tt
-  routine_other i n (Some (scopes.type_meaning t)) k = tt
-  routine_other i n (Some (scopes.local_variable t)) k = tt
-  routine_other i n (Some (scopes.permanent_variable t)) k = tt
   routine_other i n (Some (scopes.standard_meaning q)) k = k
-  routine_other i n None k = tt
+  routine_other i n _ k = tt
 
   call_other : (m : Option scopes.Meaning) (x : Option Name) → is_call_meant m x ≡ true → IsOther m
-  call_other (Some (scopes.routine_meaning r)) x k = tt
-  call_other (Some (scopes.constant_meaning y z)) x k = tt
-  call_other (Some (scopes.type_meaning t)) x k = tt
-  call_other (Some (scopes.local_variable t)) x k = tt
-  call_other (Some (scopes.permanent_variable t)) x k = tt
   call_other (Some (scopes.standard_meaning q)) x k = let bad : false ≡ true = k in cc
-  call_other None x k = tt
+  call_other _ x k = tt
 
   routine_known : (d : Designator) (es : Expressions) → ((y : RoutineMeaning) → routine_called h.program h.scope d ≡ Some y → AreVariables h y.parameters es) → IsOther (find (name_of d) h.scope) → Known d es
   routine_known d es v o =
@@ -361,29 +333,19 @@ module _ (tokens : Tokens) (s : Scopes) (h : Here) (w : Context) (agrees : Scope
       go false x g = absurd (cc)
 
   queue_operand : (at : ℕ) (os : List Operand) → statements.queue_faults at os ≡ [] → (o : Operand) × (os ≡ o ∷ []) × (is_queue o ≡ true)
-  queue_operand at [] e = absurd (cc)
   queue_operand at (o ∷ []) e = go (is_queue o) refl e
     where
       go : (b : Bool) → is_queue o ≡ b → (if b then [] else fault at C5) ≡ [] → (p : Operand) × (o ∷ [] ≡ p ∷ []) × (is_queue p ≡ true)
       go true x g = (o, refl, x)
       go false x g = absurd (cc)
-  queue_operand at (o ∷ p ∷ os) e = absurd (cc)
+  queue_operand at x e = absurd (cc)
 
   queue_stored : (v : ValueType) (p : OperandUse) → is_queue_in v p ≡ true → is_stored p ≡ true
   queue_stored v place.Fixed e = refl
   queue_stored v place.Assignable e = refl
   queue_stored types.Queue place.Value e = absurd (cc)
   queue_stored types.Queue place.Function e = absurd (cc)
-  queue_stored (types.Ordinal r) place.Value e = absurd (cc)
-  queue_stored (types.Ordinal r) place.Function e = absurd (cc)
-  queue_stored (types.Set r) place.Value e = absurd (cc)
-  queue_stored (types.Set r) place.Function e = absurd (cc)
-  queue_stored (types.Array n) place.Value e = absurd (cc)
-  queue_stored (types.Array n) place.Function e = absurd (cc)
-  queue_stored (types.Record n) place.Value e = absurd (cc)
-  queue_stored (types.Record n) place.Function e = absurd (cc)
-  queue_stored (types.Component k n) place.Value e = absurd (cc)
-  queue_stored (types.Component k n) place.Function e = absurd (cc)
+  queue_stored x y e = absurd (cc)
 
   queues_given : (at : ℕ) (es : Expressions) (os : List Operand) → AreSmallExpressions es → arguments s w [] 0 es ≡ Ok os → statements.queue_faults at os ≡ [] → ((e : Expression) (rest : Expressions) → es ≡ more_expressions e rest → HasQueue h e) → QueuesGiven h es
   unfolding expression
@@ -453,12 +415,7 @@ module _ (tokens : Tokens) (s : Scopes) (h : Here) (w : Context) (agrees : Scope
         delays = λ e. waits_in at es os u r q m a (inl (standard_same q delay_procedure (sym is ∙ e))) (subst (λ (z : Predeclared). statements.performed s w at z os u ≡ Ok r) (sym k) done);
         continues = λ e. waits_in at es os u r q m a (inr (standard_same q continue_procedure (sym is ∙ e))) (subst (λ (z : Predeclared). statements.performed s w at z os u ≡ Ok r) (sym k) done);
       }
-  standard_known at i ss es p os u r (Some (scopes.constant_meaning b z)) is k m a done = absurd k
-  standard_known at i ss es p os u r (Some (scopes.type_meaning t)) is k m a done = absurd k
-  standard_known at i ss es p os u r (Some (scopes.local_variable t)) is k m a done = absurd k
-  standard_known at i ss es p os u r (Some (scopes.permanent_variable t)) is k m a done = absurd k
-  standard_known at i ss es p os u r (Some (scopes.routine_meaning f)) is k m a done = absurd k
-  standard_known at i ss es p os u r None is k m a done = absurd k
+  standard_known at i ss es p os u r _ is k m a done = absurd k
 
   named_known : (at : ℕ) (i : Identifier) (ss : Selectors) (es : Expressions) (c : check_designated.DesignatedName) (n : Named) (os : List Operand) (r : Use) → NamedIs tokens s h i.name (find i.name h.scope) (last_field ss) n (designator_form h (name_with i ss)) → AreSmallExpressions es →
       arguments s w (statements.parameters_of s n (statements.number_of es)) 0 es ≡ Ok os → statements.invoked_named s w at c os n ≡ Ok r → Known (name_with i ss) es
@@ -467,11 +424,7 @@ module _ (tokens : Tokens) (s : Scopes) (h : Here) (w : Context) (agrees : Scope
       routine_known (name_with i ss) es (called_variables at c.name_at true n os c.uses r es (routine_called h.program h.scope (name_with i ss)) m (own_called tokens s h w i.name n (find i.name h.scope) (last_field ss) k).heading a is) (routine_other i.name n (find i.name h.scope) k)
   named_known at i ss es c (name.Entry n) os r k m a is =
       routine_known (name_with i ss) es (called_variables at c.name_at false n os c.uses r es (routine_called h.program h.scope (name_with i ss)) m k.heading a is) (call_other (find i.name h.scope) (last_field ss) k.is)
-  named_known at i ss es c (name.Variable v) os r k m a is = absurd (cc)
-  named_known at i ss es c (name.Parameter v) os r k m a is = absurd (cc)
-  named_known at i ss es c (name.Constant b) os r k m a is = absurd (cc)
-  named_known at i ss es c name.Kind os r k m a is = absurd (cc)
-  named_known at i ss es c name.Nothing os r k m a is = absurd (cc)
+  named_known at i ss es c x os r k m a is = absurd (cc)
 
   invoke_known : (at : ℕ) (i : Identifier) (ss : Selectors) (es : Expressions) → AreSmallSelectors ss → AreSmallExpressions es → (r : Use) → statements.call s w at (name_with i ss) es ≡ Ok r → Known (name_with i ss) es
   unfolding statements.call statements.invoked
@@ -499,13 +452,7 @@ module _ (tokens : Tokens) (s : Scopes) (h : Here) (w : Context) (agrees : Scope
   named_started : (at : ℕ) (i : Identifier) (ss : Selectors) (c : check_designated.DesignatedName) (n : Named) (os : List Operand) (r : Use) → NamedIs tokens s h i.name (find i.name h.scope) (last_field ss) n (designator_form h (name_with i ss)) → statements.started_named s at c os n ≡ Ok r →
       (part : code.ComponentPlace) (k : ℕ) → designator_form h (name_with i ss) ≡ Some (a_component part k) → (j : ℕ) → tokens.systems j ≡ tokens.systems k → j ≡ k
   named_started at i ss c (name.Variable v) os r k is = held_only (find i.name h.scope) (last_field ss) v (designator_form h (name_with i ss)) k
-  named_started at i ss c (name.Parameter v) os r k is = absurd (cc)
-  named_started at i ss c (name.Routine n) os r k is = absurd (cc)
-  named_started at i ss c (name.Entry n) os r k is = absurd (cc)
-  named_started at i ss c (name.Predeclared p) os r k is = absurd (cc)
-  named_started at i ss c (name.Constant b) os r k is = absurd (cc)
-  named_started at i ss c name.Kind os r k is = absurd (cc)
-  named_started at i ss c name.Nothing os r k is = absurd (cc)
+  named_started at i ss c x os r k is = absurd (cc)
 
   start_of : (i : Identifier) (ss : Selectors) (es : Expressions) → AreSmallSelectors ss → (r : Use) → statements.start s w (record { target = name_with i ss; arguments = es }) ≡ Ok r → StartKnown tokens h (record { target = name_with i ss; arguments = es })
   unfolding statements.start statements.started
@@ -548,15 +495,7 @@ module _ (tokens : Tokens) (s : Scopes) (h : Here) (w : Context) (agrees : Scope
   known_of (init at ts) m r is =
       let k : Then (statements.starts s w (Ok no_use) ts) (statements.initial at w) r = then_of (statements.starts s w (Ok no_use) ts) (statements.initial at w) r is in
       (outside_routines at w.routine k.value r k.rest, (starts_known ts m (Ok no_use) k.value k.is).rest)
-  known_of (empty at) m r is = tt
-  known_of (block at ss) m r is = tt
-  known_of (if_then at e t) m r is = tt
-  known_of (if_else at e t u) m r is = tt
-  known_of (case_of at e as' b) m r is = tt
-  known_of (while_do at e t) m r is = tt
-  known_of (repeat_until at ss e) m r is = tt
-  known_of (for_do at i e d f t) m r is = tt
-  known_of (cycle at ss) m r is = tt
+  known_of _ m r is = tt
 
   pub statement_known : (t : Statement) → IsSound s w t → StatementKnown tokens h w t
   statement_known t x = known_of t x.small x.use_of x.is

@@ -2,7 +2,7 @@
 use Rattle.std.proofs.Common.{◌≡◌, ℕ, Bool, true, false, ◌&&◌, if◌then◌else◌, List, [], ◌∷◌, Option, Some, None, Ok, Err, refl, sym, ap, subst, ◌∙◌}
 use Rattle.std.specs.Prelude.{not}
 use Rattle.cp_tree.specs.declared.constant.Identifier.{Identifier}
-use Rattle.cp_tree.specs.Syntax.{Expression, alone, related, Expressions, no_expressions, more_expressions, Designator, designator as name_with, Selectors, Sum, sum, no_terms, more_terms as terms_more, Term, term, no_factors, more_factors as factors_more, Factor, number, character, named as factor_named, group, negated, set_of}
+use Rattle.cp_tree.specs.Syntax.{Expression, alone, related, Expressions, no_expressions, more_expressions, Designator, designator as name_with, Selectors, Sum, sum, no_terms, more_terms as terms_more, Term, term, no_factors, more_factors as factors_more, Factor, named as factor_named, group, negated, set_of}
 use Rattle.cp_scope.specs.declared.fault.Rule.TheVariants.{C6}
 use Rattle.cp_scope.specs.declared.types.Parameter as check_parameter
 use Rattle.cp_scope.specs.declared.types.ValueType.TheVariants as types
@@ -61,10 +61,9 @@ HasName h (Ok o) d = is_stored o.place ≡ true → IsVariable h d
 HasName h (Err fs) d = Unit {0}
 
 assigned_stored : (p : OperandUse) → is_assignable p ≡ true → is_stored p ≡ true
-assigned_stored place.Assignable e = refl
-assigned_stored place.Fixed e = refl
 assigned_stored place.Value e = absurd (cc)
 assigned_stored place.Function e = absurd (cc)
+assigned_stored _ e = refl
 
 module _ (tokens : Tokens) (s : Scopes) (h : Here) (w : Context) (agrees : ScopesAgree tokens s h) where
   made : (j : Judged Operand) (d : Option Designator) → IsMade j → HasName h j d
@@ -73,13 +72,12 @@ module _ (tokens : Tokens) (s : Scopes) (h : Here) (w : Context) (agrees : Scope
 
   value_name : (at : ℕ) (i : Identifier) (ss : Selectors) (d : check_designated.DesignatedName) (n : Named) (o : Option Designated) → NamedIs tokens s h i.name (find i.name h.scope) (last_field ss) n o → HasName h (calls.value_named s w at d [] n) (Some (name_with i ss))
   value_name at i ss d (name.Variable v) o k = (λ a. record { designator = name_with i ss; is = refl; no_call = (let x : IsValue tokens s h w (find i.name h.scope) (last_field ss) = held_value tokens s h w (find i.name h.scope) (last_field ss) v o k in x.call) })
-  value_name at i ss d name.Nothing o k = tt
-  value_name at i ss d name.Kind o k = tt
   value_name at i ss d (name.Constant b) o k = made (calls.value_named s w at d [] (name.Constant b)) (Some (name_with i ss)) (alone_made (value at (values_of b) d.uses) [] refl)
   value_name at i ss d (name.Parameter v) o k = (λ a. record { designator = name_with i ss; is = refl; no_call = (let x : IsValue tokens s h w (find i.name h.scope) (last_field ss) = held_value tokens s h w (find i.name h.scope) (last_field ss) v o k in x.call) })
   value_name at i ss d (name.Predeclared p) o k = made (calls.value_named s w at d [] (name.Predeclared p)) (Some (name_with i ss)) (applied_made at p [] (calls.total_use d.uses []))
   value_name at i ss d (name.Routine n) o k = made (calls.value_named s w at d [] (name.Routine n)) (Some (name_with i ss)) (call_made s w at d.name_at true n [] d.uses)
   value_name at i ss d (name.Entry n) o k = made (calls.value_named s w at d [] (name.Entry n)) (Some (name_with i ss)) (call_made s w at d.name_at false n [] d.uses)
+  value_name at i ss d _ o k = tt
 
   name_alone : (v : Bool) (at : ℕ) (i : Identifier) (ss : Selectors) (j : Judged check_designated.DesignatedName) (o : Option Designated) → HasDesignated tokens s h i.name (find i.name h.scope) (last_field ss) j o → HasName h (expressions.named_value s w v at j (Ok [])) (Some (name_with i ss))
   unfolding calls.value_of
@@ -94,25 +92,18 @@ module _ (tokens : Tokens) (s : Scopes) (h : Here) (w : Context) (agrees : Scope
 
   -- a name with arguments is no variable
   value_called : (at : ℕ) (d : check_designated.DesignatedName) (p : Operand) (ps : List Operand) (n : Named) → HasName h (calls.value_named s w at d (p ∷ ps) n) None
-  value_called at d p ps (name.Variable v) = tt
-  value_called at d p ps (name.Parameter v) = tt
-  value_called at d p ps (name.Constant b) = tt
-  value_called at d p ps name.Nothing = tt
-  value_called at d p ps name.Kind = tt
   value_called at d p ps (name.Predeclared q) = made (calls.value_named s w at d (p ∷ ps) (name.Predeclared q)) None (applied_made at q (p ∷ ps) (calls.total_use d.uses (p ∷ ps)))
   value_called at d p ps (name.Routine n) = made (calls.value_named s w at d (p ∷ ps) (name.Routine n)) None (call_made s w at d.name_at true n (p ∷ ps) d.uses)
   value_called at d p ps (name.Entry n) = made (calls.value_named s w at d (p ∷ ps) (name.Entry n)) None (call_made s w at d.name_at false n (p ∷ ps) d.uses)
+  value_called at d p ps _ = tt
 
   name_called : (at : ℕ) (j : Judged check_designated.DesignatedName) (k : Judged Operand) (ks : Judged (List Operand)) → HasName h (expressions.named_value s w false at j (both k ks >>= expressions.before)) None
   unfolding calls.value_of
   name_called at (Ok d) (Ok p) (Ok ps) = value_called at d p ps d.named
-  name_called at (Ok d) (Ok p) (Err fs) = tt
   name_called at (Ok d) (Err fs) (Ok ps) = tt
-  name_called at (Ok d) (Err fs) (Err gs) = tt
   name_called at (Err fs) (Ok p) (Ok ps) = tt
-  name_called at (Err fs) (Ok p) (Err gs) = tt
   name_called at (Err fs) (Err gs) (Ok ps) = tt
-  name_called at (Err fs) (Err gs) (Err hs) = tt
+  name_called at _ _ _ = tt
 
   alone_sum : (at : ℕ) (j : Judged Operand) (d : Option Designator) → HasName h j d → HasName h ((j >>= expressions.signed at None) >>= operations.agreed at) d
   alone_sum at (Ok o) d e = e
@@ -128,11 +119,10 @@ module _ (tokens : Tokens) (s : Scopes) (h : Here) (w : Context) (agrees : Scope
   factor_name false (factor_named at (name_with i ss) no_expressions) m = name_alone false at i ss (designator s w (name_with i ss)) (designator_form h (name_with i ss)) (designator_typed tokens s h w agrees i ss m.0)
   factor_name true (factor_named at d (more_expressions e es)) m = name_called at (designator s w d) (expression s w false e) (arguments s w [] 1 es)
   factor_name false (factor_named at d (more_expressions e es)) m = name_called at (designator s w d) (expression s w false e) (arguments s w [] 1 es)
-  factor_name v (number at n) m = (λ a. absurd (cc))
-  factor_name v (character at c) m = (λ a. absurd (cc))
   factor_name v (group at e) m = made (expression s w false e >>= expressions.to_group at) (variable_in e) (group_made at (expression s w false e))
   factor_name v (negated at f) m = made (factor s w false f >>= operations.negated at) None (negated_made at (factor s w false f))
   factor_name v (set_of at es) m = made (arguments s w [] 0 es >>= constructed at) None (constructed_made at (arguments s w [] 0 es))
+  factor_name v x m = (λ a. absurd (cc))
 
   term_name : (v : Bool) (t : Term) → IsSmallTerm t → HasName h (term_value s w v t) (variable_in_term t)
   unfolding expression
@@ -164,17 +154,15 @@ module _ (tokens : Tokens) (s : Scopes) (h : Here) (w : Context) (agrees : Scope
 
   free_place : (b c : Bool) (o : Operand) → (if b && not c then fault o.at C6 else []) ≡ [] → b ≡ true → c ≡ true
   free_place true true o k e = refl
-  free_place true false o k e = absurd (cc)
-  free_place false c o k e = absurd (cc)
+  free_place x y o k e = absurd (cc)
 
   one_variable : (a : check_parameter.Parameter) (e : Expression) (o : Operand) → IsSmallExpression e → Argument tokens s h w agrees a e o → variable_faults a o ≡ [] → a.is_var ≡ true → IsVariable h (variable_in e)
   one_variable a e o m x k var = stored_variable x.alone e o m x.is (assigned_stored o.place (free_place a.is_var (is_assignable o.place) o k var))
 
   pub given_variables : (as' : List check_parameter.Parameter) (qs : List Parameter) (es : Expressions) (os : List Operand) → AreParameters (written tokens s h) as' qs → AreSmallExpressions es → AreArguments tokens s h w agrees as' es os → all_variable_faults as' os ≡ [] → AreVariables h qs es
-  given_variables [] [] es os i m x k = tt
   given_variables (a ∷ as') (q ∷ qs) (more_expressions e es) (o ∷ os) i m x k =
       ((λ var. one_variable a e o m.0 x.0 (none_left (variable_faults a o) (all_variable_faults as' os) k) (i.0.passed ∙ var)), given_variables as' qs es os i.1 m.1 x.1 (none_right (variable_faults a o) (all_variable_faults as' os) k))
   given_variables (a ∷ as') (q ∷ qs) (more_expressions e es) [] i m x k = absurd x
-  given_variables (a ∷ as') (q ∷ qs) no_expressions os i m x k = tt
   given_variables [] (q ∷ qs) es os i m x k = absurd i
   given_variables (a ∷ as') [] es os i m x k = absurd i
+  given_variables _ _ _ os i m x k = tt

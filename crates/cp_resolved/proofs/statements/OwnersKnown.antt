@@ -1,7 +1,7 @@
 -- Of each routine and initial statement: the checker's context has the kind of its system type, and its scope tells which system type that is.
 use Rattle.std.proofs.Common.{◌≡◌, ◌∙◌, ℕ, true, List, [], ◌∷◌, ◌++◌, length, Option, Some, None, ap, sym, refl, subst}
 use Rattle.cp_tree.specs.declared.declaration.SystemKind.{SystemKind}
-use Rattle.cp_tree.specs.Syntax.{RoutineKind, procedure, function, Routine, System, Definition, type_definition, system_definition, SystemDefinition, ProgramPart, program_constants, program_types, program_variables, Program}
+use Rattle.cp_tree.specs.Syntax.{RoutineKind, procedure, function, Routine, System, Definition, type_definition, system_definition, SystemDefinition, ProgramPart, program_types, Program}
 use Rattle.cp_scope.specs.Scopes.{Scopes, enter, start}
 use Rattle.cp_check.specs.Declarations.{reserve_name}
 use Rattle.cp_check.specs.Routines.{routine_step}
@@ -42,8 +42,7 @@ AreOwned p (x ∷ xs) [] = ⊥
 owned_append : (p : Program) (xs ys : List Place) (os qs : List Opening) → AreOwned p xs os → AreOwned p ys qs → AreOwned p (xs ++ ys) (os ++ qs)
 owned_append p [] ys [] qs h g = g
 owned_append p (x ∷ xs) ys (o ∷ os) qs h g = (h.0, owned_append p xs ys os qs h.1 g)
-owned_append p [] ys (o ∷ os) qs h g = absurd h
-owned_append p (x ∷ xs) ys [] qs h g = absurd h
+owned_append p _ ys _ qs h g = absurd h
 
 -- ---- routines
 
@@ -109,9 +108,8 @@ module _ (p : Program) where
   -- ---- the program
 
   part_owned : (s : Scopes) (d : Declared) (q : ProgramPart) → IsNumberedPart (tokens_of p) p d q → IsHigh d → AreOwned p (part_places s q) (part_openings d q)
-  part_owned s d (program_constants at ds) numbered high = tt
   part_owned s d (program_types at ns) numbered high = definitions_owned s d ns numbered high
-  part_owned s d (program_variables at gs) numbered high = tt
+  part_owned s d _ numbered high = tt
 
   parts_owned : (s : Scopes) (d : Declared) (qs : List ProgramPart) → AreNumberedParts (tokens_of p) p d qs → IsHigh d → AreOwned p (parts_places s qs) (parts_openings d qs)
   parts_owned s d [] numbered high = tt

@@ -29,8 +29,8 @@ use Rattle.cp_resolved.proofs.agreeing.AgreeingTypes.{IsFew}
 use Rattle.cp_resolved.proofs.agreeing.AgreeingWritten.{each_left, each_right}
 use Rattle.cp_resolved.proofs.agreeing.AgreeingBodies.{BodyWritten, RoutineResult, routine_agrees, RoutinesResult, routines_agree}
 use Rattle.cp_resolved.proofs.agreeing.AgreeingSystems.{InsideResult}
-use Rattle.cp_resolved.proofs.names.Opened.{slice_seam}
 use Rattle.cp_resolved.proofs.agreeing.RoutinesSeen.{IsNoRoutine, parts, groups, body_entry, body_finds, routine_or}
+use Rattle.cp_resolved.proofs.components.ComponentsStand.{entry_there as slice_seam}
 
 -- ---- what is asked of each number
 
@@ -112,19 +112,15 @@ module _ (p : Program) where
   AreListed (x ∷ xs) (o ∷ os) = IsListed x o × AreListed xs os
 
   pub listed_left : (tokens : Tokens) (xs ys : List Place) (os qs : List Opening) → AreAgreed tokens p xs os → AreListed (xs ++ ys) (os ++ qs) → AreListed xs os
-  listed_left tokens [] ys os qs a h = tt
-  listed_left tokens (x ∷ xs) ys [] qs a h = tt
   listed_left tokens (x ∷ xs) ys (o ∷ os) qs a h = (h.0, listed_left tokens xs ys os qs a.1 h.1)
+  listed_left tokens _ ys _ qs a h = tt
 
   pub listed_right : (tokens : Tokens) (xs ys : List Place) (os qs : List Opening) → AreAgreed tokens p xs os → AreListed (xs ++ ys) (os ++ qs) → AreListed ys qs
   listed_right tokens [] ys [] qs a h = h
-  listed_right tokens [] ys (o ∷ os) qs a h = absurd a
-  listed_right tokens (x ∷ xs) ys [] qs a h = absurd a
   listed_right tokens (x ∷ xs) ys (o ∷ os) qs a h = listed_right tokens xs ys os qs a.1 h.1
+  listed_right tokens _ ys _ qs a h = absurd a
 
   listed_from : (before xs : List Place) (around os : List Opening) → places_of p ≡ before ++ xs → openings_of p ≡ around ++ os → length before ≡ length around → AreListed xs os
-  listed_from before [] around os e g same = tt
-  listed_from before (x ∷ xs) around [] e g same = tt
   listed_from before (x ∷ xs) around (o ∷ os) e g same =
       let there : slice_get (openings_of p) (length before) ≡ Some o = ap (λ (ys : List Opening). slice_get ys (length before)) g ∙ ap (slice_get (around ++ o ∷ os)) same ∙ slice_seam around o os in
       let place : slice_get (places_of p) (length before) ≡ Some x = ap (λ (ys : List Place). slice_get ys (length before)) e ∙ slice_seam before x xs in
@@ -138,6 +134,7 @@ module _ (p : Program) where
         },
         listed_from (before ++ x ∷ []) xs (around ++ o ∷ []) os (e ∙ sym (append_assoc before (x ∷ []) xs)) (g ∙ sym (append_assoc around (o ∷ []) os)) next,
       )
+  listed_from before _ around _ e g same = tt
 
   pub all_listed : AreListed (places_of p) (openings_of p)
   all_listed = listed_from [] (places_of p) [] (openings_of p) refl refl refl
@@ -172,8 +169,7 @@ module _ (p : Program) where
   pub noted_both : (tokens : Tokens) (xs ys : List Place) (os qs : List Opening) → AreAgreed tokens p xs os → AreNoted xs os → AreNoted ys qs → AreNoted (xs ++ ys) (os ++ qs)
   noted_both tokens [] ys [] qs a h g = g
   noted_both tokens (x ∷ xs) ys (o ∷ os) qs a h g = (h.0, noted_both tokens xs ys os qs a.1 h.1 g)
-  noted_both tokens [] ys (o ∷ os) qs a h g = absurd a
-  noted_both tokens (x ∷ xs) ys [] qs a h g = absurd a
+  noted_both tokens _ ys _ qs a h g = absurd a
 
   -- ---- a routine
 

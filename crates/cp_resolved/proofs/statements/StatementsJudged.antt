@@ -114,9 +114,8 @@ module _ (s : Scopes) (w : Context) (f : Bool) (scope : Scope) where
 
   assigned_same : (at : ℕ) (t : Target) (o : Operand) (u r : Use) → statements.assigned at t o u ≡ Ok r → u ≡ r
   assigned_same at (target.Assignable v) o u r e = (if_of (agree v o.value_type) u r _ [] e).1
-  assigned_same at (target.Fixed None) o u r e = absurd (cc)
   assigned_same at (target.Fixed (Some v)) o u r e = absurd (either_refused Use (agree v o.value_type) _ _ r e)
-  assigned_same at target.Kind o u r e = absurd (cc)
+  assigned_same at x o u r e = absurd (cc)
 
   assign_said : (at : ℕ) (i : Identifier) (ss : Selectors) (e : Expression) → AreSmallSelectors ss → IsSmallExpression e → (r : Use) → Below f r → statements.assignment s w at (name_with i ss) e ≡ Ok r → Said (selectors_calls scope ss ++ expression_calls scope e)
   unfolding statements.assignment
@@ -139,14 +138,11 @@ module _ (s : Scopes) (w : Context) (f : Bool) (scope : Scope) where
   -- of the parameters from a place on
   free_place : (b c : Bool) (o : Operand) → (if b && not c then calls.fault o.at C6 else []) ≡ [] → b ≡ true → c ≡ true
   free_place true true o k e = refl
-  free_place true false o k e = absurd (cc)
-  free_place false c o k e = absurd (cc)
+  free_place x y o k e = absurd (cc)
 
   assignable_no_function : (p : OperandUse) → is_assignable p ≡ true → is_function p ≡ false
-  assignable_no_function place.Assignable e = refl
-  assignable_no_function place.Value e = refl
-  assignable_no_function place.Fixed e = refl
   assignable_no_function place.Function e = absurd (cc)
+  assignable_no_function _ e = refl
 
   variables_fine : (all as' : List check_parameter.Parameter) (k : ℕ) (os : List Operand) → ((j : ℕ) → slice_get as' j ≡ slice_get all (j + k)) → all_variable_faults as' os ≡ [] → NoneFunctions s w f scope all k os
   variables_fine all as' k [] at none = tt
@@ -220,12 +216,7 @@ module _ (s : Scopes) (w : Context) (f : Bool) (scope : Scope) where
   performed_ok at predeclared.Continue os u r h is =
       let x = unless_ok (statements.waiting_faults s w at predeclared.Continue os) u r is in
       record { invoked = may at (statements.may_wait s w predeclared.Continue) (none_right (statements.queue_faults at os) _ x.0); below = subst (Below f) (sym x.1) h }
-  performed_ok at predeclared.Succ os u r h is = absurd (cc)
-  performed_ok at predeclared.Pred os u r h is = absurd (cc)
-  performed_ok at predeclared.Chr os u r h is = absurd (cc)
-  performed_ok at predeclared.Ord os u r h is = absurd (cc)
-  performed_ok at predeclared.Abs os u r h is = absurd (cc)
-  performed_ok at predeclared.Empty os u r h is = absurd (cc)
+  performed_ok at x os u r h is = absurd (cc)
 
   record NamedOk (d : check_designated.DesignatedName) (n : Named) (os : List Operand) (k : ℕ) : Type 0 where
     kind : IsInvoked n
@@ -247,11 +238,7 @@ module _ (s : Scopes) (w : Context) (f : Bool) (scope : Scope) where
       let x : ProcedureOk false n os d.uses r k = procedure_ok at d.name_at false n os d.uses r k is in
       let y = called_below s w f false n os d.uses r x.called h in
       record { kind = tt; invoked = entry_call s w f n os d.uses r x.called; first = y.0; others = y.1; fine = x.fine }
-  named_ok at d os (name.Variable v) r k h is = absurd (cc)
-  named_ok at d os (name.Parameter v) r k h is = absurd (cc)
-  named_ok at d os (name.Constant b) r k h is = absurd (cc)
-  named_ok at d os name.Kind r k h is = absurd (cc)
-  named_ok at d os name.Nothing r k h is = absurd (cc)
+  named_ok at d os x r k h is = absurd (cc)
 
   invoke_said : (at : ℕ) (i : Identifier) (ss : Selectors) (es : Expressions) → AreSmallSelectors ss → AreSmallExpressions es → (r : Use) → Below f r → statements.call s w at (name_with i ss) es ≡ Ok r → InvokeSaid (name_with i ss) × Said (selectors_calls scope ss ++ expressions_calls scope es)
   unfolding statements.call statements.invoked
@@ -273,21 +260,11 @@ module _ (s : Scopes) (w : Context) (f : Bool) (scope : Scope) where
   component_below at d os (types.Component k n) r h is =
       let x = unless_ok (calls.fit_faults at (heading_at n s).parameters os) (both_uses (calls.total_use d.uses os) (statements.start_use (statements.start_need k (as_need (shape_in n s.shapes))))) r is in
       total_below f d.uses os (first_below f (calls.total_use d.uses os) (statements.start_use (statements.start_need k (as_need (shape_in n s.shapes)))) (subst (Below f) (sym x.1) h))
-  component_below at d os (types.Ordinal q) r h is = absurd (cc)
-  component_below at d os types.Queue r h is = absurd (cc)
-  component_below at d os (types.Set q) r h is = absurd (cc)
-  component_below at d os (types.Array n) r h is = absurd (cc)
-  component_below at d os (types.Record n) r h is = absurd (cc)
+  component_below at d os x r h is = absurd (cc)
 
   started_below : (at : ℕ) (d : check_designated.DesignatedName) (os : List Operand) (n : Named) (r : Use) → Below f r → statements.started_named s at d os n ≡ Ok r → Below f d.uses × AreBelow f os
   started_below at d os (name.Variable v) r h is = component_below at d os v r h is
-  started_below at d os (name.Parameter v) r h is = absurd (cc)
-  started_below at d os (name.Constant b) r h is = absurd (cc)
-  started_below at d os name.Kind r h is = absurd (cc)
-  started_below at d os name.Nothing r h is = absurd (cc)
-  started_below at d os (name.Routine n) r h is = absurd (cc)
-  started_below at d os (name.Entry n) r h is = absurd (cc)
-  started_below at d os (name.Predeclared p) r h is = absurd (cc)
+  started_below at d os x r h is = absurd (cc)
 
   start_of : (at : ℕ) (i : Identifier) (ss : Selectors) (es : Expressions) → AreSmallSelectors ss → AreSmallExpressions es → (r : Use) → Below f r → (both (designator s w (name_with i ss)) (arguments s w [] 0 es) >>= statements.started s at) ≡ Ok r → Said (selectors_calls scope ss ++ expressions_calls scope es)
   unfolding statements.started

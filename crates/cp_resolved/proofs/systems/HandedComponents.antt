@@ -131,11 +131,7 @@ value_named x t = record { name = x; ty = t; is_var = false }
 
 parameter_types : (l : Layer) (ps : Parameters) (x : List ℕ) (v : CellType) → (system_parameter l ps x v).1.types ≡ l.types
 parameter_types l ps x (types.System j) = refl
-parameter_types l ps x (types.Ordinal r) = refl
-parameter_types l ps x types.Queue = refl
-parameter_types l ps x (types.Set r) = refl
-parameter_types l ps x (types.Array n) = refl
-parameter_types l ps x (types.Record n) = refl
+parameter_types l ps x _ = refl
 
 module _ (k : Numbering) where
   one_bound : (l : Layer) (ps : Parameters) (x : Name) (t : Ty) (v : CellType) (qs : List Parameter) → TypeIs k l.types t v → AreBoundAt l qs → AreBoundAt (system_parameter l ps x v).1 (qs ++ value_named x t ∷ [])

@@ -8,11 +8,11 @@ use Rattle.cp_layout.specs.LaidStatements.{statements}
 use Rattle.cp_layout.specs.LaidDeclarations.{heading, with_heading, opened, routine, routines, initial_statement, system, system_of, definition, system_definition, system_definitions, program_part, program_parts, constants, variables, program}
 use Rattle.cp_resolved.specs.Begun.{routine_begun, initial_begun, parameters_of, parts_begun, system_begun}
 use Rattle.cp_resolved.specs.TreeLayouts.{whole_laid}
-use Rattle.cp_resolved.proofs.laid.Declares.{heading_declares, local_parts_declare, type_declares, constants_declare, variables_declare}
+use Rattle.cp_resolved.proofs.laid.Declares.{type_declares, constants_declare, variables_declare}
 use Rattle.cp_resolved.proofs.names.Entries.{still_there, last_entry, last_or_before}
 use Rattle.cp_resolved.proofs.laid.Grown.{statements_grew}
 use Rattle.cp_resolved.proofs.components.Handed.{heading_owned, local_parts_owned}
-use Rattle.cp_resolved.proofs.names.StepsOfRoutines.{groups_routines, groups_systems}
+use Rattle.cp_resolved.proofs.names.StepsOfRoutines.{groups_routines, groups_systems, begun_routines, begun_systems}
 
 -- of a system type that is whole
 pub record OwnsAll (ss : List System) (v : RoutineView) : Type 0 where
@@ -53,19 +53,7 @@ some_same l m rs ks h n v e = inl (subst (λ ss. OwnsAll ss v) (sym ks) (h n v (
 all_same : (l m : Layer) → m.routines ≡ l.routines → m.systems ≡ l.systems → AllOwn l → AllOwn m
 all_same l m rs ks h n v e = subst (λ ss. OwnsAll ss v) (sym ks) (h n v (ap (λ us. slice_get us n) (sym rs) ∙ e))
 
-begun_routines : (l : Layer) (r : syntax.Routine) → (routine_begun l r).routines ≡ l.routines
-begun_routines l r =
-    let x : Layer = (opened l r.name.name).1 in
-    let y = heading x r.name.name r.kind in
-    ap (λ (j : Layer). j.routines) (local_parts_declare (with_heading y.1 y.0) r.parts).same ∙ ap (λ (j : Layer). j.routines) (heading_declares x r.name.name r.kind).same
-
-begun_systems : (l : Layer) (r : syntax.Routine) → (routine_begun l r).systems ≡ l.systems
-begun_systems l r =
-    let x : Layer = (opened l r.name.name).1 in
-    let y = heading x r.name.name r.kind in
-    ap (λ (j : Layer). j.systems) (local_parts_declare (with_heading y.1 y.0) r.parts).same ∙ ap (λ (j : Layer). j.systems) (heading_declares x r.name.name r.kind).same
-
-begun_owned : (l : Layer) (r : syntax.Routine) → (routine_begun l r).owned ≡ l.owned
+pub begun_owned : (l : Layer) (r : syntax.Routine) → (routine_begun l r).owned ≡ l.owned
 begun_owned l r =
     let x : Layer = (opened l r.name.name).1 in
     let y = heading x r.name.name r.kind in

@@ -21,6 +21,7 @@ use Rattle.cp_resolved.specs.Small.{Each}
 use Rattle.cp_resolved.proofs.names.Entries.{there, still_there}
 use Rattle.cp_resolved.proofs.names.PermanentNames.{found_cases, Under}
 use Rattle.cp_resolved.proofs.names.Steps.{cells_grown, type_grown}
+use Rattle.cp_resolved.proofs.agreeing.AgreeingWritten.{each_left}
 
 -- ---- components
 
@@ -77,10 +78,6 @@ abbrev pub AreLow : ℕ → List Contained → Type 0
 AreLow s cs = Each (λ (c : Contained). c.system < s) cs
 
 -- ---- more types and system types
-
-each_left : {A : Type 0} (P : A → Type 0) (xs ys : List A) → Each P (xs ++ ys) → Each P xs
-each_left P [] ys h = tt
-each_left P (x ∷ xs) ys h = (h.0, each_left P xs ys h.1)
 
 each_last : {A : Type 0} (P : A → Type 0) (xs : List A) (y : A) → Each P xs → P y → Each P (xs ++ y ∷ [])
 each_last P [] y h i = (i, tt)

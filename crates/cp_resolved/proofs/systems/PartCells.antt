@@ -16,7 +16,7 @@ use Rattle.cp_meaning.specs.Names.{Name, same_name}
 use Rattle.cp_meaning.specs.Scopes.{permanent_variable, find, since}
 use Rattle.cp_meaning.specs.Steps.{parameter_variables}
 use Rattle.cp_meaning.specs.Systems.{SystemMeaning, declared, program_system, own_meaning, or_own, system_of}
-use Rattle.cp_meaning.specs.Types.{Ty, ordinal, queue_type, set_over, array_over, record_with, component_of, has_components}
+use Rattle.cp_meaning.specs.Types.{Ty, array_over, component_of, has_components}
 use Rattle.cp_resolved.specs.Framed.{AreDeclared, system_variables}
 use Rattle.cp_resolved.specs.InStep.{FoundIs}
 use Rattle.cp_resolved.specs.Layouts.{is_parameter, look}
@@ -49,10 +49,7 @@ among_parameter x u (q ∷ qs) h (inr a) = go (same_name x q.name) (among_parame
 part_width : (u : Ty) → IsParameter u → has_components u ≡ true → width u ≡ 1
 part_width (component_of n) p h = refl
 part_width (array_over r t) p h = absurd (let bad : true ≡ false = sym h ∙ p in cc)
-part_width (ordinal r) p h = absurd (let bad : false ≡ true = h in cc)
-part_width queue_type p h = absurd (let bad : false ≡ true = h in cc)
-part_width (set_over r) p h = absurd (let bad : false ≡ true = h in cc)
-part_width (record_with ts) p h = absurd (let bad : false ≡ true = h in cc)
+part_width x p h = absurd (let bad : false ≡ true = h in cc)
 
 -- ---- their cells
 

@@ -119,14 +119,8 @@ pub record Owns (l : Layer) (ws : List Variable) : Type 0 where
 
 holds_more : (ws vs : List Variable) (x : Name) (m : LayoutMeaning) → Holds ws x m → Holds (ws ++ vs) x m
 holds_more ws vs x (meaning.Variable (origin.Permanent n) v) h = (h.0, look_left x h.0 ws vs h.1, h.2 ∙ ap (λ j. min j most) (sym (taken_left x h.0 ws vs h.1)))
-holds_more ws vs x (meaning.Variable (origin.Local n) v) h = tt
-holds_more ws vs x (meaning.Variable (origin.Reference n) v) h = tt
-holds_more ws vs x (meaning.Constant b z) h = tt
-holds_more ws vs x (meaning.Kind v) h = tt
-holds_more ws vs x (meaning.Contained n v) h = tt
 holds_more ws vs x (meaning.Bound n k) h = (h.0, look_left x h.0 ws vs h.1, h.2 ∙ ap (λ j. min j most) (sym (taken_left x h.0 ws vs h.1)))
-holds_more ws vs x (meaning.Routine n) h = tt
-holds_more ws vs x (meaning.Predeclared p) h = tt
+holds_more ws vs x _ h = tt
 
 holding_more : (ws vs : List Variable) (ns : Names) → AreHolding ws ns → AreHolding (ws ++ vs) ns
 holding_more ws vs ns h x m e = holds_more ws vs x m (h x m e)
@@ -138,14 +132,8 @@ IsUnheld m = Unit {0}
 
 unheld_holds : (ws : List Variable) (x : Name) (m : LayoutMeaning) → IsUnheld m → Holds ws x m
 unheld_holds ws x (meaning.Variable (origin.Permanent n) v) h = absurd h
-unheld_holds ws x (meaning.Variable (origin.Local n) v) h = tt
-unheld_holds ws x (meaning.Variable (origin.Reference n) v) h = tt
-unheld_holds ws x (meaning.Constant b z) h = tt
-unheld_holds ws x (meaning.Kind v) h = tt
-unheld_holds ws x (meaning.Contained n v) h = tt
 unheld_holds ws x (meaning.Bound n k) h = absurd h
-unheld_holds ws x (meaning.Routine n) h = tt
-unheld_holds ws x (meaning.Predeclared p) h = tt
+unheld_holds ws x _ h = tt
 
 pub holding_added : (ws : List Variable) (x : Name) (m : LayoutMeaning) (ns : Names) → IsUnheld m → AreHolding ws ns → AreHolding ws ((x, m) ∷ ns)
 holding_added ws x m ns i h y n e = go (found_cases (x, m) ns y n e)
@@ -207,12 +195,8 @@ more_cells : (ws : List Variable) (x : Name) (t : Ty) (n w : ℕ) → n ≡ min 
 more_cells ws x t n w e f = let a = taken_append ws (one_variable x t ∷ []) in let b : taken (one_variable x t ∷ []) ≡ width t + 0 = refl in omega (arith, a, b, e, f)
 
 plain_width : (t : Ty) → has_components t ≡ false → width t ≡ cells_of t
-plain_width (named.ordinal r) h = refl
-plain_width named.queue_type h = refl
-plain_width (named.set_over r) h = refl
-plain_width (named.array_over r t) h = refl
-plain_width (named.record_with us) h = refl
 plain_width (named.component_of n) h = absurd (let bad : true ≡ false = h in cc)
+plain_width _ h = refl
 
 pub width_plain : (t : Ty) → has_components t ≡ false → width t ≡ cells_of t
 width_plain = plain_width
@@ -332,11 +316,7 @@ module _ (k : Numbering) where
 
   system_parameter_types : (l : Layer) (ps : Parameters) (x : List ℕ) (v : CellType) → (system_parameter l ps x v).1.types ≡ l.types
   system_parameter_types l ps x (types.Ordinal r) = refl
-  system_parameter_types l ps x types.Queue = refl
-  system_parameter_types l ps x (types.Set r) = refl
-  system_parameter_types l ps x (types.Array n) = refl
-  system_parameter_types l ps x (types.Record n) = refl
-  system_parameter_types l ps x (types.System n) = refl
+  system_parameter_types l ps x _ = refl
 
   parameters_own : (l : Layer) (ps : Parameters) (t : Ty) (v : CellType) (is : List Identifier) (ws : List Variable) → IsParameter t → TypeIs k l.types t v → Firsts ws (named_variables (names_of is) t) → Owns l ws → Owns (system_parameters_of l ps v is).1 (ws ++ named_variables (names_of is) t)
   unfolding system_parameters_of

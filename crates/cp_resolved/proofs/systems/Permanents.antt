@@ -27,13 +27,14 @@ use Rattle.cp_resolved.proofs.frames.Cells.{count_same}
 use Rattle.cp_resolved.proofs.laid.Declared as declared_parts
 use Rattle.cp_resolved.proofs.laid.Declares.{Declares, type_declares, constants_declare, definitions_declare}
 use Rattle.cp_resolved.proofs.names.KeptNames as kept
-use Rattle.cp_resolved.proofs.laid.OwnedCells.{type_owned, constants_owned, definitions_owned}
+use Rattle.cp_resolved.proofs.laid.OwnedCells.{type_owned}
 use Rattle.cp_resolved.proofs.laid.Named.{IsType, AreTypes, Named}
 use Rattle.cp_resolved.proofs.systems.OwnedParts.{contained_of, OwnsAt, owns_grown, owns_cells, owns_bound, owns_variable, owns_components}
 use Rattle.cp_resolved.proofs.names.PermanentNames.{IsPermanent, IsOther, Under, under_same, under_added, open_found}
 use Rattle.cp_resolved.proofs.names.Steps.{all_inside}
 use Rattle.cp_resolved.proofs.names.StepsOfParts.{Reached, variables_reached, permanent_parts_reached, system_groups_reached}
 use Rattle.cp_resolved.proofs.names.StepsOfTypes.{Written, named_type_same, type_written, numbered_left, numbered_after}
+use Rattle.cp_resolved.proofs.components.Handed.{constants_owned, definitions_owned}
 
 -- ---- the components of a type
 
@@ -51,9 +52,6 @@ module _ (k : Numbering) (ts : Compounds) (s : ℕ) where
   in_array r v number element e there o f = ap (components_of ts) e ∙ ap (λ p. components_in (as_array p)) there ∙ f
 
   contained_same : (t : Ty) (v : CellType) → TypeIs k ts t v → IsType s v → AreTypes s ts → ContainedAre ts s t v
-  contained_same (named.ordinal r) v h i all = inl (refl, ap (components_of ts) h)
-  contained_same named.queue_type v h i all = inl (refl, ap (components_of ts) h)
-  contained_same (named.set_over r) v h i all = inl (refl, ap (components_of ts) h)
   contained_same (named.record_with us) v h i all = inl (refl, ap (components_of ts) h.is)
   contained_same (named.component_of n) v h i all = inr (record { components = record { system = n; count = 1 }; one = refl; is = ap (components_of ts) h; low = subst (IsType s) h i })
   contained_same (named.array_over r (named.ordinal q)) v h i all = inl (refl, in_array r v h.number h.element h.is h.there None (ap (array_components (array_type ts (range_on k r) h.element)) h.belongs))
@@ -69,11 +67,9 @@ module _ (k : Numbering) (ts : Compounds) (s : ℕ) where
         is = in_array r v h.number h.element h.is h.there (Some c) (ap (array_components (array_type ts (range_on k r) h.element)) h.belongs ∙ ap (λ m. Some (record { system = n; count = m })) (count_same k r));
         low = subst (IsType s) h.belongs (all h.number (array (array_type ts (range_on k r) h.element)) h.there);
       })
+  contained_same _ v h i all = inl (refl, ap (components_of ts) h)
 
 -- ---- names of constants and types lead to no more
-
-constant_other : (m : LayoutMeaning) → IsOther m → IsOther m
-constant_other m h = h
 
 module _ (ns : Names) where
   under_type : (l : Layer) (t : syntax.TypeTerm) → Under ns l.names → Under ns (written_type l t).1.names
@@ -185,11 +181,7 @@ module _ (k : Numbering) where
 
   parameter_types : (l : Layer) (ps : Parameters) (x : List ℕ) (v : CellType) → (system_parameter l ps x v).1.types ≡ l.types
   parameter_types l ps x (types.System j) = refl
-  parameter_types l ps x (types.Ordinal r) = refl
-  parameter_types l ps x types.Queue = refl
-  parameter_types l ps x (types.Set r) = refl
-  parameter_types l ps x (types.Array n) = refl
-  parameter_types l ps x (types.Record n) = refl
+  parameter_types l ps x _ = refl
 
   parameters_own : (l : Layer) (ps : Parameters) (t : Ty) (v : CellType) (is : List Identifier) → TypeIs k l.types t v → OwnsAt k l [] → OwnsAt k (system_parameters_of l ps v is).1 []
   unfolding system_parameters_of

@@ -30,23 +30,20 @@ contents_cells ts (content.Component ∷ cs) = 1 + contents_cells ts cs
 -- ---- the first ones of a list
 
 take_last : {X : Type 0} (xs : List X) (n : ℕ) → slice_get (take (suc n) xs) n ≡ slice_get xs n
-take_last [] n = refl
-take_last (x ∷ xs) zero = refl
 take_last (x ∷ xs) (suc n) = take_last xs n
+take_last _ _ = refl
 
 take_other : {X : Type 0} (xs : List X) (n k : ℕ) → (k ≡ n → ⊥) → slice_get (take (suc n) xs) k ≡ slice_get (take n xs) k
 take_other [] zero k h = refl
-take_other [] (suc n) k h = refl
 take_other (x ∷ xs) zero zero h = absurd (h refl)
-take_other (x ∷ xs) zero (suc k) h = refl
-take_other (x ∷ xs) (suc n) zero h = refl
 take_other (x ∷ xs) (suc n) (suc k) h = take_other xs n k (λ e. h (ap suc e))
+take_other _ _ _ h = refl
 
 take_whole : {X : Type 0} (xs : List X) → take (length xs) xs ≡ xs
 take_whole [] = refl
 take_whole (x ∷ xs) = ap (λ ys. x ∷ ys) (take_whole xs)
 
-take_more : {X : Type 0} (xs ys : List X) (n : ℕ) → n ≤ length xs → take n (xs ++ ys) ≡ take n xs
+pub take_more : {X : Type 0} (xs ys : List X) (n : ℕ) → n ≤ length xs → take n (xs ++ ys) ≡ take n xs
 take_more xs ys zero le = refl
 take_more [] ys (suc n) le = absurd (omega arith)
 take_more (x ∷ xs) ys (suc n) le = ap (λ zs. x ∷ zs) (take_more xs ys n (omega arith))
@@ -70,10 +67,7 @@ compound_more ts more n = go (slice_get ts n) refl
 pub cells_more : (ts more : Compounds) (t : CellType) → cells_of ts t ≤ cells_of (ts ++ more) t
 cells_more ts more (types.Array n) = compound_more ts more n
 cells_more ts more (types.Record n) = compound_more ts more n
-cells_more ts more (types.Ordinal r) = omega arith
-cells_more ts more types.Queue = omega arith
-cells_more ts more (types.Set r) = omega arith
-cells_more ts more (types.System n) = omega arith
+cells_more ts more x = omega arith
 
 pub fields_more : (ts more : Compounds) (fs : List Field) → fields_cells ts fs ≤ fields_cells (ts ++ more) fs
 fields_more ts more [] = omega arith
@@ -105,18 +99,15 @@ unfolding copies
 copies_length zero zs = omega arith
 copies_length (suc n) zs = length-append (copies n zs) zs ∙ (let e = copies_length n zs in omega (arith, e))
 
-times_more : (n a b : ℕ) → a ≤ b → n * a ≤ n * b
+pub times_more : (n a b : ℕ) → a ≤ b → n * a ≤ n * b
 times_more zero a b le = omega arith
 times_more (suc n) a b le = let h = times_more n a b le in omega (arith, h, le)
 
 module _ (ts : Compounds) (bound : ℕ) (compound : ℕ → List ℤ) (below : (n : ℕ) → compound_cells (slice_get (take bound ts) n) ≤ length (compound n)) where
   type_least : (t : CellType) → cells_of (take bound ts) t ≤ length (least_by compound t)
-  type_least (types.Ordinal r) = omega arith
-  type_least types.Queue = omega arith
-  type_least (types.Set r) = omega arith
   type_least (types.Array n) = below n
   type_least (types.Record n) = below n
-  type_least (types.System n) = omega arith
+  type_least x = omega arith
 
   fields_length : (fs : List Field) → fields_cells (take bound ts) fs ≤ length (fields_least compound fs)
   unfolding fields_least

@@ -13,7 +13,7 @@ use Rattle.cp_meaning.specs.Names.{Name, same_name}
 use Rattle.cp_meaning.specs.Types.{Ty, has_components}
 use Rattle.cp_meaning.specs.Values.{least}
 use Rattle.cp_meaning.specs.Scopes as scopes
-use Rattle.cp_meaning.specs.Scopes.{Scope, permanent_variable, find}
+use Rattle.cp_meaning.specs.Scopes.{permanent_variable, find}
 use Rattle.cp_meaning.specs.Declarations.{Variable}
 use Rattle.cp_meaning.specs.State.{Content, holds, Environment}
 use Rattle.cp_meaning.specs.Places.{content_of, value_held}
@@ -33,6 +33,7 @@ use Rattle.cp_resolved.proofs.frames.LeastCells.{standing_typed}
 use Rattle.cp_resolved.proofs.systems.PermanentCells.{width, width_plain, taken, taken_before, taken_inside, taken_apart, Holds, Owns, Follow, Firsts}
 use Rattle.cp_resolved.proofs.agreeing.ScopeVariables.{Among, among_left, among_right, look_among, never_missing, among_look, components_append, among_all, among_some}
 use Rattle.cp_resolved.proofs.names.Steps.{found_in}
+use Rattle.cp_meaning.proofs.OwnLocal.{nothing_append as content_right}
 
 -- ---- what a variable has at first
 
@@ -42,14 +43,6 @@ content_left x c (e ∷ es) fs h = go (same_name x e.0) h (content_left x c es f
   where
     go : (b : Bool) → (if b then Some e.1 else content_of x es) ≡ Some c → (content_of x es ≡ Some c → content_of x (es ++ fs) ≡ Some c) → (if b then Some e.1 else content_of x (es ++ fs)) ≡ Some c
     go true f rest = f
-    go false f rest = rest f
-
-pub content_right : (x : Name) (es fs : Environment) → content_of x es ≡ None → content_of x (es ++ fs) ≡ content_of x fs
-content_right x [] fs h = refl
-content_right x (e ∷ es) fs h = go (same_name x e.0) h (content_right x es fs)
-  where
-    go : (b : Bool) → (if b then Some e.1 else content_of x es) ≡ None → (content_of x es ≡ None → content_of x (es ++ fs) ≡ content_of x fs) → (if b then Some e.1 else content_of x (es ++ fs)) ≡ content_of x fs
-    go true f rest = absurd (none-some e.1 (sym f))
     go false f rest = rest f
 
 pub least_none : (x : Name) (vs : List Variable) → look x (components_among false vs) ≡ None → content_of x (least_of vs) ≡ None

@@ -25,7 +25,7 @@ use Rattle.cp_resolved.proofs.laid.Declares.{type_declares, constants_declare, v
 use Rattle.cp_resolved.proofs.laid.Extends.{Longer, Extends, extends_trans, initial_extends, routines_extend, system_extends, system_definitions_extend, program_parts_extend}
 use Rattle.cp_resolved.proofs.systems.HandedComponents.{AreBound, system_bound}
 use Rattle.cp_resolved.proofs.names.KeptNames as kept
-use Rattle.cp_resolved.proofs.laid.OwnedCells.{body_owned, routines_owned, definition_owned, constants_owned}
+use Rattle.cp_resolved.proofs.laid.OwnedCells.{definition_owned}
 use Rattle.cp_resolved.proofs.systems.OwnedParts.{all_contained, AreLow, OwnsAt, Owns, owns_grown}
 use Rattle.cp_resolved.proofs.systems.Owning.{Outside}
 use Rattle.cp_resolved.proofs.names.PermanentNames.{IsOther, Under, under_same, under_added, BoundIn, program_bound, parts_bound}
@@ -35,6 +35,7 @@ use Rattle.cp_resolved.proofs.names.StepsOfProgram.{Standing, Stood, definition_
 use Rattle.cp_resolved.proofs.names.StepsOfRoutines.{body_systems, routines_systems, opened_left, groups_systems, parts_begun_reached}
 use Rattle.cp_resolved.proofs.names.StepsOfTypes.{numbered_left, numbered_after}
 use Rattle.cp_resolved.proofs.laid.Whole.{Whole, system_entered, definition_laid, named_laid, part_laid, nothing_whole}
+use Rattle.cp_resolved.proofs.components.Handed.{body_owned, constants_owned, routines_owned}
 
 -- a permanent variable is declared before the routines
 routines_found : (x : Name) (t : Ty) (s : Scope) (rs : List syntax.Routine) → scopes.find x (with_routines s rs) ≡ Some (permanent_variable t) → scopes.find x s ≡ Some (permanent_variable t)
@@ -72,10 +73,7 @@ module _ (k : Numbering) (end : Layer) where
   laid_append : (n : ℕ) (ss : List System) (ms : List SystemMeaning) (ls : List Layer) (us : List System) (vs : List SystemMeaning) (ws : List Layer) → AreLaid n ss ms ls → AreLaid (n + length ss) us vs ws → AreLaid n (ss ++ us) (ms ++ vs) (ls ++ ws)
   laid_append n [] [] [] us vs ws h i = let e : n + 0 ≡ n = omega arith in subst (λ j. AreLaid j us vs ws) e i
   laid_append n (s ∷ ss) (m ∷ ms) (l ∷ ls) us vs ws h i = let e : n + suc (length ss) ≡ suc n + length ss = omega arith in (h.0, laid_append (suc n) ss ms ls us vs ws h.1 (subst (λ j. AreLaid j us vs ws) e i))
-  laid_append n [] [] (l ∷ ls) us vs ws h i = absurd h
-  laid_append n [] (m ∷ ms) ls us vs ws h i = absurd h
-  laid_append n (s ∷ ss) [] ls us vs ws h i = absurd h
-  laid_append n (s ∷ ss) (m ∷ ms) [] us vs ws h i = absurd h
+  laid_append n _ _ _ us vs ws h i = absurd h
 
   -- the system types that came
   pub record Added (l m : Layer) (d e : Declared) (ls : List Layer) : Type 0 where
@@ -244,10 +242,7 @@ module _ (k : Numbering) (end : Layer) where
   laid_count : (n : ℕ) (ss : List System) (ms : List SystemMeaning) (ls : List Layer) → AreLaid n ss ms ls → (length ss ≡ length ms) × (length ls ≡ length ms)
   laid_count n [] [] [] h = (refl, refl)
   laid_count n (s ∷ ss) (m ∷ ms) (l ∷ ls) h = let a = laid_count (suc n) ss ms ls h.1 in (ap suc a.0, ap suc a.1)
-  laid_count n [] [] (l ∷ ls) h = absurd h
-  laid_count n [] (m ∷ ms) ls h = absurd h
-  laid_count n (s ∷ ss) [] ls h = absurd h
-  laid_count n (s ∷ ss) (m ∷ ms) [] h = absurd h
+  laid_count n _ _ _ h = absurd h
 
   -- all system types, and the program itself
   pub record AllLaid (t : syntax.Tree) : Type 0 where

@@ -32,7 +32,6 @@ use Rattle.cp_resolved.proofs.names.BegunKnown.{parts_many}
 use Rattle.cp_resolved.proofs.items.BodiesStand.{laid_routines, EndsAt, ends_at}
 use Rattle.cp_resolved.proofs.items.Ended.{all_end}
 use Rattle.cp_resolved.proofs.names.Entries.{there, not_there}
-use Rattle.cp_resolved.proofs.frames.FrameCells.{each_left, each_right}
 use Rattle.cp_resolved.proofs.laid.Grown.{statements_grew}
 use Rattle.cp_resolved.proofs.names.Opened.{opened_all}
 use Rattle.cp_resolved.proofs.systems.PermanentCells.{Owns}
@@ -45,6 +44,7 @@ use Rattle.cp_resolved.proofs.systems.Sizes.{Counted}
 use Rattle.cp_resolved.proofs.systems.SystemKnown.{found_among, system_fits, cells_inside, cells_apart, first_typed}
 use Rattle.cp_resolved.proofs.names.TreeKnown.{permanent_sized, Opens, opens_of, layouts_law}
 use Rattle.cp_resolved.proofs.laid.Whole.{ProgramLaid, program_laid}
+use Rattle.cp_resolved.proofs.agreeing.AgreeingWritten.{each_left, each_right}
 
 pub each_map : {A : Type 0} (P Q : A → Type 0) (xs : List A) → ((x : A) → P x → Q x) → Each P xs → Each Q xs
 each_map P Q [] f h = tt
@@ -71,9 +71,8 @@ module _ (k : Numbering) (p : syntax.Program) (end : Layer) (counted : Counted e
 
   pub seats_many : (ls : List Layer) (os : List Opening) → AreSeated k p end counted ls os → length ls ≡ length os
   seats_many [] [] h = refl
-  seats_many [] (o ∷ os) h = absurd h
-  seats_many (l ∷ ls) [] h = absurd h
   seats_many (l ∷ ls) (o ∷ os) h = ap suc (seats_many ls os h.1)
+  seats_many _ _ h = absurd h
 
 laid_systems : (t : syntax.Tree) → (laid t).systems ≡ system_types (whole_laid t).systems (whole_laid t).owned
 unfolding laid tables_laid

@@ -26,7 +26,7 @@ use Rattle.cp_meaning.specs.Declarations.{RoutineMeaning}
 use Rattle.cp_meaning.specs.Expressions.{routine_of_type}
 use Rattle.cp_resolved.specs.Begun.{routine_begun, all_begun}
 use Rattle.cp_resolved.specs.BodiesStand.{ground_of, BodyFormed}
-use Rattle.cp_resolved.specs.Compiled.{as_ordinal, then_form, Designated, a_variable, some_components, a_component, result_begun, begun_form, ordinal_form, with_index_form, with_element_form, expression_form, selected_form}
+use Rattle.cp_resolved.specs.Compiled.{as_ordinal, then_form, Designated, a_variable, a_component, result_begun, begun_form, ordinal_form, with_index_form, with_element_form, expression_form, selected_form}
 use Rattle.cp_resolved.specs.FormedParts.{HeadingIs, KnowsHeadings}
 use Rattle.cp_resolved.specs.FormedStatements.{KnowsStarts}
 use Rattle.cp_resolved.specs.InStep.{Numbering}
@@ -162,8 +162,7 @@ no_component (syntax.more_selectors (syntax.index o) ss) (a_variable q (ordinal 
     let u = inside (ordinal_form v.0.form) (with_element_form h (a_variable q (ordinal r))) w.0 v.2 in
     none-some w.0 u.2
 no_component ss (a_variable q t) c n i e = absurd i
-no_component ss (some_components first r m) c n i e = absurd i
-no_component ss (a_component q m) c n i e = absurd i
+no_component ss _ c n i e = absurd i
 
 starts_known : KnowsStarts k h begun_p
 starts_known (syntax.designator x ss) c n e =

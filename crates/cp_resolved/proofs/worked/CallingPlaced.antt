@@ -40,16 +40,14 @@ sized : (n : ℕ) → AreSized (meaning_at calling.program n).scope
 sized n = found_sized (meaning_at calling.program n).scope (all_sized n)
 
 words : (n : ℕ) → AreWords (meaning_at calling.program n).scope
-words zero = (tt, (tt, (tt, (tt, (tt, (tt, (tt, (tt, (tt, (tt, (tt, (tt, (tt, (tt, (tt, (tt, (tt, (tt, tt))))))))))))))))))
 words (suc zero) = (tt, (tt, (tt, (tt, (tt, (tt, (tt, (tt, (tt, (tt, (tt, (tt, (tt, (tt, (tt, (tt, (tt, (tt, (tt, tt)))))))))))))))))))
 words (suc (suc zero)) = (tt, (tt, (tt, (tt, (tt, (tt, (tt, (tt, (tt, (tt, (tt, (tt, (tt, (tt, (tt, (tt, (tt, (tt, tt))))))))))))))))))
-words (suc (suc (suc n))) = (tt, (tt, (tt, (tt, (tt, (tt, (tt, (tt, (tt, (tt, (tt, (tt, (tt, (tt, (tt, (tt, (tt, (tt, tt))))))))))))))))))
+words _ = (tt, (tt, (tt, (tt, (tt, (tt, (tt, (tt, (tt, (tt, (tt, (tt, (tt, (tt, (tt, (tt, (tt, (tt, tt))))))))))))))))))
 
 apart : (n : ℕ) → AreApart (all_calls_laid (meaning_at calling.program n).scope (meaning_at calling.program n).body)
-apart zero = tt
 apart (suc zero) = ((λ at i. absurd i), tt)
 apart (suc (suc zero)) = tt
-apart (suc (suc (suc n))) = tt
+apart _ = tt
 
 pub calling_placed : IsPlaced calling
 calling_placed = record { plain = plain; once = record { routines = (tt, tt); variables = others }; sized = sized; words = words; apart = apart }

@@ -2,7 +2,6 @@
 use Rattle.std.proofs.Common.{◌≡◌, ◌∙◌, ℕ, zero, suc, ◌+◌, ◌<◌, ◌≤◌, ◌⊎◌, inl, inr, Bool, true, false, if◌then◌else◌, List, [], ◌∷◌, map, length, replicate, Option, Some, None, ap, sym, refl, subst, arith, get_or}
 use Rattle.std.specs.Prelude.{ℤ, pos, negsuc, codes, slice_index, slice_index_or}
 use Rattle.std.proofs.lemmas.List.{length-map}
-use Rattle.std.proofs.lemmas.Slice.Eq.{bytes_eq-Decides}
 use Rattle.cp_tree.specs.declared.constant.Identifier.{Identifier}
 use Rattle.cp_tree.specs.declared.expression.Addition.TheVariants.{Plus}
 use Rattle.cp_tree.specs.Syntax.{Expression, alone, sum, no_terms, more_terms, term, no_factors, number, named, no_expressions, more_expressions, Designator, designator, no_selectors, assign, invoke, no_statements, more_statements, simple, type_name, function, procedure, Routine, program_variables, Tree}
@@ -26,6 +25,7 @@ use Rattle.cp_resolved.specs.Encoded.{encode, HasType}
 use Rattle.cp_resolved.specs.Compiled.{as_ordinal}
 use Rattle.cp_resolved.specs.Stands.{Ground, ItemAt, CallItem}
 use Rattle.cp_resolved.specs.Resolved.{StandsAt, ContainedAt, initial_meaning, first_value, first_permanent, FrameIs, RoutineIs, SystemIs, ComponentIs, ProcessIs, Stands}
+use Rattle.cp_resolved.proofs.frames.FrameCells.{same_is}
 
 -- ---- the program
 
@@ -177,9 +177,6 @@ layouts =
 
 -- ---- names
 
-same_is : (x y : Name) → same_name x y ≡ true → x ≡ y
-same_is x y e = (bytes_eq-Decides x y).0 e
-
 -- what a scope says of each of its names holds of what is found
 abbrev Says : (Name → Meaning → Type 0) → Scope → Type 0
 Says P [] = Unit {0}
@@ -216,9 +213,8 @@ module _ (items : List code_item.Item) (seen : map code.item_seen items ≡ item
   five = sym (length-map items code.item_seen) ∙ ap length seen
 
   seen_at : (xs : List code_item.Item) (n : ℕ) → code.item_seen (get_or xs n no_item) ≡ get_or (map code.item_seen xs) n (code.item_seen no_item)
-  seen_at [] n = refl
-  seen_at (x ∷ xs) zero = refl
   seen_at (x ∷ xs) (suc n) = seen_at xs n
+  seen_at _ _ = refl
 
   item_is : (n : ℕ) → code.item_seen (item_at (tables items) n) ≡ get_or items_wanted n (code.item_seen no_item)
   item_is n = seen_at items n ∙ ap (λ xs. get_or xs n (code.item_seen no_item)) seen

@@ -1,5 +1,5 @@
-use Rattle.cp_at_once.proofs.Nothing.{none_well}
 use Rattle.cp_at_once.proofs.search.search_with.Goals as goal
+use Rattle.cp_machine.proofs.CallOutcomes.{none_well}
 
 pub returns-in_err-state : goal.returns-in_err-state
 returns-in_err-state g c = none_well c.from_residual.result _ _ c.from_residual.ensures.1

@@ -1,4 +1,4 @@
-use Rattle.std.proofs.Common.{◌≡◌, ◌∙◌, ◌++◌, ℕ, List, Option, map, string_bytes, sym, ap, subst}
+use Rattle.std.proofs.Common.{◌∙◌, ◌++◌, ℕ, Option, map, string_bytes, sym, ap, subst}
 use Rattle.cp_ends.specs.Holds.{AreFound, end_origin, value_origin}
 use Rattle.cp_ends.specs.Told.{ends_text, head_text}
 use Rattle.cp_ends.proofs.Keeping.{states_length}

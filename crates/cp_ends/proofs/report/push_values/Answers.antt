@@ -1,4 +1,4 @@
-use Rattle.std.proofs.Common.{◌∙◌, string_bytes, codes}
+use Rattle.std.proofs.Common.{◌∙◌, string_bytes}
 use Rattle.cp_ends.specs.Told.{told}
 use Rattle.cp_ends.proofs.Listing.{values_so}
 use Rattle.cp_ends.proofs.report.push_values.Goals as goal

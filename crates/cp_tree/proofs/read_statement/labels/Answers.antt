@@ -7,31 +7,31 @@ use Rattle.cp_tree.proofs.Turns as turns
 use Rattle.cp_tree.proofs.read_statement.labels.Goals as goal
 
 pub loop-turn-init : goal.loop-turn-init
-loop-turn-init c = begins (behind mark.Comma constant) c.push.new.self.items c.push.new.self.items c.constant.new.cursor c.left-turn-end.result c.left-turn-end.ensures refl
+loop-turn-init c = begins (behind mark.Comma constant) c.push.new.self.items c.push.new.self.items c.constant.new.cursor c.tokens_left-turn-end.result c.tokens_left-turn-end.ensures refl
 
 pub returns-then-not-eat : goal.returns-then-not-eat
 unfolding labels separated
 returns-then-not-eat c =
     let s = begun constant (behind mark.Comma constant) c.args.cursor.now c.constant.new.cursor c.in_ok-constant.field-0 c.push.new.self.items c.in_ok-constant.ensures (c.in_ok-push.ensures.items ∙ ap (λ l. l ++ c.in_ok-constant.field-0 ∷ []) c.new-found.ensures.items) in
-    let e = turns.one_more (λ n. many_from (behind mark.Comma constant) n c.loop-turn.found.items c.loop-turn.cursor) c.left-turn-end.result c.loop-turn._turn c.loop-turn-test.true c.loop-turn.invariant in
-    s ∙ e ∙ stops (behind mark.Comma constant) (c.left-turn-end.result - (c.loop-turn._turn + 1)) c.loop-turn.found.items c.loop-turn.cursor c.eat.new.self (behind_no mark.Comma constant c.loop-turn.cursor c.eat.new.self c.eat.ensures.after (sym c.eat.ensures.found ∙ c.if-not-eat.true))
+    let e = turns.one_more (λ n. many_from (behind mark.Comma constant) n c.loop-turn.found.items c.loop-turn.cursor) c.tokens_left-turn-end.result c.loop-turn._turn c.loop-turn-test.true c.loop-turn.invariant in
+    s ∙ e ∙ stops (behind mark.Comma constant) (c.tokens_left-turn-end.result - (c.loop-turn._turn + 1)) c.loop-turn.found.items c.loop-turn.cursor c.eat.new.self (behind_no mark.Comma constant c.loop-turn.cursor c.eat.new.self c.eat.ensures.after (sym c.eat.ensures.found ∙ c.if-not-eat.true))
 
 pub returns-in_err-constant-2 : goal.returns-in_err-constant-2
 unfolding labels separated
 returns-in_err-constant-2 c =
     let s = begun constant (behind mark.Comma constant) c.args.cursor.now c.constant.new.cursor c.in_ok-constant.field-0 c.push.new.self.items c.in_ok-constant.ensures (c.in_ok-push.ensures.items ∙ ap (λ l. l ++ c.in_ok-constant.field-0 ∷ []) c.new-found.ensures.items) in
-    let e = turns.one_more (λ n. many_from (behind mark.Comma constant) n c.loop-turn.found.items c.loop-turn.cursor) c.left-turn-end.result c.loop-turn._turn c.loop-turn-test.true c.loop-turn.invariant in
-    reads_err c.from_residual-in_err-constant-2.result (λ v. v.items) _ c.constant-in-loop-turn.new.cursor c.in_err-constant-2.field-0.0 _ c.from_residual-in_err-constant-2.ensures.1 (λ f h. h) (λ differs. s ∙ e ∙ fails (behind mark.Comma constant) (c.left-turn-end.result - (c.loop-turn._turn + 1)) c.loop-turn.found.items c.loop-turn.cursor c.in_err-constant-2.field-0.0 (behind_fails mark.Comma constant c.loop-turn.cursor c.eat.new.self c.eat.ensures.after c.in_err-constant-2.field-0.0 (sym c.eat.ensures.found ∙ c.if-not-eat.false) (c.in_err-constant-2.ensures differs)))
+    let e = turns.one_more (λ n. many_from (behind mark.Comma constant) n c.loop-turn.found.items c.loop-turn.cursor) c.tokens_left-turn-end.result c.loop-turn._turn c.loop-turn-test.true c.loop-turn.invariant in
+    reads_err c.from_residual-in_err-constant-2.result (λ v. v.items) _ c.constant-in-loop-turn.new.cursor c.in_err-constant-2.field-0.0 _ c.from_residual-in_err-constant-2.ensures.1 (λ f h. h) (λ differs. s ∙ e ∙ fails (behind mark.Comma constant) (c.tokens_left-turn-end.result - (c.loop-turn._turn + 1)) c.loop-turn.found.items c.loop-turn.cursor c.in_err-constant-2.field-0.0 (behind_fails mark.Comma constant c.loop-turn.cursor c.eat.new.self c.eat.ensures.after c.in_err-constant-2.field-0.0 (sym c.eat.ensures.found ∙ c.if-not-eat.false) (c.in_err-constant-2.ensures differs)))
 
 pub loop-turn-preserved : goal.loop-turn-preserved
 loop-turn-preserved c =
-    let e = turns.one_more (λ n. many_from (behind mark.Comma constant) n c.loop-turn.found.items c.loop-turn.cursor) c.left-turn-end.result c.loop-turn._turn c.loop-turn-test.true c.loop-turn.invariant in
+    let e = turns.one_more (λ n. many_from (behind mark.Comma constant) n c.loop-turn.found.items c.loop-turn.cursor) c.tokens_left-turn-end.result c.loop-turn._turn c.loop-turn-test.true c.loop-turn.invariant in
     let same = c.in_ok-push-2.ensures.items in
-    e ∙ goes (behind mark.Comma constant) (c.left-turn-end.result - (c.loop-turn._turn + 1)) c.loop-turn.found.items c.loop-turn.cursor c.in_ok-constant-2.field-0 c.constant-in-loop-turn.new.cursor c.push-in-loop-turn.new.self.items (behind_goes mark.Comma constant c.loop-turn.cursor c.eat.new.self c.eat.ensures.after c.in_ok-constant-2.field-0 c.constant-in-loop-turn.new.cursor (sym c.eat.ensures.found ∙ c.if-not-eat.false) c.in_ok-constant-2.ensures) same
+    e ∙ goes (behind mark.Comma constant) (c.tokens_left-turn-end.result - (c.loop-turn._turn + 1)) c.loop-turn.found.items c.loop-turn.cursor c.in_ok-constant-2.field-0 c.constant-in-loop-turn.new.cursor c.push-in-loop-turn.new.self.items (behind_goes mark.Comma constant c.loop-turn.cursor c.eat.new.self c.eat.ensures.after c.in_ok-constant-2.field-0 c.constant-in-loop-turn.new.cursor (sym c.eat.ensures.found ∙ c.if-not-eat.false) c.in_ok-constant-2.ensures) same
 
 pub returns : goal.returns
 unfolding labels separated
 returns c =
     let s = begun constant (behind mark.Comma constant) c.args.cursor.now c.constant.new.cursor c.in_ok-constant.field-0 c.push.new.self.items c.in_ok-constant.ensures (c.in_ok-push.ensures.items ∙ ap (λ l. l ++ c.in_ok-constant.field-0 ∷ []) c.new-found.ensures.items) in
-    let e = turns.no_more (λ n. many_from (behind mark.Comma constant) n c.loop-turn.found.items c.loop-turn.cursor) c.left-turn-end.result c.loop-turn._turn c.loop-turn-test.false c.loop-turn.invariant in
+    let e = turns.no_more (λ n. many_from (behind mark.Comma constant) n c.loop-turn.found.items c.loop-turn.cursor) c.tokens_left-turn-end.result c.loop-turn._turn c.loop-turn-test.false c.loop-turn.invariant in
     s ∙ e ∙ ends (behind mark.Comma constant) c.loop-turn.found.items c.loop-turn.cursor

@@ -1,5 +1,5 @@
-use Rattle.std.proofs.Common.{◌≡◌, ◌∙◌, [], ◌∷◌, true, false, refl, sym, ap}
-use Rattle.cp_machine.specs.System.{Machine, machine_of, is_pending}
+use Rattle.std.proofs.Common.{◌≡◌, ◌∙◌, [], ◌∷◌, true, false, refl}
+use Rattle.cp_machine.specs.System.{machine_of, is_pending}
 use Rattle.cp_machine.proofs.CallerLemmas.{pending_is, line_within, admitted_free}
 use Rattle.cp_run.specs.Slots.{slots}
 use Rattle.cp_run.proofs.Choosing.{may_in_line, may_be_ready}
@@ -8,8 +8,9 @@ use Rattle.cp_endless.specs.Silent.{silent_slots, without_output, in_call_on_slo
 use Rattle.cp_ends.proofs.Arriving.{settled_alike}
 use Rattle.cp_waits.specs.Legs.{choice_leg}
 use Rattle.cp_waits.specs.declared.watching.Came.TheVariants as came
-use Rattle.cp_waits.proofs.Legs.{comes_same, leg_by, next_free, next_let_in, ok_to, over_at_once}
+use Rattle.cp_waits.proofs.Legs.{comes_same, leg_by, next_free, next_let_in, over_at_once}
 use Rattle.cp_waits.proofs.watching.choose.Goals as goal
+use Rattle.cp_run.proofs.Tracing.{ok_as as ok_to}
 
 pub stretch-requires-clause-ready : goal.stretch-requires-clause-ready
 stretch-requires-clause-ready g c =

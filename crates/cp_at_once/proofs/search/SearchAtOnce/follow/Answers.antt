@@ -6,10 +6,10 @@ use Rattle.cp_ends.proofs.GoingOn.{ok_to}
 use Rattle.cp_at_once.specs.Legs.{HasLeg}
 use Rattle.cp_at_once.proofs.Following.{at_end, at_kept, at_leg, going_first, leads_to}
 use Rattle.cp_at_once.proofs.Keeping.{word_longer}
-use Rattle.cp_at_once.proofs.Nothing.{none_well}
 use Rattle.cp_machine.specs.System.{IsStateOf}
 use Rattle.std.proofs.Common.{subst, sym}
 use Rattle.cp_at_once.proofs.search.SearchAtOnce.follow.Goals as goal
+use Rattle.cp_machine.proofs.CallOutcomes.{none_well}
 
 pub loop-made-init : goal.loop-made-init
 loop-made-init g c =

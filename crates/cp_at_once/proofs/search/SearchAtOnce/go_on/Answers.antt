@@ -6,8 +6,8 @@ use Rattle.cp_ends.proofs.Searching.Lists.{all_at}
 use Rattle.cp_at_once.specs.Following.{AllGoOn, IsGoneThrough}
 use Rattle.cp_at_once.specs.Legs.{HasLeg}
 use Rattle.cp_at_once.proofs.Choices.{past_all, through_all, through_more}
-use Rattle.cp_at_once.proofs.Nothing.{none_well}
 use Rattle.cp_at_once.proofs.search.SearchAtOnce.go_on.Goals as goal
+use Rattle.cp_machine.proofs.CallOutcomes.{none_well}
 
 pub thaw_at-requires : goal.thaw_at-requires
 thaw_at-requires g c =

@@ -4,8 +4,9 @@ use Rattle.cp_at_once.specs.Following.{GoesOn}
 use Rattle.cp_at_once.specs.Legs.{HasLeg}
 use Rattle.cp_at_once.proofs.Arriving.{begun, first_followed}
 use Rattle.cp_at_once.proofs.Choices.{answers_marked}
-use Rattle.cp_at_once.proofs.Nothing.{none_well, nothing_found}
+use Rattle.cp_at_once.proofs.Nothing.{nothing_found}
 use Rattle.cp_at_once.proofs.search.SearchAtOnce.go_through.Goals as goal
+use Rattle.cp_machine.proofs.CallOutcomes.{none_well}
 
 pub go_on-requires-clause-begun : goal.go_on-requires-clause-begun
 go_on-requires-clause-begun g c =

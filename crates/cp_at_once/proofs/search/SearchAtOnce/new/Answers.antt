@@ -1,5 +1,5 @@
-use Rattle.cp_at_once.proofs.Nothing.{none_well}
 use Rattle.cp_at_once.proofs.search.SearchAtOnce.new.Goals as goal
+use Rattle.cp_machine.proofs.CallOutcomes.{none_well}
 
 pub returns-in_err-copy-clause-kept : goal.returns-in_err-copy-clause-kept
 returns-in_err-copy-clause-kept c = none_well c.from_residual.result _ _ c.from_residual.ensures.1

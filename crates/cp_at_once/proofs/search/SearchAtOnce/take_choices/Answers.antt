@@ -10,8 +10,8 @@ use Rattle.cp_ends.proofs.Wanted.{may_those}
 use Rattle.cp_at_once.specs.Following.{GoesOn}
 use Rattle.cp_at_once.specs.Legs.{HasLeg}
 use Rattle.cp_at_once.proofs.Choices.{all_chosen, choice_taken, none_chosen, one_chosen}
-use Rattle.cp_at_once.proofs.Nothing.{none_well}
 use Rattle.cp_at_once.proofs.search.SearchAtOnce.take_choices.Goals as goal
+use Rattle.cp_machine.proofs.CallOutcomes.{none_well}
 
 pub choose-requires-clause-may : goal.choose-requires-clause-may
 choose-requires-clause-may g c =

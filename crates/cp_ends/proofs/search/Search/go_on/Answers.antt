@@ -3,10 +3,11 @@ use Rattle.cp_machine.specs.System.{Machine, machine_of, output_of}
 use Rattle.cp_ends.specs.Answer.{GoesOn, HoldsFew, ends_tests, slot_graph}
 use Rattle.cp_ends.specs.Holds.{IsAt, SlotFindings}
 use Rattle.cp_ends.specs.Searched.{searched}
-use Rattle.cp_ends.proofs.GoingOn.{past_none, search_done}
+use Rattle.cp_ends.proofs.GoingOn.{search_done}
 use Rattle.cp_ends.proofs.Searching.Growing.{searched_on}
 use Rattle.cp_ends.proofs.Searching.Lists.{all_at}
 use Rattle.cp_ends.proofs.search.Search.go_on.Goals as goal
+use Rattle.cp_resolved.proofs.names.Entries.{not_there as past_none}
 
 pub thaw_at-requires : goal.thaw_at-requires
 thaw_at-requires g c =

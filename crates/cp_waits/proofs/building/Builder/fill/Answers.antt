@@ -3,11 +3,12 @@ use Rattle.cp_machine.specs.System.{machine_of}
 use Rattle.cp_endless.specs.Silent.{silent_slots, in_call_on_slots, waits_on_slots}
 use Rattle.cp_waits.specs.Graphs.{IsGraphOfAll}
 use Rattle.cp_waits.specs.Legs.{Comes, first_leg}
-use Rattle.cp_waits.proofs.Adding.{graph_begun, ok_then}
+use Rattle.cp_waits.proofs.Adding.{graph_begun}
 use Rattle.cp_waits.proofs.Insides.{everybody_is}
 use Rattle.cp_waits.proofs.Numbers.{all_found, few_processes}
 use Rattle.cp_waits.proofs.Standing.{first_of_stretch}
 use Rattle.cp_waits.proofs.building.Builder.fill.Goals as goal
+use Rattle.cp_run.proofs.Tracing.{ok_as as ok_then}
 
 pub returns : goal.returns
 returns g c = ok_then c.go_on.result _ (λ _. IsGraphOfAll c.args.program.now c.args.limits.gates c.args.limits.steps c.args.found.now c.go_on.new.self.graph) c.go_on.ensures (λ a goes. λ most f small holds whole.

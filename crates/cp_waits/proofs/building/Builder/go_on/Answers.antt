@@ -1,17 +1,15 @@
 use Rattle.std.proofs.Common.{◌≡◌, ◌∙◌, ◌≤◌, ℕ, List, [], suc, true, false, length, ap, sym, subst, arith, add-one}
-use Rattle.std.proofs.lemmas.Option.{slice_get_within}
 use Rattle.cp_machine.specs.System.{Machine, machine_of, output_of}
-use Rattle.cp_run.specs.Run.{may, those_below}
-use Rattle.cp_run.specs.Slots.{slots}
+use Rattle.cp_run.specs.Run.{those_below}
 use Rattle.cp_endless.specs.Silent.{silent_slots, in_call_on_slots, waits_on_slots}
 use Rattle.cp_ends.specs.Holds.{IsAt}
-use Rattle.cp_ends.proofs.GoingOn.{past_none}
 use Rattle.cp_ends.proofs.Searching.Lists.{all_at}
 use Rattle.cp_waits.specs.Building.{AddsChoicesOnSlots, IsSlotGraphTo}
 use Rattle.cp_waits.proofs.Adding.{graph_next, graph_done}
 use Rattle.cp_waits.proofs.Numbers.{quiet_may}
-use Rattle.cp_waits.proofs.Failing.{none_well}
 use Rattle.cp_waits.proofs.building.Builder.go_on.Goals as goal
+use Rattle.cp_machine.proofs.CallOutcomes.{none_well}
+use Rattle.cp_resolved.proofs.names.Entries.{not_there as past_none}
 
 pub thaw_at-requires : goal.thaw_at-requires
 thaw_at-requires g c = let k = c.requires.kept in (c.args.program.now, k.0.states, c.loop-number.invariant.own, k.1.states)

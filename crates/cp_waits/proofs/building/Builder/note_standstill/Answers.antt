@@ -1,7 +1,5 @@
 use Rattle.std.proofs.Common.{◌≡◌, ◌∙◌, ℕ, ◌<◌, true, false, length, refl, sym, ap, subst}
 use Rattle.std.specs.Prelude.{◌&&◌, nat_lt}
-use Rattle.cp_machine.specs.System.{Machine}
-use Rattle.cp_slots.specs.Tables.{Tables}
 use Rattle.cp_endless.specs.Silent.{silent_slots, in_call_on_slots, waits_on_slots}
 use Rattle.cp_waits.specs.Graphs.{LetsWait}
 use Rattle.cp_waits.specs.Legs.{Comes, GoesRound}

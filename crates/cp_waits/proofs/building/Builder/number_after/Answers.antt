@@ -1,9 +1,9 @@
-use Rattle.std.proofs.Common.{sym, subst}
+use Rattle.std.proofs.Common.{subst}
 use Rattle.cp_machine.specs.System.{machine_of}
 use Rattle.cp_waits.specs.Legs.{Comes}
-use Rattle.cp_waits.proofs.Numbers.{choosing_in, choosing_number, halted_none}
-use Rattle.cp_waits.proofs.Legs.{ok_to}
+use Rattle.cp_waits.proofs.Numbers.{choosing_in, choosing_number}
 use Rattle.cp_waits.proofs.building.Builder.number_after.Goals as goal
+use Rattle.cp_run.proofs.Tracing.{ok_as as ok_to}
 
 pub returns-in-Choice-clause-number : goal.returns-in-Choice-clause-number
 returns-in-Choice-clause-number c =

@@ -1,7 +1,6 @@
 use Rattle.std.proofs.Common.{◌≡◌, ◌∙◌, ◌∷◌, [], Some, ap, refl, sym, subst, true}
 use Rattle.cp_machine.specs.System.{Machine, machine_of}
 use Rattle.cp_run.specs.Run.{may, chosen}
-use Rattle.cp_run.specs.Slots.{slots}
 use Rattle.cp_endless.specs.Silent.{silent_slots, in_call_on_slots, waits_on_slots}
 use Rattle.cp_ends.specs.Firsts.{HasWord}
 use Rattle.cp_ends.proofs.Searching.Lists.{contains_at}
@@ -13,8 +12,8 @@ use Rattle.cp_waits.proofs.Adding.{adds_one_choice}
 use Rattle.cp_waits.proofs.Insides.{everybody_is}
 use Rattle.cp_waits.proofs.Numbers.{few_processes, quiet_may}
 use Rattle.cp_waits.proofs.Standing.{choice_of_stretch}
-use Rattle.cp_waits.proofs.Failing.{none_well}
 use Rattle.cp_waits.proofs.building.Builder.take_choice.Goals as goal
+use Rattle.cp_machine.proofs.CallOutcomes.{none_well}
 
 pub returns-clause-graph : goal.returns-clause-graph
 returns-clause-graph g c = λ states x all count at same.

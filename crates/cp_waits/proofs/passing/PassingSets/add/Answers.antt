@@ -1,4 +1,4 @@
-use Rattle.std.proofs.Common.{◌≡◌, ◌∙◌, ◌<◌, ◌≤◌, length, sym, ap, arith}
+use Rattle.std.proofs.Common.{◌≡◌, ◌∙◌, ◌≤◌, length, sym, ap, arith}
 use Rattle.std.specs.Prelude.{◌||◌, nat_eq, not}
 use Rattle.std.proofs.lemmas.List.{length-map}
 use Rattle.cp_machine.specs.Machine.{thread_of}

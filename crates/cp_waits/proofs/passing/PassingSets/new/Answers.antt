@@ -1,4 +1,3 @@
-use Rattle.std.proofs.Common.{◌≡◌, ◌∙◌, sym}
 use Rattle.cp_endless.specs.Silent.{silent_slots, in_call_on_slots, waits_on_slots}
 use Rattle.cp_waits.proofs.Seeing.{are_all, are_none, seen_nothing}
 use Rattle.cp_waits.proofs.passing.PassingSets.new.Goals as goal
