@@ -1,5 +1,4 @@
--- What an event of a story tells of, and on which line.
-use Rattle.std.specs.Prelude.{ℕ, Option, Some, None}
+-- What an event of a story tells of.
 use Rattle.cp_machine.specs.declared.event.Kernel.TheVariants.{Enter, Leave, Delay, Continue, StartProcess, Display}
 use Rattle.cp_run.specs.declared.line.TraceEvent.{TraceEvent}
 use Rattle.cp_run.specs.declared.line.TraceEvent.TheVariants.{Kernel, End, Admit}
@@ -16,10 +15,3 @@ event_of (happening.Start process) = Kernel StartProcess
 event_of (happening.Display value) = Kernel Display
 event_of happening.End = End
 event_of (happening.Admit call) = Admit
-
--- the line that is told, of an event whose process stood at a line: a return stands where its call does
-abbrev pub line_told : Happening → Option ℕ → Option ℕ
-line_told (happening.Leave call) line = Some call.line
-line_told happening.End line = None
-line_told (happening.Admit call) line = None
-line_told _ line = line

@@ -1,3 +1,6 @@
 pub mod Aimed
 pub mod Events
+pub mod Fold
+pub mod Story
 pub mod Told
+pub mod Views

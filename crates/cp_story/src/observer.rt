@@ -1,28 +1,28 @@
 //! What is remembered from one event to the next.
 
-ghost use Rattle.std.specs.Prelude.{◌≡◌, IfOk};
+ghost use Rattle.std.specs.Prelude.{◌≡◌, IfOk, pos, unwrap_or};
 ghost use Rattle.cp_machine.specs.declared.event.Kernel.TheVariants as kernel;
+ghost use Rattle.cp_machine.specs.declared.shown.Shown.TheVariants.{Integer};
+ghost use Rattle.cp_machine.specs.Machine.{machine_of, thread_at};
 ghost use Rattle.cp_run.specs.declared.line.TraceEvent.TheVariants as event;
-ghost use Rattle.cp_story.specs.Events.{event_of, line_told};
+ghost use Rattle.cp_story.specs.Events.{event_of};
+ghost use Rattle.cp_story.specs.Story.{Enters, call_begun, calls_after, innermost_call, is_gated, last_or, line_told, no_call, nothing_told, past_after, statuses_in, told_event, what_happened, with_call, with_calls};
+ghost use Rattle.cp_story.specs.Views.{happened_of, past_of, told_of};
 
 use crate::aim::Aim;
 use crate::changes::changes;
 use crate::event::{Choice, Happening, OpenCall, Queue, Returned, StoryEvent};
 use crate::happening::arguments;
+use crate::open_calls::{NO_CALL, call_begun, close_call, innermost_call, open_call};
 use crate::returned::values_returned;
-use arrayvec::ArrayVec;
+use crate::statuses::{
+    Waited, is_at_gate, resumed_processes, started_process, status_before, status_of, statuses_of,
+};
 use cp_legend::Legend;
 use cp_machine::{Kernel, Shown, State, Status};
 use cp_run::{TraceEvent, TraceLine};
 use std::alloc::{AllocError, Global};
 use std::mem;
-
-/// In place of a call where none is open.
-const NO_CALL: OpenCall = OpenCall {
-    monitor: 0,
-    routine: 0,
-    line: 0,
-};
 
 /// The state as the last event left it.
 #[derive(Drop)]
@@ -53,11 +53,9 @@ pub struct Last {
 
 impl<'a> Observer<'a> {
     /// Begins to observe a state.
-    pub fn new(
-        alloc: Global,
-        legend: &'a Legend,
-        state: &State,
-    ) -> Result<Observer<'a>, AllocError> {
+    pub fn new(alloc: Global, legend: &'a Legend, state: &State) -> Result<Observer<'a>, AllocError>
+        ensures { IfOk result (λ o. past_of o ≡ (nothing_told (machine_of state.now)).past) }
+    {
         let mut calls = Vec::new(alloc);
         for _ in 0..state.processes.len() {
             calls.push(Vec::new(alloc))?;
@@ -84,7 +82,9 @@ impl<'a> Observer<'a> {
         state: &State,
         process: u8,
         aim: Aim,
-    ) -> Result<(), AllocError> {
+    ) -> Result<(), AllocError>
+        ensures { past_of self.new ≡ past_of self.old }
+    {
         let before = if self.last.process == process {
             self.last.line
         } else {
@@ -102,8 +102,10 @@ impl<'a> Observer<'a> {
     }
 
     /// The innermost open call of a process.
-    pub fn call_of(&self, process: u8) -> Option<OpenCall> {
-        self.calls.get(process as usize)?.last().copied()
+    pub fn call_of(&self, process: u8) -> Option<OpenCall>
+        ensures { unwrap_or result no_call ≡ innermost_call (past_of self.now).calls process }
+    {
+        innermost_call(&self.calls, process)
     }
 
     /// The event that led to a state, by its line of the trace.
@@ -115,13 +117,14 @@ impl<'a> Observer<'a> {
         aim: Aim,
     ) -> Result<StoryEvent, AllocError>
         ensures plain { IfOk result (λ e. e.plain ≡ plain) }
-        ensures line { IfOk result (λ e. e.line ≡ line_told e.happening aim.line) }
+        ensures told { IfOk result (λ e. told_of e ≡ told_event plain.holders plain.event plain.process aim.line (machine_of state.now) (past_of self.old)) }
+        ensures past { IfOk result (λ _. past_of self.new ≡ past_after plain.event plain.process aim.line (machine_of state.now) (past_of self.old)) }
     {
         let process = plain.process;
+        let woken = resumed_processes(&self.statuses, state, process, Waited::Delayed);
+        let let_in = resumed_processes(&self.statuses, state, process, Waited::AtGate);
         let happening = self.happening(alloc, state, process, plain.event, aim)?;
         let line = line_of(&happening, aim);
-        let woken = self.gone_on(state, process, Waited::Delayed);
-        let let_in = self.gone_on(state, process, Waited::AtGate);
         let changes = changes(alloc, self.legend, &self.permanents, &state.permanents)?;
         let choice = self.choice.take();
         let returned = mem::replace(&mut self.returned, Vec::new(alloc));
@@ -139,7 +142,9 @@ impl<'a> Observer<'a> {
         })
     }
 
-    fn remember(&mut self, alloc: Global, state: &State) -> Result<(), AllocError> {
+    fn remember(&mut self, alloc: Global, state: &State) -> Result<(), AllocError>
+        ensures { IfOk result (λ _. past_of self.new ≡ record { choice = (past_of self.old).choice; calls = (past_of self.old).calls; statuses = statuses_in (machine_of state.now) }) }
+    {
         self.statuses = statuses_of(alloc, state)?;
         self.permanents = Vec::from_slice(alloc, &state.permanents)?;
         Ok(())
@@ -153,20 +158,26 @@ impl<'a> Observer<'a> {
         event: TraceEvent,
         aim: Aim,
     ) -> Result<Happening, AllocError>
-        ensures { IfOk result (λ h. event_of h ≡ event) }
+        ensures kind { IfOk result (λ h. event_of h ≡ event) }
+        ensures happened { IfOk result (λ h. happened_of h ≡ what_happened event process aim.line (machine_of state.now) (past_of self.old)) }
+        ensures calls { IfOk result (λ _. past_of self.new ≡ with_calls (past_of self.old) (calls_after event process aim.line (machine_of state.now) (past_of self.old).calls)) }
     {
         Ok(match event {
             TraceEvent::Kernel(Kernel::Enter) => self.enter(alloc, state, process, aim)?,
-            TraceEvent::Kernel(Kernel::Leave) => Happening::Leave(self.close_call(process)),
+            TraceEvent::Kernel(Kernel::Leave) => {
+                Happening::Leave(close_call(&mut self.calls, process))
+            }
             TraceEvent::Kernel(Kernel::Delay) => {
-                let queue = self.delayed(alloc, state, process)?;
+                let queue = self.delay_queue(alloc, state, process)?;
                 Happening::Delay(queue, self.call_of(process).unwrap_or(NO_CALL))
             }
             TraceEvent::Kernel(Kernel::Continue) => {
-                let queue = self.continued(alloc, state, aim)?;
-                Happening::Continue(queue, self.close_call(process))
+                let queue = self.continued_queue(alloc, state, aim)?;
+                Happening::Continue(queue, close_call(&mut self.calls, process))
             }
-            TraceEvent::Kernel(Kernel::StartProcess) => Happening::Start(self.started(state)),
+            TraceEvent::Kernel(Kernel::StartProcess) => {
+                Happening::Start(started_process(&self.statuses, state))
+            }
             TraceEvent::Kernel(Kernel::Display) => Happening::Display(last_shown(state)),
             TraceEvent::End => Happening::End,
             TraceEvent::Admit => Happening::Admit(self.call_of(process).unwrap_or(NO_CALL)),
@@ -180,12 +191,12 @@ impl<'a> Observer<'a> {
         process: u8,
         aim: Aim,
     ) -> Result<Happening, AllocError>
-        ensures { IfOk result (λ h. event_of h ≡ event.Kernel kernel.Enter) }
+        ensures kind { IfOk result (λ h. event_of h ≡ event.Kernel kernel.Enter) }
+        ensures happened { IfOk result (λ h. happened_of h ≡ Enters (call_begun (thread_at (machine_of state.now).threads process) aim.line) (is_gated (thread_at (machine_of state.now).threads process).status)) }
+        ensures calls { IfOk result (λ _. past_of self.new ≡ with_calls (past_of self.old) (with_call (past_of self.old).calls process (call_begun (thread_at (machine_of state.now).threads process) aim.line))) }
     {
-        let call = self.begun(state, process, aim.line.unwrap_or(0));
-        if let Some(calls) = self.calls.get_mut(process as usize) {
-            calls.push(call)?;
-        }
+        let call = call_begun(state, process, aim.line);
+        open_call(&mut self.calls, process, call)?;
         Ok(Happening::Enter {
             call,
             arguments: arguments(alloc, self.legend, state, process)?,
@@ -193,31 +204,8 @@ impl<'a> Observer<'a> {
         })
     }
 
-    // The call that a process has just begun.
-    fn begun(&self, state: &State, process: u8, line: u32) -> OpenCall {
-        let Some(process) = state.processes.get(process as usize) else {
-            return NO_CALL;
-        };
-        let monitor = match self.legend.components.get(process.frame.component) {
-            Some(component) => component.monitor.unwrap_or(0),
-            None => 0,
-        };
-        OpenCall {
-            monitor,
-            routine: process.frame.routine,
-            line,
-        }
-    }
-
-    fn close_call(&mut self, process: u8) -> OpenCall {
-        match self.calls.get_mut(process as usize) {
-            Some(calls) => calls.pop().unwrap_or(NO_CALL),
-            None => NO_CALL,
-        }
-    }
-
     // The queue that a process is delayed in.
-    fn delayed(&self, alloc: Global, state: &State, process: u8) -> Result<Queue, AllocError> {
+    fn delay_queue(&self, alloc: Global, state: &State, process: u8) -> Result<Queue, AllocError> {
         let cell = match status_of(state, process) {
             Status::Delayed(cell) => Some(cell),
             _ => None,
@@ -226,10 +214,11 @@ impl<'a> Observer<'a> {
     }
 
     // The queue that was continued: the one that somebody left, or that the statement names.
-    fn continued(&self, alloc: Global, state: &State, aim: Aim) -> Result<Queue, AllocError> {
+    fn continued_queue(&self, alloc: Global, state: &State, aim: Aim) -> Result<Queue, AllocError> {
         let mut left = None;
-        for (number, before) in self.statuses.iter().enumerate() {
-            if let (Status::Delayed(cell), Status::Ready) = (*before, nth_status(state, number)) {
+        for (number, one) in state.processes.iter().enumerate() {
+            let before = status_before(&self.statuses, number);
+            if let (Status::Delayed(cell), Status::Ready) = (before, one.status) {
                 left = Some(cell);
             }
         }
@@ -248,77 +237,17 @@ impl<'a> Observer<'a> {
             }),
         }
     }
-
-    // The process that was not started before.
-    fn started(&self, state: &State) -> u8 {
-        let mut found = 0;
-        for (number, before) in self.statuses.iter().enumerate() {
-            if *before == Status::Unstarted && nth_status(state, number) != Status::Unstarted {
-                found = number;
-            }
-        }
-        u8::try_from(found).unwrap_or(0)
-    }
-
-    // The processes other than one that waited so and are ready now.
-    fn gone_on(&self, state: &State, process: u8, waited: Waited) -> ArrayVec<u8, 16> {
-        let mut gone = ArrayVec::new();
-        for (number, before) in self.statuses.iter().enumerate() {
-            let has_waited = match waited {
-                Waited::AtGate => is_at_gate(*before),
-                Waited::Delayed => is_delayed(*before),
-            };
-            let is_other = number != usize::from(process);
-            if has_waited && is_other && nth_status(state, number).is_ready() && !gone.is_full() {
-                gone.push(u8::try_from(number).unwrap_or(0));
-            }
-        }
-        gone
-    }
 }
 
-/// How a process waited.
-#[derive(Clone, Copy)]
-enum Waited {
-    AtGate,
-    Delayed,
-}
-
-fn is_at_gate(status: Status) -> bool {
-    matches!(status, Status::AtGate(_))
-}
-
-fn is_delayed(status: Status) -> bool {
-    matches!(status, Status::Delayed(_))
-}
-
-fn status_of(state: &State, process: u8) -> Status {
-    nth_status(state, process as usize)
-}
-
-fn nth_status(state: &State, number: usize) -> Status {
-    match state.processes.get(number) {
-        Some(process) => process.status,
-        None => Status::Unstarted,
-    }
-}
-
-/// What each process does.
-pub fn statuses_of(alloc: Global, state: &State) -> Result<Vec<Status>, AllocError> {
-    let mut statuses = Vec::new(alloc);
-    for process in &state.processes {
-        statuses.push(process.status)?;
-    }
-    Ok(statuses)
-}
-
-fn last_shown(state: &State) -> Shown {
+fn last_shown(state: &State) -> Shown
+    ensures { result ≡ last_or (Integer (pos 0)) (machine_of state.now).output }
+{
     state.output().last().copied().unwrap_or(Shown::Integer(0))
 }
 
 // The line of what happened: a return stands where the call does.
 fn line_of(happening: &Happening, aim: Aim) -> Option<u32>
-    ensures { result ≡ line_told happening.now aim.line }
+    ensures { result ≡ line_told (happened_of happening.now) aim.line }
 {
     match happening {
         Happening::Leave(call) => Some(call.line),

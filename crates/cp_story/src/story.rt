@@ -1,16 +1,20 @@
 //! A run of one schedule word, told event by event.
 
-ghost use Rattle.std.specs.Prelude.{◌≡◌, ◌≤◌, ◌+◌, ◌-◌, ◌*◌, ◌++◌, ◌∷◌, [], true, false, IfOk, length};
+ghost use Rattle.std.specs.Prelude.{◌≡◌, ◌≤◌, ◌+◌, ◌-◌, ◌*◌, ◌++◌, ◌∷◌, [], true, false, IfOk, length, map, option_map};
 ghost use Rattle.cp_machine.specs.System.{machine_of, is_ready, is_pending, opening, IsStateOf};
 ghost use Rattle.cp_run.specs.Run.{run, stretch, chosen, opened, may};
 ghost use Rattle.cp_run.specs.Slots.{slots};
 ghost use Rattle.cp_run.specs.Code.{answer_of, node_of};
 ghost use Rattle.cp_run.specs.Trace.{holders_in, step_lines, stretch_lines, opened_lines, chosen_lines, trace};
+ghost use Rattle.cp_story.specs.Story.{nothing_told, story_of, decision_in, teller, telling, told_more, told_step};
 ghost use Rattle.cp_story.specs.Told.{lines_of};
+ghost use Rattle.cp_story.specs.Views.{past_of, decision_of, telling_of, told_of};
+ghost use Rattle.cp_story.specs.Fold.{fold_chosen, fold_opened, fold_run, fold_stretch};
 
 use crate::aim::{Aim, NONE, aim_of};
 use crate::event::{Choice, OpenCall, StoryEvent};
-use crate::observer::{Observer, statuses_of};
+use crate::observer::Observer;
+use crate::statuses::statuses_of;
 use crate::stopping::{AbruptEnd, abrupt_end};
 use cp_legend::Legend;
 use cp_machine::{Event as Step, State, Status, Ticks, step};
@@ -83,7 +87,8 @@ fn push_event(
     events: &mut Vec<StoryEvent>,
 ) -> Result<(), AllocError>
     requires { IsStateOf program.now state.now }
-    ensures { IfOk result (λ _. lines_of events.new.items ≡ lines_of events.old.items ++ record { process = process; event = event; holders = holders_in (slots program.now limits.gates) (machine_of state.now) } ∷ []) }
+    ensures lines { IfOk result (λ _. lines_of events.new.items ≡ lines_of events.old.items ++ record { process = process; event = event; holders = holders_in (slots program.now limits.gates) (machine_of state.now) } ∷ []) }
+    ensures told { IfOk result (λ _. telling_of observer.new events.new.items ≡ told_more program.now limits.gates event process aim.line (machine_of state.now) (telling_of observer.old events.old.items)) }
 {
     let holders = holders(alloc, program, limits, state)?;
     let plain = TraceLine {
@@ -109,7 +114,8 @@ fn push_step(
     events: &mut Vec<StoryEvent>,
 ) -> Result<(), AllocError>
     requires { IsStateOf program.now state.now }
-    ensures { IfOk result (λ _. lines_of events.new.items ≡ lines_of events.old.items ++ step_lines (slots program.now limits.gates) (machine_of state.now) process event) }
+    ensures lines { IfOk result (λ _. lines_of events.new.items ≡ lines_of events.old.items ++ step_lines (slots program.now limits.gates) (machine_of state.now) process event) }
+    ensures told { IfOk result (λ _. telling_of observer.new events.new.items ≡ told_step program.now limits.gates process aim.line event (machine_of state.now) (telling_of observer.old events.old.items)) }
 {
     let event = match event {
         Step::Kernel(call) => TraceEvent::Kernel(call),
@@ -137,6 +143,7 @@ fn tell_stretch<S: Ledger>(
     requires free { is_pending (machine_of state.old) ≡ false }
     ensures node { IfOk result (λ h. stretch (slots program.now limits.gates) limits.steps (machine_of state.old) pid ≡ node_of h (machine_of state.new)) }
     ensures lines { IfOk result (λ _. lines_of events.new.items ≡ lines_of events.old.items ++ stretch_lines (slots program.now limits.gates) limits.steps (machine_of state.old) pid) }
+    ensures told { IfOk result (λ _. telling_of observer.new events.new.items ≡ fold_stretch (slots program.now limits.gates) (teller program.now limits.gates) limits.steps (machine_of state.old) pid (telling_of observer.old events.old.items)) }
     ensures own { IsStateOf program.now state.new }
     ensures steps { steps.new ≤ steps.old + limits.steps }
 {
@@ -172,6 +179,7 @@ fn tell_choice<S: Ledger>(
     requires may { may (slots program.now limits.gates) (machine_of state.old) process ≡ true }
     ensures node { IfOk result (λ h. chosen (slots program.now limits.gates) limits.steps (machine_of state.old) process ≡ node_of h (machine_of state.new)) }
     ensures lines { IfOk result (λ _. lines_of events.new.items ≡ lines_of events.old.items ++ chosen_lines (slots program.now limits.gates) limits.steps (machine_of state.old) process) }
+    ensures told { IfOk result (λ _. telling_of observer.new events.new.items ≡ fold_chosen (slots program.now limits.gates) (teller program.now limits.gates) limits.steps (machine_of state.old) process (telling_of observer.old events.old.items)) }
     ensures own { IsStateOf program.now state.new }
     ensures steps { steps.new ≤ steps.old + limits.steps }
 {
@@ -215,6 +223,7 @@ fn tell_opening<S: Ledger>(
     requires start { machine_of state.old ≡ opening program.now limits.gates }
     ensures node { IfOk result (λ h. opened (slots program.now limits.gates) limits.steps ≡ node_of h (machine_of state.new)) }
     ensures lines { IfOk result (λ _. lines_of events.new.items ≡ lines_of events.old.items ++ opened_lines (slots program.now limits.gates) limits.steps) }
+    ensures told { IfOk result (λ _. telling_of observer.new events.new.items ≡ fold_opened (slots program.now limits.gates) (teller program.now limits.gates) limits.steps (telling_of observer.old events.old.items)) }
     ensures own { IsStateOf program.now state.new }
     ensures steps { steps.new ≤ steps.old + limits.steps }
 {
@@ -232,6 +241,7 @@ fn tell_opening<S: Ledger>(
 // The choice that is due, and the number that is taken.
 fn choice_of(program: &Resolved, limits: Limits, state: &State, number: u8) -> Choice
     requires { IsStateOf program.now state.now }
+    ensures { decision_of result ≡ decision_in program.now limits.gates (machine_of state.now) number }
 {
     Choice {
         options: candidates(program, limits, state),
@@ -297,7 +307,9 @@ fn tell_word<L: Ledger>(
     requires own { IsStateOf program.now state.old }
     requires start { machine_of state.old ≡ opening program.now limits.gates }
     requires none { events.old.items ≡ [] }
+    requires first { past_of observer.old ≡ (nothing_told (opening program.now limits.gates)).past }
     ensures lines { IfOk result (λ _. lines_of events.new.items ≡ trace (slots program.now limits.gates) limits.choices limits.steps word.now) }
+    ensures told { IfOk result (λ _. telling_of observer.new events.new.items ≡ telling program.now limits.gates limits.choices limits.steps word.now) }
     ensures answer { IfOk result (λ end. answer_of end ≡ run (slots program.now limits.gates) limits.choices limits.steps word.now) }
     ensures own { IsStateOf program.now state.new }
     ensures ticks { ticks.new ≤ ticks.old + (limits.choices + 1) * limits.steps }
@@ -332,6 +344,8 @@ pub fn tell<L: Ledger>(
 ) -> Result<Story, AllocError>
     requires { length word.now ≤ 100 }
     ensures lines { IfOk result (λ s. lines_of s.events.items ≡ trace (slots program.now limits.gates) limits.choices limits.steps word.now) }
+    ensures told { IfOk result (λ s. map told_of s.events.items ≡ story_of program.now limits.gates limits.choices limits.steps word.now) }
+    ensures choice { IfOk result (λ s. option_map decision_of s.last_choice ≡ (telling program.now limits.gates limits.choices limits.steps word.now).past.choice) }
     ensures answer { IfOk result (λ s. answer_of s.end ≡ run (slots program.now limits.gates) limits.choices limits.steps word.now) }
     ensures ticks { ticks.new ≤ ticks.old + (limits.choices + 1) * limits.steps }
 {
@@ -373,6 +387,8 @@ fn finish_story(
 ) -> Result<Story, AllocError>
     requires { IsStateOf program.now state.now }
     ensures lines { IfOk result (λ s. lines_of s.events.items ≡ lines_of events.items) }
+    ensures told { IfOk result (λ s. map told_of s.events.items ≡ map told_of events.items) }
+    ensures choice { IfOk result (λ s. option_map decision_of s.last_choice ≡ (past_of observer.entry).choice) }
     ensures end { IfOk result (λ s. s.end ≡ end) }
 {
     let waits = waits_of(alloc, program, state, &observer)?;

@@ -1,6 +1,7 @@
 use Rattle.std.proofs.Common.{◌∙◌, ap}
 use Rattle.cp_run.specs.Code.{answer_of}
 use Rattle.cp_run.proofs.Tracing.{ok_as}
+use Rattle.cp_story.specs.Story.{Telling}
 use Rattle.cp_story.proofs.story.tell.Goals as goal
 
 pub returns-clause-lines : goal.returns-clause-lines
@@ -8,3 +9,9 @@ returns-clause-lines g c = ok_as c.finish_story.result _ _ c.finish_story.ensure
 
 pub returns-clause-answer : goal.returns-clause-answer
 returns-clause-answer g c = ok_as c.finish_story.result _ _ c.finish_story.ensures.end (λ s is. ap answer_of is ∙ c.in_ok-end.ensures.answer)
+
+pub returns-clause-told : goal.returns-clause-told
+returns-clause-told g c = ok_as c.finish_story.result _ _ c.finish_story.ensures.told (λ s is. is ∙ ap (λ (t : Telling). t.events) c.in_ok-end.ensures.told)
+
+pub returns-clause-choice : goal.returns-clause-choice
+returns-clause-choice g c = ok_as c.finish_story.result _ _ c.finish_story.ensures.choice (λ s is. is ∙ ap (λ (t : Telling). t.past.choice) c.in_ok-end.ensures.told)

@@ -1,0 +1,4 @@
+pub mod Calls
+pub mod Folding
+pub mod Lists
+pub mod Telling

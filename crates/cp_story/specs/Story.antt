@@ -1,0 +1,196 @@
+-- What a story tells of a run: what each kernel call, process end and admission was, on which line and after which choice, who goes on by it, and
+-- how the processes stand then. It is told from the states of the slot machine before and after it. Names and values of variables are no part of it.
+use Rattle.std.specs.Prelude.{ℕ, List, [], ◌∷◌, ◌++◌, ◌-◌, ◌==◌, ◌&&◌, Bool, true, false, not, map, length, take, replicate, slice_index_or, slice_set, Option, Some, None, unwrap_or, pos}
+use Rattle.std.specs.List.{filter, range_with_len}
+use Rattle.cp_slots.specs.Tables.{Tables}
+use Rattle.cp_machine.specs.declared.event.Event.{Event}
+use Rattle.cp_machine.specs.declared.event.Event.TheVariants as step
+use Rattle.cp_machine.specs.declared.event.Kernel.TheVariants.{Enter, Leave, Delay, Continue, StartProcess, Display}
+use Rattle.cp_machine.specs.declared.gates.Gates.{Gates}
+use Rattle.cp_machine.specs.declared.process.Entry.{Entry}
+use Rattle.cp_machine.specs.declared.process.Entry.TheVariants.{Return}
+use Rattle.cp_machine.specs.declared.process.Status.{Status}
+use Rattle.cp_machine.specs.declared.process.Status.TheVariants as status
+use Rattle.cp_machine.specs.declared.shown.Shown.{Shown}
+use Rattle.cp_machine.specs.declared.shown.Shown.TheVariants.{Integer}
+use Rattle.cp_machine.specs.Machine.{Machine, Thread, is_pending, is_ready, is_unstarted, thread_at}
+use Rattle.cp_machine.specs.Opening.{opening}
+use Rattle.cp_run.specs.declared.line.TraceEvent.{TraceEvent}
+use Rattle.cp_run.specs.declared.line.TraceEvent.TheVariants.{Kernel, End, Admit}
+use Rattle.cp_run.specs.Run.{may, those_below}
+use Rattle.cp_run.specs.Slots.{slots}
+use Rattle.cp_run.specs.Trace.{holders_in}
+use Rattle.cp_story.specs.Aimed.{line_of_top}
+use Rattle.cp_story.specs.Fold.{Fold, fold_run}
+use Rattle.cp_story.specs.declared.event.OpenCall.{OpenCall}
+
+-- a choice that was due: who could be chosen, who was, and whether one of a line was to be let in
+pub record Decision : Type 0 where
+  pub options : List ℕ
+  pub number : ℕ
+  pub at_gate : Bool
+
+pub data Happened : Type 0 where
+  -- a monitor's entry is called, and whether the caller waits at the gate
+  Enters : OpenCall → Bool → Happened
+  Leaves : OpenCall → Happened
+  Delays : OpenCall → Happened
+  Continues : OpenCall → Happened
+  Starts : ℕ → Happened
+  Displays : Shown → Happened
+  Ends : Happened
+  IsAdmitted : OpenCall → Happened
+
+-- an event
+pub record Told : Type 0 where
+  pub process : ℕ
+  pub happened : Happened
+  pub line : Option ℕ
+  -- the choice that was taken since the event before
+  pub choice : Option Decision
+  -- who was delayed and goes on, and who was at a gate and goes in
+  pub woken : List ℕ
+  pub let_in : List ℕ
+  -- the status of each process, and the process inside each monitor
+  pub statuses : List Status
+  pub holders : List (Option ℕ)
+
+-- what is remembered from one event to the next
+pub record Past : Type 0 where
+  pub choice : Option Decision
+  -- the open calls of monitors of each process, the innermost last
+  pub calls : List (List OpenCall)
+  pub statuses : List Status
+
+abbrev pub with_calls : Past → List (List OpenCall) → Past
+with_calls past calls = record { choice = past.choice; calls = calls; statuses = past.statuses }
+
+-- the events so far, and what is remembered of them
+pub record Telling : Type 0 where
+  pub events : List Told
+  pub past : Past
+
+-- ---- open calls
+
+abbrev pub no_call : OpenCall
+no_call = record { monitor = 0; routine = 0; line = 0 }
+
+abbrev pub calls_of : List (List OpenCall) → ℕ → List OpenCall
+calls_of calls p = slice_index_or calls p []
+
+abbrev pub innermost_call : List (List OpenCall) → ℕ → OpenCall
+innermost_call calls p = slice_index_or (calls_of calls p) (length (calls_of calls p) - 1) no_call
+
+abbrev pub with_call : List (List OpenCall) → ℕ → OpenCall → List (List OpenCall)
+with_call calls p call = slice_set calls p (calls_of calls p ++ call ∷ [])
+
+abbrev pub without_call : List (List OpenCall) → ℕ → List (List OpenCall)
+without_call calls p = slice_set calls p (take (length (calls_of calls p) - 1) (calls_of calls p))
+
+-- the monitor that the innermost entry on a control stack leaves at its end
+abbrev pub monitor_left : List Entry → ℕ
+monitor_left [] = 0
+monitor_left (Return caller result (Some monitor) ∷ es) = monitor
+monitor_left (e ∷ es) = monitor_left es
+
+-- the call that process p has just begun from a line
+abbrev pub call_begun : Thread → Option ℕ → OpenCall
+call_begun t line = record { monitor = monitor_left t.stack; routine = t.frame.routine; line = unwrap_or line 0 }
+
+-- ---- who goes on
+
+abbrev pub is_gated : Status → Bool
+is_gated (status.AtGate monitor) = true
+is_gated _ = false
+
+abbrev pub is_queued : Status → Bool
+is_queued (status.Delayed cell) = true
+is_queued _ = false
+
+abbrev pub statuses_in : Machine → List Status
+statuses_in m = map (λ (t : Thread). t.status) m.threads
+
+-- the processes other than p that waited so and are ready now
+abbrev pub resumed_processes : (Status → Bool) → List Status → Machine → ℕ → List ℕ
+resumed_processes waited before t p = filter (λ q. waited (slice_index_or before q status.Ended) && not (q == p) && is_ready t q) (range_with_len 0 (length t.threads))
+
+-- the process that was unstarted and is not now
+abbrev pub started_processes : List Status → Machine → List ℕ
+started_processes before t = filter (λ q. is_unstarted (slice_index_or before q status.Ended) && not (is_unstarted (thread_at t.threads q).status)) (range_with_len 0 (length t.threads))
+
+abbrev pub last_or : {A : Type 0} → A → List A → A
+last_or d xs = slice_index_or xs (length xs - 1) d
+
+-- ---- an event of process p, which stood at a line and came to the state t
+
+abbrev pub what_happened : TraceEvent → ℕ → Option ℕ → Machine → Past → Happened
+what_happened (Kernel Enter) p line t past = Enters (call_begun (thread_at t.threads p) line) (is_gated (thread_at t.threads p).status)
+what_happened (Kernel Leave) p line t past = Leaves (innermost_call past.calls p)
+what_happened (Kernel Delay) p line t past = Delays (innermost_call past.calls p)
+what_happened (Kernel Continue) p line t past = Continues (innermost_call past.calls p)
+what_happened (Kernel StartProcess) p line t past = Starts (last_or 0 (started_processes past.statuses t))
+what_happened (Kernel Display) p line t past = Displays (last_or (Integer (pos 0)) t.output)
+what_happened End p line t past = Ends
+what_happened Admit p line t past = IsAdmitted (innermost_call past.calls p)
+
+-- a return stands where its call does
+abbrev pub line_told : Happened → Option ℕ → Option ℕ
+line_told (Leaves call) line = Some call.line
+line_told Ends line = None
+line_told (IsAdmitted call) line = None
+line_told _ line = line
+
+abbrev pub calls_after : TraceEvent → ℕ → Option ℕ → Machine → List (List OpenCall) → List (List OpenCall)
+calls_after (Kernel Enter) p line t calls = with_call calls p (call_begun (thread_at t.threads p) line)
+calls_after (Kernel Leave) p line t calls = without_call calls p
+calls_after (Kernel Continue) p line t calls = without_call calls p
+calls_after _ p line t calls = calls
+
+abbrev pub told_event : List (Option ℕ) → TraceEvent → ℕ → Option ℕ → Machine → Past → Told
+told_event holders event p line t past =
+    record {
+      process = p;
+      happened = what_happened event p line t past;
+      line = line_told (what_happened event p line t past) line;
+      choice = past.choice;
+      woken = resumed_processes is_queued past.statuses t p;
+      let_in = resumed_processes is_gated past.statuses t p;
+      statuses = statuses_in t;
+      holders = holders;
+    }
+
+abbrev pub past_after : TraceEvent → ℕ → Option ℕ → Machine → Past → Past
+past_after event p line t past = record { choice = None; calls = calls_after event p line t past.calls; statuses = statuses_in t }
+
+abbrev pub told_more : Tables → Gates → TraceEvent → ℕ → Option ℕ → Machine → Telling → Telling
+told_more r gates event p line t x = record { events = x.events ++ told_event (holders_in (slots r gates) t) event p line t x.past ∷ []; past = past_after event p line t x.past }
+
+-- ---- a run
+
+abbrev pub told_step : Tables → Gates → ℕ → Option ℕ → Event → Machine → Telling → Telling
+told_step r gates p line (step.Kernel call) t x = told_more r gates (Kernel call) p line t x
+told_step r gates p line step.Ended t x = told_more r gates End p line t x
+told_step r gates p line _ t x = x
+
+-- the choice that is due in a state
+abbrev pub decision_in : Tables → Gates → Machine → ℕ → Decision
+decision_in r gates m number = record { options = those_below (length r.processes) (may (slots r gates) m); number = number; at_gate = is_pending m }
+
+abbrev pub teller : Tables → Gates → Fold Machine Telling
+teller r gates =
+    record {
+      on_step = λ s p event t x. told_step r gates p (line_of_top r (thread_at s.threads p).stack) event t x;
+      on_admission = λ p t x. told_more r gates Admit p None t x;
+      on_choice = λ s number x. record { events = x.events; past = record { choice = Some (decision_in r gates s number); calls = x.past.calls; statuses = x.past.statuses } };
+    }
+
+abbrev pub nothing_told : Machine → Telling
+nothing_told m = record { events = []; past = record { choice = None; calls = replicate (length m.threads) []; statuses = statuses_in m } }
+
+-- what is told of the run of a word
+abbrev pub telling : Tables → Gates → (choices steps : ℕ) → List ℕ → Telling
+telling r gates choices steps word = fold_run (slots r gates) (teller r gates) choices steps word (nothing_told (opening r gates))
+
+-- its events
+abbrev pub story_of : Tables → Gates → (choices steps : ℕ) → List ℕ → List Told
+story_of r gates choices steps word = (telling r gates choices steps word).events

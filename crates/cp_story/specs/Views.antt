@@ -1,0 +1,53 @@
+-- What is seen of a story's values.
+use Rattle.std.specs.Prelude.{ℕ, List, Bool, map, option_map}
+use Rattle.std.specs.declared.alloc.Global.{Global}
+use Rattle.std.specs.declared.vec.Vec.{Vec}
+use Rattle.cp_machine.specs.declared.process.Status.{Status}
+use Rattle.cp_story.specs.declared.event.Choice.{Choice}
+use Rattle.cp_story.specs.declared.event.Happening.{Happening}
+use Rattle.cp_story.specs.declared.event.Happening.TheVariants as happening
+use Rattle.cp_story.specs.declared.event.OpenCall.{OpenCall}
+use Rattle.cp_story.specs.declared.event.StoryEvent.{StoryEvent}
+use Rattle.cp_story.specs.declared.observer.Observer.{Observer}
+use Rattle.cp_story.specs.declared.statuses.Waited.{Waited}
+use Rattle.cp_story.specs.declared.statuses.Waited.TheVariants as waited
+use Rattle.cp_story.specs.Story.{Decision, Happened, Enters, Leaves, Delays, Continues, Starts, Displays, Ends, IsAdmitted, Told, Past, Telling, is_gated, is_queued}
+
+abbrev pub decision_of : Choice → Decision
+decision_of c = record { options = c.options.items; number = c.number; at_gate = c.at_gate }
+
+abbrev pub happened_of : Happening → Happened
+happened_of (happening.Enter call arguments waits) = Enters call waits
+happened_of (happening.Leave call) = Leaves call
+happened_of (happening.Delay queue call) = Delays call
+happened_of (happening.Continue queue call) = Continues call
+happened_of (happening.Start process) = Starts process
+happened_of (happening.Display value) = Displays value
+happened_of happening.End = Ends
+happened_of (happening.Admit call) = IsAdmitted call
+
+abbrev pub told_of : StoryEvent → Told
+told_of e =
+    record {
+      process = e.plain.process;
+      happened = happened_of e.happening;
+      line = e.line;
+      choice = option_map decision_of e.choice;
+      woken = e.woken.items;
+      let_in = e.let_in.items;
+      statuses = e.statuses.items;
+      holders = e.plain.holders;
+    }
+
+abbrev pub items_of : Vec OpenCall Global → List OpenCall
+items_of calls = calls.items
+
+abbrev pub past_of : Observer → Past
+past_of o = record { choice = option_map decision_of o.choice; calls = map items_of o.calls.items; statuses = o.statuses.items }
+
+abbrev pub telling_of : Observer → List StoryEvent → Telling
+telling_of o events = record { events = map told_of events; past = past_of o }
+
+abbrev pub has_waited : Waited → Status → Bool
+has_waited waited.AtGate status = is_gated status
+has_waited waited.Delayed status = is_queued status
