@@ -3,6 +3,8 @@
 ghost use Rattle.std.specs.Prelude.{◌≡◌, List, ℕ, IfOk, IfErr};
 ghost use Rattle.cp_text.specs.Reading.{HasTokens};
 ghost use Rattle.cp_tree.specs.TreeView.{tree_view};
+ghost use Rattle.cp_layout.specs.Laid.{whole};
+ghost use Rattle.cp_layout.specs.Symbols.{AreSymbolsOf};
 ghost use Rattle.cp_resolved.specs.Resolving.{IsProgramOf};
 ghost use Rattle.cp_front.specs.Loading.{IsTreeOf, IsRefusalOf, Loads};
 
@@ -63,6 +65,7 @@ pub fn load(alloc: Global, source: &[u8]) -> Result<Loaded, Refusal>
 pub fn load_with_symbols(alloc: Global, source: &[u8]) -> Result<(Loaded, Symbols), Refusal>
     ensures loaded { IfOk result (λ l. Loads source.now l.0.tokens (tree_view l.0.checked.tree)) }
     ensures stands { IfOk result (λ l. IsProgramOf (tree_view l.0.checked.tree) l.0.program) }
+    ensures symbols { IfOk result (λ l. AreSymbolsOf l.1 (whole (tree_view l.0.checked.tree))) }
     ensures refused { IfErr result (λ r. IsRefusalOf source.now r) }
 {
     match load_checked(alloc, source) {
@@ -145,6 +148,7 @@ fn resolve_checked_with_symbols(
 ) -> Result<(Loaded, Symbols), Refusal>
     ensures loaded { IfOk result (λ l. (l.0.tokens ≡ tokens) × (tree_view l.0.checked.tree ≡ tree_view checked.tree)) }
     ensures stands { IfOk result (λ l. IsProgramOf (tree_view l.0.checked.tree) l.0.program) }
+    ensures symbols { IfOk result (λ l. AreSymbolsOf l.1 (whole (tree_view l.0.checked.tree))) }
     ensures refused { IfErr result (λ r. r ≡ Refusal.Memory) }
 {
     match resolve_with_symbols(alloc, &checked) {

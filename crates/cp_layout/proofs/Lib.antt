@@ -6,4 +6,5 @@ pub mod LaidLists
 pub mod LaidParts
 pub mod Least
 pub mod Listed
+pub mod SymbolLists
 pub mod Systems

@@ -99,5 +99,9 @@ tables_listed l c = tables_with l c (room_from l no_room c.processes)
 unfoldable pub tables_laid : Layer → PlainTables
 tables_laid l = tables_listed l (program_listed l.types l.systems l.owned (length l.routines - 1))
 
+-- all that is laid out of a tree
+abbrev pub whole : Tree → Layer
+whole t = program (nothing_laid t.lines) t.program
+
 unfoldable pub laid : Tree → PlainTables
-laid t = tables_laid (program (nothing_laid t.lines) t.program)
+laid t = tables_laid (whole t)

@@ -6,4 +6,5 @@ pub mod LaidExpressions
 pub mod LaidStatements
 pub mod LaidTypes
 pub mod Layers
+pub mod Symbols
 pub mod Values

@@ -3,6 +3,7 @@
 ghost use Rattle.std.specs.Prelude.{◌≡◌, ◌++◌, [], map, option_map, slice_get, IfOk, OnOk};
 ghost use Rattle.cp_layout.specs.Kinds as spec;
 ghost use Rattle.cp_layout.specs.Kinds.{types_seen, compound_seen, field_seen, fields_seen};
+ghost use Rattle.cp_layout.specs.Symbols.{field_symbol_seen, type_symbol_seen};
 
 use crate::symbols::{FieldSymbol, TypeSymbol};
 use cp_text::Name;
@@ -123,7 +124,9 @@ fn field_named<'a>(fields: &[Field<'a>], name: &Name) -> Option<Field<'a>>
     None
 }
 
-fn type_symbol(alloc: Global, compound: &Compound<'_>) -> Result<TypeSymbol, AllocError> {
+fn type_symbol(alloc: Global, compound: &Compound<'_>) -> Result<TypeSymbol, AllocError>
+    ensures { IfOk result (λ t. type_symbol_seen t ≡ compound_seen compound.now) }
+{
     match compound {
         Compound::Array(array) => Ok(TypeSymbol::Array(*array)),
         Compound::Record(record) => {
@@ -133,7 +136,10 @@ fn type_symbol(alloc: Global, compound: &Compound<'_>) -> Result<TypeSymbol, All
     }
 }
 
-fn field_symbols(alloc: Global, fields: &[Field<'_>]) -> Result<Vec<FieldSymbol>, AllocError> {
+#[tactic(auto, using(crate::proofs::SymbolLists::fields_step, crate::proofs::SymbolLists::fields_none))]
+fn field_symbols(alloc: Global, fields: &[Field<'_>]) -> Result<Vec<FieldSymbol>, AllocError>
+    ensures { IfOk result (λ v. map field_symbol_seen v.items ≡ map field_seen fields.now) }
+{
     let mut symbols = Vec::new(alloc);
     for field in fields {
         symbols.push(FieldSymbol {
@@ -305,7 +311,10 @@ impl<'a> Types<'a> {
     }
 
     /// The arrays and records, with names of their own.
-    pub fn symbols(&self, alloc: Global) -> Result<Vec<TypeSymbol>, AllocError> {
+    #[tactic(auto, using(crate::proofs::SymbolLists::types_step, crate::proofs::SymbolLists::types_none), unfolding(crate::specs::Kinds::types_seen))]
+    pub fn symbols(&self, alloc: Global) -> Result<Vec<TypeSymbol>, AllocError>
+        ensures { IfOk result (λ v. map type_symbol_seen v.items ≡ types_seen self.now) }
+    {
         let mut types = Vec::new(alloc);
         for compound in &self.compounds {
             types.push(type_symbol(alloc, compound)?)?;

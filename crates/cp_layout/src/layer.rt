@@ -7,6 +7,7 @@ ghost use Rattle.cp_layout.specs.Kinds.{plus, times};
 ghost use Rattle.cp_layout.specs.Layers as spec;
 ghost use Rattle.cp_layout.specs.Layers.{layer_seen, owned_seen, pending_seen, Lays, Leads};
 ghost use Rattle.cp_layout.specs.LaidDeclarations.{component_cell};
+ghost use Rattle.cp_layout.specs.Symbols.{AreSymbolsOf, names_noted, with_noted};
 
 use crate::frame::RoutineFrame;
 use crate::kinds::{CellType, Types};
@@ -186,14 +187,18 @@ impl<'a> Layouter<'a> {
     /// The symbols of what is laid out.
     #[tactic(auto, unfolding(crate::specs::Layers::layer_seen))]
     pub fn take_symbols(&mut self, alloc: Global) -> Result<Symbols, AllocError>
-        ensures { layer_seen self.new ≡ layer_seen self.old }
+        ensures stays { layer_seen self.new ≡ layer_seen self.old }
+        ensures symbols { IfOk result (λ s. AreSymbolsOf s (layer_seen self.old)) }
     {
         let noted = mem::replace(&mut self.symbols, None);
         self.symbols_with(alloc, items_of(alloc, noted))
     }
 
     // The symbols of what is laid out, with the names that are declared.
-    fn symbols_with(&self, alloc: Global, declared: Vec<Symbol>) -> Result<Symbols, AllocError> {
+    #[tactic(auto, unfolding(crate::specs::Layers::layer_seen))]
+    fn symbols_with(&self, alloc: Global, declared: Vec<Symbol>) -> Result<Symbols, AllocError>
+        ensures { IfOk result (λ s. AreSymbolsOf s (layer_seen self.now)) }
+    {
         Ok(Symbols {
             declared,
             routines: self.around.routine_symbols(alloc)?,
@@ -203,22 +208,24 @@ impl<'a> Layouter<'a> {
         })
     }
 
-    /// Declares a name.
+    /// Declares a name, and notes what it stands for where that is asked for.
     #[tactic(auto, unfolding(crate::specs::Layers::layer_seen))]
     pub fn declare(
         &mut self,
         node: &'a Identifier,
         meaning: LayoutMeaning,
     ) -> Result<(), AllocError>
-        ensures { Leads (spec.with_name (layer_seen self.old) node.now.name meaning) (layer_seen self.new) result }
+        ensures visible { Leads (spec.with_name (layer_seen self.old) node.now.name meaning) (layer_seen self.new) result }
+        ensures noted { OnOk result (names_noted self.new.symbols ≡ with_noted self.old.symbols (layer_seen self.old) node.now.name meaning) }
     {
         self.note(node.name.as_str(), meaning)?;
         self.around.names.add(node.name.as_str(), meaning)
     }
 
-    #[tactic(auto, unfolding(crate::specs::Layers::layer_seen))]
+    #[tactic(auto, unfolding(crate::specs::Layers::layer_seen, crate::specs::Symbols::names_noted, crate::specs::Symbols::with_noted))]
     fn note(&mut self, name: &str, meaning: LayoutMeaning) -> Result<(), AllocError>
-        ensures { layer_seen self.new ≡ layer_seen self.old }
+        ensures stays { layer_seen self.new ≡ layer_seen self.old }
+        ensures noted { OnOk result (names_noted self.new.symbols ≡ with_noted self.old.symbols (layer_seen self.old) name.now meaning) }
     {
         let routines = self.lists.routines.len();
         let systems = self.around.systems.len();

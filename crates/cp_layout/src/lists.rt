@@ -1,6 +1,7 @@
 //! What grows while a program is laid out: its routines, its items, and the names of its constants.
 
-ghost use Rattle.std.specs.Prelude.{◌≡◌, max, map, length};
+ghost use Rattle.std.specs.Prelude.{◌≡◌, max, map, length, IfOk};
+ghost use Rattle.std.specs.String.{string_bytes};
 ghost use Rattle.cp_slots.specs.Code.{item_seen};
 ghost use Rattle.cp_layout.specs.Kinds.{plus};
 ghost use Rattle.cp_layout.specs.Layers as spec;
@@ -70,7 +71,10 @@ impl Lists {
     }
 
     /// The constants of the enumerations.
-    pub fn constant_symbols(&self, alloc: Global) -> Result<Vec<String>, AllocError> {
+    #[tactic(auto, using(crate::proofs::SymbolLists::constants_step, crate::proofs::SymbolLists::constants_none))]
+    pub fn constant_symbols(&self, alloc: Global) -> Result<Vec<String>, AllocError>
+        ensures { IfOk result (λ v. map string_bytes v.items ≡ map string_bytes self.now.constants.items) }
+    {
         let mut names = Vec::new(alloc);
         for name in &self.constants {
             names.push(String::from_str(alloc, name.as_str())?)?;

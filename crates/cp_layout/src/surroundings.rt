@@ -1,10 +1,11 @@
 //! What expressions and types read: what is declared around them.
 
-ghost use Rattle.std.specs.Prelude.{◌≡◌, slice_index};
+ghost use Rattle.std.specs.Prelude.{◌≡◌, map, slice_index, IfOk};
 ghost use Rattle.cp_layout.specs.Layers as spec;
-ghost use Rattle.cp_layout.specs.Layers.{around_seen};
+ghost use Rattle.cp_layout.specs.Layers.{around_seen, heading_seen, system_seen};
 ghost use Rattle.cp_layout.specs.LaidExpressions as expressions;
 ghost use Rattle.cp_layout.specs.LaidStatements as statements;
+ghost use Rattle.cp_layout.specs.Symbols.{routine_seen, routine_named, system_named};
 
 use crate::kinds::Types;
 use crate::layer::{FunctionResult, HeadingLayout, Owned, ParameterLayout, SystemCells};
@@ -70,7 +71,10 @@ impl<'a> Surroundings<'a> {
     }
 
     /// The headings of all routines.
-    pub fn routine_symbols(&self, alloc: Global) -> Result<Vec<RoutineSymbol>, AllocError> {
+    #[tactic(auto, using(crate::proofs::SymbolLists::routines_step, crate::proofs::SymbolLists::routines_none))]
+    pub fn routine_symbols(&self, alloc: Global) -> Result<Vec<RoutineSymbol>, AllocError>
+        ensures { IfOk result (λ v. map routine_seen v.items ≡ map routine_named (map heading_seen self.now.headings.items)) }
+    {
         let mut symbols = Vec::new(alloc);
         for heading in &self.headings {
             symbols.push(RoutineSymbol {
@@ -83,7 +87,10 @@ impl<'a> Surroundings<'a> {
     }
 
     /// The system types.
-    pub fn system_symbols(&self, alloc: Global) -> Result<Vec<SystemSymbol>, AllocError> {
+    #[tactic(auto, using(crate::proofs::SymbolLists::systems_step, crate::proofs::SymbolLists::systems_none))]
+    pub fn system_symbols(&self, alloc: Global) -> Result<Vec<SystemSymbol>, AllocError>
+        ensures { IfOk result (λ v. v.items ≡ map system_named (map system_seen self.now.systems.items)) }
+    {
         let mut symbols = Vec::new(alloc);
         for system in &self.systems {
             symbols.push(SystemSymbol {

@@ -1,5 +1,9 @@
 //! Symbols: the names of a program, with what the layout made of them. They are noted only where they are asked for.
 
+ghost use Rattle.std.specs.Prelude.{◌≡◌, [], ◌∷◌, ◌++◌, OnOk};
+ghost use Rattle.cp_layout.specs.Symbols as spec;
+ghost use Rattle.cp_layout.specs.Symbols.{notes_seen};
+
 use crate::kinds::{ArrayType, CellType};
 use crate::layer::FunctionResult;
 use crate::names::LayoutMeaning;
@@ -80,13 +84,16 @@ impl DeclaredSymbols {
     }
 
     /// One more, where so many routines and system types are laid out.
+    #[tactic(auto, unfolding(crate::specs::Symbols::notes_seen))]
     pub fn add(
         &mut self,
         name: &str,
         meaning: LayoutMeaning,
         routines: usize,
         systems: usize,
-    ) -> Result<(), AllocError> {
+    ) -> Result<(), AllocError>
+        ensures { OnOk result (notes_seen self.new ≡ notes_seen self.old ++ spec.noted self.old name.now meaning routines systems ∷ []) }
+    {
         let name = String::from_str(self.alloc, name)?;
         self.items.push(Symbol {
             name,

@@ -6,7 +6,8 @@ ghost use Rattle.cp_slots.specs.Tables.{tables_of, routine_view, system_view};
 ghost use Rattle.cp_layout.specs.Layers.{layer_seen, system_seen, owned_seen};
 ghost use Rattle.cp_layout.specs.LaidComponents.{listing_seen};
 ghost use Rattle.cp_layout.specs.Laid as spec;
-ghost use Rattle.cp_layout.specs.Laid.{plain, laid};
+ghost use Rattle.cp_layout.specs.Laid.{plain, laid, whole};
+ghost use Rattle.cp_layout.specs.Symbols.{AreSymbolsOf};
 
 use crate::component::Components;
 use crate::layer::{Layouter, Owned, SystemCells};
@@ -28,7 +29,8 @@ pub fn lay_out(alloc: Global, tree: &Tree) -> Result<Layout, AllocError>
 /// The tables of a tree, and what its names stand for in them.
 #[tactic(auto, unfolding(crate::specs::Laid::laid))]
 pub fn lay_out_with_symbols(alloc: Global, tree: &Tree) -> Result<(Layout, Symbols), AllocError>
-    ensures { IfOk result (λ l. plain (tables_of l.0) ≡ laid (tree_view tree.now)) }
+    ensures tables { IfOk result (λ l. plain (tables_of l.0) ≡ laid (tree_view tree.now)) }
+    ensures symbols { IfOk result (λ l. AreSymbolsOf l.1 (whole (tree_view tree.now))) }
 {
     let mut layer = Layouter::new(alloc, tree)?;
     layer.ask_for_symbols(alloc);

@@ -2,7 +2,8 @@
 
 ghost use Rattle.std.specs.Prelude.{◌≡◌, IfOk};
 ghost use Rattle.cp_tree.specs.TreeView.{tree_view};
-ghost use Rattle.cp_layout.specs.Laid.{plain, laid};
+ghost use Rattle.cp_layout.specs.Laid.{plain, laid, whole};
+ghost use Rattle.cp_layout.specs.Symbols.{AreSymbolsOf};
 ghost use Rattle.cp_slots.specs.Tables.{tables_of};
 ghost use Rattle.cp_resolved.specs.Resolving.{IsProgramOf};
 
@@ -24,7 +25,8 @@ pub fn resolve_with_symbols(
     alloc: Global,
     checked: &Checked,
 ) -> Result<(Resolved, Symbols), AllocError>
-    ensures { IfOk result (λ r. IsProgramOf (tree_view checked.now.tree) r.0) }
+    ensures stands { IfOk result (λ r. IsProgramOf (tree_view checked.now.tree) r.0) }
+    ensures symbols { IfOk result (λ r. AreSymbolsOf r.1 (whole (tree_view checked.now.tree))) }
 {
     let (layout, symbols) = lay_out_with_symbols(alloc, checked.tree())?;
     Ok((program_of(checked, layout), symbols))

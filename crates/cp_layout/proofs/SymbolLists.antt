@@ -1,0 +1,52 @@
+-- Symbols that are gathered in their order: loops over what is laid out.
+use Rattle.std.proofs.Common.{◌≡◌, ℕ, ◌+◌, ◌<◌, ◌≤◌, List, [], ◌∷◌, ◌++◌, length, get_or, take, map, refl, ap, ◌∙◌, add-one}
+use Rattle.std.specs.String.{string_bytes}
+use Rattle.std.proofs.Math.Seq.{take-suc}
+use Rattle.std.proofs.lemmas.List.{take_all, map-append}
+use Rattle.std.specs.declared.string.String.{String}
+use Rattle.cp_layout.specs.declared.layer.HeadingLayout as code_heading
+use Rattle.cp_layout.specs.declared.layer.SystemCells as code_system
+use Rattle.cp_layout.specs.declared.kinds.Compound as code_compound
+use Rattle.cp_layout.specs.declared.kinds.Field as code_field
+use Rattle.cp_layout.specs.Kinds.{compound_seen, field_seen}
+use Rattle.cp_layout.specs.Layers.{heading_seen, system_seen}
+use Rattle.cp_layout.specs.Symbols.{routine_named, system_named}
+
+-- one more of those that are gathered, and all of them
+one_more : {X Y : Type 0} (f : X → Y) (xs : List X) (i : ℕ) (x : X) → i < length xs → x ≡ get_or xs i x → map f (take (i + 1) xs) ≡ map f (take i xs) ++ f x ∷ []
+one_more f xs i x within here = rw (add-one, take-suc xs i x within, ← here) (map-append f (take i xs) (x ∷ []))
+
+module _ (xs : List code_heading.HeadingLayout) (i : ℕ) where
+  pub routines_step : (x : code_heading.HeadingLayout) → i < length xs → x ≡ get_or xs i x → map routine_named (map heading_seen (take (i + 1) xs)) ≡ map routine_named (map heading_seen (take i xs)) ++ routine_named (heading_seen x) ∷ []
+  routines_step x within here = ap (map routine_named) (one_more heading_seen xs i x within here) ∙ map-append routine_named (map heading_seen (take i xs)) (heading_seen x ∷ [])
+
+  pub routines_none : length xs ≤ i → map routine_named (map heading_seen (take i xs)) ≡ map routine_named (map heading_seen xs)
+  routines_none h = rw (take_all i xs h) refl
+
+module _ (xs : List code_system.SystemCells) (i : ℕ) where
+  pub systems_step : (x : code_system.SystemCells) → i < length xs → x ≡ get_or xs i x → map system_named (map system_seen (take (i + 1) xs)) ≡ map system_named (map system_seen (take i xs)) ++ system_named (system_seen x) ∷ []
+  systems_step x within here = ap (map system_named) (one_more system_seen xs i x within here) ∙ map-append system_named (map system_seen (take i xs)) (system_seen x ∷ [])
+
+  pub systems_none : length xs ≤ i → map system_named (map system_seen (take i xs)) ≡ map system_named (map system_seen xs)
+  systems_none h = rw (take_all i xs h) refl
+
+module _ (xs : List code_field.Field) (i : ℕ) where
+  pub fields_step : (x : code_field.Field) → i < length xs → x ≡ get_or xs i x → map field_seen (take (i + 1) xs) ≡ map field_seen (take i xs) ++ field_seen x ∷ []
+  fields_step x within here = one_more field_seen xs i x within here
+
+  pub fields_none : length xs ≤ i → map field_seen (take i xs) ≡ map field_seen xs
+  fields_none h = rw (take_all i xs h) refl
+
+module _ (xs : List code_compound.Compound) (i : ℕ) where
+  pub types_step : (x : code_compound.Compound) → i < length xs → x ≡ get_or xs i x → map compound_seen (take (i + 1) xs) ≡ map compound_seen (take i xs) ++ compound_seen x ∷ []
+  types_step x within here = one_more compound_seen xs i x within here
+
+  pub types_none : length xs ≤ i → map compound_seen (take i xs) ≡ map compound_seen xs
+  types_none h = rw (take_all i xs h) refl
+
+module _ (xs : List String) (i : ℕ) where
+  pub constants_step : (x : String) → i < length xs → x ≡ get_or xs i x → map string_bytes (take (i + 1) xs) ≡ map string_bytes (take i xs) ++ string_bytes x ∷ []
+  constants_step x within here = one_more string_bytes xs i x within here
+
+  pub constants_none : length xs ≤ i → map string_bytes (take i xs) ≡ map string_bytes xs
+  constants_none h = rw (take_all i xs h) refl
