@@ -62,7 +62,14 @@ fn put_counted<O: ObserveProgress>(
         limits: subject.limits,
     };
     let found = survey(alloc, job, MOST_IN_A_LAYER, observer)?;
-    put_tallies(alloc, json, subject, rows_of(&found), found.is_some())
+    put_tallies(
+        alloc,
+        json,
+        subject,
+        observer,
+        rows_of(&found),
+        found.is_some(),
+    )
 }
 
 fn rows_of(found: &Option<Tallies>) -> &[Tally] {
@@ -72,15 +79,16 @@ fn rows_of(found: &Option<Tallies>) -> &[Tally] {
     }
 }
 
-fn put_tallies(
+fn put_tallies<O: ObserveProgress>(
     alloc: Global,
     json: &mut Json,
     subject: PageSubject<'_>,
+    observer: &mut O,
     tallies: &[Tally],
     is_whole: bool,
 ) -> Result<(), AllocError> {
     let words = first_words(alloc, tallies, MOST_LAID_OUT)?;
-    put_graph(alloc, json, subject, merging_for(tallies), &words)?;
+    put_graph(alloc, json, subject, observer, merging_for(tallies), &words)?;
     json.name("isWhole");
     json.truth(is_whole);
     json.name("more");
@@ -99,7 +107,14 @@ fn put_endless<O: ObserveProgress>(
 ) -> Result<(), AllocError> {
     let endless = endless_of(alloc, subject, observer)?;
     let words = endless.words(alloc)?;
-    put_graph(alloc, json, subject, Merging::WithoutOutput, &words)?;
+    put_graph(
+        alloc,
+        json,
+        subject,
+        observer,
+        Merging::WithoutOutput,
+        &words,
+    )?;
     endless.put(alloc, json, subject.legend)
 }
 
@@ -158,17 +173,18 @@ fn put_name(json: &mut Json, name: &str, type_name: &str) {
 }
 
 // The variables, the states and the edges, with the tables on which they stand.
-fn put_graph(
+fn put_graph<O: ObserveProgress>(
     alloc: Global,
     json: &mut Json,
     subject: PageSubject<'_>,
+    observer: &mut O,
     merging: Merging,
     words: &[Vec<u8>],
 ) -> Result<(), AllocError> {
     let teller = first_teller(alloc, subject.legend)?;
     let mut graph = PageGraph::new(alloc, teller, merging, subject.length);
     put_variables(alloc, json, subject, &mut graph.teller)?;
-    put_states(alloc, json, subject, words, &mut graph)
+    put_states(alloc, json, subject, observer, words, &mut graph)
 }
 
 // A teller who has told nothing yet.
@@ -197,15 +213,16 @@ fn put_variables(
 }
 
 // The states and the edges that are found, with the tables.
-fn put_states(
+fn put_states<O: ObserveProgress>(
     alloc: Global,
     json: &mut Json,
     subject: PageSubject<'_>,
+    observer: &mut O,
     words: &[Vec<u8>],
     graph: &mut PageGraph<'_>,
 ) -> Result<(), AllocError> {
     let views = first_views(alloc, subject, &mut graph.teller.register)?;
-    let start = explore_graph::<Brand>(alloc, subject, graph, words, Blank::new(1))?;
+    let start = explore_graph::<O, Brand>(alloc, subject, observer, graph, words, Blank::new(1))?;
     json.name("start");
     json.open();
     json.place(start);
@@ -241,9 +258,10 @@ fn first_views(
 }
 
 // Finds the states: the first ones, and those along words. The answer is the edge before the first choice.
-fn explore_graph<S: Ledger>(
+fn explore_graph<O: ObserveProgress, S: Ledger>(
     alloc: Global,
     subject: PageSubject<'_>,
+    observer: &mut O,
     graph: &mut PageGraph<'_>,
     words: &[Vec<u8>],
     blank: Blank,
@@ -261,11 +279,20 @@ fn explore_graph<S: Ledger>(
     let mut states = Vec::new(alloc);
     let start = graph.begin(alloc, program, limits, &mut states, &mut ticks)?;
     let most = subject.states as usize;
-    graph.explore(alloc, program, limits, &mut states, most, &mut ticks)?;
+    graph.explore(
+        alloc,
+        program,
+        limits,
+        observer,
+        &mut states,
+        most,
+        &mut ticks,
+    )?;
     graph.lay(
         alloc,
         program,
         limits,
+        observer,
         &mut states,
         start,
         subject.word,
@@ -275,6 +302,7 @@ fn explore_graph<S: Ledger>(
         alloc,
         program,
         limits,
+        observer,
         graph,
         words,
         &mut states,
@@ -286,10 +314,11 @@ fn explore_graph<S: Ledger>(
 }
 
 // Goes along words, until so many states were gone on from for them.
-fn lay_words<S: Ledger>(
+fn lay_words<O: ObserveProgress, S: Ledger>(
     alloc: Global,
     program: &Resolved,
     limits: Limits,
+    observer: &mut O,
     graph: &mut PageGraph<'_>,
     words: &[Vec<u8>],
     states: &mut Vec<State>,
@@ -302,17 +331,18 @@ fn lay_words<S: Ledger>(
     let mut left = most;
     for word in words {
         left = lay_word(
-            alloc, program, limits, graph, word, states, left, start, ticks,
+            alloc, program, limits, observer, graph, word, states, left, start, ticks,
         )?;
     }
     Ok(())
 }
 
 // Goes along a word, if states may still be gone on from; the answer is how many may then.
-fn lay_word<S: Ledger>(
+fn lay_word<O: ObserveProgress, S: Ledger>(
     alloc: Global,
     program: &Resolved,
     limits: Limits,
+    observer: &mut O,
     graph: &mut PageGraph<'_>,
     word: &[u8],
     states: &mut Vec<State>,
@@ -326,6 +356,6 @@ fn lay_word<S: Ledger>(
     if left == 0 {
         return Ok(0);
     }
-    let laid = graph.lay(alloc, program, limits, states, start, word, ticks)?;
+    let laid = graph.lay(alloc, program, limits, observer, states, start, word, ticks)?;
     Ok(left.saturating_sub(laid))
 }

@@ -15,6 +15,7 @@ use arrayvec::ArrayVec;
 use cp_ends::end::Arrival;
 use cp_machine::{State, Ticks};
 use cp_merged::state_key::StateKey;
+use cp_progress::{ObserveProgress, Progress, STATES_BETWEEN};
 use cp_run::{Limits, candidates, may};
 use cp_slots::Resolved;
 use cp_story::{Observer, OpenCall};
@@ -46,6 +47,10 @@ pub struct PageGraph<'a> {
     known: IndexMap<StateKey, usize>,
     /// The state that each edge leads to, where it leads to no end.
     targets: Vec<Option<usize>>,
+    /// How many states were gone on from.
+    gone_on: u32,
+    /// The most choices that lead to one of these.
+    choices: u8,
 }
 
 // A copy of a state.
@@ -89,6 +94,8 @@ impl<'a> PageGraph<'a> {
             nodes: Vec::new(alloc),
             known: IndexMap::new(alloc),
             targets: Vec::new(alloc),
+            gone_on: 0,
+            choices: 0,
         }
     }
 
@@ -121,11 +128,12 @@ impl<'a> PageGraph<'a> {
     }
 
     // Goes on from a state with each process that may be chosen.
-    fn expand<S: Ledger>(
+    fn expand<O: ObserveProgress, S: Ledger>(
         &mut self,
         alloc: Global,
         program: &Resolved,
         limits: Limits,
+        observer: &mut O,
         states: &mut Vec<State>,
         at: usize,
         ticks: &mut Ticks<S>,
@@ -136,11 +144,25 @@ impl<'a> PageGraph<'a> {
         if at >= states.len() {
             return Ok(());
         }
+        self.tell_progress(observer, at);
         let before = copy_at(alloc, program, states, at)?;
         for process in 0..program.processes() {
             self.go_on(alloc, program, limits, states, at, &before, process, ticks)?;
         }
         Ok(())
+    }
+
+    // Tells now and then how far this has come, before a state is gone on from.
+    fn tell_progress<O: ObserveProgress>(&mut self, observer: &mut O, at: usize) {
+        self.choices = self.choices.max(self.depth_of(at));
+        if self.gone_on % STATES_BETWEEN == 0 {
+            observer.observe_progress(Progress {
+                choices: u32::from(self.choices),
+                states: self.nodes.len(),
+                outcomes: None,
+            });
+        }
+        self.gone_on = self.gone_on.wrapping_add(1);
     }
 
     // Goes on from a state with a process, if it may be chosen.
@@ -337,11 +359,12 @@ impl<'a> PageGraph<'a> {
     }
 
     /// Goes on from the first states that are found, up to so many, with up to K choices.
-    pub fn explore<S: Ledger>(
+    pub fn explore<O: ObserveProgress, S: Ledger>(
         &mut self,
         alloc: Global,
         program: &Resolved,
         limits: Limits,
+        observer: &mut O,
         states: &mut Vec<State>,
         most: usize,
         ticks: &mut Ticks<S>,
@@ -350,17 +373,18 @@ impl<'a> PageGraph<'a> {
         ensures { IfOk result (λ _. All (λ s. IsStateOf program.now s) states.new.items) }
     {
         for at in 0..most {
-            self.explore_at(alloc, program, limits, states, at, ticks)?;
+            self.explore_at(alloc, program, limits, observer, states, at, ticks)?;
         }
         Ok(())
     }
 
     // Goes on from a state, if there is one at this place and fewer than K choices lead to it, where there is such a limit.
-    fn explore_at<S: Ledger>(
+    fn explore_at<O: ObserveProgress, S: Ledger>(
         &mut self,
         alloc: Global,
         program: &Resolved,
         limits: Limits,
+        observer: &mut O,
         states: &mut Vec<State>,
         at: usize,
         ticks: &mut Ticks<S>,
@@ -371,15 +395,16 @@ impl<'a> PageGraph<'a> {
         if self.length == Length::Limited && self.depth_of(at) >= limits.choices {
             return Ok(());
         }
-        self.expand(alloc, program, limits, states, at, ticks)
+        self.expand(alloc, program, limits, observer, states, at, ticks)
     }
 
     /// Goes on from the states along a word, up to so many; the answer is how many there were.
-    pub fn lay<S: Ledger>(
+    pub fn lay<O: ObserveProgress, S: Ledger>(
         &mut self,
         alloc: Global,
         program: &Resolved,
         limits: Limits,
+        observer: &mut O,
         states: &mut Vec<State>,
         start: usize,
         word: &[u8],
@@ -392,18 +417,19 @@ impl<'a> PageGraph<'a> {
         let mut count = 0usize;
         for number in word {
             edge = self.lay_choice(
-                alloc, program, limits, states, edge, *number, &mut count, ticks,
+                alloc, program, limits, observer, states, edge, *number, &mut count, ticks,
             )?;
         }
         Ok(count)
     }
 
     // Goes on from the state after an edge, if it was not gone on from; the answer is the edge of the choice of a process there.
-    fn lay_choice<S: Ledger>(
+    fn lay_choice<O: ObserveProgress, S: Ledger>(
         &mut self,
         alloc: Global,
         program: &Resolved,
         limits: Limits,
+        observer: &mut O,
         states: &mut Vec<State>,
         edge: Option<usize>,
         process: u8,
@@ -416,17 +442,18 @@ impl<'a> PageGraph<'a> {
         let Some(at) = self.target_of(edge) else {
             return Ok(None);
         };
-        let opened = self.expand_once(alloc, program, limits, states, at, ticks)?;
+        let opened = self.expand_once(alloc, program, limits, observer, states, at, ticks)?;
         *count = count.saturating_add(opened);
         Ok(self.edge_of(at, process))
     }
 
     // Goes on from a state, if it was not gone on from; the answer is how many states that were.
-    fn expand_once<S: Ledger>(
+    fn expand_once<O: ObserveProgress, S: Ledger>(
         &mut self,
         alloc: Global,
         program: &Resolved,
         limits: Limits,
+        observer: &mut O,
         states: &mut Vec<State>,
         at: usize,
         ticks: &mut Ticks<S>,
@@ -437,7 +464,7 @@ impl<'a> PageGraph<'a> {
         if !self.is_open(at) {
             return Ok(0);
         }
-        self.expand(alloc, program, limits, states, at, ticks)?;
+        self.expand(alloc, program, limits, observer, states, at, ticks)?;
         Ok(1)
     }
 
