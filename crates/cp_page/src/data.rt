@@ -1,21 +1,22 @@
 //! The data of a page: one JSON object.
 
-ghost use Rattle.std.specs.Prelude.{◌≡◌, All, IfOk};
+ghost use Rattle.std.specs.Prelude.{◌≡◌, All};
 ghost use Rattle.cp_machine.specs.System.{IsStateOf};
 
-use crate::endless::endless_of;
+use crate::endless::{Endless, endless_of};
 use crate::graph::PageGraph;
 use crate::json::Json;
 use crate::keys::Merging;
-use crate::outcomes::{MOST_OUTCOMES, first_words, has_output_limit, outcome_rows, survey};
+use crate::outcomes::{MOST_OUTCOMES, first_words, has_output_limit, put_outcomes, survey};
 use crate::register::Register;
-use crate::source::source_lines;
+use crate::source::put_source;
 use crate::subject::{Length, PageSubject};
 use crate::teller::Teller;
 use crate::variables::kept_variables;
+use crate::words::PageWords;
 use cp_legend::Legend;
 use cp_machine::{Gates, State, Ticks};
-use cp_merged::{Tallies, Tally};
+use cp_merged::Tally;
 use cp_progress::ObserveProgress;
 use cp_run::Limits;
 use cp_slots::Resolved;
@@ -31,23 +32,19 @@ const MOST_IN_A_LAYER: usize = 200_000;
 const MOST_LAID_OUT: usize = 500;
 
 /// The data of a page.
-pub fn data<O: ObserveProgress>(
-    alloc: Global,
-    subject: PageSubject<'_>,
-    observer: &mut O,
-) -> Result<Json, AllocError> {
+pub fn data<O: ObserveProgress>(alloc: Global, subject: PageSubject<'_>, observer: &mut O) -> Json {
     let mut json = Json::new(alloc);
     json.begin();
     put_limits(&mut json, subject);
     put_names(&mut json, subject.legend);
-    json.name("source");
-    json.value(&source_lines(alloc, subject.source)?);
+    json.put_name("source");
+    put_source(&mut json, subject.source);
     match subject.length {
-        Length::Limited => put_counted(alloc, &mut json, subject, observer)?,
-        Length::Any => put_endless(alloc, &mut json, subject, observer)?,
+        Length::Limited => put_counted(alloc, &mut json, subject, observer),
+        Length::Any => put_endless(alloc, &mut json, subject, observer),
     }
     json.end();
-    Ok(json)
+    json
 }
 
 // The graph, and the outcomes of all schedules with their counts.
@@ -56,38 +53,34 @@ fn put_counted<O: ObserveProgress>(
     json: &mut Json,
     subject: PageSubject<'_>,
     observer: &mut O,
-) -> Result<(), AllocError> {
+) {
     let job = Job {
         program: subject.program,
         limits: subject.limits,
     };
-    let found = survey(alloc, job, MOST_IN_A_LAYER, observer)?;
-    put_tallies(alloc, json, subject, rows_of(&found), found.is_some())
-}
-
-fn rows_of(found: &Option<Tallies>) -> &[Tally] {
-    match found {
-        Some(tallies) => tallies.as_slice(),
-        None => &[],
+    match survey(alloc, job, MOST_IN_A_LAYER, observer) {
+        Ok(Some(tallies)) => put_tallies(alloc, json, subject, observer, tallies.as_slice(), true),
+        Ok(None) => put_tallies(alloc, json, subject, observer, &[], false),
+        Err(_) => json.refuse(),
     }
 }
 
-fn put_tallies(
+fn put_tallies<O: ObserveProgress>(
     alloc: Global,
     json: &mut Json,
     subject: PageSubject<'_>,
+    observer: &mut O,
     tallies: &[Tally],
     is_whole: bool,
-) -> Result<(), AllocError> {
-    let words = first_words(alloc, tallies, MOST_LAID_OUT)?;
-    put_graph(alloc, json, subject, merging_for(tallies), &words)?;
-    json.name("isWhole");
-    json.truth(is_whole);
-    json.name("more");
-    json.place(tallies.len().saturating_sub(MOST_OUTCOMES));
-    json.name("outcomes");
-    json.value(&outcome_rows(alloc, subject.legend, tallies)?);
-    Ok(())
+) {
+    let words = first_words(alloc, tallies, MOST_LAID_OUT);
+    put_graph(alloc, json, subject, observer, merging_for(tallies), &words);
+    json.put_name("isWhole");
+    json.put_truth(is_whole);
+    json.put_name("more");
+    json.put_place(tallies.len().saturating_sub(MOST_OUTCOMES));
+    json.put_name("outcomes");
+    put_outcomes(alloc, json, subject.legend, tallies);
 }
 
 // The graph, the ends that are possible in schedules of any length, and who may wait for ever.
@@ -96,125 +89,144 @@ fn put_endless<O: ObserveProgress>(
     json: &mut Json,
     subject: PageSubject<'_>,
     observer: &mut O,
-) -> Result<(), AllocError> {
-    let endless = endless_of(alloc, subject, observer)?;
-    let words = endless.words(alloc)?;
-    put_graph(alloc, json, subject, Merging::WithoutOutput, &words)?;
-    endless.put(alloc, json, subject.legend)
+) {
+    match endless_of(alloc, subject, observer) {
+        Ok(endless) => put_found(alloc, json, subject, observer, &endless),
+        Err(_) => json.refuse(),
+    }
+}
+
+fn put_found<O: ObserveProgress>(
+    alloc: Global,
+    json: &mut Json,
+    subject: PageSubject<'_>,
+    observer: &mut O,
+    endless: &Endless,
+) {
+    let words = endless.words(alloc);
+    put_graph(
+        alloc,
+        json,
+        subject,
+        observer,
+        Merging::WithoutOutput,
+        &words,
+    );
+    endless.put(alloc, json, subject.legend);
 }
 
 fn put_limits(json: &mut Json, subject: PageSubject<'_>) {
-    json.name("format");
-    json.number(1);
-    json.name("choices");
+    json.put_name("format");
+    json.put_number(1);
+    json.put_name("choices");
     match subject.length {
-        Length::Limited => json.number(i64::from(subject.limits.choices)),
-        Length::Any => json.nothing(),
+        Length::Limited => json.put_number(i64::from(subject.limits.choices)),
+        Length::Any => json.put_null(),
     }
-    json.name("steps");
-    json.number(i64::from(subject.limits.steps));
-    json.name("gates");
-    json.quoted(match subject.limits.gates {
+    json.put_name("steps");
+    json.put_number(i64::from(subject.limits.steps));
+    json.put_name("gates");
+    json.put_quoted(match subject.limits.gates {
         Gates::First => "first",
         Gates::Any => "any",
     });
-    json.name("states");
-    json.number(i64::from(subject.states));
-    json.name("word");
-    json.processes(subject.word);
-    json.name("round");
-    json.place(subject.round);
+    json.put_name("states");
+    json.put_number(i64::from(subject.states));
+    json.put_name("word");
+    json.put_processes(subject.word);
+    json.put_name("round");
+    json.put_place(subject.round);
 }
 
 // The names and types of processes and monitors.
 fn put_names(json: &mut Json, legend: &Legend) {
-    json.name("processes");
+    json.put_name("processes");
     json.open();
     for process in 0..legend.processes() {
-        put_name(
-            json,
-            legend.process_name(process),
-            legend.process_type(process),
-        );
+        let type_name = legend.process_type(process);
+        put_pair(json, legend.process_name(process), type_name);
     }
     json.close();
-    json.name("monitors");
+    json.put_name("monitors");
     json.open();
     for monitor in 0..legend.monitors() {
-        put_name(
-            json,
-            legend.monitor_name(monitor),
-            legend.monitor_type(monitor),
-        );
+        let type_name = legend.monitor_type(monitor);
+        put_pair(json, legend.monitor_name(monitor), type_name);
     }
     json.close();
 }
 
-fn put_name(json: &mut Json, name: &str, type_name: &str) {
+fn put_pair(json: &mut Json, name: &str, type_name: &str) {
     json.open();
-    json.quoted(name);
-    json.quoted(type_name);
+    json.put_quoted(name);
+    json.put_quoted(type_name);
     json.close();
 }
 
 // The variables, the states and the edges, with the tables on which they stand.
-fn put_graph(
+fn put_graph<O: ObserveProgress>(
     alloc: Global,
     json: &mut Json,
+    subject: PageSubject<'_>,
+    observer: &mut O,
+    merging: Merging,
+    words: &PageWords,
+) {
+    match new_graph(alloc, subject, merging) {
+        Ok(mut graph) => put_states(alloc, json, subject, observer, words, &mut graph),
+        Err(_) => json.refuse(),
+    }
+}
+
+// A graph of which nothing is laid out yet.
+fn new_graph(
+    alloc: Global,
     subject: PageSubject<'_>,
     merging: Merging,
-    words: &[Vec<u8>],
-) -> Result<(), AllocError> {
-    let teller = first_teller(alloc, subject.legend)?;
-    let mut graph = PageGraph::new(alloc, teller, merging, subject.length);
-    put_variables(alloc, json, subject, &mut graph.teller)?;
-    put_states(alloc, json, subject, words, &mut graph)
+) -> Result<PageGraph<'_>, AllocError> {
+    let kept = kept_variables(alloc, subject.legend)?;
+    let teller = Teller::new(alloc, subject.legend, kept);
+    Ok(PageGraph::new(alloc, teller, merging, subject.length))
 }
 
-// A teller who has told nothing yet.
-fn first_teller(alloc: Global, legend: &Legend) -> Result<Teller<'_>, AllocError> {
-    let kept = kept_variables(alloc, legend)?;
-    Ok(Teller {
-        register: Register::new(alloc, legend),
-        kept,
-        told: Vec::new(alloc),
-        going: 0,
-    })
-}
-
-// The variables that stay, with their first values.
-fn put_variables(
+// The variables, the states and the edges that are found, with the tables.
+fn put_states<O: ObserveProgress>(
     alloc: Global,
     json: &mut Json,
     subject: PageSubject<'_>,
-    teller: &mut Teller<'_>,
-) -> Result<(), AllocError> {
-    let state = State::start(alloc, subject.program, subject.limits.gates)?;
-    let variables = teller.register.variables(&teller.kept, &state.permanents);
-    json.name("variables");
-    json.value(&variables);
-    Ok(())
-}
-
-// The states and the edges that are found, with the tables.
-fn put_states(
-    alloc: Global,
-    json: &mut Json,
-    subject: PageSubject<'_>,
-    words: &[Vec<u8>],
+    observer: &mut O,
+    words: &PageWords,
     graph: &mut PageGraph<'_>,
-) -> Result<(), AllocError> {
-    let views = first_views(alloc, subject, &mut graph.teller.register)?;
-    let start = explore_graph::<Brand>(alloc, subject, graph, words, Blank::new(1))?;
-    json.name("start");
+) {
+    let Ok(views) = put_start(alloc, json, subject, graph) else {
+        return json.refuse();
+    };
+    let Ok(start) = explore_graph::<O, Brand>(alloc, subject, observer, graph, words, Blank::new(1))
+    else {
+        return json.refuse();
+    };
+    json.put_name("start");
     json.open();
-    json.place(start);
-    json.places(&views);
+    json.put_place(start);
+    json.put_value(&views);
     json.close();
-    json.name("nodes");
-    json.value(&graph.rows(alloc));
+    json.put_name("nodes");
+    graph.put_nodes(json);
     graph.teller.register.put(json);
-    Ok(())
+}
+
+// The variables that stay, with their first values. The answer is where each process stands before it is started.
+fn put_start(
+    alloc: Global,
+    json: &mut Json,
+    subject: PageSubject<'_>,
+    graph: &mut PageGraph<'_>,
+) -> Result<Json, AllocError> {
+    let state = State::start(alloc, subject.program, subject.limits.gates)?;
+    let Teller { register, kept, .. } = &mut graph.teller;
+    json.put_name("variables");
+    register.put_variables(json, kept, &state.permanents);
+    Ok(first_views(alloc, subject.program, &state, register))
 }
 
 // Which states are merged where these are the outcomes.
@@ -226,106 +238,146 @@ fn merging_for(tallies: &[Tally]) -> Merging {
     }
 }
 
-// Where each process stands before it is started.
+// The views of all processes in a state.
 fn first_views(
     alloc: Global,
-    subject: PageSubject<'_>,
+    program: &Resolved,
+    state: &State,
     register: &mut Register<'_>,
-) -> Result<Vec<usize>, AllocError> {
-    let state = State::start(alloc, subject.program, subject.limits.gates)?;
-    let mut views = Vec::new(alloc);
-    for process in 0..subject.program.processes() {
-        views.push(register.place_view(subject.program, &state, process))?;
+) -> Json
+    requires { IsStateOf program.now state.now }
+{
+    let mut views = Json::new(alloc);
+    views.open();
+    for process in 0..program.processes() {
+        views.put_place(register.place_view(program, state, process));
     }
-    Ok(views)
+    views.close();
+    views
 }
 
 // Finds the states: the first ones, and those along words. The answer is the edge before the first choice.
-fn explore_graph<S: Ledger>(
+fn explore_graph<O: ObserveProgress, S: Ledger>(
     alloc: Global,
     subject: PageSubject<'_>,
+    observer: &mut O,
     graph: &mut PageGraph<'_>,
-    words: &[Vec<u8>],
+    words: &PageWords,
     blank: Blank,
 ) -> Result<usize, AllocError>
     requires name { blank.name ≡ S.name }
     requires parts { blank.parts ≡ S.parts }
     requires one { S.parts ≡ 1 }
 {
+    let words = words.as_slice()?;
     let mut ticks: Ticks<S> = Ticks::new(blank);
+    let mut state = State::start(alloc, subject.program, subject.limits.gates)?;
+    let mut before = state.copy(alloc)?;
+    let start = lay_out(
+        alloc,
+        subject,
+        observer,
+        graph,
+        words,
+        &mut before,
+        &mut state,
+        &mut ticks,
+    );
+    if graph.is_refused() {
+        return Err(AllocError);
+    }
+    Ok(start)
+}
+
+// The same, with room for two states.
+fn lay_out<O: ObserveProgress, S: Ledger>(
+    alloc: Global,
+    subject: PageSubject<'_>,
+    observer: &mut O,
+    graph: &mut PageGraph<'_>,
+    words: &[Vec<u8>],
+    before: &mut State,
+    state: &mut State,
+    ticks: &mut Ticks<S>,
+) -> usize
+    requires before { IsStateOf subject.program.now before.old }
+    requires own { IsStateOf subject.program.now state.old }
+{
     let PageSubject {
         program,
         limits,
         ..
     } = subject;
     let mut states = Vec::new(alloc);
-    let start = graph.begin(alloc, program, limits, &mut states, &mut ticks)?;
+    let start = graph.begin(alloc, program, limits, &mut states, state, ticks);
     let most = subject.states as usize;
-    graph.explore(alloc, program, limits, &mut states, most, &mut ticks)?;
+    graph.explore(
+        alloc,
+        program,
+        limits,
+        observer,
+        &mut states,
+        before,
+        state,
+        most,
+        ticks,
+    );
     graph.lay(
         alloc,
         program,
         limits,
+        observer,
         &mut states,
+        before,
+        state,
         start,
         subject.word,
-        &mut ticks,
-    )?;
+        ticks,
+    );
     lay_words(
         alloc,
         program,
         limits,
+        observer,
         graph,
         words,
         &mut states,
+        before,
+        state,
         most,
         start,
-        &mut ticks,
-    )?;
-    Ok(start)
+        ticks,
+    );
+    start
 }
 
 // Goes along words, until so many states were gone on from for them.
-fn lay_words<S: Ledger>(
+fn lay_words<O: ObserveProgress, S: Ledger>(
     alloc: Global,
     program: &Resolved,
     limits: Limits,
+    observer: &mut O,
     graph: &mut PageGraph<'_>,
     words: &[Vec<u8>],
     states: &mut Vec<State>,
+    before: &mut State,
+    state: &mut State,
     most: usize,
     start: usize,
     ticks: &mut Ticks<S>,
-) -> Result<(), AllocError>
-    requires { All (λ s. IsStateOf program.now s) states.old.items }
+)
+    requires before { IsStateOf program.now before.old }
+    requires own { IsStateOf program.now state.old }
+    requires all { All (λ s. IsStateOf program.now s) states.old.items }
 {
     let mut left = most;
     for word in words {
-        left = lay_word(
-            alloc, program, limits, graph, word, states, left, start, ticks,
-        )?;
+        if left == 0 {
+            return;
+        }
+        let laid = graph.lay(
+            alloc, program, limits, observer, states, before, state, start, word, ticks,
+        );
+        left = left.saturating_sub(laid);
     }
-    Ok(())
-}
-
-// Goes along a word, if states may still be gone on from; the answer is how many may then.
-fn lay_word<S: Ledger>(
-    alloc: Global,
-    program: &Resolved,
-    limits: Limits,
-    graph: &mut PageGraph<'_>,
-    word: &[u8],
-    states: &mut Vec<State>,
-    left: usize,
-    start: usize,
-    ticks: &mut Ticks<S>,
-) -> Result<usize, AllocError>
-    requires { All (λ s. IsStateOf program.now s) states.old.items }
-    ensures { IfOk result (λ _. All (λ s. IsStateOf program.now s) states.new.items) }
-{
-    if left == 0 {
-        return Ok(0);
-    }
-    let laid = graph.lay(alloc, program, limits, states, start, word, ticks)?;
-    Ok(left.saturating_sub(laid))
 }

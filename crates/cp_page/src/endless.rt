@@ -4,9 +4,10 @@ ghost use Rattle.std.specs.Prelude.{IfOk, IfSome};
 ghost use Rattle.cp_ends.specs.Whole.{IsAnswer};
 ghost use Rattle.cp_waits.specs.Named.{TellOfAll};
 
-use crate::ends::plain_row;
+use crate::ends::put_plain_end;
 use crate::json::Json;
 use crate::subject::PageSubject;
+use crate::words::PageWords;
 use cp_ends::{Found, search_ends_with};
 use cp_legend::Legend;
 use cp_progress::ObserveProgress;
@@ -48,64 +49,68 @@ pub fn endless_of<O: ObserveProgress>(
 
 impl Endless {
     /// The words along which the page goes on to their ends: the first ones of the ends, and the rounds.
-    pub fn words(&self, alloc: Global) -> Result<Vec<Vec<u8>>, AllocError> {
-        let mut words = Vec::new(alloc);
+    pub fn words(&self, alloc: Global) -> PageWords {
+        let mut words = PageWords::new(alloc);
         for end in &self.found.ends {
-            words.push(self.found.states.word(alloc, end.origin)?)?;
+            words.add(self.found.states.word(alloc, end.origin));
         }
-        if let Some(Waits::Known(list)) = &self.waits {
-            for waiting in list {
-                words.push(whole_word(alloc, waiting)?)?;
-            }
+        for waiting in self.known_waits() {
+            words.add(whole_word(alloc, waiting));
         }
-        Ok(words)
+        words
+    }
+
+    fn known_waits(&self) -> &[Waiting] {
+        match &self.waits {
+            Some(Waits::Known(list)) => list,
+            _ => &[],
+        }
     }
 
     /// The ends, how far was looked, and who may wait for ever.
-    pub fn put(&self, alloc: Global, json: &mut Json, legend: &Legend) -> Result<(), AllocError> {
-        json.name("isWhole");
-        json.truth(self.found.stopped.is_none());
-        json.name("found");
-        json.place(self.found.states.len());
-        self.put_reach(alloc, json)?;
-        json.name("more");
-        json.number(0);
-        json.name("outcomes");
-        self.put_ends(alloc, json)?;
-        json.name("waits");
+    pub fn put(&self, alloc: Global, json: &mut Json, legend: &Legend) {
+        json.put_name("isWhole");
+        json.put_truth(self.found.stopped.is_none());
+        json.put_name("found");
+        json.put_place(self.found.states.len());
+        if let Some(stopped) = self.found.stopped {
+            self.put_reach(alloc, json, stopped);
+        }
+        json.put_name("more");
+        json.put_number(0);
+        json.put_name("outcomes");
+        self.put_ends(alloc, json);
+        json.put_name("waits");
         match &self.waits {
             Some(Waits::Known(list)) => put_waits(json, legend, list),
-            _ => json.nothing(),
+            _ => json.put_null(),
         }
-        Ok(())
     }
 
     // Of how many choices all schedules were looked at, where there are too many states to look at all.
-    fn put_reach(&self, alloc: Global, json: &mut Json) -> Result<(), AllocError> {
-        let Some(stopped) = self.found.stopped else {
-            return Ok(());
-        };
+    fn put_reach(&self, alloc: Global, json: &mut Json, stopped: u32) {
         let states = &self.found.states;
-        let word = states.word(alloc, states.origin(stopped))?;
-        json.name("within");
-        json.place(word.len());
-        Ok(())
+        match states.word(alloc, states.origin(stopped)) {
+            Ok(word) => {
+                json.put_name("within");
+                json.put_place(word.len());
+            }
+            Err(_) => json.refuse(),
+        }
     }
 
     // The ends as outcomes without output and count: `[end, "", "", [number, ..]]`.
-    fn put_ends(&self, alloc: Global, json: &mut Json) -> Result<(), AllocError> {
+    fn put_ends(&self, alloc: Global, json: &mut Json) {
         json.open();
         for end in &self.found.ends {
-            let word = self.found.states.word(alloc, end.origin)?;
             json.open();
-            json.value(&plain_row(alloc, end.end));
-            json.quoted("");
-            json.quoted("");
-            json.processes(&word);
+            put_plain_end(json, end.end);
+            json.put_quoted("");
+            json.put_quoted("");
+            json.put_made_processes(self.found.states.word(alloc, end.origin));
             json.close();
         }
         json.close();
-        Ok(())
     }
 }
 
@@ -127,18 +132,18 @@ fn put_waits(json: &mut Json, legend: &Legend, list: &[Waiting]) {
 
 fn put_waiting(json: &mut Json, legend: &Legend, waiting: &Waiting) {
     json.open();
-    json.number(i64::from(waiting.process));
-    json.quoted(how_words(waiting.how));
+    json.put_number(i64::from(waiting.process));
+    json.put_quoted(how_words(waiting.how));
     json.open();
     let others = waiting.step.without(waiting.process);
     for process in 0..legend.processes() {
         if others.has(process) {
-            json.number(i64::from(process));
+            json.put_number(i64::from(process));
         }
     }
     json.close();
-    json.processes(&waiting.first);
-    json.processes(&waiting.again);
+    json.put_processes(&waiting.first);
+    json.put_processes(&waiting.again);
     json.close();
 }
 

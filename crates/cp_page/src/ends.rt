@@ -16,31 +16,34 @@ use std::alloc::Global;
 pub fn end_row(alloc: Global, program: &Resolved, state: &State, end: End, going: u8) -> Json
     requires { IsStateOf program.now state.now }
 {
+    let mut row = Json::new(alloc);
     match end {
         End::Over(OutcomeKind::StepLimit)
         | End::Over(OutcomeKind::OutputLimit)
         | End::Alone(_)
         | End::Spins(_) => {
             let line = next_line(program, state, going);
-            row(alloc, end_words(end), "", going, line)
+            put_end(&mut row, end_words(end), "", going, line);
         }
-        End::Over(_) => plain_row(alloc, end),
+        End::Over(_) => put_plain_end(&mut row, end),
     }
+    row
 }
 
-/// An end as it is told of schedules: `[kind, error, process, line]`.
-pub fn plain_row(alloc: Global, end: End) -> Json {
-    match end {
+/// Appends an end as it is told of schedules: `[kind, error, process, line]`.
+pub fn put_plain_end(json: &mut Json, end: End) {
+    let (error, process, line) = match end {
         End::Over(
             OutcomeKind::RunError {
                 name,
                 process,
                 line,
             },
-        ) => row(alloc, end_words(end), error_words(name), process, line),
-        End::Over(_) => row(alloc, end_words(end), "", 0, 0),
-        End::Alone(process) | End::Spins(process) => row(alloc, end_words(end), "", process, 0),
-    }
+        ) => (error_words(name), process, line),
+        End::Over(_) => ("", 0, 0),
+        End::Alone(process) | End::Spins(process) => ("", process, 0),
+    };
+    put_end(json, end_words(end), error, process, line);
 }
 
 fn end_words(end: End) -> &'static str {
@@ -51,13 +54,11 @@ fn end_words(end: End) -> &'static str {
     }
 }
 
-fn row(alloc: Global, kind: &str, error: &str, process: u8, line: u32) -> Json {
-    let mut row = Json::new(alloc);
-    row.open();
-    row.quoted(kind);
-    row.quoted(error);
-    row.number(i64::from(process));
-    row.number(i64::from(line));
-    row.close();
-    row
+fn put_end(json: &mut Json, kind: &str, error: &str, process: u8, line: u32) {
+    json.open();
+    json.put_quoted(kind);
+    json.put_quoted(error);
+    json.put_number(i64::from(process));
+    json.put_number(i64::from(line));
+    json.close();
 }

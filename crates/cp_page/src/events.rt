@@ -2,17 +2,18 @@
 
 use crate::json::Json;
 use crate::register::Register;
-use cp_legend::SourceValue;
+use cp_legend::{Legend, SourceValue};
+use cp_machine::Shown;
 use cp_story::{Happening, OpenCall, Queue, StoryEvent, push_shown};
-use std::alloc::AllocError;
+use std::alloc::{AllocError, Global};
 
-/// The line, the places and the words of an event that the story does not have.
-#[derive(Drop)]
-pub struct Beside {
-    /// What a call gives back.
-    pub returned: String,
+/// What an event has beside its story.
+#[derive(Clone, Copy)]
+pub struct Beside<'a> {
+    /// What a call gives back, as a text; nothing of other events.
+    pub returned: &'a Json,
     /// The variables that stay and changed, each with its value.
-    pub changes: Vec<usize>,
+    pub changes: &'a Json,
     /// The view of the process.
     pub view: usize,
     /// The view of the process that is started, if one is.
@@ -30,85 +31,97 @@ struct Happened {
 impl<'a> Register<'a> {
     /// The place of an event: `[letter, process, line, monitor or process, text or view, [woken, ..], [let in, ..], [variable, value, ..], view]`.
     /// The line of a return belongs to the way and is left out: ways with different calls may meet in one state.
-    pub fn place_event(
-        &mut self,
-        event: &StoryEvent,
-        beside: &Beside,
-    ) -> Result<usize, AllocError> {
-        let told = self.told(event, beside)?;
+    pub fn place_event(&mut self, event: &StoryEvent, beside: Beside<'_>) -> usize {
+        let happened = self.tell(&event.happening, beside);
         let line = match event.happening {
             Happening::Leave(_) => 0,
             _ => event.line.unwrap_or(0),
         };
         let mut row = Json::new(self.alloc);
         row.open();
-        row.quoted(told.letter);
-        row.number(i64::from(event.plain.process));
-        row.number(i64::from(line));
-        row.number(i64::from(told.whom));
-        row.place(told.text);
-        row.processes(event.woken.as_slice());
-        row.processes(event.let_in.as_slice());
-        row.places(&beside.changes);
-        row.place(beside.view);
+        row.put_quoted(happened.letter);
+        row.put_number(i64::from(event.plain.process));
+        row.put_number(i64::from(line));
+        row.put_number(i64::from(happened.whom));
+        row.put_place(happened.text);
+        row.put_processes(event.woken.as_slice());
+        row.put_processes(event.let_in.as_slice());
+        row.put_value(beside.changes);
+        row.put_place(beside.view);
         row.close();
-        Ok(self.events.place(&row))
+        self.events.place(&row)
     }
 
-    fn told(&mut self, event: &StoryEvent, beside: &Beside) -> Result<Happened, AllocError> {
-        match &event.happening {
+    fn tell(&mut self, happening: &Happening, beside: Beside<'_>) -> Happened {
+        match happening {
             Happening::Enter {
                 call,
                 arguments,
                 waits,
-            } => self.call_told(if *waits { "g" } else { "e" }, *call, arguments),
-            Happening::Admit(call) => self.call_told("a", *call, &[]),
-            Happening::Leave(call) => {
-                let text = self.strings.place_text(beside.returned.as_str());
-                Ok(about("l", call.monitor, text))
-            }
-            Happening::Delay(queue, _) => Ok(self.queue_told("d", queue)),
-            Happening::Continue(queue, _) => Ok(self.queue_told("c", queue)),
-            Happening::Start(process) => Ok(about("s", *process, beside.started)),
+            } => self.tell_call(if *waits { "g" } else { "e" }, *call, arguments),
+            Happening::Admit(call) => self.tell_call("a", *call, &[]),
+            Happening::Leave(call) => self.tell_return(call.monitor, beside.returned),
+            Happening::Delay(queue, _) => self.tell_queue("d", queue),
+            Happening::Continue(queue, _) => self.tell_queue("c", queue),
+            Happening::Start(process) => about("s", *process, beside.started),
             Happening::Display(shown) => {
-                let mut text = String::new(self.alloc);
-                push_shown(self.legend, &mut text, *shown)?;
-                Ok(about("o", 0, self.strings.place_text(text.as_str())))
+                let made = shown_text(self.alloc, self.legend, *shown);
+                about("o", 0, self.strings.place_made(made))
             }
-            Happening::End => Ok(about("x", 0, 0)),
+            Happening::End => about("x", 0, 0),
         }
     }
 
-    fn queue_told(&mut self, letter: &'static str, queue: &Queue) -> Happened {
+    fn tell_return(&mut self, monitor: u8, returned: &Json) -> Happened {
+        let text = if returned.is_empty() {
+            self.strings.place_text("")
+        } else {
+            self.strings.place(returned)
+        };
+        about("l", monitor, text)
+    }
+
+    fn tell_queue(&mut self, letter: &'static str, queue: &Queue) -> Happened {
         let text = self.strings.place_text(queue.name.as_str());
         about(letter, queue.monitor, text)
     }
 
     // A call by its routine and its arguments.
-    fn call_told(
+    fn tell_call(
         &mut self,
         letter: &'static str,
         call: OpenCall,
         arguments: &[SourceValue],
-    ) -> Result<Happened, AllocError> {
-        let mut text = String::from_str(self.alloc, self.legend.routine_name(call.routine))?;
-        if !arguments.is_empty() {
-            text.push('(')?;
-            let mut is_first = true;
-            for argument in arguments {
-                if !is_first {
-                    text.push_str(", ")?;
-                }
-                is_first = false;
-                argument.push_to(&mut text)?;
-            }
-            text.push(')')?;
-        }
-        let text = self.strings.place_text(text.as_str());
-        Ok(about(letter, call.monitor, text))
+    ) -> Happened {
+        let mut text = Json::new(self.alloc);
+        text.begin_text();
+        text.put_letters(self.legend.routine_name(call.routine));
+        put_arguments(self.alloc, &mut text, arguments);
+        text.end_text();
+        about(letter, call.monitor, self.strings.place(&text))
+    }
+}
+
+// Appends arguments in parentheses, if there are any.
+fn put_arguments(alloc: Global, text: &mut Json, arguments: &[SourceValue]) {
+    let mut before = "(";
+    for argument in arguments {
+        text.put_letters(before);
+        text.put_made_letters(argument.text(alloc));
+        before = ", ";
+    }
+    if !arguments.is_empty() {
+        text.put_letters(")");
     }
 }
 
 fn about(letter: &'static str, whom: u8, text: usize) -> Happened {
     Happened { letter, whom, text }
+}
+
+/// A displayed value.
+pub fn shown_text(alloc: Global, legend: &Legend, value: Shown) -> Result<String, AllocError> {
+    let mut text = String::new(alloc);
+    push_shown(legend, &mut text, value)?;
+    Ok(text)
 }

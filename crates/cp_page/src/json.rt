@@ -11,6 +11,8 @@ use std::alloc::{AllocError, Global};
 pub struct Json {
     alloc: Global,
     text: String,
+    // Whether a value stands before in the same list or object.
+    is_behind_value: bool,
     is_refused: bool,
     pub ghost inert: { spec.all_inert (string_bytes text) ≡ true },
 }
@@ -38,25 +40,21 @@ fn push_inert(text: &mut String, character: char) -> Result<(), AllocError>
     }
 }
 
-// Appends signs of JSON.
-fn push_signs(text: &mut String, signs: &str) -> Result<(), AllocError>
-    requires { spec.all_inert (string_bytes text.old) ≡ true }
-    ensures { spec.all_inert (string_bytes text.new) ≡ true }
-{
-    for sign in signs.chars() {
-        push_inert(text, sign)?;
-    }
-    Ok(())
-}
-
 impl Json {
     /// An empty text.
     pub fn new(alloc: Global) -> Json {
         Json {
             alloc,
             text: String::new(alloc),
+            is_behind_value: false,
             is_refused: false,
         }
+    }
+
+    /// Becomes an empty text again; that memory was refused stays.
+    pub fn clear(&mut self) {
+        self.text.clear();
+        self.is_behind_value = false;
     }
 
     /// The text, if no memory was refused.
@@ -69,175 +67,211 @@ impl Json {
         Ok(self.text.as_str())
     }
 
+    /// Whether nothing was written, and no memory was refused.
+    pub fn is_empty(&self) -> bool {
+        self.text.is_empty() && !self.is_refused
+    }
+
+    /// Whether memory was refused for something.
+    pub fn is_refused(&self) -> bool {
+        self.is_refused
+    }
+
     /// Memory was refused for what was to be told.
     pub fn refuse(&mut self) {
         self.is_refused = true;
     }
 
-    // Appends signs of JSON.
-    fn raw(&mut self, signs: &str) {
-        if !self.is_refused && push_signs(&mut self.text, signs).is_err() {
-            self.is_refused = true;
-        }
-    }
-
     // Appends a sign of JSON.
-    fn sign(&mut self, sign: char) {
+    fn put_sign(&mut self, sign: char) {
         if !self.is_refused && push_inert(&mut self.text, sign).is_err() {
             self.is_refused = true;
         }
     }
 
-    // A comma, where something stands before in the same list.
-    fn part(&mut self) {
-        match self.text.as_str().as_bytes().last() {
-            None | Some(b'[') | Some(b'{') | Some(b':') => {}
-            Some(_) => self.raw(","),
+    // Appends signs of JSON.
+    fn put_signs(&mut self, signs: &str) {
+        for sign in signs.chars() {
+            self.put_sign(sign);
         }
+    }
+
+    // Appends signs that may have failed for want of memory.
+    fn put_made_signs(&mut self, made: Result<String, AllocError>) {
+        match made {
+            Ok(signs) => self.put_signs(signs.as_str()),
+            Err(_) => self.refuse(),
+        }
+    }
+
+    // A comma, where something stands before in the same list.
+    fn begin_value(&mut self) {
+        if self.is_behind_value {
+            self.put_signs(",");
+        }
+        self.is_behind_value = true;
+    }
+
+    // A value that is these signs.
+    fn put_literal(&mut self, signs: &str) {
+        self.begin_value();
+        self.put_signs(signs);
+    }
+
+    // What stands within these signs comes next.
+    fn begin_within(&mut self, signs: &str) {
+        self.put_literal(signs);
+        self.is_behind_value = false;
+    }
+
+    // Ends what stands within other signs.
+    fn end_within(&mut self, signs: &str) {
+        self.put_signs(signs);
+        self.is_behind_value = true;
     }
 
     /// Begins a list.
     pub fn open(&mut self) {
-        self.part();
-        self.raw("[");
+        self.begin_within("[");
     }
 
     /// Ends a list.
     pub fn close(&mut self) {
-        self.raw("]");
+        self.end_within("]");
     }
 
     /// Begins an object.
     pub fn begin(&mut self) {
-        self.part();
-        self.raw("{");
+        self.begin_within("{");
     }
 
     /// Ends an object.
     pub fn end(&mut self) {
-        self.raw("}");
+        self.end_within("}");
+    }
+
+    /// Begins a text, of which the letters come next.
+    pub fn begin_text(&mut self) {
+        self.put_literal("\"");
+    }
+
+    /// Ends a text.
+    pub fn end_text(&mut self) {
+        self.put_signs("\"");
     }
 
     /// The name of a member, whose value comes next.
-    pub fn name(&mut self, name: &str) {
-        self.quoted(name);
-        self.raw(":");
+    pub fn put_name(&mut self, name: &str) {
+        self.put_quoted(name);
+        self.put_signs(":");
+        self.is_behind_value = false;
     }
 
     /// A number.
-    pub fn number(&mut self, number: i64) {
-        self.part();
-        match format!(in self.alloc; "{number}") {
-            Ok(digits) => self.raw(digits.as_str()),
-            Err(_) => self.refuse(),
-        }
+    pub fn put_number(&mut self, number: i64) {
+        self.begin_value();
+        self.put_made_signs(format!(in self.alloc; "{number}"));
     }
 
     /// A place in a list.
-    pub fn place(&mut self, place: usize) {
-        self.part();
-        match format!(in self.alloc; "{place}") {
-            Ok(digits) => self.raw(digits.as_str()),
-            Err(_) => self.refuse(),
-        }
+    pub fn put_place(&mut self, place: usize) {
+        self.begin_value();
+        self.put_made_signs(format!(in self.alloc; "{place}"));
     }
 
     /// -1 less a place: below all places.
-    pub fn below(&mut self, place: usize) {
-        self.part();
-        self.raw("-");
-        match format!(in self.alloc; "{}", place.saturating_add(1)) {
-            Ok(digits) => self.raw(digits.as_str()),
-            Err(_) => self.refuse(),
-        }
+    pub fn put_below(&mut self, place: usize) {
+        self.put_literal("-");
+        self.is_behind_value = false;
+        self.put_place(place.saturating_add(1));
     }
 
     /// `true` or `false`.
-    pub fn truth(&mut self, truth: bool) {
-        self.part();
-        self.raw(if truth { "true" } else { "false" });
+    pub fn put_truth(&mut self, truth: bool) {
+        self.put_literal(if truth { "true" } else { "false" });
     }
 
     /// `null`.
-    pub fn nothing(&mut self) {
-        self.part();
-        self.raw("null");
+    pub fn put_null(&mut self) {
+        self.put_literal("null");
     }
 
     /// Another text, as one value.
-    pub fn value(&mut self, value: &Json) {
-        self.part();
+    pub fn put_value(&mut self, value: &Json) {
         match value.text() {
-            Ok(text) => self.raw(text),
+            Ok(text) => self.put_literal(text),
             Err(_) => self.refuse(),
         }
     }
 
     /// A list of numbers of processes.
-    pub fn processes(&mut self, processes: &[u8]) {
+    pub fn put_processes(&mut self, processes: &[u8]) {
         self.open();
         for process in processes {
-            self.number(i64::from(*process));
+            self.put_number(i64::from(*process));
         }
         self.close();
     }
 
-    /// A list of places.
-    pub fn places(&mut self, places: &[usize]) {
-        self.open();
-        for place in places {
-            self.place(*place);
+    /// A list of numbers of processes that may have failed for want of memory.
+    pub fn put_made_processes(&mut self, made: Result<Vec<u8>, AllocError>) {
+        match made {
+            Ok(processes) => self.put_processes(&processes),
+            Err(_) => self.refuse(),
         }
-        self.close();
     }
 
     /// A text in quotes.
-    pub fn quoted(&mut self, text: &str) {
-        self.quoted_parts(&[text]);
+    pub fn put_quoted(&mut self, text: &str) {
+        self.begin_text();
+        self.put_letters(text);
+        self.end_text();
     }
 
-    /// A text in quotes, which is given in parts.
-    pub fn quoted_parts(&mut self, parts: &[&str]) {
-        self.part();
-        self.raw("\"");
-        for part in parts {
-            self.letters(part);
+    /// A text in quotes that may have failed for want of memory.
+    pub fn put_made_quoted(&mut self, made: Result<String, AllocError>) {
+        self.begin_text();
+        self.put_made_letters(made);
+        self.end_text();
+    }
+
+    /// Letters of a text in quotes.
+    pub fn put_letters(&mut self, letters: &str) {
+        for letter in letters.chars() {
+            self.put_letter(letter);
         }
-        self.raw("\"");
     }
 
-    fn letters(&mut self, text: &str) {
-        for character in text.chars() {
-            self.escaped(character);
+    /// Letters of a text in quotes that may have failed for want of memory.
+    pub fn put_made_letters(&mut self, made: Result<String, AllocError>) {
+        match made {
+            Ok(letters) => self.put_letters(letters.as_str()),
+            Err(_) => self.refuse(),
         }
     }
 
-    // A character of a text in quotes: as it is, or by its number.
-    fn escaped(&mut self, character: char) {
-        if character == '"' || character == '\\' || character == '\n' || !is_inert(character) {
-            let number = u32::from(character);
-            if number < 0x10000 {
-                self.unit(number);
-                return;
-            }
+    /// A letter of a text in quotes: as it is, or by its number.
+    pub fn put_letter(&mut self, letter: char) {
+        if letter == '"' || letter == '\\' || letter == '\n' || !is_inert(letter) {
+            self.put_letter_number(u32::from(letter));
+        } else {
+            self.put_sign(letter);
+        }
+    }
+
+    // A letter by its number, as one unit of UTF-16 or two.
+    fn put_letter_number(&mut self, number: u32) {
+        if number < 0x10000 {
+            self.put_unit(number);
+        } else {
             let above = number - 0x10000;
-            self.unit(0xd800 + above / 0x400);
-            self.unit(0xdc00 + above % 0x400);
-            return;
+            self.put_unit(0xd800 + above / 0x400);
+            self.put_unit(0xdc00 + above % 0x400);
         }
-        self.sign(character);
     }
 
     // A unit of UTF-16 by its four digits.
-    fn unit(&mut self, unit: u32) {
-        self.raw("\\u");
-        for divisor in [0x1000u32, 0x100, 0x10, 1] {
-            self.sign(digit(unit / divisor % 16));
-        }
+    fn put_unit(&mut self, unit: u32) {
+        self.put_made_signs(format!(in self.alloc; "\\u{unit:04x}"));
     }
-}
-
-// A digit of a number to the base 16.
-fn digit(value: u32) -> char {
-    char::from_digit(value, 16).unwrap_or('0')
 }

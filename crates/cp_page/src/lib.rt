@@ -26,6 +26,7 @@ mod table;
 mod teller;
 mod variables;
 mod views;
+mod words;
 mod writing;
 
 pub use subject::{Length, PageSubject};

@@ -7,16 +7,17 @@ ghost use Rattle.cp_walk.specs.Report.{same_outcome};
 ghost use Rattle.cp_merged.specs.Code.{tally_of};
 ghost use Rattle.cp_merged.specs.Tallies.{tally};
 
-use crate::ends::plain_row;
+use crate::ends::put_plain_end;
+use crate::events::shown_text;
 use crate::json::Json;
+use crate::words::PageWords;
 use cp_ends::End;
 use cp_legend::Legend;
 use cp_machine::Shown;
 use cp_merged::{MergeFault, Tallies, Tally, explore_merged_with};
-use cp_natural::push_natural;
+use cp_natural::{Natural, push_natural};
 use cp_progress::ObserveProgress;
 use cp_run::OutcomeKind;
-use cp_story::push_shown;
 use cp_walk::Job;
 use std::alloc::{AllocError, Global};
 
@@ -49,56 +50,43 @@ pub fn has_output_limit(tallies: &[Tally]) -> bool {
     false
 }
 
-/// The outcomes: `[end, output, count, [number, ..]]`, the numbers those of the first schedule.
-pub fn outcome_rows(alloc: Global, legend: &Legend, tallies: &[Tally]) -> Result<Json, AllocError> {
-    let mut rows = Json::new(alloc);
-    rows.open();
+/// Appends the outcomes: `[end, output, count, [number, ..]]`, the numbers those of the first schedule.
+pub fn put_outcomes(alloc: Global, json: &mut Json, legend: &Legend, tallies: &[Tally]) {
+    json.open();
     for tally in tallies.get(0..MOST_OUTCOMES).unwrap_or(tallies) {
-        push_outcome(alloc, legend, &mut rows, tally)?;
+        json.open();
+        put_plain_end(json, End::Over(tally.outcome.kind));
+        json.begin_text();
+        put_output(alloc, json, legend, tally.outcome.output.as_slice());
+        json.end_text();
+        json.put_made_quoted(digits_of(alloc, &tally.count));
+        json.put_processes(tally.first.as_slice());
+        json.close();
     }
-    rows.close();
-    Ok(rows)
-}
-
-fn push_outcome(
-    alloc: Global,
-    legend: &Legend,
-    rows: &mut Json,
-    tally: &Tally,
-) -> Result<(), AllocError> {
-    let output = output_text(alloc, legend, tally.outcome.output.as_slice())?;
-    let mut count = String::new(alloc);
-    push_natural(&mut count, &tally.count)?;
-    rows.open();
-    rows.value(&plain_row(alloc, End::Over(tally.outcome.kind)));
-    rows.quoted(output.as_str());
-    rows.quoted(count.as_str());
-    rows.processes(tally.first.as_slice());
-    rows.close();
-    Ok(())
+    json.close();
 }
 
 // The displayed values with a space between them.
-fn output_text(alloc: Global, legend: &Legend, values: &[Shown]) -> Result<String, AllocError> {
-    let mut text = String::new(alloc);
+fn put_output(alloc: Global, json: &mut Json, legend: &Legend, values: &[Shown]) {
+    let mut before = "";
     for value in values {
-        if !text.is_empty() {
-            text.push(' ')?;
-        }
-        push_shown(legend, &mut text, *value)?;
+        json.put_letters(before);
+        json.put_made_letters(shown_text(alloc, legend, *value));
+        before = " ";
     }
-    Ok(text)
+}
+
+fn digits_of(alloc: Global, number: &Natural) -> Result<String, AllocError> {
+    let mut digits = String::new(alloc);
+    push_natural(&mut digits, number)?;
+    Ok(digits)
 }
 
 /// The first schedules of the first outcomes, up to so many.
-pub fn first_words(
-    alloc: Global,
-    tallies: &[Tally],
-    most: usize,
-) -> Result<Vec<Vec<u8>>, AllocError> {
-    let mut words = Vec::new(alloc);
+pub fn first_words(alloc: Global, tallies: &[Tally], most: usize) -> PageWords {
+    let mut words = PageWords::new(alloc);
     for tally in tallies.get(0..most).unwrap_or(tallies) {
-        words.push(Vec::from_slice(alloc, tally.first.as_slice())?)?;
+        words.add(Vec::from_slice(alloc, tally.first.as_slice()));
     }
-    Ok(words)
+    words
 }

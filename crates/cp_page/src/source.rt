@@ -1,42 +1,40 @@
 //! The lines of a source, to be read.
 
 use crate::json::Json;
-use std::alloc::{AllocError, Global};
 use std::str;
 
-/// The lines of a source as a list: UTF-8 as it is, but a space for a tab, and a question mark for other control characters, for bytes that are
+/// Appends the lines of a source as a list: UTF-8 as it is, but a space for a tab, and a question mark for other control characters, for bytes that are
 /// no UTF-8, and for marks that turn or hide text.
-pub fn source_lines(alloc: Global, source: &[u8]) -> Result<Json, AllocError> {
-    let mut lines = Json::new(alloc);
-    lines.open();
+pub fn put_source(json: &mut Json, source: &[u8]) {
+    json.open();
     for line in source.split(|byte| *byte == b'\n') {
-        let text = readable(alloc, line)?;
-        lines.quoted(text.as_str());
+        json.begin_text();
+        put_line(json, line);
+        json.end_text();
     }
-    lines.close();
-    Ok(lines)
+    json.close();
 }
 
-fn readable(alloc: Global, line: &[u8]) -> Result<String, AllocError> {
-    let mut text = String::new(alloc);
+fn put_line(json: &mut Json, line: &[u8]) {
     match str::from_utf8(line) {
         Ok(line) => {
             for character in line.trim_end_matches('\r').chars() {
-                text.push(readable_char(character))?;
+                json.put_letter(readable_char(character));
             }
         }
-        Err(_) => {
-            for byte in line {
-                let is_ascii = *byte < 128;
-                text.push(if is_ascii {
-                    readable_char(char::from(*byte))
-                } else {
-                    '?'
-                })?;
-            }
-        }
+        Err(_) => put_bytes(json, line),
     }
-    Ok(text)
+}
+
+// Appends the bytes of a line that is no UTF-8.
+fn put_bytes(json: &mut Json, line: &[u8]) {
+    for byte in line {
+        json.put_letter(if *byte < 128 {
+            readable_char(char::from(*byte))
+        } else {
+            '?'
+        });
+    }
 }
 
 fn readable_char(character: char) -> char {

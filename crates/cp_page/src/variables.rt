@@ -15,28 +15,37 @@ pub enum Owner {
 }
 
 /// A variable that stays, by its cells among those of all components.
-#[derive(Drop)]
-pub struct KeptVariables {
+#[derive(Clone, Copy)]
+pub struct KeptVariable<'a> {
     pub owner: Owner,
-    /// Its name in what it belongs to.
-    pub name: String,
+    /// The class in what it belongs to that has it; empty where it is no class's.
+    pub class: &'a str,
+    pub name: &'a str,
     pub shape: CellType,
     pub at: usize,
     pub end: usize,
 }
 
 /// The variables that stay, those of a component after another.
-pub fn kept_variables(alloc: Global, legend: &Legend) -> Result<Vec<KeptVariables>, AllocError> {
+pub fn kept_variables<'a>(
+    alloc: Global,
+    legend: &'a Legend,
+) -> Result<Vec<KeptVariable<'a>>, AllocError> {
     let mut kept = Vec::new(alloc);
+    push_all(legend, &mut kept)?;
+    Ok(kept)
+}
+
+fn push_all<'a>(legend: &'a Legend, kept: &mut Vec<KeptVariable<'a>>) -> Result<(), AllocError> {
     let mut process = 0;
     for component in &legend.components {
         let owner = owner_of(legend, component, process);
         if let Owner::Process(number) = owner {
             process = number;
         }
-        push_kept(alloc, legend, component, owner, &mut kept)?;
+        push_kept(legend, component, owner, kept)?;
     }
-    Ok(kept)
+    Ok(())
 }
 
 // Whose the variables of a component are, where this process is the last one before it: components follow what contains them, and the
@@ -57,20 +66,21 @@ fn inner_path<'a>(outer: &str, path: &'a str) -> Option<&'a str> {
     path.strip_prefix(outer)?.strip_prefix(".")
 }
 
-fn push_kept(
-    alloc: Global,
-    legend: &Legend,
-    component: &LegendComponent,
+fn push_kept<'a>(
+    legend: &'a Legend,
+    component: &'a LegendComponent,
     owner: Owner,
-    kept: &mut Vec<KeptVariables>,
+    kept: &mut Vec<KeptVariable<'a>>,
 ) -> Result<(), AllocError> {
+    let class = class_of(legend, component, owner);
     for variable in legend.variables_of(component) {
         let cells = legend.shapes.cells_of(variable.shape);
         if cells > 0 {
             let at = component.base.saturating_add(variable.slot);
-            kept.push(KeptVariables {
+            kept.push(KeptVariable {
                 owner,
-                name: name_of(alloc, legend, component, owner, variable.name.as_str())?,
+                class,
+                name: variable.name.as_str(),
                 shape: variable.shape,
                 at,
                 end: at.saturating_add(cells),
@@ -80,90 +90,88 @@ fn push_kept(
     Ok(())
 }
 
-// The name of a variable in what it belongs to: that of a class inside comes before it.
-fn name_of(
-    alloc: Global,
-    legend: &Legend,
-    component: &LegendComponent,
-    owner: Owner,
-    variable: &str,
-) -> Result<String, AllocError> {
+// The path of a class in what it belongs to; empty for what is no class.
+fn class_of<'a>(legend: &Legend, component: &'a LegendComponent, owner: Owner) -> &'a str {
     let path = component.path.as_str();
     let outer = match owner {
         Owner::Monitor(monitor) => legend.monitor_name(monitor),
         Owner::Process(process) => legend.process_name(process),
     };
-    let inner = if path == outer {
+    if path == outer {
         ""
     } else {
         inner_path(outer, path).unwrap_or(path)
-    };
-    let mut name = String::from_str(alloc, inner)?;
-    if !inner.is_empty() {
-        name.push('.')?;
     }
-    name.push_str(variable)?;
-    Ok(name)
+}
+
+/// The text of a value, whose cells begin at a place.
+pub fn value_text(
+    alloc: Global,
+    legend: &Legend,
+    shape: CellType,
+    cells: &[i16],
+    at: usize,
+) -> Result<String, AllocError> {
+    let value = legend.value(alloc, shape, cells, at)?;
+    value.text(alloc)
 }
 
 impl<'a> Register<'a> {
     /// The place of the text of a value, whose cells begin at a place.
     pub fn place_value(&mut self, shape: CellType, cells: &[i16], at: usize) -> usize {
-        match self.value_text(shape, cells, at) {
-            Ok(text) => self.strings.place_text(text.as_str()),
-            Err(_) => self.strings.refuse(),
-        }
+        let made = value_text(self.alloc, self.legend, shape, cells, at);
+        self.strings.place_made(made)
     }
 
-    fn value_text(&self, shape: CellType, cells: &[i16], at: usize) -> Result<String, AllocError> {
-        let value = self.legend.value(self.alloc, shape, cells, at)?;
-        value.text(self.alloc)
-    }
-
-    /// The variables that stay, with their values: `[0, monitor, name, value]` or `[1, process, name, value]`; of queues the value is -1.
-    pub fn variables(&mut self, kept: &[KeptVariables], cells: &[i16]) -> Json {
-        let mut rows = Json::new(self.alloc);
-        rows.open();
+    /// Appends the variables that stay, with their values: `[0, monitor, name, value]` or `[1, process, name, value]`; of queues the value is -1.
+    pub fn put_variables(&mut self, json: &mut Json, kept: &[KeptVariable<'_>], cells: &[i16]) {
+        json.open();
         for variable in kept {
-            self.put_variable(&mut rows, variable, cells);
+            self.put_variable(json, *variable, cells);
         }
-        rows.close();
-        rows
+        json.close();
     }
 
-    fn put_variable(&mut self, rows: &mut Json, variable: &KeptVariables, cells: &[i16]) {
+    fn put_variable(&mut self, json: &mut Json, variable: KeptVariable<'_>, cells: &[i16]) {
         let (kind, owner) = match variable.owner {
             Owner::Monitor(monitor) => (0, monitor),
             Owner::Process(process) => (1, process),
         };
-        rows.open();
-        rows.number(kind);
-        rows.number(i64::from(owner));
-        rows.place(self.strings.place_text(variable.name.as_str()));
+        json.open();
+        json.put_number(kind);
+        json.put_number(i64::from(owner));
+        json.put_place(self.place_variable_name(variable));
         if self.legend.shapes.is_queues(variable.shape) {
-            rows.number(-1);
+            json.put_number(-1);
         } else {
-            rows.place(self.place_value(variable.shape, cells, variable.at));
+            json.put_place(self.place_value(variable.shape, cells, variable.at));
         }
-        rows.close();
+        json.close();
+    }
+
+    // The place of the name of a variable in what it belongs to: that of a class comes before it.
+    fn place_variable_name(&mut self, variable: KeptVariable<'_>) -> usize {
+        let between = if variable.class.is_empty() { "" } else { "." };
+        self.strings
+            .place_texts(variable.class, between, variable.name)
     }
 
     /// The variables that stay and have other values than before, each with its value now.
-    pub fn changes(
-        &mut self,
-        kept: &[KeptVariables],
-        before: &[i16],
-        now: &[i16],
-    ) -> Result<Vec<usize>, AllocError> {
-        let mut changes = Vec::new(self.alloc);
+    pub fn changes(&mut self, kept: &[KeptVariable<'_>], before: &[i16], now: &[i16]) -> Json {
+        let mut changes = Json::new(self.alloc);
+        changes.open();
         for (place, variable) in kept.iter().enumerate() {
-            let is_same = before.get(variable.at..variable.end)
-                == now.get(variable.at..variable.end);
-            if !is_same && !self.legend.shapes.is_queues(variable.shape) {
-                changes.push(place)?;
-                changes.push(self.place_value(variable.shape, now, variable.at))?;
+            if self.has_changed(*variable, before, now) {
+                changes.put_place(place);
+                changes.put_place(self.place_value(variable.shape, now, variable.at));
             }
         }
-        Ok(changes)
+        changes.close();
+        changes
+    }
+
+    fn has_changed(&self, variable: KeptVariable<'_>, before: &[i16], now: &[i16]) -> bool {
+        let KeptVariable { shape, at, end, .. } = variable;
+        before.get(at..end) != now.get(at..end) && !self.legend.shapes.is_queues(shape)
     }
 }

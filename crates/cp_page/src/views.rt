@@ -16,7 +16,7 @@ impl<'a> Register<'a> {
     {
         let mut row = Json::new(self.alloc);
         row.open();
-        row.number(i64::from(next_line(program, state, process)));
+        row.put_number(i64::from(next_line(program, state, process)));
         self.put_frames(&mut row, state, process);
         row.close();
         self.views.place(&row)
@@ -29,10 +29,10 @@ impl<'a> Register<'a> {
         {
             for entry in &process.stack {
                 if let Some(frame) = outer_frame(entry) {
-                    row.place(self.place_frame(process, frame));
+                    row.put_place(self.place_frame(process, frame));
                 }
             }
-            row.place(self.place_frame(process, process.frame));
+            row.put_place(self.place_frame(process, process.frame));
         }
         row.close();
     }
@@ -41,13 +41,13 @@ impl<'a> Register<'a> {
     fn place_frame(&mut self, process: &ProcessState, frame: Frame) -> usize {
         let mut row = Json::new(self.alloc);
         row.open();
-        row.place(self.place_frame_name(frame));
+        row.put_place(self.place_frame_name(frame));
         let legend = self.legend;
         if let Some(routine) = legend.routines.get(frame.routine) {
             for variable in &routine.variables {
                 let at = frame.base.saturating_add(variable.slot);
-                row.place(self.strings.place_text(variable.name.as_str()));
-                row.place(self.place_value(variable.shape, &process.room.cells, at));
+                row.put_place(self.strings.place_text(variable.name.as_str()));
+                row.put_place(self.place_value(variable.shape, &process.room.cells, at));
             }
         }
         row.close();
@@ -64,7 +64,7 @@ impl<'a> Register<'a> {
         if routine.is_empty() {
             return self.strings.place_text(path);
         }
-        self.strings.place_texts(&[path, ".", routine])
+        self.strings.place_texts(path, ".", routine)
     }
 }
 

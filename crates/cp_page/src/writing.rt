@@ -20,7 +20,7 @@ pub fn page<O: ObserveProgress>(
     subject: PageSubject<'_>,
     observer: &mut O,
 ) -> Result<String, AllocError> {
-    let data = data(alloc, subject, observer)?;
+    let data = data(alloc, subject, observer);
     with_data(alloc, &data)
 }
 

@@ -4,4 +4,9 @@ use Rattle.cp_machine.specs.declared.state.State.{State}
 use Rattle.cp_page.proofs.graph.PageGraph.explore.Given as goal
 
 abbrev pub invariant-loop-at : goal.invariant-loop-at
-invariant-loop-at g l = All (λ (s : State). IsStateOf l.program s) l.states.items
+invariant-loop-at g l =
+    record {
+      before : IsStateOf l.program l.before;
+      own : IsStateOf l.program l.state;
+      all : All (λ (s : State). IsStateOf l.program s) l.states.items;
+    }

@@ -4,4 +4,9 @@ use Rattle.cp_machine.specs.declared.state.State.{State}
 use Rattle.cp_page.proofs.graph.PageGraph.lay.Given as goal
 
 abbrev pub invariant-loop-number : goal.invariant-loop-number
-invariant-loop-number g l = All (λ (s : State). IsStateOf l.program s) l.states.items
+invariant-loop-number g l =
+    record {
+      before : IsStateOf l.program l.before;
+      own : IsStateOf l.program l.state;
+      all : All (λ (s : State). IsStateOf l.program s) l.states.items;
+    }

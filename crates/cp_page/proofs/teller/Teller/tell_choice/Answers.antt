@@ -4,7 +4,6 @@ use Rattle.cp_run.specs.declared.outcome.Turn.TheVariants.{Over, Due, Goes}
 use Rattle.cp_run.specs.Slots.{slots}
 use Rattle.cp_run.proofs.Choosing.{may_in_line, may_be_ready, chosen_free, chosen_at_gate}
 use Rattle.cp_machine.proofs.CallerLemmas.{pending_is, line_within, admitted_free}
-use Rattle.cp_run.proofs.Tracing.{ok_as}
 use Rattle.cp_page.proofs.teller.Teller.tell_choice.Goals as goal
 
 pub tell_stretch-requires-clause-ready : goal.tell_stretch-requires-clause-ready
@@ -15,7 +14,7 @@ tell_stretch-requires-clause-ready g c =
 pub returns-then-is_none-clause-node : goal.returns-then-is_none-clause-node
 returns-then-is_none-clause-node g c =
     let e : is_pending (machine_of c.args.state.now) ≡ false = pending_is (machine_of c.args.state.now) c.pending.result false c.pending.ensures c.if-is_none.ensures in
-    ok_as c.tell_stretch.result _ _ c.tell_stretch.ensures.node (λ h is. chosen_free (slots c.args.program.now c.args.limits.gates) c.args.limits.steps (machine_of c.args.state.now) c.args.process e ∙ is)
+    chosen_free (slots c.args.program.now c.args.limits.gates) c.args.limits.steps (machine_of c.args.state.now) c.args.process e ∙ c.tell_stretch.ensures.node
 
 pub admit-requires-clause-own : goal.admit-requires-clause-own
 admit-requires-clause-own g c = (c.args.program.now, c.requires.own)
@@ -48,4 +47,4 @@ returns-in-Due-clause-node g c =
 pub returns-in-Goes-clause-node : goal.returns-in-Goes-clause-node
 returns-in-Goes-clause-node g c =
     let e : is_pending (machine_of c.args.state.now) ≡ true = pending_is (machine_of c.args.state.now) c.pending.result true c.pending.ensures c.if-is_none.ensures in
-    ok_as c.tell_stretch-in-Goes.result _ _ c.tell_stretch-in-Goes.ensures.node (λ h is. chosen_at_gate (slots c.args.program.now c.args.limits.gates) c.args.limits.steps (machine_of c.args.state.now) (machine_of c.admit.new.self) c.args.process (Goes c.in-Goes.next) e c.admit.ensures.after c.in-Goes.ensures.turn ∙ is)
+    chosen_at_gate (slots c.args.program.now c.args.limits.gates) c.args.limits.steps (machine_of c.args.state.now) (machine_of c.admit.new.self) c.args.process (Goes c.in-Goes.next) e c.admit.ensures.after c.in-Goes.ensures.turn ∙ c.tell_stretch-in-Goes.ensures.node
