@@ -8,7 +8,6 @@ pub mod Exact
 pub mod Exploring
 pub mod Fitting
 pub mod Fronts
-pub mod Knowing
 pub mod Making
 pub mod Order
 pub mod Reaching

@@ -103,6 +103,7 @@ fn ends_of<O: ObserveProgress, S: Ledger, C: Ledger>(
     let Ok(mut next) = state.copy(alloc) else {
         return Err(MergeFault::Memory);
     };
+    let mut next_row = row;
     for depth in 0..limits.choices {
         one_layer(
             alloc,
@@ -114,6 +115,7 @@ fn ends_of<O: ObserveProgress, S: Ledger, C: Ledger>(
             &mut state,
             &mut row,
             &mut next,
+            &mut next_row,
             &mut frontier,
             &mut steps,
             &mut calls,
@@ -152,7 +154,9 @@ fn first_layer<S: Ledger, C: Ledger>(
     let Ok(row) = frontier.store.row_anew(alloc, &state) else {
         return Err(MergeFault::Memory);
     };
-    let Ok(()) = frontier.add(alloc, &state, halt, &state, &row, &Moved::nobody(), &one) else {
+    let moved = Moved::nobody();
+    let mut arrived = row;
+    let Ok(()) = frontier.add(alloc, &state, halt, &state, &mut arrived, &moved, &one) else {
         return Err(MergeFault::Memory);
     };
     if frontier.layer.len() > most {
@@ -172,6 +176,7 @@ fn one_layer<O: ObserveProgress, S: Ledger, C: Ledger>(
     state: &mut State,
     row: &mut StateRow,
     next: &mut State,
+    next_row: &mut StateRow,
     frontier: &mut Frontier,
     steps: &mut Ticks<S>,
     calls: &mut Ticks<C>,
@@ -179,11 +184,13 @@ fn one_layer<O: ObserveProgress, S: Ledger, C: Ledger>(
     requires own { IsStateOf program.now state.old }
     requires next { IsStateOf program.now next.old }
     requires row { IsRowOf frontier.old.store row.old.numbers (machine_of state.old) }
+    requires next_row { IsRowOf frontier.old.store next_row.old.numbers (machine_of next.old) }
     requires due { depth < limits.choices }
     requires reached { Reached program.now limits.gates limits.choices limits.steps most depth frontier.old.store frontier.old.ended.entries frontier.old.layer.entries }
     ensures own { IsStateOf program.now state.new }
     ensures next { IsStateOf program.now next.new }
     ensures row { IfOk result (λ _. IsRowOf frontier.new.store row.new.numbers (machine_of state.new)) }
+    ensures next_row { IfOk result (λ _. IsRowOf frontier.new.store next_row.new.numbers (machine_of next.new)) }
     ensures reached { IfOk result (λ _. Reached program.now limits.gates limits.choices limits.steps most (depth + 1) frontier.new.store frontier.new.ended.entries frontier.new.layer.entries) }
     ensures fault { IfErr result (λ e. IsDueFault (slots program.now limits.gates) limits.choices limits.steps most e) }
 {
@@ -192,8 +199,8 @@ fn one_layer<O: ObserveProgress, S: Ledger, C: Ledger>(
     }
     let layer = frontier.take_layer(alloc);
     next_layer(
-        alloc, program, limits, most, observer, depth, &layer, state, row, next, frontier, steps,
-        calls,
+        alloc, program, limits, most, observer, depth, &layer, state, row, next, next_row,
+        frontier, steps, calls,
     )
 }
 

@@ -124,28 +124,31 @@ impl Frontier {
         Ok(())
     }
 
-    /// A choice is due in a state that words lead to. The state before has the row `known`, and these processes moved since.
+    /// A choice is due in a state that words lead to. The row is that of the state before, and becomes that of the state; these processes moved
+    /// since.
     pub fn add_state(
         &mut self,
         alloc: Global,
         state: &State,
         before: &State,
-        known: &StateRow,
+        row: &mut StateRow,
         moved: &Moved,
         prefixes: &Prefixes,
     ) -> Result<(), AllocError>
         requires small { (r : Tables) × (xs : List (layers.Lead Machine)) × AreLeads r self.old.store self.old.layer.entries xs × (words_of xs + prefixes.now.count < 10 ^ 126) }
-        requires known { IsRowOf self.old.store known.now.numbers (machine_of before.now) }
+        requires known { IsRowOf self.old.store row.old.numbers (machine_of before.now) }
         requires moved { KeepBodies (has_moved moved.now) (machine_of before.now) (machine_of state.now) }
         ensures layer { IfOk result (λ _. (r : Tables) (xs : List (layers.Lead Machine)) → IsStateOf r state.now → AreLeads r self.old.store self.old.layer.entries xs → AreLeads r self.new.store self.new.layer.entries (with_lead same_key xs (record { state = machine_of state.now; first = prefixes.now.first.items; count = prefixes.now.count }))) }
+        ensures row { IfOk result (λ _. IsRowOf self.new.store row.new.numbers (machine_of state.now)) }
         ensures ended { self.new.ended.entries ≡ self.old.ended.entries }
         ensures kept { IfOk result (λ _. KeepParts self.old.store self.new.store) }
     {
-        let row = self.store.row_after(alloc, state, before, known, moved)?;
-        add_row(&mut self.layer, row, prefixes)
+        self.store.follow(alloc, state, before, moved, row)?;
+        add_row(&mut self.layer, *row, prefixes)
     }
 
-    /// Words arrive at a state, where the run stands still.
+    /// Words arrive at a state, where the run stands still. Where a choice is due, the row, which is that of the state before, becomes that of the
+    /// state.
     // Else its call is made at each arrival.
     #[inline(always)]
     pub fn add(
@@ -154,19 +157,21 @@ impl Frontier {
         state: &State,
         halt: Halt,
         before: &State,
-        known: &StateRow,
+        row: &mut StateRow,
         moved: &Moved,
         prefixes: &Prefixes,
     ) -> Result<(), AllocError>
         requires small { (r : Tables) × (f : layers.Front Machine) × Holds r self.old.store self.old.ended.entries self.old.layer.entries f × (total f + prefixes.now.count < 10 ^ 126) }
-        requires known { IsRowOf self.old.store known.now.numbers (machine_of before.now) }
+        requires known { IsRowOf self.old.store row.old.numbers (machine_of before.now) }
         requires moved { KeepBodies (has_moved moved.now) (machine_of before.now) (machine_of state.now) }
         ensures front { IfOk result (λ _. (r : Tables) (gates : Gates) (f : layers.Front Machine) → IsStateOf r state.now → Holds r self.old.store self.old.ended.entries self.old.layer.entries f → Holds r self.new.store self.new.ended.entries self.new.layer.entries (arrived (slots r gates) same_outcome same_key prefixes.now.first.items prefixes.now.count (node_of halt (machine_of state.now)) f)) }
+        ensures due { halt ≡ Halt.Choice → IfOk result (λ _. IsRowOf self.new.store row.new.numbers (machine_of state.now)) }
+        ensures over { (kind : OutcomeKind) → halt ≡ Halt.Ended kind → row.new ≡ row.old }
         ensures kept { IfOk result (λ _. KeepParts self.old.store self.new.store) }
     {
         match halt {
             Halt::Ended(kind) => self.end(alloc, kind, state, prefixes),
-            Halt::Choice => self.add_state(alloc, state, before, known, moved, prefixes),
+            Halt::Choice => self.add_state(alloc, state, before, row, moved, prefixes),
         }
     }
 }

@@ -17,24 +17,23 @@ use crate::frontier::{Frontier, Layer};
 use crate::prefixes::{Prefixes, copy_of};
 use cp_machine::{Moved, State, Ticks};
 use cp_progress::{ObserveProgress, Progress, STATES_BETWEEN};
-use cp_run::{Limits, OutcomeKind, candidates, choose};
+use cp_run::{Halt, Limits, OutcomeKind, candidates, choose};
 use cp_slots::Resolved;
 use cp_states::StateRow;
 use std::alloc::{AllocError, Global};
 use std::sync::ledger::Ledger;
 
-/// A lead goes one choice on with a process that may be chosen, in a copy of the state before. The first word becomes longer and then
-/// shorter again, so that it is copied once for all choices.
+/// A lead goes one choice on with a process that may be chosen, in a copy of the state before, whose row becomes that of the copy. The first
+/// word becomes longer and then shorter again, so that it is copied once for all choices.
 fn take_choice<S: Ledger, C: Ledger>(
     alloc: Global,
     program: &Resolved,
     limits: Limits,
     state: &mut State,
+    row: &mut StateRow,
     prefixes: &mut Prefixes,
     process: u8,
     before: &State,
-    known: &StateRow,
-    moved: &mut Moved,
     frontier: &mut Frontier,
     steps: &mut Ticks<S>,
     calls: &mut Ticks<C>,
@@ -43,32 +42,39 @@ fn take_choice<S: Ledger, C: Ledger>(
     requires may { may (slots program.now limits.gates) (machine_of state.old) process ≡ true }
     requires room { length prefixes.old.first.items < 100 }
     requires small { (f : layers.Front Machine) × Holds program.now frontier.old.store frontier.old.ended.entries frontier.old.layer.entries f × (total f + prefixes.old.count < 10 ^ 126) }
+    requires before { IsStateOf program.now before.now }
     requires copied { machine_of state.old ≡ machine_of before.now }
-    requires known { IsRowOf frontier.old.store known.now.numbers (machine_of before.now) }
+    requires known { IsRowOf frontier.old.store row.old.numbers (machine_of before.now) }
     ensures own { IsStateOf program.now state.new }
-    ensures moved { KeepBodies (has_moved moved.new) (machine_of state.old) (machine_of state.new) }
+    ensures row { IfOk result (λ _. IsRowOf frontier.new.store row.new.numbers (machine_of state.new)) }
     ensures kept { IfOk result (λ _. KeepParts frontier.old.store frontier.new.store) }
     ensures same { prefixes.new ≡ prefixes.old }
     ensures front { IfOk result (λ _. (f : layers.Front Machine) → Holds program.now frontier.old.store frontier.old.ended.entries frontier.old.layer.entries f → Holds program.now frontier.new.store frontier.new.ended.entries frontier.new.layer.entries (layers.after_choice (slots program.now limits.gates) same_outcome same_key limits.steps (record { state = machine_of state.old; first = prefixes.old.first.items; count = prefixes.old.count }) process f)) }
 {
-    let halt = choose(program, limits, state, process, moved, steps, calls);
+    let mut moved = Moved::nobody();
+    let halt = choose(program, limits, state, process, &mut moved, steps, calls);
     prefixes.first.push(process);
-    let added = frontier.add(alloc, state, halt, before, known, moved, prefixes);
+    let added = frontier.add(alloc, state, halt, before, row, &moved, prefixes);
     let _ = prefixes.first.pop();
-    added
+    match halt {
+        Halt::Ended(_) => {
+            state.take_moved(before, &moved);
+            added
+        }
+        Halt::Choice => added,
+    }
 }
 
-/// A lead goes one choice on with each process that may be chosen, in a copy of its state. `moved` are the processes whose bodies the
-/// copy may have otherwise.
+/// A lead goes one choice on with each process that may be chosen, in a copy of its state. `next`, which has the row `row`, becomes this copy.
 fn take_choices<S: Ledger, C: Ledger>(
     alloc: Global,
     program: &Resolved,
     limits: Limits,
     state: &State,
+    known: &StateRow,
     prefixes: &Prefixes,
     next: &mut State,
-    known: &StateRow,
-    moved: &mut Moved,
+    row: &mut StateRow,
     frontier: &mut Frontier,
     steps: &mut Ticks<S>,
     calls: &mut Ticks<C>,
@@ -78,27 +84,26 @@ fn take_choices<S: Ledger, C: Ledger>(
     requires room { length prefixes.now.first.items < 100 }
     requires small { (f : layers.Front Machine) × Holds program.now frontier.old.store frontier.old.ended.entries frontier.old.layer.entries f × (total f + 16 * prefixes.now.count < 10 ^ 126) }
     requires known { IsRowOf frontier.old.store known.now.numbers (machine_of state.now) }
-    requires moved { KeepBodies (has_moved moved.old) (machine_of state.now) (machine_of next.old) }
+    requires row { IsRowOf frontier.old.store row.old.numbers (machine_of next.old) }
     ensures next { IsStateOf program.now next.new }
-    ensures moved { KeepBodies (has_moved moved.new) (machine_of state.now) (machine_of next.new) }
+    ensures row { IfOk result (λ _. IsRowOf frontier.new.store row.new.numbers (machine_of next.new)) }
     ensures kept { IfOk result (λ _. KeepParts frontier.old.store frontier.new.store) }
     ensures front { IfOk result (λ _. (f : layers.Front Machine) → Holds program.now frontier.old.store frontier.old.ended.entries frontier.old.layer.entries f → Holds program.now frontier.new.store frontier.new.ended.entries frontier.new.layer.entries (layers.after_choices (slots program.now limits.gates) same_outcome same_key limits.steps (record { state = machine_of state.now; first = prefixes.now.first.items; count = prefixes.now.count }) (processes_of program.now) f)) }
 {
     let numbers = candidates(program, limits, state);
     let mut arriving = copy_of(prefixes);
     for process in numbers.as_slice() {
-        next.take_moved(state, moved);
-        *moved = Moved::nobody();
+        frontier.store.take(known, row, next);
+        *row = *known;
         take_choice(
             alloc,
             program,
             limits,
             next,
+            row,
             &mut arriving,
             *process,
             state,
-            known,
-            moved,
             frontier,
             steps,
             calls,
@@ -128,6 +133,7 @@ pub fn next_layer<O: ObserveProgress, S: Ledger, C: Ledger>(
     state: &mut State,
     row: &mut StateRow,
     next: &mut State,
+    next_row: &mut StateRow,
     frontier: &mut Frontier,
     steps: &mut Ticks<S>,
     calls: &mut Ticks<C>,
@@ -135,27 +141,28 @@ pub fn next_layer<O: ObserveProgress, S: Ledger, C: Ledger>(
     requires own { IsStateOf program.now state.old }
     requires next { IsStateOf program.now next.old }
     requires row { IsRowOf frontier.old.store row.old.numbers (machine_of state.old) }
+    requires next_row { IsRowOf frontier.old.store next_row.old.numbers (machine_of next.old) }
     requires due { depth < limits.choices }
     requires layer { AreLeads program.now frontier.old.store layer.now.entries (front_at (slots program.now limits.gates) same_outcome same_key limits.steps depth).layer }
     requires front { Holds program.now frontier.old.store frontier.old.ended.entries frontier.old.layer.entries (record { ended = (front_at (slots program.now limits.gates) same_outcome same_key limits.steps depth).ended; layer = [] }) }
     ensures own { IsStateOf program.now state.new }
     ensures next { IsStateOf program.now next.new }
     ensures row { IfOk result (λ _. IsRowOf frontier.new.store row.new.numbers (machine_of state.new)) }
+    ensures next_row { IfOk result (λ _. IsRowOf frontier.new.store next_row.new.numbers (machine_of next.new)) }
     ensures front { IfOk result (λ _. Holds program.now frontier.new.store frontier.new.ended.entries frontier.new.layer.entries (front_at (slots program.now limits.gates) same_outcome same_key limits.steps (depth + 1))) }
     ensures few { IfOk result (λ _. length frontier.new.layer.entries ≤ most) }
     ensures many { IfErr result (λ e. IsStates e (HasTooManyStates (slots program.now limits.gates) limits.steps most (depth + 1))) }
 {
-    let mut moved = Moved::everybody();
     let mut gone_on: u32 = 0;
     for (key, prefixes) in layer.iter() {
         gone_on = gone_on.wrapping_add(1);
         if gone_on % STATES_BETWEEN == 0 {
             observer.observe_progress(progress_of(frontier, u32::from(depth)));
         }
-        frontier.store.take(key, row, state, &mut moved);
+        frontier.store.take(key, row, state);
         *row = *key;
         let Ok(()) = take_choices(
-            alloc, program, limits, state, prefixes, next, row, &mut moved, frontier, steps, calls,
+            alloc, program, limits, state, key, prefixes, next, next_row, frontier, steps, calls,
         ) else {
             return Err(MergeFault::Memory);
         };

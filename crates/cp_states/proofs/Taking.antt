@@ -1,10 +1,8 @@
 -- Processes that become others one by one, and the state that has done so.
-use Rattle.std.proofs.Common.{◌≡◌, ◌∙◌, ◌+◌, ◌<◌, ◌≤◌, ⊎_elim, ℕ, [], ◌∷◌, Bool, List, ap, arith, false, length, map, refl, reverse, subst, sym}
+use Rattle.std.proofs.Common.{◌≡◌, ◌∙◌, ◌+◌, ◌<◌, ◌≤◌, ℕ, [], ◌∷◌, List, ap, arith, length, map, refl, reverse, subst, sym}
 use Rattle.std.specs.Prelude.{slice_index_or, slice_set, vec_capacity}
-use Rattle.std.proofs.lemmas.Bool.{cases_lt}
-use Rattle.std.proofs.lemmas.List.{ext_get_or, get_or-map, get_or-set_other, get_or_past, get_or_read, length-map, length-reverse, length-set}
+use Rattle.std.proofs.lemmas.List.{ext_get_or, get_or-map, get_or-set_other, get_or_read, length-map, length-reverse, length-set}
 use Rattle.cp_machine.specs.declared.process.ProcessState.{ProcessState}
-use Rattle.cp_machine.specs.Bodies.{body_of, KeepBodies}
 use Rattle.cp_machine.specs.Fits.{HaveCells, HaveReferences, HaveStacks}
 use Rattle.cp_machine.specs.Machine.{Machine, Thread, no_thread, thread_at, thread_of}
 use Rattle.cp_machine.proofs.CopyLemmas.{set_each}
@@ -30,34 +28,30 @@ room_for old p t is room =
     let turned : length (reverse p.stack.items) ≡ length p.stack.items = length-reverse p.stack.items in
     (omega (arith, stack, turned), omega (arith, cells), omega (arith, references))
 
-pub taken_none : (threads : ℕ → Thread) (old : List ProcessState) (moved : ℕ → Bool) → AreTaken threads old old moved moved 0
-taken_none threads old moved =
+pub taken_none : (threads : ℕ → Thread) (old : List ProcessState) → AreTaken threads old old 0
+taken_none threads old =
     record {
       count = refl;
       taken = λ pid d lt. absurd (omega (arith, lt));
       rest = λ pid d le. refl;
       room = λ pid d lt. record { stack = omega arith; cells = omega arith; references = omega arith };
-      moved = λ pid e. e;
-      kept = λ pid d e. refl;
     }
 
-pub taken_next : (threads : ℕ → Thread) (old mine : List ProcessState) (before so_far after : ℕ → Bool) (at : ℕ) (x was : ProcessState) → at < length mine → was ≡ slice_index_or mine at was → thread_of x ≡ threads at → HasRoomOf x was → ((q : ℕ) → after q ≡ false → so_far q ≡ false) → (after at ≡ false → thread_of x ≡ thread_of was) → AreTaken threads old mine before so_far at → AreTaken threads old (slice_set mine at x) before after (at + 1)
-taken_next threads old mine before so_far after at x was lm read same room on keep h =
+pub taken_next : (threads : ℕ → Thread) (old mine : List ProcessState) (at : ℕ) (x was : ProcessState) → at < length mine → was ≡ slice_index_or mine at was → thread_of x ≡ threads at → HasRoomOf x was → AreTaken threads old mine at → AreTaken threads old (slice_set mine at x) (at + 1)
+taken_next threads old mine at x was lm read same room h =
     record {
       count = length-set mine at x ∙ h.count;
       taken = set_each (λ q d p. thread_of p ≡ threads q) mine at x lm (λ d. same) (at + 1) (λ q d l ne. h.taken q d (omega (arith, l, ne)));
       rest = λ q d le. get_or-set_other mine at q x d (λ e. omega (arith, e, le)) ∙ h.rest q d (omega (arith, le));
       room = set_each (λ q d p. HasRoomOf p (slice_index_or old q d)) mine at x lm (λ d. subst (HasRoomOf x) (was_old d) room) (length old) (λ q d l ne. h.room q d l);
-      moved = λ q e. h.moved q (on q e);
-      kept = λ q d e. set_each (λ k z p. after k ≡ false → thread_of p ≡ thread_of (slice_index_or old k z)) mine at x lm (λ z f. keep f ∙ ap thread_of (was_old z)) (q + 1) (λ k z l ne f. h.kept k z (on k f)) q d (omega arith) e;
     }
   where
     was_old : (d : ProcessState) → was ≡ slice_index_or old at d
     was_old d = get_or_read mine at was lm read d ∙ h.rest at d (omega arith)
 
 -- a process at a place that has not become another one yet
-pub still_old : (threads : ℕ → Thread) (old mine : List ProcessState) (before so_far : ℕ → Bool) (at : ℕ) (was : ProcessState) → at < length mine → was ≡ slice_index_or mine at was → AreTaken threads old mine before so_far at → was ≡ slice_index_or old at was
-still_old threads old mine before so_far at was lm read h = get_or_read mine at was lm read was ∙ h.rest at was (omega arith)
+pub still_old : (threads : ℕ → Thread) (old mine : List ProcessState) (at : ℕ) (was : ProcessState) → at < length mine → was ≡ slice_index_or mine at was → AreTaken threads old mine at → was ≡ slice_index_or old at was
+still_old threads old mine at was lm read h = get_or_read mine at was lm read was ∙ h.rest at was (omega arith)
 
 -- ---- all of them
 
@@ -65,22 +59,9 @@ some_process : (ps : List ProcessState) (n : ℕ) → n < length ps → ProcessS
 some_process [] n lt = absurd (omega (arith, lt))
 some_process (p ∷ ps) n lt = p
 
--- a process that did not move is what it was
-pub thread_kept : (threads : ℕ → Thread) (old new : List ProcessState) (before after : ℕ → Bool) (n : ℕ) → AreTaken threads old new before after n → (pid : ℕ) → after pid ≡ false → thread_at (map thread_of new) pid ≡ thread_at (map thread_of old) pid
-thread_kept threads old new before after n h pid e = ⊎_elim (λ (lt : pid < length new). within lt) (λ (le : length new ≤ pid). past le) (cases_lt pid (length new))
-  where
-    within : pid < length new → thread_at (map thread_of new) pid ≡ thread_at (map thread_of old) pid
-    within lt =
-        let there : pid < length old = omega (arith, lt, h.count) in
-        let d = some_process new pid lt in
-        get_or-map thread_of new pid d no_thread lt ∙ h.kept pid d e ∙ sym (get_or-map thread_of old pid d no_thread there)
-
-    past : length new ≤ pid → thread_at (map thread_of new) pid ≡ thread_at (map thread_of old) pid
-    past le = get_or_past (map thread_of new) pid no_thread (omega (arith, le, length-map new thread_of)) ∙ sym (get_or_past (map thread_of old) pid no_thread (omega (arith, le, h.count, length-map old thread_of)))
-
 -- processes that are threads one by one are all of them
-pub threads_taken : (threads : ℕ → Thread) (old new : List ProcessState) (before after : ℕ → Bool) (ts : List Thread) → length ts ≡ length old → ((pid : ℕ) → pid < length ts → threads pid ≡ thread_at ts pid) → AreTaken threads old new before after (length old) → map thread_of new ≡ ts
-threads_taken threads old new before after ts count are h =
+pub threads_taken : (threads : ℕ → Thread) (old new : List ProcessState) (ts : List Thread) → length ts ≡ length old → ((pid : ℕ) → pid < length ts → threads pid ≡ thread_at ts pid) → AreTaken threads old new (length old) → map thread_of new ≡ ts
+threads_taken threads old new ts count are h =
     ext_get_or no_thread (map thread_of new) ts (length-map new thread_of ∙ h.count ∙ sym count)
     (λ pid lt.
     let there : pid < length new = omega (arith, lt, length-map new thread_of) in
@@ -92,20 +73,12 @@ threads_taken threads old new before after ts count are h =
 pub became : (s : Store) (row : List ℕ) (m n : Machine) → IsRowOf s row m → n.output ≡ piece_at s.outputs.items.items s.outputs.ends.items (number_at row 0) → n.permanents ≡ piece_at s.permanents.items.items s.permanents.ends.items (number_at row 1) → n.bindings ≡ piece_at s.bindings.items.items s.bindings.ends.items (number_at row 2) → n.phases ≡ piece_at s.phases.items.items s.phases.ends.items (number_at row 3) → gated n ≡ slice_index_or (map admitted_by s.admissions.all.items) (number_at row 4) none_gated → n.threads ≡ m.threads → n ≡ m
 became s row m n is output permanents bindings phases gates threads = from_parts n m (output ∙ is.output.is) (permanents ∙ is.permanents.is) (bindings ∙ is.bindings.is) (phases ∙ is.phases.is) (gates ∙ is.admission.is) threads
 
--- what holds of the processes that did not move still does
-pub bodies_kept : (threads : ℕ → Thread) (old new : List ProcessState) (before after : ℕ → Bool) (n : ℕ) (m k other : Machine) → m.threads ≡ map thread_of old → k.threads ≡ map thread_of new → AreTaken threads old new before after n → KeepBodies before m other → KeepBodies after k other
-bodies_kept threads old new before after n m k other mine its h kept =
-    record {
-      count = kept.count ∙ ap length mine ∙ length-map old thread_of ∙ sym h.count ∙ sym (length-map new thread_of) ∙ sym (ap length its);
-      bodies = λ pid e. kept.bodies pid (h.moved pid e) ∙ ap (λ ts. body_of (thread_at ts pid)) mine ∙ ap body_of (sym (thread_kept threads old new before after n h pid e)) ∙ ap (λ ts. body_of (thread_at ts pid)) (sym its);
-    }
-
 -- the room of the processes is as great as it was
-pub stacks_kept : (threads : ℕ → Thread) (old new : List ProcessState) (before after : ℕ → Bool) (n depth : ℕ) → AreTaken threads old new before after n → HaveStacks depth old → HaveStacks depth new
-stacks_kept threads old new before after n depth h few q d lt = let there : q < length old = omega (arith, lt, h.count) in let a = few q d there in let b = (h.room q d there).stack in omega (arith, a, b)
+pub stacks_kept : (threads : ℕ → Thread) (old new : List ProcessState) (n depth : ℕ) → AreTaken threads old new n → HaveStacks depth old → HaveStacks depth new
+stacks_kept threads old new n depth h few q d lt = let there : q < length old = omega (arith, lt, h.count) in let a = few q d there in let b = (h.room q d there).stack in omega (arith, a, b)
 
-pub cells_kept : (threads : ℕ → Thread) (old new : List ProcessState) (before after : ℕ → Bool) (n cells : ℕ) → AreTaken threads old new before after n → HaveCells cells old → HaveCells cells new
-cells_kept threads old new before after n cells h few q d lt = let there : q < length old = omega (arith, lt, h.count) in let a = few q d there in let b = (h.room q d there).cells in omega (arith, a, b)
+pub cells_kept : (threads : ℕ → Thread) (old new : List ProcessState) (n cells : ℕ) → AreTaken threads old new n → HaveCells cells old → HaveCells cells new
+cells_kept threads old new n cells h few q d lt = let there : q < length old = omega (arith, lt, h.count) in let a = few q d there in let b = (h.room q d there).cells in omega (arith, a, b)
 
-pub references_kept : (threads : ℕ → Thread) (old new : List ProcessState) (before after : ℕ → Bool) (n references : ℕ) → AreTaken threads old new before after n → HaveReferences references old → HaveReferences references new
-references_kept threads old new before after n references h few q d lt = let there : q < length old = omega (arith, lt, h.count) in let a = few q d there in let b = (h.room q d there).references in omega (arith, a, b)
+pub references_kept : (threads : ℕ → Thread) (old new : List ProcessState) (n references : ℕ) → AreTaken threads old new n → HaveReferences references old → HaveReferences references new
+references_kept threads old new n references h few q d lt = let there : q < length old = omega (arith, lt, h.count) in let a = few q d there in let b = (h.room q d there).references in omega (arith, a, b)

@@ -1,5 +1,5 @@
 -- Processes that become others, without memory.
-use Rattle.std.specs.Prelude.{◌≡◌, ◌<◌, ◌≤◌, ℕ, Bool, List, false, length, slice_index_or, vec_capacity}
+use Rattle.std.specs.Prelude.{◌≡◌, ◌<◌, ◌≤◌, ℕ, List, length, slice_index_or, vec_capacity}
 use Rattle.cp_machine.specs.declared.process.ProcessState.{ProcessState}
 use Rattle.cp_machine.specs.Machine.{Thread, thread_of}
 
@@ -15,11 +15,9 @@ pub record HasRoomOf (p old : ProcessState) : Type 0 where
   pub cells : vec_capacity old.room.cells ≤ vec_capacity p.room.cells
   pub references : vec_capacity old.room.references ≤ vec_capacity p.room.references
 
--- the processes before a place have become these threads, and the others are still the old ones; those that did not move are what they were
-pub record AreTaken (threads : ℕ → Thread) (old new : List ProcessState) (moved_before moved_after : ℕ → Bool) (at : ℕ) : Type 0 where
+-- the processes before a place have become these threads, and the others are still the old ones
+pub record AreTaken (threads : ℕ → Thread) (old new : List ProcessState) (at : ℕ) : Type 0 where
   pub count : length new ≡ length old
   pub taken : (pid : ℕ) (d : ProcessState) → pid < at → thread_of (slice_index_or new pid d) ≡ threads pid
   pub rest : (pid : ℕ) (d : ProcessState) → at ≤ pid → slice_index_or new pid d ≡ slice_index_or old pid d
   pub room : (pid : ℕ) (d : ProcessState) → pid < length old → HasRoomOf (slice_index_or new pid d) (slice_index_or old pid d)
-  pub moved : (pid : ℕ) → moved_after pid ≡ false → moved_before pid ≡ false
-  pub kept : (pid : ℕ) (d : ProcessState) → moved_after pid ≡ false → thread_of (slice_index_or new pid d) ≡ thread_of (slice_index_or old pid d)

@@ -22,6 +22,18 @@ fn status_number(status: Status) -> u64
     }
 }
 
+/// Whether two statuses are one. Most processes are ready, and this is asked first.
+#[inline(always)]
+pub fn is_status(status: Status, other: Status) -> bool
+    ensures one { result ≡ true → status ≡ other }
+    ensures same { status ≡ other → result ≡ true }
+{
+    match (status, other) {
+        (Status::Ready, Status::Ready) => true,
+        _ => status == other,
+    }
+}
+
 /// The hash of a process.
 #[inline(always)]
 pub fn hash_of_process(process: &ProcessState) -> u32

@@ -8,7 +8,7 @@ use crate::admissions::Admissions;
 use crate::guards::are_guards;
 use crate::hashing::Compared;
 use crate::lists::ListStore;
-use crate::processes::take_list;
+use crate::processes::{is_status, take_list};
 use crate::row::{ADMISSION, BINDINGS, OUTPUT, PERMANENTS, PHASES, StateRow, THREADS};
 use crate::threads::Threads;
 use cp_machine::{Moved, Phase, ProcessState, Shown, State, Watch};
@@ -182,7 +182,7 @@ impl Store {
         ensures long { length row.new.numbers ≡ length row.old.numbers }
         ensures kept { KeepParts self.old self.new }
     {
-        if !is_moved && process.status == before.status {
+        if !is_moved && is_status(process.status, before.status) {
             return Ok(());
         }
         self.add_process(alloc, process, at, row)
@@ -342,39 +342,36 @@ impl Store {
         }
     }
 
-    /// The row of a state, of which the row of the state before is known, and which processes moved since.
+    /// The row of the state before becomes that of a state, where these processes moved since.
     #[inline(always)]
-    pub fn row_after(
+    pub fn follow(
         &mut self,
         alloc: Global,
         state: &State,
         before: &State,
-        known: &StateRow,
         moved: &Moved,
-    ) -> Result<StateRow, AllocError>
-        requires known { IsRowOf self.old known.now.numbers (machine_of before.now) }
+        row: &mut StateRow,
+    ) -> Result<(), AllocError>
+        requires known { IsRowOf self.old row.old.numbers (machine_of before.now) }
         requires kept { KeepBodies (has_moved moved.now) (machine_of before.now) (machine_of state.now) }
-        ensures row { IfOk result (λ row. IsRowOf self.new row.numbers (machine_of state.now)) }
+        ensures row { IfOk result (λ _. IsRowOf self.new row.new.numbers (machine_of state.now)) }
         ensures kept { KeepParts self.old self.new }
     {
-        let mut row = *known;
-        self.follow_output(alloc, state, before, &mut row)?;
-        self.follow_permanents(alloc, state, before, &mut row)?;
-        self.follow_bindings(alloc, state, before, &mut row)?;
-        self.follow_phases(alloc, state, before, &mut row)?;
-        self.follow_admission(alloc, state, before, &mut row)?;
-        self.follow_processes(alloc, state, before, moved, &mut row)?;
-        Ok(row)
+        self.follow_output(alloc, state, before, row)?;
+        self.follow_permanents(alloc, state, before, row)?;
+        self.follow_bindings(alloc, state, before, row)?;
+        self.follow_phases(alloc, state, before, row)?;
+        self.follow_admission(alloc, state, before, row)?;
+        self.follow_processes(alloc, state, before, moved, row)?;
+        Ok(())
     }
 
-    /// A state becomes the one of the same program that has a row. It takes no memory. What is known to be the same stays as it is, and
-    /// the processes that do not are added to those that moved.
-    pub fn take(&self, row: &StateRow, known: &StateRow, state: &mut State, moved: &mut Moved)
+    /// A state becomes the one of the same program that has a row. It takes no memory. What is known to be the same stays as it is.
+    pub fn take(&self, row: &StateRow, known: &StateRow, state: &mut State)
         requires row { (r : Tables) × (m : Machine) × IsStateOf r state.old × IsMachineOf r m × IsRowOf self.now row.now.numbers m }
         requires known { IsRowOf self.now known.now.numbers (machine_of state.old) }
         ensures same { (r : Tables) (m : Machine) → IsStateOf r state.old → IsMachineOf r m → IsRowOf self.now row.now.numbers m → machine_of state.new ≡ m }
         ensures own { (r : Tables) (m : Machine) → IsStateOf r state.old → IsMachineOf r m → IsRowOf self.now row.now.numbers m → IsStateOf r state.new }
-        ensures kept { (other : Machine) → KeepBodies (has_moved moved.old) (machine_of state.old) other → KeepBodies (has_moved moved.new) (machine_of state.new) other }
     {
         self.outputs.take(
             row.numbers[OUTPUT],
@@ -403,8 +400,7 @@ impl Store {
             &mut state.pending,
             &mut state.gates,
         );
-        self.threads
-            .take_all(row, known, &mut state.processes, moved);
+        self.threads.take_all(row, known, &mut state.processes);
     }
 
     /// A state becomes the one of the same program that has a row, whatever it was. It takes no memory.

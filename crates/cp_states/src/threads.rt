@@ -9,7 +9,7 @@ ghost use Rattle.cp_states.specs.Kept.{AreKept};
 use crate::index::{HashIndex, MOST};
 use crate::processes::{copy_of, hash_of_process, is_process, take_process};
 use crate::row::{StateRow, THREADS};
-use cp_machine::{Moved, ProcessState, Watch};
+use cp_machine::ProcessState;
 use std::alloc::{AllocError, Global};
 
 /// Different processes, each with a number.
@@ -21,8 +21,7 @@ pub struct Threads {
 }
 
 impl Threads {
-    ghost use Rattle.std.specs.Prelude.{◌≡◌, ◌+◌, ◌<◌, ◌≤◌, ℕ, false, length, slice_index_or, true, vec_capacity, IfNone, IfOk, IfSome};
-    ghost use Rattle.cp_machine.specs.Bodies.{has_moved};
+    ghost use Rattle.std.specs.Prelude.{◌≡◌, ◌+◌, ◌<◌, ◌≤◌, ℕ, length, slice_index_or, true, vec_capacity, IfNone, IfOk, IfSome};
     ghost use Rattle.cp_machine.specs.Machine.{thread_at};
     ghost use Rattle.cp_states.specs.Numbers.{number_at};
     ghost use Rattle.cp_states.specs.Taking.{AreTaken, HasRoomFor};
@@ -100,17 +99,9 @@ impl Threads {
         Ok(number as u32)
     }
 
-    // A process becomes the one with a number, which perhaps is the one that it was; if not, it has moved.
+    // A process becomes the one with a number, which perhaps is the one that it was.
     #[inline(always)]
-    fn take(
-        &self,
-        number: u32,
-        known: u32,
-        pid: usize,
-        process: &mut ProcessState,
-        moved: &mut Moved,
-    )
-        requires pid { pid < 16 }
+    fn take(&self, number: u32, known: u32, process: &mut ProcessState)
         requires number { number < length self.now.all.items }
         requires known { IsAmong no_thread (map thread_of self.now.all.items) known (thread_of process.old) }
         requires room { HasRoomFor process.old (thread_at (map thread_of self.now.all.items) number) }
@@ -118,14 +109,11 @@ impl Threads {
         ensures stack { vec_capacity process.old.stack ≤ vec_capacity process.new.stack }
         ensures cells { vec_capacity process.old.room.cells ≤ vec_capacity process.new.room.cells }
         ensures references { vec_capacity process.old.room.references ≤ vec_capacity process.new.room.references }
-        ensures others { (q : ℕ) → has_moved moved.new q ≡ false → has_moved moved.old q ≡ false }
-        ensures kept { has_moved moved.new pid ≡ false → thread_of process.new ≡ thread_of process.old }
     {
         if number == known {
             return;
         }
         self.take_anew(number, process);
-        moved.add(pid as u8);
     }
 
     // A process becomes the one with a number.
@@ -146,35 +134,27 @@ impl Threads {
         requires few { length processes.old ≤ 16 }
         requires numbers { (pid : ℕ) → pid < length processes.old → number_at row.now.numbers (5 + pid) < length self.now.all.items }
         requires room { (pid : ℕ) (d : ProcessState) → pid < length processes.old → HasRoomFor (slice_index_or processes.old pid d) (thread_at (map thread_of self.now.all.items) (number_at row.now.numbers (5 + pid))) }
-        ensures taken { AreTaken (λ pid. thread_at (map thread_of self.now.all.items) (number_at row.now.numbers (5 + pid))) processes.old processes.new (λ _. true) (λ _. true) (length processes.old) }
+        ensures taken { AreTaken (λ pid. thread_at (map thread_of self.now.all.items) (number_at row.now.numbers (5 + pid))) processes.old processes.new (length processes.old) }
     {
         for at in 0..processes.len() {
             self.take_anew(row.numbers[THREADS + at], &mut processes[at]);
         }
     }
 
-    /// Processes become those that have the numbers of a row. Those that are not what they were have moved.
+    /// Processes become those that have the numbers of a row. Those that have them already stay as they are.
     #[inline(always)]
-    pub fn take_all(
-        &self,
-        row: &StateRow,
-        known: &StateRow,
-        processes: &mut [ProcessState],
-        moved: &mut Moved,
-    )
+    pub fn take_all(&self, row: &StateRow, known: &StateRow, processes: &mut [ProcessState])
         requires few { length processes.old ≤ 16 }
         requires numbers { (pid : ℕ) → pid < length processes.old → number_at row.now.numbers (5 + pid) < length self.now.all.items }
         requires known { (pid : ℕ) → pid < length processes.old → IsAmong no_thread (map thread_of self.now.all.items) (number_at known.now.numbers (5 + pid)) (thread_at (map thread_of processes.old) pid) }
         requires room { (pid : ℕ) (d : ProcessState) → pid < length processes.old → HasRoomFor (slice_index_or processes.old pid d) (thread_at (map thread_of self.now.all.items) (number_at row.now.numbers (5 + pid))) }
-        ensures taken { AreTaken (λ pid. thread_at (map thread_of self.now.all.items) (number_at row.now.numbers (5 + pid))) processes.old processes.new (has_moved moved.old) (has_moved moved.new) (length processes.old) }
+        ensures taken { AreTaken (λ pid. thread_at (map thread_of self.now.all.items) (number_at row.now.numbers (5 + pid))) processes.old processes.new (length processes.old) }
     {
         for at in 0..processes.len() {
             self.take(
                 row.numbers[THREADS + at],
                 known.numbers[THREADS + at],
-                at,
                 &mut processes[at],
-                moved,
             );
         }
     }

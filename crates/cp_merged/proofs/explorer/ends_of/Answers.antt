@@ -14,7 +14,7 @@ pub one_layer-requires-clause-reached : goal.one_layer-requires-clause-reached
 one_layer-requires-clause-reached g c = c.loop-depth.invariant.reached
 
 pub loop-depth-preserved : goal.loop-depth-preserved
-loop-depth-preserved g c = record { own = c.one_layer.ensures.own; next = c.one_layer.ensures.next; row = c.in_ok-one_layer.ensures.row; reached = c.in_ok-one_layer.ensures.reached }
+loop-depth-preserved g c = record { own = c.one_layer.ensures.own; next = c.one_layer.ensures.next; row = c.in_ok-one_layer.ensures.row; next_row = c.in_ok-one_layer.ensures.next_row; reached = c.in_ok-one_layer.ensures.reached }
 
 pub returns-in_err-one_layer-clause-fault : goal.returns-in_err-one_layer-clause-fault
 returns-in_err-one_layer-clause-fault g c =

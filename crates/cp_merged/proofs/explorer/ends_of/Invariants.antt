@@ -9,5 +9,6 @@ invariant-loop-depth g l =
       own : IsStateOf l.program l.state;
       next : IsStateOf l.program l.next;
       row : IsRowOf l.frontier.store l.row.numbers (machine_of l.state);
+      next_row : IsRowOf l.frontier.store l.next_row.numbers (machine_of l.next);
       reached : Reached l.program l.limits.gates l.limits.choices l.limits.steps l.most l.depth l.frontier.store l.frontier.ended.entries l.frontier.layer.entries;
     }

@@ -15,7 +15,7 @@ add-requires-clause-small g c =
     (c.args.program.now, h.0, h.1, (let e = c.one.ensures in let s = h.2 in omega (arith, e, s)))
 
 pub add-requires-clause-moved : goal.add-requires-clause-moved
-add-requires-clause-moved g c = keep_refl (has_moved c.nobody.result) (machine_of c.open-halt.new.state)
+add-requires-clause-moved g c = keep_refl (has_moved c.nobody-moved.result) (machine_of c.open-halt.new.state)
 
 pub returns-then-len-most-clause-fault : goal.returns-then-len-most-clause-fault
 returns-then-len-most-clause-fault g c =

@@ -34,6 +34,9 @@ next_layer-requires-clause-front g c =
 pub next_layer-requires-clause-row : goal.next_layer-requires-clause-row
 next_layer-requires-clause-row g c = subst (λ s. IsRowOf s c.args.row.now.numbers (machine_of c.args.state.now)) (sym c.take_layer-layer.ensures.store) c.requires.row
 
+pub next_layer-requires-clause-next_row : goal.next_layer-requires-clause-next_row
+next_layer-requires-clause-next_row g c = subst (λ s. IsRowOf s c.args.next_row.now.numbers (machine_of c.args.next.now)) (sym c.take_layer-layer.ensures.store) c.requires.next_row
+
 pub returns-clause-reached : goal.returns-clause-reached
 returns-clause-reached g c =
     let l = c.args.limits in

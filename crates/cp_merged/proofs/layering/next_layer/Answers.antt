@@ -7,7 +7,6 @@ use Rattle.cp_walk.specs.Report.{same_outcome}
 use Rattle.cp_merged.specs.Layers.{front_at}
 use Rattle.cp_merged.specs.Holds.{same_key, AreLeads}
 use Rattle.cp_merged.proofs.Making.{Making, leads_length, making_start, making_next, making_more, making_done, making_many, making_room, making_small}
-use Rattle.cp_merged.proofs.Knowing.{all_moved}
 use Rattle.cp_merged.specs.declared.prefixes.Prefixes as code
 use Rattle.cp_states.specs.declared.row.StateRow.{StateRow}
 use Rattle.cp_merged.proofs.layering.next_layer.Goals as goal
@@ -25,7 +24,7 @@ loop-key-init g c =
       own = c.requires.own;
       next = c.requires.next;
       row = c.requires.row;
-      moved = all_moved c.everybody-moved.result (machine_of c.args.state.now) (machine_of c.args.next.now) c.everybody-moved.ensures (c.requires.next.fits.threads ∙ sym c.requires.own.fits.threads);
+      next_row = c.requires.next_row;
       few = omega (arith, none);
       making = making_start r l.gates l.steps c.args.depth front.store front.ended.entries front.layer.entries c.into_iter-key-iterator.result c.requires.own.sound.few (omega (arith, due, most)) (subst (λ es. AreLeads r front.store es (front_at (slots r l.gates) same_outcome same_key l.steps c.args.depth).layer) (sym all) c.requires.layer) c.requires.front;
     }
@@ -95,8 +94,8 @@ returns-then-len-most-clause-own g c =
     let n = making_next r l.gates l.steps d old.store old.ended.entries old.layer.entries es e m in
     c.take.ensures.own r n.lead.state c.loop-key.invariant.own n.own n.row
 
-pub take_choices-requires-clause-moved : goal.take_choices-requires-clause-moved
-take_choices-requires-clause-moved g c = c.take.ensures.kept (machine_of c.loop-key.next) c.loop-key.invariant.moved
+pub take_choices-requires-clause-row : goal.take_choices-requires-clause-row
+take_choices-requires-clause-row g c = c.loop-key.invariant.next_row
 
 pub take_choices-requires-clause-room : goal.take_choices-requires-clause-room
 take_choices-requires-clause-room g c =
@@ -160,7 +159,7 @@ loop-key-preserved g c =
       own = c.take.ensures.own r n.lead.state c.loop-key.invariant.own n.own n.row;
       next = c.take_choices.ensures.next;
       row = row_on old.store new.store c.in-Some.key.now.numbers (machine_of c.take.new.state) c.in-Ok.ensures.kept is;
-      moved = c.take_choices.ensures.moved;
+      next_row = c.in-Ok.ensures.row;
       few = omega arith;
       making = made;
     }

@@ -1,5 +1,4 @@
 use Rattle.std.proofs.Common.{◌≤◌, length}
-use Rattle.cp_machine.specs.Bodies.{has_moved, KeepBodies}
 use Rattle.cp_machine.specs.System.{machine_of, IsStateOf}
 use Rattle.cp_states.specs.Rows.{IsRowOf}
 use Rattle.cp_merged.proofs.Making.{Making}
@@ -11,7 +10,7 @@ invariant-loop-key g l =
       own : IsStateOf l.program l.state;
       next : IsStateOf l.program l.next;
       row : IsRowOf l.frontier.store l.row.numbers (machine_of l.state);
-      moved : KeepBodies (has_moved l.moved) (machine_of l.state) (machine_of l.next);
+      next_row : IsRowOf l.frontier.store l.next_row.numbers (machine_of l.next);
       few : length l.frontier.layer.entries ≤ l.most;
       making : Making l.program l.limits.gates l.limits.steps l.depth l.frontier.store l.frontier.ended.entries l.frontier.layer.entries l.key-iterator;
     }

@@ -1,10 +1,13 @@
-use Rattle.std.proofs.Common.{◌≡◌, ◌++◌, ◌∷◌, [], ◌∙◌, ◌-◌, ℕ, List, length, take, ap, subst, arith}
+use Rattle.std.proofs.Common.{◌≡◌, ◌++◌, ◌∷◌, [], ◌∙◌, ◌-◌, ℕ, List, length, take, sym, ap, subst, arith}
 use Rattle.std.proofs.lemmas.List.{length-append, take_at}
 use Rattle.cp_machine.specs.Bodies.{has_moved, KeepBodies}
 use Rattle.cp_machine.specs.System.{Machine, machine_of}
 use Rattle.cp_machine.proofs.Unmoved.{keep_refl}
 use Rattle.cp_run.specs.Code.{node_of}
 use Rattle.cp_run.specs.Slots.{slots}
+use Rattle.cp_states.specs.Rows.{IsRowOf, KeepParts}
+use Rattle.cp_states.specs.declared.row.StateRow.{StateRow}
+use Rattle.cp_states.proofs.Following.{row_on}
 use Rattle.cp_walk.specs.Report.{same_outcome}
 use Rattle.cp_merged.specs.Layers as layers
 use Rattle.cp_merged.specs.Holds.{same_key, Holds}
@@ -16,16 +19,35 @@ use Rattle.cp_merged.proofs.layering.take_choice.Goals as goal
 pub add-added-requires-clause-moved : goal.add-added-requires-clause-moved
 add-added-requires-clause-moved g c =
     let m = machine_of c.args.state.now in
-    subst (λ before. KeepBodies (has_moved c.choose-halt.new.watch) before (machine_of c.choose-halt.new.state)) c.requires.copied (c.choose-halt.ensures.kept m (keep_refl (has_moved c.args.moved.now) m))
+    subst (λ before. KeepBodies (has_moved c.choose-halt.new.watch) before (machine_of c.choose-halt.new.state)) c.requires.copied (c.choose-halt.ensures.kept m (keep_refl (has_moved c.nobody-moved.result) m))
 
-pub returns-clause-moved : goal.returns-clause-moved
-returns-clause-moved g c = let m = machine_of c.args.state.now in c.choose-halt.ensures.kept m (keep_refl (has_moved c.args.moved.now) m)
+pub take_moved-requires-clause-kept : goal.take_moved-requires-clause-kept
+take_moved-requires-clause-kept g c =
+    let m = machine_of c.args.state.now in
+    subst (λ before. KeepBodies (has_moved c.choose-halt.new.watch) before (machine_of c.choose-halt.new.state)) c.requires.copied (c.choose-halt.ensures.kept m (keep_refl (has_moved c.nobody-moved.result) m))
+
+pub take_moved-requires-clause-own : goal.take_moved-requires-clause-own
+take_moved-requires-clause-own g c = (c.args.program.now, c.choose-halt.ensures.own, c.requires.before)
+
+pub returns-in-Ended-clause-own : goal.returns-in-Ended-clause-own
+returns-in-Ended-clause-own g c = c.take_moved.ensures.own c.args.program.now c.choose-halt.ensures.own c.requires.before
+
+pub returns-in-Ended-clause-row : goal.returns-in-Ended-clause-row
+returns-in-Ended-clause-row g c =
+    let old = c.args.frontier.now in
+    let new = c.add-added.new.self in
+    ok_to c.add-added.result (λ _. KeepParts old.store new.store) (λ _. IsRowOf new.store c.add-added.new.row.numbers (machine_of c.take_moved.new.self)) c.add-added.ensures.kept
+    (λ a kept. subst (λ (row : StateRow). IsRowOf new.store row.numbers (machine_of c.take_moved.new.self)) (sym (c.add-added.ensures.over _ c.in-Ended.is))
+    (subst (IsRowOf new.store c.args.row.now.numbers) (sym c.take_moved.ensures.same) (row_on old.store new.store c.args.row.now.numbers (machine_of c.args.before.now) kept c.requires.known)))
+
+pub returns-in-Choice-clause-row : goal.returns-in-Choice-clause-row
+returns-in-Choice-clause-row g c = c.add-added.ensures.due c.in-Choice.is
 
 pub add-added-requires-clause-small : goal.add-added-requires-clause-small
 add-added-requires-clause-small g c = (c.args.program.now, c.requires.small.0, c.requires.small.1, c.requires.small.2)
 
-pub returns-clause-front : goal.returns-clause-front
-returns-clause-front g c =
+pub returns-in-Ended-clause-front : goal.returns-in-Ended-clause-front
+returns-in-Ended-clause-front g c =
     let r = c.args.program.now in
     let l = c.args.limits in
     let old = c.args.frontier.now in
@@ -38,8 +60,33 @@ returns-clause-front g c =
     choice_holds c.add-added.result r l.gates l.steps old.store new.store old.ended.entries new.ended.entries old.layer.entries new.layer.entries m word c.push.new.self.items count c.args.process node c.requires.may c.choose-halt.ensures.node long
     (ok_to c.add-added.result _ (λ _. (f : layers.Front Machine) → Holds r old.store old.ended.entries old.layer.entries f → Holds r new.store new.ended.entries new.layer.entries (layers.arrived (slots r l.gates) same_outcome same_key c.push.new.self.items count node f)) c.add-added.ensures.front (λ a on f h. on r l.gates f c.choose-halt.ensures.own h))
 
-pub returns-clause-same : goal.returns-clause-same
-returns-clause-same g c =
+pub returns-in-Choice-clause-front : goal.returns-in-Choice-clause-front
+returns-in-Choice-clause-front g c =
+    let r = c.args.program.now in
+    let l = c.args.limits in
+    let old = c.args.frontier.now in
+    let new = c.add-added.new.self in
+    let m = machine_of c.args.state.now in
+    let node = node_of c.choose-halt.result (machine_of c.choose-halt.new.state) in
+    let word = c.args.prefixes.now.first.items in
+    let count = c.args.prefixes.now.count in
+    let long : c.push.new.self.items ≡ word ++ c.args.process ∷ [] = c.push.ensures.items in
+    choice_holds c.add-added.result r l.gates l.steps old.store new.store old.ended.entries new.ended.entries old.layer.entries new.layer.entries m word c.push.new.self.items count c.args.process node c.requires.may c.choose-halt.ensures.node long
+    (ok_to c.add-added.result _ (λ _. (f : layers.Front Machine) → Holds r old.store old.ended.entries old.layer.entries f → Holds r new.store new.ended.entries new.layer.entries (layers.arrived (slots r l.gates) same_outcome same_key c.push.new.self.items count node f)) c.add-added.ensures.front (λ a on f h. on r l.gates f c.choose-halt.ensures.own h))
+
+pub returns-in-Ended-clause-same : goal.returns-in-Ended-clause-same
+returns-in-Ended-clause-same g c =
+    let word = c.args.prefixes.now.first.items in
+    let longer = c.push.new.self.items in
+    let more : longer ≡ word ++ c.args.process ∷ [] = c.push.ensures.items in
+    let all = ap length more in
+    let long = length-append word (c.args.process ∷ []) in
+    let back : c.pop.new.self.items ≡ word = c.pop.ensures.rest ∙ ap (take (length longer - 1)) more ∙ take_at word (c.args.process ∷ []) (length longer - 1) (omega (arith, all, long)) in
+    let whole : List ℕ → code.Prefixes = λ items. record { count = c.args.prefixes.now.count; first = record { items = items } } in
+    ap whole back
+
+pub returns-in-Choice-clause-same : goal.returns-in-Choice-clause-same
+returns-in-Choice-clause-same g c =
     let word = c.args.prefixes.now.first.items in
     let longer = c.push.new.self.items in
     let more : longer ≡ word ++ c.args.process ∷ [] = c.push.ensures.items in

@@ -1,6 +1,6 @@
 use Rattle.std.proofs.Common.{rules, ◌≡◌, ◌∙◌, ◌<◌, ◌+◌, ◌^◌, true, get_or, length, take, sym, ap, subst, arith}
 use Rattle.std.proofs.lemmas.List.{length-take-le, take_all, take_more}
-use Rattle.cp_machine.specs.Bodies.{has_moved, KeepBodies}
+use Rattle.cp_key.proofs.Owned.{machine_own}
 use Rattle.cp_machine.specs.System.{Machine, machine_of}
 use Rattle.cp_run.specs.Run.{may, those_below}
 use Rattle.cp_run.specs.Slots.{slots}
@@ -12,6 +12,15 @@ use Rattle.cp_merged.specs.declared.prefixes.Prefixes as code
 use Rattle.cp_merged.proofs.Choosing.{after_list, length_those, list_more, list_those, may_those, room_for_one}
 use Rattle.cp_merged.proofs.layering.take_choices.Goals as goal
 
+pub take-requires-clause-row : goal.take-requires-clause-row
+take-requires-clause-row g c = (c.args.program.now, machine_of c.args.state.now, c.loop-process.invariant.next, machine_own c.args.program.now c.args.state.now c.requires.own, c.loop-process.invariant.known)
+
+pub take-requires-clause-known : goal.take-requires-clause-known
+take-requires-clause-known g c = c.loop-process.invariant.row
+
+pub take_choice-requires-clause-copied : goal.take_choice-requires-clause-copied
+take_choice-requires-clause-copied g c = c.take.ensures.same c.args.program.now (machine_of c.args.state.now) c.loop-process.invariant.next (machine_own c.args.program.now c.args.state.now c.requires.own) c.loop-process.invariant.known
+
 pub take_choice-requires-clause-may : goal.take_choice-requires-clause-may
 take_choice-requires-clause-may g c =
     let s = machine_of c.args.state.now in
@@ -20,7 +29,7 @@ take_choice-requires-clause-may g c =
     let all = c.as_slice-process-items.result.now in
     let listed : all ≡ those_below sys.processes (may sys s) = c.as_slice-process-items.ensures.value ∙ c.candidates-numbers.ensures in
     let lt : i < length all = omega arith in
-    let on : may sys (machine_of c.take_moved.new.self) (get_or all i 0) ≡ true = ap (λ m. may sys m (get_or all i 0)) c.take_moved.ensures.same ∙ may_those sys s all listed i lt in
+    let on : may sys (machine_of c.take.new.state) (get_or all i 0) ≡ true = ap (λ m. may sys m (get_or all i 0)) (c.take.ensures.same c.args.program.now (machine_of c.args.state.now) c.loop-process.invariant.next (machine_own c.args.program.now c.args.state.now c.requires.own) c.loop-process.invariant.known) ∙ may_those sys s all listed i lt in
     search (rules, on)
 
 pub take_choice-requires-clause-small : goal.take_choice-requires-clause-small
@@ -45,14 +54,14 @@ pub take_choice-requires-clause-room : goal.take_choice-requires-clause-room
 take_choice-requires-clause-room g c = subst (λ (y : code.Prefixes). length y.first.items < 100) (sym c.loop-process.invariant.arriving) c.requires.room
 
 pub take_choice-requires-clause-own : goal.take_choice-requires-clause-own
-take_choice-requires-clause-own g c = c.take_moved.ensures.own c.args.program.now c.loop-process.invariant.next c.requires.own
+take_choice-requires-clause-own g c = c.take.ensures.own c.args.program.now (machine_of c.args.state.now) c.loop-process.invariant.next (machine_own c.args.program.now c.args.state.now c.requires.own) c.loop-process.invariant.known
 
 pub loop-process-init : goal.loop-process-init
 loop-process-init g c =
     record {
       next = c.requires.next;
       arriving = c.copy_of-arriving.ensures;
-      moved = c.requires.moved;
+      row = c.requires.row;
       known = c.requires.known;
       kept = parts_same c.args.frontier.now.store;
       front = λ f h. h;
@@ -75,14 +84,14 @@ loop-process-preserved g c =
     record {
       next = c.take_choice.ensures.own;
       arriving = c.take_choice.ensures.same ∙ c.loop-process.invariant.arriving;
-      moved = subst (λ m. KeepBodies (has_moved c.take_choice.new.moved) m (machine_of c.take_choice.new.state)) c.take_moved.ensures.same c.take_choice.ensures.moved;
+      row = c.in_ok-take_choice.ensures.row;
       known = row_on c.loop-process.frontier.store new.store c.args.known.now.numbers s c.in_ok-take_choice.ensures.kept c.loop-process.invariant.known;
       kept = parts_on c.args.frontier.now.store c.loop-process.frontier.store new.store c.loop-process.invariant.kept c.in_ok-take_choice.ensures.kept;
       front = λ f h.
           (let g : layers.Front Machine = after_list sys same_outcome same_key steps x (take i numbers) f in
           let on = c.in_ok-take_choice.ensures.front g (c.loop-process.invariant.front f h) in
-          let one = subst (λ (y : code.Prefixes). Holds r new.store new.ended.entries new.layer.entries (layers.after_choice sys same_outcome same_key steps (record { state = machine_of c.take_moved.new.self; first = y.first.items; count = y.count }) p g)) c.loop-process.invariant.arriving on in
-          let here = subst (λ m. Holds r new.store new.ended.entries new.layer.entries (layers.after_choice sys same_outcome same_key steps (record { state = m; first = word; count = count }) p g)) c.take_moved.ensures.same one in
+          let one = subst (λ (y : code.Prefixes). Holds r new.store new.ended.entries new.layer.entries (layers.after_choice sys same_outcome same_key steps (record { state = machine_of c.take.new.state; first = y.first.items; count = y.count }) p g)) c.loop-process.invariant.arriving on in
+          let here = subst (λ m. Holds r new.store new.ended.entries new.layer.entries (layers.after_choice sys same_outcome same_key steps (record { state = m; first = word; count = count }) p g)) (c.take.ensures.same c.args.program.now (machine_of c.args.state.now) c.loop-process.invariant.next (machine_own c.args.program.now c.args.state.now c.requires.own) c.loop-process.invariant.known) one in
           subst (Holds r new.store new.ended.entries new.layer.entries) (sym (list_more sys same_outcome same_key steps x (take i numbers) p f) ∙ ap (λ ps. after_list sys same_outcome same_key steps x ps f) (sym (take_more numbers i 0 lt))) here);
     }
 

@@ -1,5 +1,4 @@
 use Rattle.std.proofs.Common.{◌≡◌, take}
-use Rattle.cp_machine.specs.Bodies.{has_moved, KeepBodies}
 use Rattle.cp_machine.specs.System.{Machine, machine_of, IsStateOf}
 use Rattle.cp_run.specs.Slots.{slots}
 use Rattle.cp_states.specs.Rows.{IsRowOf, KeepParts}
@@ -14,7 +13,7 @@ invariant-loop-process g l =
     record {
       next : IsStateOf l.program l.next;
       arriving : l.arriving ≡ l.prefixes;
-      moved : KeepBodies (has_moved l.moved) (machine_of l.state) (machine_of l.next);
+      row : IsRowOf l.frontier.store l.row.numbers (machine_of l.next);
       known : IsRowOf l.frontier.store l.known.numbers (machine_of l.state);
       kept : KeepParts l.initial.frontier.store l.frontier.store;
       front : (f : layers.Front Machine) → Holds l.program l.initial.frontier.store l.initial.frontier.ended.entries l.initial.frontier.layer.entries f → Holds l.program l.frontier.store l.frontier.ended.entries l.frontier.layer.entries (after_list (slots l.program l.limits.gates) same_outcome same_key l.limits.steps (record { state = machine_of l.state; first = l.prefixes.first.items; count = l.prefixes.count }) (take l.process-index l.process-items) f);

@@ -1,7 +1,7 @@
 use Rattle.std.proofs.Common.{◌^◌, List}
 use Rattle.cp_slots.specs.Tables.{Tables}
 use Rattle.cp_machine.specs.System.{Machine, machine_of, IsStateOf}
-use Rattle.cp_states.specs.Rows.{KeepParts}
+use Rattle.cp_states.specs.Rows.{IsRowOf, KeepParts}
 use Rattle.cp_merged.specs.Layers as layers
 use Rattle.cp_merged.specs.Holds.{same_key, AreLeads}
 use Rattle.cp_merged.proofs.Arriving.{leads_more, room_for_state}
@@ -14,11 +14,14 @@ add_row-requires c = room_for_state c.requires.small.0 c.args.self.now.store c.a
 pub returns-clause-layer : goal.returns-clause-layer
 returns-clause-layer c =
     let s = c.args.self.now.store in
-    let t = c.row_after.new.self in
+    let t = c.follow.new.self in
     let old = c.args.self.now.layer.entries in
     let new = c.add_row.new.layer.entries in
     let m = machine_of c.args.state.now in
-    ok_to c.add_row.result _ (λ _. (r : Tables) (xs : List (layers.Lead Machine)) → IsStateOf r c.args.state.now → AreLeads r s old xs → AreLeads r t new (layers.with_lead same_key xs (record { state = m; first = c.args.prefixes.now.first.items; count = c.args.prefixes.now.count }))) c.add_row.ensures (λ a put r xs own h. leads_more r s t old new xs c.in_ok-row.row.numbers c.args.state.now c.args.prefixes.now c.row_after.ensures.kept c.in_ok-row.ensures.row put own h)
+    ok_to c.add_row.result _ (λ _. (r : Tables) (xs : List (layers.Lead Machine)) → IsStateOf r c.args.state.now → AreLeads r s old xs → AreLeads r t new (layers.with_lead same_key xs (record { state = m; first = c.args.prefixes.now.first.items; count = c.args.prefixes.now.count }))) c.add_row.ensures (λ a put r xs own h. leads_more r s t old new xs c.follow.new.row.numbers c.args.state.now c.args.prefixes.now c.follow.ensures.kept c.in_ok-follow.ensures.row put own h)
 
 pub returns-clause-kept : goal.returns-clause-kept
-returns-clause-kept c = ok_any c.add_row.result (KeepParts c.args.self.now.store c.row_after.new.self) c.row_after.ensures.kept
+returns-clause-kept c = ok_any c.add_row.result (KeepParts c.args.self.now.store c.follow.new.self) c.follow.ensures.kept
+
+pub returns-clause-row : goal.returns-clause-row
+returns-clause-row c = ok_any c.add_row.result (IsRowOf c.follow.new.self c.follow.new.row.numbers (machine_of c.args.state.now)) c.in_ok-follow.ensures.row

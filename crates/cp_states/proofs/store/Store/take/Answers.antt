@@ -1,16 +1,15 @@
-use Rattle.std.proofs.Common.{◌≡◌, ◌∙◌, ◌+◌, ◌<◌, ℕ, ap, arith, length, map, refl, subst, sym}
+use Rattle.std.proofs.Common.{◌≡◌, ◌∙◌, ◌+◌, ◌<◌, ℕ, ap, arith, length, map, subst, sym}
 use Rattle.std.specs.Prelude.{slice_index_or, vec_len}
 use Rattle.std.specs.Vec.{with_items}
 use Rattle.std.proofs.lemmas.List.{length-map, with_items_is}
 use Rattle.cp_key.proofs.Owned.{machine_room}
-use Rattle.cp_machine.specs.Bodies.{has_moved}
 use Rattle.cp_machine.specs.Fits.{HaveCells, HaveReferences, HaveStacks, LinesFit, MachineFits}
-use Rattle.cp_machine.specs.Machine.{Machine, Thread, machine_of, monitor_of, no_thread, thread_at, thread_of}
+use Rattle.cp_machine.specs.Machine.{Thread, no_thread, thread_at, thread_of}
 use Rattle.cp_machine.specs.Reach.{Reaches}
 use Rattle.cp_states.specs.Kept.{IsAmong}
 use Rattle.cp_states.specs.Rows.{number_at}
 use Rattle.cp_states.specs.Taking.{AreTaken, HasRoomFor}
-use Rattle.cp_states.proofs.Taking.{became, bodies_kept, cells_kept, references_kept, stacks_kept, threads_taken}
+use Rattle.cp_states.proofs.Taking.{became, cells_kept, references_kept, stacks_kept, threads_taken}
 use Rattle.cp_states.proofs.store.Store.take.Goals as goal
 
 pub take_all-requires-clause-numbers : goal.take_all-requires-clause-numbers
@@ -55,15 +54,13 @@ returns-clause-same c = λ r m own its is.
     let ps = c.args.state.now.processes.items in
     let new = c.take_all.new.processes in
     let all : ℕ → Thread = λ pid. thread_at (map thread_of s.threads.all.items) (number_at row (5 + pid)) in
-    let before = has_moved c.args.moved.now in
-    let after = has_moved c.take_all.new.moved in
-    let taken = subst (λ qs. AreTaken all qs new before after (length qs)) c.deref_mut.ensures.value c.take_all.ensures.taken in
+    let taken = subst (λ qs. AreTaken all qs new (length qs)) c.deref_mut.ensures.value c.take_all.ensures.taken in
     let v = c.args.state.now.processes in
     let size : vec_len v ≡ length v.items = v.ok.0 in
     let many = taken.count in
     let whole : (with_items v new).items ≡ new = with_items_is v new (omega (arith, many, size)) in
     let count = its.fits.threads ∙ sym own.fits.threads ∙ length-map ps thread_of in
-    became s row m _ is c.take.ensures.items c.take-2.ensures.items c.take-3.ensures.items c.take-4.ensures.items c.take-5.ensures.same (ap (map thread_of) whole ∙ threads_taken all ps new before after m.threads count (λ pid lt. (is.threads pid lt).is) taken))
+    became s row m _ is c.take.ensures.items c.take-2.ensures.items c.take-3.ensures.items c.take-4.ensures.items c.take-5.ensures.same (ap (map thread_of) whole ∙ threads_taken all ps new m.threads count (λ pid lt. (is.threads pid lt).is) taken))
 
 pub returns-clause-own : goal.returns-clause-own
 returns-clause-own c = λ r m own its is.
@@ -72,9 +69,7 @@ returns-clause-own c = λ r m own its is.
     let ps = c.args.state.now.processes.items in
     let new = c.take_all.new.processes in
     let all : ℕ → Thread = λ pid. thread_at (map thread_of s.threads.all.items) (number_at row (5 + pid)) in
-    let before = has_moved c.args.moved.now in
-    let after = has_moved c.take_all.new.moved in
-    let taken = subst (λ qs. AreTaken all qs new before after (length qs)) c.deref_mut.ensures.value c.take_all.ensures.taken in
+    let taken = subst (λ qs. AreTaken all qs new (length qs)) c.deref_mut.ensures.value c.take_all.ensures.taken in
     let v = c.args.state.now.processes in
     let size : vec_len v ≡ length v.items = v.ok.0 in
     let many = taken.count in
@@ -91,28 +86,11 @@ returns-clause-own c = λ r m own its is.
       lines = subst LinesFit (sym same) its.lines;
       reach = subst (Reaches r) (sym same) its.reach;
       reserved = record {
-        stacks = subst (HaveStacks r.depth) (sym whole) (stacks_kept all ps new before after (length ps) r.depth taken own.reserved.stacks);
-        cells = subst (HaveCells r.cells) (sym whole) (cells_kept all ps new before after (length ps) r.cells taken own.reserved.cells);
-        references = subst (HaveReferences r.references) (sym whole) (references_kept all ps new before after (length ps) r.references taken own.reserved.references);
+        stacks = subst (HaveStacks r.depth) (sym whole) (stacks_kept all ps new (length ps) r.depth taken own.reserved.stacks);
+        cells = subst (HaveCells r.cells) (sym whole) (cells_kept all ps new (length ps) r.cells taken own.reserved.cells);
+        references = subst (HaveReferences r.references) (sym whole) (references_kept all ps new (length ps) r.references taken own.reserved.references);
         output = omega (arith, room, more);
         shown = omega (arith, long, len, shown);
         bounds = own.reserved.bounds;
       };
     })
-
-pub returns-clause-kept : goal.returns-clause-kept
-returns-clause-kept c = λ other kept.
-    (let s = c.args.self.now in
-    let row = c.args.row.now.numbers in
-    let ps = c.args.state.now.processes.items in
-    let new = c.take_all.new.processes in
-    let all : ℕ → Thread = λ pid. thread_at (map thread_of s.threads.all.items) (number_at row (5 + pid)) in
-    let before = has_moved c.args.moved.now in
-    let after = has_moved c.take_all.new.moved in
-    let taken = subst (λ qs. AreTaken all qs new before after (length qs)) c.deref_mut.ensures.value c.take_all.ensures.taken in
-    let v = c.args.state.now.processes in
-    let size : vec_len v ≡ length v.items = v.ok.0 in
-    let many = taken.count in
-    let whole : (with_items v new).items ≡ new = with_items_is v new (omega (arith, many, size)) in
-    let k : Machine = record { permanents = c.take-2.new.list.items; bindings = c.take-3.new.list.items; phases = c.take-4.new.list.items; threads = map thread_of (with_items v new).items; monitors = map monitor_of c.take-5.new.guards.items; pending = c.take-5.new.pending; gates = c.take-5.new.gates; output = c.take.new.list.items } in
-    bodies_kept all ps new before after (length ps) (machine_of c.args.state.now) k other refl (ap (map thread_of) whole) taken kept)

@@ -1,4 +1,4 @@
-use Rattle.std.proofs.Common.{◌≡◌, ◌∙◌, ◌+◌, ◌<◌, ℕ, Bool, true, ap, arith, length, map, subst, sym}
+use Rattle.std.proofs.Common.{◌≡◌, ◌∙◌, ◌+◌, ◌<◌, ℕ, ap, arith, length, map, subst, sym}
 use Rattle.std.specs.Prelude.{slice_index_or, vec_len}
 use Rattle.std.specs.Vec.{with_items}
 use Rattle.std.proofs.lemmas.List.{length-map, with_items_is}
@@ -46,15 +46,13 @@ returns-clause-same c = λ r m own its is.
     let ps = c.args.state.now.processes.items in
     let new = c.take_each.new.processes in
     let all : ℕ → Thread = λ pid. thread_at (map thread_of s.threads.all.items) (number_at row (5 + pid)) in
-    let before : ℕ → Bool = λ _. true in
-    let after : ℕ → Bool = λ _. true in
-    let taken = subst (λ qs. AreTaken all qs new before after (length qs)) c.deref_mut.ensures.value c.take_each.ensures.taken in
+    let taken = subst (λ qs. AreTaken all qs new (length qs)) c.deref_mut.ensures.value c.take_each.ensures.taken in
     let v = c.args.state.now.processes in
     let size : vec_len v ≡ length v.items = v.ok.0 in
     let many = taken.count in
     let whole : (with_items v new).items ≡ new = with_items_is v new (omega (arith, many, size)) in
     let count = its.fits.threads ∙ sym own.fits.threads ∙ length-map ps thread_of in
-    became s row m _ is c.take_anew.ensures.items c.take_anew-2.ensures.items c.take_anew-3.ensures.items c.take_anew-4.ensures.items c.take_anew-5.ensures.same (ap (map thread_of) whole ∙ threads_taken all ps new before after m.threads count (λ pid lt. (is.threads pid lt).is) taken))
+    became s row m _ is c.take_anew.ensures.items c.take_anew-2.ensures.items c.take_anew-3.ensures.items c.take_anew-4.ensures.items c.take_anew-5.ensures.same (ap (map thread_of) whole ∙ threads_taken all ps new m.threads count (λ pid lt. (is.threads pid lt).is) taken))
 
 pub returns-clause-own : goal.returns-clause-own
 returns-clause-own c = λ r m own its is.
@@ -63,9 +61,7 @@ returns-clause-own c = λ r m own its is.
     let ps = c.args.state.now.processes.items in
     let new = c.take_each.new.processes in
     let all : ℕ → Thread = λ pid. thread_at (map thread_of s.threads.all.items) (number_at row (5 + pid)) in
-    let before : ℕ → Bool = λ _. true in
-    let after : ℕ → Bool = λ _. true in
-    let taken = subst (λ qs. AreTaken all qs new before after (length qs)) c.deref_mut.ensures.value c.take_each.ensures.taken in
+    let taken = subst (λ qs. AreTaken all qs new (length qs)) c.deref_mut.ensures.value c.take_each.ensures.taken in
     let v = c.args.state.now.processes in
     let size : vec_len v ≡ length v.items = v.ok.0 in
     let many = taken.count in
@@ -82,9 +78,9 @@ returns-clause-own c = λ r m own its is.
       lines = subst LinesFit (sym same) its.lines;
       reach = subst (Reaches r) (sym same) its.reach;
       reserved = record {
-        stacks = subst (HaveStacks r.depth) (sym whole) (stacks_kept all ps new before after (length ps) r.depth taken own.reserved.stacks);
-        cells = subst (HaveCells r.cells) (sym whole) (cells_kept all ps new before after (length ps) r.cells taken own.reserved.cells);
-        references = subst (HaveReferences r.references) (sym whole) (references_kept all ps new before after (length ps) r.references taken own.reserved.references);
+        stacks = subst (HaveStacks r.depth) (sym whole) (stacks_kept all ps new (length ps) r.depth taken own.reserved.stacks);
+        cells = subst (HaveCells r.cells) (sym whole) (cells_kept all ps new (length ps) r.cells taken own.reserved.cells);
+        references = subst (HaveReferences r.references) (sym whole) (references_kept all ps new (length ps) r.references taken own.reserved.references);
         output = omega (arith, room, more);
         shown = omega (arith, long, len, shown);
         bounds = own.reserved.bounds;

@@ -1,7 +1,7 @@
 use Rattle.std.proofs.Common.{refl}
 use Rattle.cp_machine.specs.Machine.{Machine, machine_of}
 use Rattle.cp_states.proofs.Following.{parts_on}
-use Rattle.cp_states.proofs.store.Store.row_after.Goals as goal
+use Rattle.cp_states.proofs.store.Store.follow.Goals as goal
 
 pub follow_processes-requires-clause-known : goal.follow_processes-requires-clause-known
 follow_processes-requires-clause-known c =
