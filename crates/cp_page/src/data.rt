@@ -18,7 +18,6 @@ use cp_legend::Legend;
 use cp_machine::{Gates, State, Ticks};
 use cp_merged::Tally;
 use cp_progress::ObserveProgress;
-use cp_run::Limits;
 use cp_slots::Resolved;
 use cp_walk::Job;
 use std::alloc::{AllocError, Global};
@@ -198,17 +197,36 @@ fn put_states<O: ObserveProgress>(
     words: &PageWords,
     graph: &mut PageGraph<'_>,
 ) {
-    let Ok(views) = put_start(alloc, json, subject, graph) else {
-        return json.refuse();
-    };
-    let Ok(start) = explore_graph::<O, Brand>(alloc, subject, observer, graph, words, Blank::new(1))
-    else {
-        return json.refuse();
-    };
+    match put_start(alloc, json, subject, graph) {
+        Ok(views) => put_explored(alloc, json, subject, observer, words, graph, &views),
+        Err(_) => json.refuse(),
+    }
+}
+
+// The states and the edges, where these are the views at the start.
+fn put_explored<O: ObserveProgress>(
+    alloc: Global,
+    json: &mut Json,
+    subject: PageSubject<'_>,
+    observer: &mut O,
+    words: &PageWords,
+    graph: &mut PageGraph<'_>,
+    views: &Json,
+) {
+    match explore_graph::<O, Brand>(alloc, subject, observer, graph, words, Blank::new(1)) {
+        Ok(start) => put_tables(json, graph, start, views),
+        Err(_) => json.refuse(),
+    }
+}
+
+fn put_tables(json: &mut Json, graph: &PageGraph<'_>, start: usize, views: &Json) {
+    if graph.is_refused() {
+        json.refuse();
+    }
     json.put_name("start");
     json.open();
     json.put_place(start);
-    json.put_value(&views);
+    json.put_value(views);
     json.close();
     json.put_name("nodes");
     graph.put_nodes(json);
@@ -272,21 +290,34 @@ fn explore_graph<O: ObserveProgress, S: Ledger>(
     let words = words.as_slice()?;
     let mut ticks: Ticks<S> = Ticks::new(blank);
     let mut state = State::start(alloc, subject.program, subject.limits.gates)?;
+    lay_out_from(
+        alloc, subject, observer, graph, words, &mut state, &mut ticks,
+    )
+}
+
+// The same, with room for a state.
+fn lay_out_from<O: ObserveProgress, S: Ledger>(
+    alloc: Global,
+    subject: PageSubject<'_>,
+    observer: &mut O,
+    graph: &mut PageGraph<'_>,
+    words: &[Vec<u8>],
+    state: &mut State,
+    ticks: &mut Ticks<S>,
+) -> Result<usize, AllocError>
+    requires { IsStateOf subject.program.now state.old }
+{
     let mut before = state.copy(alloc)?;
-    let start = lay_out(
+    Ok(lay_out(
         alloc,
         subject,
         observer,
         graph,
         words,
         &mut before,
-        &mut state,
-        &mut ticks,
-    );
-    if graph.is_refused() {
-        return Err(AllocError);
-    }
-    Ok(start)
+        state,
+        ticks,
+    ))
 }
 
 // The same, with room for two states.
@@ -322,55 +353,48 @@ fn lay_out<O: ObserveProgress, S: Ledger>(
         most,
         ticks,
     );
-    graph.lay(
-        alloc,
-        program,
-        limits,
-        observer,
-        &mut states,
-        before,
-        state,
-        start,
-        subject.word,
-        ticks,
-    );
     lay_words(
         alloc,
-        program,
-        limits,
+        subject,
         observer,
         graph,
         words,
         &mut states,
         before,
         state,
-        most,
         start,
         ticks,
     );
     start
 }
 
-// Goes along words, until so many states were gone on from for them.
+// Goes along the schedule that is laid out at first, and along words, until so many states were gone on from for these.
 fn lay_words<O: ObserveProgress, S: Ledger>(
     alloc: Global,
-    program: &Resolved,
-    limits: Limits,
+    subject: PageSubject<'_>,
     observer: &mut O,
     graph: &mut PageGraph<'_>,
     words: &[Vec<u8>],
     states: &mut Vec<State>,
     before: &mut State,
     state: &mut State,
-    most: usize,
     start: usize,
     ticks: &mut Ticks<S>,
 )
-    requires before { IsStateOf program.now before.old }
-    requires own { IsStateOf program.now state.old }
-    requires all { All (λ s. IsStateOf program.now s) states.old.items }
+    requires before { IsStateOf subject.program.now before.old }
+    requires own { IsStateOf subject.program.now state.old }
+    requires all { All (λ s. IsStateOf subject.program.now s) states.old.items }
 {
-    let mut left = most;
+    let PageSubject {
+        program,
+        limits,
+        word,
+        ..
+    } = subject;
+    graph.lay(
+        alloc, program, limits, observer, states, before, state, start, word, ticks,
+    );
+    let mut left = subject.states as usize;
     for word in words {
         if left == 0 {
             return;

@@ -104,11 +104,11 @@ impl<'a> Register<'a> {
 
 // Appends arguments in parentheses, if there are any.
 fn put_arguments(alloc: Global, text: &mut Json, arguments: &[SourceValue]) {
-    let mut before = "(";
+    let mut is_behind = false;
     for argument in arguments {
-        text.put_letters(before);
+        text.put_letters(if is_behind { ", " } else { "(" });
         text.put_made_letters(argument.text(alloc));
-        before = ", ";
+        is_behind = true;
     }
     if !arguments.is_empty() {
         text.put_letters(")");

@@ -68,11 +68,13 @@ pub fn put_outcomes(alloc: Global, json: &mut Json, legend: &Legend, tallies: &[
 
 // The displayed values with a space between them.
 fn put_output(alloc: Global, json: &mut Json, legend: &Legend, values: &[Shown]) {
-    let mut before = "";
+    let mut is_behind = false;
     for value in values {
-        json.put_letters(before);
+        if is_behind {
+            json.put_letters(" ");
+        }
         json.put_made_letters(shown_text(alloc, legend, *value));
-        before = " ";
+        is_behind = true;
     }
 }
 

@@ -79,16 +79,18 @@ fn put_places(
     has_result: bool,
     text: &mut Json,
 ) {
-    let mut before = if has_result { ", " } else { "" };
+    let mut is_behind = has_result;
     for (parameter, name) in routine.parameters.iter().zip(names) {
         if parameter.passing == LegendPassing::Reference
             && let Some((cells, at)) = cells_named(state, process, *parameter)
         {
-            text.put_letters(before);
+            if is_behind {
+                text.put_letters(", ");
+            }
+            is_behind = true;
             text.put_made_letters(name.text(alloc));
             text.put_letters(" = ");
             text.put_made_letters(value_text(alloc, legend, parameter.shape, cells, at));
-            before = ", ";
         }
     }
 }
