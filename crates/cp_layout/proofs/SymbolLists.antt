@@ -4,12 +4,14 @@ use Rattle.std.specs.String.{string_bytes}
 use Rattle.std.proofs.Math.Seq.{take-suc}
 use Rattle.std.proofs.lemmas.List.{take_all, map-append}
 use Rattle.std.specs.declared.string.String.{String}
+use Rattle.std.specs.declared.alloc.Global.{Global}
 use Rattle.cp_layout.specs.declared.layer.HeadingLayout as code_heading
+use Rattle.cp_layout.specs.declared.symbols.NotedName as code_noted
 use Rattle.cp_layout.specs.declared.layer.SystemCells as code_system
 use Rattle.cp_layout.specs.declared.kinds.Compound as code_compound
 use Rattle.cp_layout.specs.declared.kinds.Field as code_field
 use Rattle.cp_layout.specs.Kinds.{compound_seen, field_seen}
-use Rattle.cp_layout.specs.Layers.{heading_seen, system_seen}
+use Rattle.cp_layout.specs.Layers.{heading_seen, system_seen, noted_seen}
 use Rattle.cp_layout.specs.Symbols.{routine_named, system_named}
 
 -- one more of those that are gathered, and all of them
@@ -44,9 +46,16 @@ module _ (xs : List code_compound.Compound) (i : ℕ) where
   pub types_none : length xs ≤ i → map compound_seen (take i xs) ≡ map compound_seen xs
   types_none h = rw (take_all i xs h) refl
 
-module _ (xs : List String) (i : ℕ) where
-  pub constants_step : (x : String) → i < length xs → x ≡ get_or xs i x → map string_bytes (take (i + 1) xs) ≡ map string_bytes (take i xs) ++ string_bytes x ∷ []
+module _ (xs : List (String Global)) (i : ℕ) where
+  pub constants_step : (x : String Global) → i < length xs → x ≡ get_or xs i x → map string_bytes (take (i + 1) xs) ≡ map string_bytes (take i xs) ++ string_bytes x ∷ []
   constants_step x within here = one_more string_bytes xs i x within here
 
   pub constants_none : length xs ≤ i → map string_bytes (take i xs) ≡ map string_bytes xs
   constants_none h = rw (take_all i xs h) refl
+
+module _ (xs : List code_noted.NotedName) (i : ℕ) where
+  pub names_step : (x : code_noted.NotedName) → i < length xs → x ≡ get_or xs i x → map noted_seen (take (i + 1) xs) ≡ map noted_seen (take i xs) ++ noted_seen x ∷ []
+  names_step x within here = one_more noted_seen xs i x within here
+
+  pub names_none : length xs ≤ i → map noted_seen (take i xs) ≡ map noted_seen xs
+  names_none h = rw (take_all i xs h) refl

@@ -1,5 +1,5 @@
 -- What is laid out of declarations: parts, headings, routines, system types and the program. In the shape of the code, as `Laid` says.
-use Rattle.std.specs.Prelude.{ℕ, ◌-◌, ℤ, if◌then◌else◌, List, [], ◌∷◌, ◌++◌, length, drop, Option, Some, None}
+use Rattle.std.specs.Prelude.{true, false, ℕ, ◌-◌, ℤ, if◌then◌else◌, List, [], ◌∷◌, ◌++◌, length, drop, Option, Some, None}
 use Rattle.cp_tree.specs.declared.constant.Identifier.{Identifier}
 use Rattle.cp_tree.specs.declared.declaration.SystemKind.{SystemKind}
 use Rattle.cp_tree.specs.Syntax as syntax
@@ -329,7 +329,7 @@ outer_seen o = record { names = names_seen o.names; owned = owned_seen o.owned }
 
 -- a system type begins: it sees some of the names, and has its own cells
 abbrev pub entered : Layer → Outer × Layer
-entered l = (record { names = l.names; owned = l.owned }, record l { names = seen_inside l.names; owned = no_owned })
+entered l = (record { names = l.names; owned = l.owned }, record l { names = seen_inside l.names; owned = no_owned; is_inside = true })
 
 abbrev pub system_of : SystemKind → Owned → (first initial : ℕ) → System
 system_of kind o first last = record { kind = kind; owned = o; first = first; initial = last }
@@ -337,7 +337,7 @@ system_of kind o first last = record { kind = kind; owned = o; first = first; in
 -- a system type is whole
 abbrev pub left : Layer → Outer → SystemKind → (first initial : ℕ) → CellType × Layer
 left l o kind first last =
-    (types.System (length l.systems), record l { names = o.names; owned = o.owned; systems = l.systems ++ system_of kind l.owned first last ∷ [] })
+    (types.System (length l.systems), record l { names = o.names; owned = o.owned; systems = l.systems ++ system_of kind l.owned first last ∷ []; is_inside = false })
 
 -- its parts and its routines, after its parameters
 abbrev pub system_inside : Layer → syntax.System → Layer

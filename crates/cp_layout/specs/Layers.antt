@@ -23,6 +23,7 @@ use Rattle.cp_layout.specs.declared.layer.SystemCells as code_system
 use Rattle.cp_layout.specs.declared.lists.Pending as code_pending
 use Rattle.cp_layout.specs.declared.surroundings.Surroundings as code_surroundings
 use Rattle.cp_layout.specs.declared.layer.Layouter as code_layer
+use Rattle.cp_layout.specs.declared.symbols.NotedName as code_noted
 use Rattle.cp_slots.specs.Tables.{RoutineView, routine_view}
 use Rattle.cp_layout.specs.Kinds.{Compounds, types_seen, plus, values_of}
 use Rattle.cp_slots.specs.Code.{Action, action_seen, Item, item_seen}
@@ -100,6 +101,14 @@ names_seen n = latest_first n.items.items []
 
 -- ---- the state
 
+-- A name that was declared with what it stands for, how many routines there were then, and the system type that declares it. It stays noted when it is no longer
+-- visible.
+pub record Noted : Type 0 where
+  pub name : List ℕ
+  pub meaning : LayoutMeaning
+  pub routine : ℕ
+  pub system : Option ℕ
+
 pub record Heading : Type 0 where
   pub name : List ℕ
   pub parameters : List ParameterLayout
@@ -143,6 +152,8 @@ pub record Layer : Type 0 where
   pub frame : Frame
   pub pending : List Pending
   pub arguments : ℕ
+  pub noted : List Noted
+  pub is_inside : Bool
 
 abbrev pub heading_seen : code_heading.HeadingLayout → Heading
 heading_seen h = record { name = h.name.now; parameters = h.parameters.items; result = h.result }
@@ -159,6 +170,9 @@ system_seen s = record { kind = s.kind; owned = owned_seen s.owned; first = s.fi
 abbrev pub pending_seen : code_pending.Pending → Pending
 pending_seen p = record { action = action_seen p.action; line = p.line; need = p.need }
 
+abbrev pub noted_seen : code_noted.NotedName → Noted
+noted_seen n = record { name = n.name.now; meaning = n.meaning; routine = n.routine; system = n.system }
+
 unfoldable pub layer_seen : code_layer.Layouter → Layer
 layer_seen l =
     record {
@@ -174,6 +188,8 @@ layer_seen l =
       frame = frame_seen l.frame;
       pending = map pending_seen l.lists.pending.items;
       arguments = l.lists.arguments;
+      noted = map noted_seen l.noted.items;
+      is_inside = l.is_inside;
     }
 
 -- the frame of a routine that begins
@@ -200,6 +216,8 @@ nothing_laid lines =
       frame = no_frame;
       pending = [];
       arguments = 0;
+      noted = [];
+      is_inside = false;
     }
 
 -- what is around a statement, as the state in which nothing else is laid out
@@ -225,9 +243,13 @@ Leads laid new (Err e) = Unit {0}
 
 -- ---- parts of the state
 
--- a name, declared
+-- the system type that is laid out
+abbrev pub own_system : Layer → Option ℕ
+own_system l = if l.is_inside then Some (length l.systems) else None
+
+-- a name, declared and noted
 abbrev pub with_name : Layer → List ℕ → LayoutMeaning → Layer
-with_name l x m = record l { names = (x, m) ∷ l.names }
+with_name l x m = record l { names = (x, m) ∷ l.names; noted = l.noted ++ record { name = x; meaning = m; routine = length l.routines; system = own_system l } ∷ [] }
 
 abbrev pub parameter_at : Option Heading → ℕ → Option ParameterLayout
 parameter_at None n = None

@@ -10,7 +10,6 @@ use crate::frame::RoutineFrame;
 use crate::kinds::CellType;
 use crate::layer::{HeadingLayout, Layouter, Owned, ParameterLayout, SystemCells};
 use crate::names::{LayoutMeaning, Names};
-use crate::symbols::DeclaredSymbols;
 use cp_tree::{
     Body, Definition, Program, ProgramPart, ProgramPartKind, Routine, System as WrittenSystem,
     SystemDefinition, SystemKind,
@@ -117,7 +116,7 @@ impl<'a> Layouter<'a> {
         ensures { Lays outer_seen (spec.entered (layer_seen self.old)) (layer_seen self.new) result }
     {
         let inside = self.around.names.inside(alloc)?;
-        note_inside(&mut self.symbols, true);
+        self.is_inside = true;
         Ok(Outer {
             names: mem::replace(&mut self.around.names, inside),
             owned: mem::replace(&mut self.around.owned, Owned::new(alloc)),
@@ -135,7 +134,7 @@ impl<'a> Layouter<'a> {
     ) -> Result<CellType, AllocError>
         ensures { Lays (λ t. t) (spec.left (layer_seen self.old) (outer_seen outer.entry) kind first initial) (layer_seen self.new) result }
     {
-        note_inside(&mut self.symbols, false);
+        self.is_inside = false;
         self.around.names = outer.names;
         let owned = mem::replace(&mut self.around.owned, outer.owned);
         let number = self.around.systems.len();
@@ -173,9 +172,7 @@ impl<'a> Layouter<'a> {
         ensures { Lays (λ n. n) (spec.opened (layer_seen self.old) node.now.name.name) (layer_seen self.new) result }
     {
         let number = self.lists.routines.len();
-        self.around
-            .names
-            .add(node.name.name.as_str(), LayoutMeaning::Routine(number))?;
+        self.declare(&node.name, LayoutMeaning::Routine(number))?;
         self.frame = RoutineFrame::new(alloc);
         Ok(self.around.names.open())
     }
@@ -235,12 +232,5 @@ impl<'a> Layouter<'a> {
         ensures { layer_seen self.new ≡ spec.with_new_frame (layer_seen self.old) }
     {
         self.frame = RoutineFrame::new(alloc);
-    }
-}
-
-// A system type begins, or is whole.
-fn note_inside(symbols: &mut Option<DeclaredSymbols>, is_inside: bool) {
-    if let Some(symbols) = symbols {
-        symbols.set_inside(is_inside);
     }
 }

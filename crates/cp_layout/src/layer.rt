@@ -7,14 +7,14 @@ ghost use Rattle.cp_layout.specs.Kinds.{plus, times};
 ghost use Rattle.cp_layout.specs.Layers as spec;
 ghost use Rattle.cp_layout.specs.Layers.{layer_seen, owned_seen, pending_seen, Lays, Leads};
 ghost use Rattle.cp_layout.specs.LaidDeclarations.{component_cell};
-ghost use Rattle.cp_layout.specs.Symbols.{AreSymbolsOf, names_noted, with_noted};
+ghost use Rattle.cp_layout.specs.Symbols.{AreSymbolsOf};
 
 use crate::frame::RoutineFrame;
 use crate::kinds::{CellType, Types};
 use crate::lists::{Lists, Pending};
 use crate::names::{LayoutMeaning, Names};
 use crate::surroundings::Surroundings;
-use crate::symbols::{DeclaredSymbols, Symbol, Symbols};
+use crate::symbols::{NotedName, Symbols, symbols_of};
 use cp_slots::{Action, ComponentParameter, Item, ResolvedRoutine};
 use cp_tree::{Identifier, SystemKind, Tree};
 use std::alloc::{AllocError, Global};
@@ -97,8 +97,10 @@ pub struct Layouter<'a> {
     /// Of the routine that is laid out.
     pub frame: RoutineFrame,
     pub lists: Lists,
-    /// Where they are asked for.
-    pub symbols: Option<DeclaredSymbols>,
+    /// All names that were declared, from which symbols are made where they are asked for.
+    pub noted: Vec<NotedName<'a>>,
+    /// Whether a system type is laid out.
+    pub is_inside: bool,
 }
 
 impl Owned {
@@ -172,35 +174,18 @@ impl<'a> Layouter<'a> {
                 pending: Vec::new(alloc),
                 arguments: 0,
             },
-            symbols: None,
+            noted: Vec::new(alloc),
+            is_inside: false,
         })
-    }
-
-    /// From here on the names that are declared are noted.
-    #[tactic(auto, unfolding(crate::specs::Layers::layer_seen))]
-    pub fn ask_for_symbols(&mut self, alloc: Global)
-        ensures { layer_seen self.new ≡ layer_seen self.old }
-    {
-        self.symbols = Some(DeclaredSymbols::new(alloc));
     }
 
     /// The symbols of what is laid out.
     #[tactic(auto, unfolding(crate::specs::Layers::layer_seen))]
-    pub fn take_symbols(&mut self, alloc: Global) -> Result<Symbols, AllocError>
-        ensures stays { layer_seen self.new ≡ layer_seen self.old }
-        ensures symbols { IfOk result (λ s. AreSymbolsOf s (layer_seen self.old)) }
-    {
-        let noted = mem::replace(&mut self.symbols, None);
-        self.symbols_with(alloc, items_of(alloc, noted))
-    }
-
-    // The symbols of what is laid out, with the names that are declared.
-    #[tactic(auto, unfolding(crate::specs::Layers::layer_seen))]
-    fn symbols_with(&self, alloc: Global, declared: Vec<Symbol>) -> Result<Symbols, AllocError>
+    pub fn symbols(&self, alloc: Global) -> Result<Symbols, AllocError>
         ensures { IfOk result (λ s. AreSymbolsOf s (layer_seen self.now)) }
     {
         Ok(Symbols {
-            declared,
+            declared: symbols_of(alloc, &self.noted)?,
             routines: self.around.routine_symbols(alloc)?,
             systems: self.around.system_symbols(alloc)?,
             types: self.around.types.symbols(alloc)?,
@@ -208,30 +193,36 @@ impl<'a> Layouter<'a> {
         })
     }
 
-    /// Declares a name, and notes what it stands for where that is asked for.
+    /// Declares a name, and notes what it stands for.
     #[tactic(auto, unfolding(crate::specs::Layers::layer_seen))]
     pub fn declare(
         &mut self,
         node: &'a Identifier,
         meaning: LayoutMeaning,
     ) -> Result<(), AllocError>
-        ensures visible { Leads (spec.with_name (layer_seen self.old) node.now.name meaning) (layer_seen self.new) result }
-        ensures noted { OnOk result (names_noted self.new.symbols ≡ with_noted self.old.symbols (layer_seen self.old) node.now.name meaning) }
+        ensures { Leads (spec.with_name (layer_seen self.old) node.now.name meaning) (layer_seen self.new) result }
     {
-        self.note(node.name.as_str(), meaning)?;
-        self.around.names.add(node.name.as_str(), meaning)
+        let name = node.name.as_str();
+        let routine = self.lists.routines.len();
+        let system = self.own_system();
+        self.noted.push(NotedName {
+            name,
+            meaning,
+            routine,
+            system,
+        })?;
+        self.around.names.add(name, meaning)
     }
 
-    #[tactic(auto, unfolding(crate::specs::Layers::layer_seen, crate::specs::Symbols::names_noted, crate::specs::Symbols::with_noted))]
-    fn note(&mut self, name: &str, meaning: LayoutMeaning) -> Result<(), AllocError>
-        ensures stays { layer_seen self.new ≡ layer_seen self.old }
-        ensures noted { OnOk result (names_noted self.new.symbols ≡ with_noted self.old.symbols (layer_seen self.old) name.now meaning) }
+    // The system type that is laid out.
+    #[tactic(auto, unfolding(crate::specs::Layers::layer_seen))]
+    fn own_system(&self) -> Option<usize>
+        ensures { result ≡ spec.own_system (layer_seen self.now) }
     {
-        let routines = self.lists.routines.len();
-        let systems = self.around.systems.len();
-        match &mut self.symbols {
-            Some(symbols) => symbols.add(name, meaning, routines, systems),
-            None => Ok(()),
+        if self.is_inside {
+            Some(self.around.systems.len())
+        } else {
+            None
         }
     }
 
@@ -350,12 +341,5 @@ impl<'a> Layouter<'a> {
             Some(result) => result.slot,
             None => 0,
         }
-    }
-}
-
-fn items_of(alloc: Global, noted: Option<DeclaredSymbols>) -> Vec<Symbol> {
-    match noted {
-        Some(symbols) => symbols.into_items(),
-        None => Vec::new(alloc),
     }
 }

@@ -1,8 +1,8 @@
-//! Symbols: the names of a program, with what the layout made of them. They are noted only where they are asked for.
+//! Symbols: the names of a program, with what the layout made of them. They are made only where they are asked for.
 
-ghost use Rattle.std.specs.Prelude.{◌≡◌, [], ◌∷◌, ◌++◌, OnOk};
-ghost use Rattle.cp_layout.specs.Symbols as spec;
-ghost use Rattle.cp_layout.specs.Symbols.{notes_seen};
+ghost use Rattle.std.specs.Prelude.{◌≡◌, map, IfOk};
+ghost use Rattle.cp_layout.specs.Layers.{noted_seen};
+ghost use Rattle.cp_layout.specs.Symbols.{symbol_seen};
 
 use crate::kinds::{ArrayType, CellType};
 use crate::layer::FunctionResult;
@@ -56,7 +56,7 @@ pub enum TypeSymbol {
 /// The symbols of a program. Routines, system types, arrays and records stand at their numbers.
 #[derive(Drop)]
 pub struct Symbols {
-    /// The names that are declared, but for routines and for constants of enumerations, in their order.
+    /// The names that are declared, but for constants of enumerations, in their order.
     pub declared: Vec<Symbol>,
     pub routines: Vec<RoutineSymbol>,
     pub systems: Vec<SystemSymbol>,
@@ -65,51 +65,38 @@ pub struct Symbols {
     pub constants: Vec<String>,
 }
 
-/// The names that are declared so far.
-#[derive(Drop)]
-pub struct DeclaredSymbols {
-    alloc: Global,
-    items: Vec<Symbol>,
-    /// Whether a system type is laid out.
-    is_inside: bool,
+/// A name that was declared, also where it is no longer visible.
+#[derive(Clone, Copy, Drop)]
+pub struct NotedName<'a> {
+    pub name: &'a str,
+    pub meaning: LayoutMeaning,
+    /// How many routines were laid out.
+    pub routine: usize,
+    /// The system type that declares it; the program is none.
+    pub system: Option<usize>,
 }
 
-impl DeclaredSymbols {
-    pub fn new(alloc: Global) -> DeclaredSymbols {
-        DeclaredSymbols {
-            alloc,
-            items: Vec::new(alloc),
-            is_inside: false,
-        }
+/// These names, as symbols.
+#[tactic(auto, using(crate::proofs::SymbolLists::names_step, crate::proofs::SymbolLists::names_none))]
+pub fn symbols_of(alloc: Global, noted: &[NotedName<'_>]) -> Result<Vec<Symbol>, AllocError>
+    ensures { IfOk result (λ v. map symbol_seen v.items ≡ map noted_seen noted.now) }
+{
+    let mut symbols = Vec::new(alloc);
+    for name in noted {
+        symbols.push(name.symbol(alloc)?)?;
     }
+    Ok(symbols)
+}
 
-    /// One more, where so many routines and system types are laid out.
-    #[tactic(auto, unfolding(crate::specs::Symbols::notes_seen))]
-    pub fn add(
-        &mut self,
-        name: &str,
-        meaning: LayoutMeaning,
-        routines: usize,
-        systems: usize,
-    ) -> Result<(), AllocError>
-        ensures { OnOk result (notes_seen self.new ≡ notes_seen self.old ++ spec.noted self.old name.now meaning routines systems ∷ []) }
+impl NotedName<'_> {
+    fn symbol(&self, alloc: Global) -> Result<Symbol, AllocError>
+        ensures { IfOk result (λ s. symbol_seen s ≡ noted_seen self.now) }
     {
-        let name = String::from_str(self.alloc, name)?;
-        self.items.push(Symbol {
-            name,
-            meaning,
-            routine: routines,
-            system: if self.is_inside { Some(systems) } else { None },
-        })?;
-        Ok(())
-    }
-
-    /// A system type begins, or is whole.
-    pub fn set_inside(&mut self, is_inside: bool) {
-        self.is_inside = is_inside;
-    }
-
-    pub fn into_items(self) -> Vec<Symbol> {
-        self.items
+        Ok(Symbol {
+            name: String::from_str(alloc, self.name)?,
+            meaning: self.meaning,
+            routine: self.routine,
+            system: self.system,
+        })
     }
 }

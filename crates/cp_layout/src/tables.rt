@@ -33,9 +33,8 @@ pub fn lay_out_with_symbols(alloc: Global, tree: &Tree) -> Result<(Layout, Symbo
     ensures symbols { IfOk result (λ l. AreSymbolsOf l.1 (whole (tree_view tree.now))) }
 {
     let mut layer = Layouter::new(alloc, tree)?;
-    layer.ask_for_symbols(alloc);
     layer.program(alloc, &tree.program)?;
-    let symbols = layer.take_symbols(alloc)?;
+    let symbols = layer.symbols(alloc)?;
     let layout = tables(alloc, layer)?;
     Ok((layout, symbols))
 }

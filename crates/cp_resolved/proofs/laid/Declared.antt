@@ -23,9 +23,9 @@ use Rattle.cp_resolved.proofs.systems.Sizes.{Counts}
 use Rattle.cp_resolved.proofs.systems.Owning.{OwnedStep, step_same, step_trans, cells_step, contained_step, component_step}
 use Rattle.cp_resolved.proofs.laid.Named.{IsType, IsMeaning, AreNames, IsCompound, Named}
 
--- with other names, types, headings, permanent variables and another frame
+-- with other names, notes, types, headings, permanent variables and another frame
 abbrev pub redeclared : Layer → Layer → Layer
-redeclared l m = record l { names = m.names; types = m.types; headings = m.headings; constants = m.constants; owned = m.owned; frame = m.frame }
+redeclared l m = record l { names = m.names; types = m.types; headings = m.headings; constants = m.constants; owned = m.owned; frame = m.frame; noted = m.noted; is_inside = m.is_inside }
 
 pub record Declared (l m : Layer) : Type 0 where
   pub same : m ≡ redeclared l m

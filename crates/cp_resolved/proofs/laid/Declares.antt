@@ -10,19 +10,19 @@ use Rattle.cp_layout.specs.declared.kinds.CellType.TheVariants as types
 use Rattle.cp_layout.specs.declared.layer.Contained.{Contained}
 use Rattle.cp_layout.specs.declared.names.LayoutMeaning.TheVariants as meaning
 use Rattle.cp_layout.specs.Kinds.{Compounds, Fields, no_fields}
-use Rattle.cp_layout.specs.Layers.{Names, Layer, Owned, Frame}
+use Rattle.cp_layout.specs.Layers.{Names, Layer, Owned, Frame, Noted}
 use Rattle.cp_layout.specs.LaidExpressions.{as_integer}
 use Rattle.cp_layout.specs.LaidTypes.{named_type, simple_type, enumerated, enumeration_base, with_constant, written_type, field_groups, field_group}
 use Rattle.cp_layout.specs.LaidDeclarations.{constant, constants, type_definition, type_definitions, components_of, variable, variable_with, variables_of, variable_group, variables, local, locals_of, local_group, local_variables, permanent_part, permanent_parts, local_part, local_parts, Parameters, constant_parameter, constant_parameters_of, constant_group, constant_groups, var_parameter, var_parameters_of, var_group, parameter_group, parameter_groups, heading, system_parameter, system_parameters_of, system_group, system_groups}
 
-abbrev pub placed : Layer → Names → Compounds → List (List ℕ) → Owned → Frame → Layer
-placed l ns ts cs o f = record l { names = ns; types = ts; constants = cs; owned = o; frame = f }
+abbrev pub placed : Layer → Names → Compounds → List (List ℕ) → Owned → Frame → List Noted → Layer
+placed l ns ts cs o f d = record l { names = ns; types = ts; constants = cs; owned = o; frame = f; noted = d }
 
 pub record Declares (l m : Layer) : Type 0 where
   pub names : Names
   pub types : Compounds
   pub constants : List (List ℕ)
-  pub same : m ≡ placed l (names ++ l.names) (l.types ++ types) (l.constants ++ constants) m.owned m.frame
+  pub same : m ≡ placed l (names ++ l.names) (l.types ++ types) (l.constants ++ constants) m.owned m.frame m.noted
 
 pub declares_trans : (l k m : Layer) → Declares l k → Declares k m → Declares l m
 declares_trans l k m h i =
@@ -31,28 +31,28 @@ declares_trans l k m h i =
       types = h.types ++ i.types;
       constants = h.constants ++ i.constants;
       same = i.same
-          ∙ ap (λ (j : Layer). placed j (i.names ++ j.names) (j.types ++ i.types) (j.constants ++ i.constants) m.owned m.frame) h.same
-          ∙ ap (λ (ns : Names). placed l ns ((l.types ++ h.types) ++ i.types) ((l.constants ++ h.constants) ++ i.constants) m.owned m.frame) (sym (append_assoc i.names h.names l.names))
-          ∙ ap (λ (ts : Compounds). placed l ((i.names ++ h.names) ++ l.names) ts ((l.constants ++ h.constants) ++ i.constants) m.owned m.frame) (append_assoc l.types h.types i.types)
-          ∙ ap (λ (cs : List (List ℕ)). placed l ((i.names ++ h.names) ++ l.names) (l.types ++ (h.types ++ i.types)) cs m.owned m.frame) (append_assoc l.constants h.constants i.constants);
+          ∙ ap (λ (j : Layer). placed j (i.names ++ j.names) (j.types ++ i.types) (j.constants ++ i.constants) m.owned m.frame m.noted) h.same
+          ∙ ap (λ (ns : Names). placed l ns ((l.types ++ h.types) ++ i.types) ((l.constants ++ h.constants) ++ i.constants) m.owned m.frame m.noted) (sym (append_assoc i.names h.names l.names))
+          ∙ ap (λ (ts : Compounds). placed l ((i.names ++ h.names) ++ l.names) ts ((l.constants ++ h.constants) ++ i.constants) m.owned m.frame m.noted) (append_assoc l.types h.types i.types)
+          ∙ ap (λ (cs : List (List ℕ)). placed l ((i.names ++ h.names) ++ l.names) (l.types ++ (h.types ++ i.types)) cs m.owned m.frame m.noted) (append_assoc l.constants h.constants i.constants);
     }
 
 -- nothing but names and cells
-pub declares_names : (l : Layer) (ns : Names) (o : Owned) (f : Frame) → Declares l (record l { names = ns ++ l.names; owned = o; frame = f })
-declares_names l ns o f =
+pub declares_names : (l : Layer) (ns : Names) (o : Owned) (f : Frame) (d : List Noted) → Declares l (record l { names = ns ++ l.names; owned = o; frame = f; noted = d })
+declares_names l ns o f d =
     record {
       names = ns;
       types = [];
       constants = [];
-      same = ap (λ (ts : Compounds). placed l (ns ++ l.names) ts l.constants o f) (sym (append-nil l.types))
-          ∙ ap (λ (cs : List (List ℕ)). placed l (ns ++ l.names) (l.types ++ []) cs o f) (sym (append-nil l.constants));
+      same = ap (λ (ts : Compounds). placed l (ns ++ l.names) ts l.constants o f d) (sym (append-nil l.types))
+          ∙ ap (λ (cs : List (List ℕ)). placed l (ns ++ l.names) (l.types ++ []) cs o f d) (sym (append-nil l.constants));
     }
 
 pub declares_none : (l : Layer) → Declares l l
-declares_none l = declares_names l [] l.owned l.frame
+declares_none l = declares_names l [] l.owned l.frame l.noted
 
 one_type : (l : Layer) (ts : Compounds) → Declares l (record l { types = l.types ++ ts })
-one_type l ts = record { names = []; types = ts; constants = []; same = ap (λ (cs : List (List ℕ)). placed l l.names (l.types ++ ts) cs l.owned l.frame) (sym (append-nil l.constants)) }
+one_type l ts = record { names = []; types = ts; constants = []; same = ap (λ (cs : List (List ℕ)). placed l l.names (l.types ++ ts) cs l.owned l.frame l.noted) (sym (append-nil l.constants)) }
 
 one_constant : (l : Layer) (x : List ℕ) (b : CellBase) (n : ℕ) → Declares l (with_constant l x (meaning.Constant b (as_integer n)))
 one_constant l x b n =
@@ -60,7 +60,7 @@ one_constant l x b n =
       names = (x, meaning.Constant b (as_integer n)) ∷ [];
       types = [];
       constants = x ∷ [];
-      same = ap (λ (ts : Compounds). placed l ((x, meaning.Constant b (as_integer n)) ∷ l.names) ts (l.constants ++ x ∷ []) l.owned l.frame) (sym (append-nil l.types));
+      same = ap (λ (ts : Compounds). placed l ((x, meaning.Constant b (as_integer n)) ∷ l.names) ts (l.constants ++ x ∷ []) l.owned l.frame l.noted) (sym (append-nil l.types));
     }
 
 -- ---- types
@@ -105,7 +105,7 @@ mutual
 pub constants_declare : (l : Layer) (ds : List syntax.ConstantDefinition) → Declares l (constants l ds)
 unfolding constants
 constants_declare l [] = declares_none l
-constants_declare l (d ∷ ds) = declares_trans l (constant l d) (constants (constant l d) ds) (declares_names l (_ ∷ []) l.owned l.frame) (constants_declare (constant l d) ds)
+constants_declare l (d ∷ ds) = declares_trans l (constant l d) (constants (constant l d) ds) (declares_names l (_ ∷ []) l.owned l.frame _) (constants_declare (constant l d) ds)
 
 pub definitions_declare : (l : Layer) (ds : List syntax.TypeDefinition) → Declares l (type_definitions l ds)
 unfolding type_definitions
@@ -113,13 +113,13 @@ definitions_declare l [] = declares_none l
 definitions_declare l (d ∷ ds) =
     let x : Layer = (written_type l d.value).1 in
     declares_trans l (type_definition l d) (type_definitions (type_definition l d) ds)
-    (declares_trans l x (type_definition l d) (type_declares l d.value) (declares_names x (_ ∷ []) x.owned x.frame)) (definitions_declare (type_definition l d) ds)
+    (declares_trans l x (type_definition l d) (type_declares l d.value) (declares_names x (_ ∷ []) x.owned x.frame _)) (definitions_declare (type_definition l d) ds)
 
 -- ---- permanent variables
 
 with_declares : (l : Layer) (x : List ℕ) (t : CellType) (o : Option Contained) → Declares l (variable_with l x t o)
-with_declares l x t None = declares_names l (_ ∷ []) _ l.frame
-with_declares l x t (Some c) = declares_names l (_ ∷ []) _ l.frame
+with_declares l x t None = declares_names l (_ ∷ []) _ l.frame _
+with_declares l x t (Some c) = declares_names l (_ ∷ []) _ l.frame _
 
 pub variable_declares : (l : Layer) (x : List ℕ) (t : CellType) → Declares l (variable l x t)
 variable_declares l x t = with_declares l x t (components_of l.types t)
@@ -142,7 +142,7 @@ variables_declare l (g ∷ gs) =
 pub locals_of_declare : (l : Layer) (t : CellType) (is : List Identifier) → Declares l (locals_of l t is)
 unfolding locals_of
 locals_of_declare l t [] = declares_none l
-locals_of_declare l t (i ∷ is) = declares_trans l (local l i.name t) (locals_of (local l i.name t) t is) (declares_names l (_ ∷ []) l.owned _) (locals_of_declare (local l i.name t) t is)
+locals_of_declare l t (i ∷ is) = declares_trans l (local l i.name t) (locals_of (local l i.name t) t is) (declares_names l (_ ∷ []) l.owned _ _) (locals_of_declare (local l i.name t) t is)
 
 pub locals_declare : (l : Layer) (gs : List syntax.VariableGroup) → Declares l (local_variables l gs)
 unfolding local_variables
@@ -181,7 +181,7 @@ unfolding constant_parameters_of
 constant_parameters_declare l ps t [] = declares_none l
 constant_parameters_declare l ps t (i ∷ is) =
     let x : Parameters × Layer = constant_parameter l ps i.name t in
-    declares_trans l x.1 (constant_parameters_of x.1 x.0 t is).1 (declares_names l (_ ∷ []) l.owned _) (constant_parameters_declare x.1 x.0 t is)
+    declares_trans l x.1 (constant_parameters_of x.1 x.0 t is).1 (declares_names l (_ ∷ []) l.owned _ _) (constant_parameters_declare x.1 x.0 t is)
 
 pub constant_groups_declare : (l : Layer) (ps : Parameters) (gs : List syntax.Group) → Declares l (constant_groups l ps gs).1
 unfolding constant_groups
@@ -195,7 +195,7 @@ unfolding var_parameters_of
 var_parameters_declare l ps t [] = declares_none l
 var_parameters_declare l ps t (i ∷ is) =
     let x : Parameters × Layer = var_parameter l ps i.name t in
-    declares_trans l x.1 (var_parameters_of x.1 x.0 t is).1 (declares_names l (_ ∷ []) l.owned _) (var_parameters_declare x.1 x.0 t is)
+    declares_trans l x.1 (var_parameters_of x.1 x.0 t is).1 (declares_names l (_ ∷ []) l.owned _ _) (var_parameters_declare x.1 x.0 t is)
 
 pub either_group_declares : (b : Bool) (l : Layer) (ps : Parameters) (g : syntax.Group) → Declares l (if b then var_group l ps g else constant_group l ps g).1
 either_group_declares true l ps g = var_parameters_declare l ps (named_type l g.type_name.name) g.names
@@ -213,13 +213,13 @@ unfolding heading
 heading_declares l x (syntax.procedure gs) = parameter_groups_declare l [] gs
 heading_declares l x (syntax.function gs i) =
     let p : Parameters × Layer = constant_groups l [] gs in
-    declares_trans l p.1 (heading l x (syntax.function gs i)).1 (constant_groups_declare l [] gs) (declares_names p.1 [] p.1.owned _)
+    declares_trans l p.1 (heading l x (syntax.function gs i)).1 (constant_groups_declare l [] gs) (declares_names p.1 [] p.1.owned _ p.1.noted)
 
 -- ---- parameters of a system type
 
 pub system_parameter_declares : (l : Layer) (ps : Parameters) (x : List ℕ) (t : CellType) → Declares l (system_parameter l ps x t).1
-system_parameter_declares l ps x (types.Ordinal r) = declares_names l (_ ∷ []) _ l.frame
-system_parameter_declares l ps x _ = declares_names l (_ ∷ []) _ l.frame
+system_parameter_declares l ps x (types.Ordinal r) = declares_names l (_ ∷ []) _ l.frame _
+system_parameter_declares l ps x _ = declares_names l (_ ∷ []) _ l.frame _
 
 pub system_parameters_declare : (l : Layer) (ps : Parameters) (t : CellType) (is : List Identifier) → Declares l (system_parameters_of l ps t is).1
 unfolding system_parameters_of

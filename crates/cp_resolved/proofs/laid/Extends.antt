@@ -4,7 +4,7 @@ use Rattle.std.proofs.lemmas.List.{append-nil}
 use Rattle.std.proofs.Math.Seq.{drop-append_seam}
 use Rattle.cp_tree.specs.Syntax as syntax
 use Rattle.cp_layout.specs.declared.names.LayoutMeaning.TheVariants as meaning
-use Rattle.cp_layout.specs.Layers.{Names, Layer, Heading, Owned, Frame, no_frame, with_routine}
+use Rattle.cp_layout.specs.Layers.{Names, Layer, Heading, Owned, Frame, Noted, no_frame, with_routine}
 use Rattle.cp_layout.specs.LaidStatements.{statements}
 use Rattle.cp_layout.specs.LaidDeclarations.{Parameters, heading, heading_with, body, with_new_frame, with_heading, opened, closed, routine, routines, initial_statement, entered, system_groups, permanent_parts, system, definition, system_definition, system_definitions, program_part, program_parts, constants, variables}
 use Rattle.cp_resolved.specs.Begun.{routine_begun, system_begun}
@@ -42,8 +42,8 @@ extends_trans l k m h i =
     }
 
 -- other names and cells
-pub extends_with : (l : Layer) (ns : Names) (o : Owned) (f : Frame) → Extends l (record l { names = ns; owned = o; frame = f })
-extends_with l ns o f =
+pub extends_with : (l : Layer) (ns : Names) (o : Owned) (f : Frame) (d : List Noted) → Extends l (record l { names = ns; owned = o; frame = f; noted = d })
+extends_with l ns o f d =
     record {
       lines = refl;
       types = longer_same l.types;
@@ -55,7 +55,7 @@ extends_with l ns o f =
     }
 
 pub extends_same : (l : Layer) → Extends l l
-extends_same l = extends_with l l.names l.owned l.frame
+extends_same l = extends_with l l.names l.owned l.frame l.noted
 
 pub declared_extends : (l m : Layer) → Declares l m → Extends l m
 declared_extends l m h =
@@ -118,7 +118,7 @@ body_names l b = ap (λ (j : Layer). j.names) (statements_grew l b.statements).1
 pub initial_extends : (l : Layer) (ps : Parameters) (b : syntax.Body) → Extends l (initial_statement l ps b)
 initial_extends l ps b =
     let k : Layer = with_heading (with_new_frame l) (heading_with [] ps None) in
-    let e : Extends l k = extends_trans l (with_new_frame l) k (extends_with l l.names l.owned no_frame) (heading_extends (with_new_frame l) (heading_with [] ps None)) in
+    let e : Extends l k = extends_trans l (with_new_frame l) k (extends_with l l.names l.owned no_frame l.noted) (heading_extends (with_new_frame l) (heading_with [] ps None)) in
     extends_trans l k (initial_statement l ps b) e (body_extends k b)
 
 -- ---- routines
@@ -128,7 +128,7 @@ begun_extends l r =
     let x : Layer = (opened l r.name.name).1 in
     let h : Heading × Layer = heading x r.name.name r.kind in
     let k : Layer = with_heading h.1 h.0 in
-    extends_trans l h.1 (routine_begun l r) (extends_trans l x h.1 (extends_with l x.names l.owned no_frame) (declared_extends x h.1 (heading_declares x r.name.name r.kind)))
+    extends_trans l h.1 (routine_begun l r) (extends_trans l x h.1 (extends_with l x.names l.owned no_frame x.noted) (declared_extends x h.1 (heading_declares x r.name.name r.kind)))
     (extends_trans h.1 k (routine_begun l r) (heading_extends h.1 h.0) (declared_extends k (routine_begun l r) (local_parts_declare k r.parts)))
 
 pub routine_extends : (l : Layer) (r : syntax.Routine) → Extends l (routine l r)

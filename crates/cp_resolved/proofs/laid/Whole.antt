@@ -46,7 +46,7 @@ pub record Whole (l : Layer) : Type 0 where
 
 -- with all else than what items speak of as in the other state
 abbrev pub around : Layer → Layer → Layer
-around l m = record l { names = m.names; types = m.types; systems = m.systems; headings = m.headings; constants = m.constants; owned = m.owned; frame = m.frame }
+around l m = record l { names = m.names; types = m.types; systems = m.systems; headings = m.headings; constants = m.constants; owned = m.owned; frame = m.frame; noted = m.noted; is_inside = m.is_inside }
 
 calls_around : (l m : Layer) (r n c : ℕ) → r < length l.routines → Calls l r n c → Calls (around l m) r n c
 calls_around l m r n c lt h =

@@ -58,7 +58,7 @@ parts_extend l s =
     extends_trans l y (parts_begun l s) b (declared_extends y (parts_begun l s) (permanent_parts_declare y s.parts))
 
 initial_before : (l : Layer) (ps : Parameters) → Extends l (initial_begun l ps)
-initial_before l ps = extends_trans l (with_new_frame l) (initial_begun l ps) (extends_with l l.names l.owned no_frame) (heading_extends (with_new_frame l) (heading_with [] ps None))
+initial_before l ps = extends_trans l (with_new_frame l) (initial_begun l ps) (extends_with l l.names l.owned no_frame l.noted) (heading_extends (with_new_frame l) (heading_with [] ps None))
 
 initial_after : (l : Layer) (ps : Parameters) (b : syntax.Body) → Extends (initial_begun l ps) (initial_statement l ps b)
 initial_after l ps b = body_extends (initial_begun l ps) b
@@ -95,10 +95,10 @@ chain_then l k m (x ∷ xs) h e = (h.0, chain_then x k m xs h.1 e)
 definition_chain : (l : Layer) (n : syntax.SystemDefinition) (v : syntax.Definition) → Chain l (definition_begun l v) (type_named n.name.name (definition l v))
 definition_chain l n (syntax.type_definition t) =
     let x : Layer = (written_type l t).1 in
-    extends_trans l x (type_named n.name.name (written_type l t)) (declared_extends l x (type_declares l t)) (extends_with x _ x.owned x.frame)
+    extends_trans l x (type_named n.name.name (written_type l t)) (declared_extends l x (type_declares l t)) (extends_with x _ x.owned x.frame _)
 definition_chain l n (syntax.system_definition s) =
     let x : Layer = (system l s).1 in
-    chain_then l x (type_named n.name.name (system l s)) (definition_begun l (syntax.system_definition s)) (system_chain l s) (extends_with x _ x.owned x.frame)
+    chain_then l x (type_named n.name.name (system l s)) (definition_begun l (syntax.system_definition s)) (system_chain l s) (extends_with x _ x.owned x.frame _)
 
 definitions_chain : (l : Layer) (ns : List syntax.SystemDefinition) → Chain l (definitions_begun l ns) (system_definitions l ns)
 unfolding system_definitions

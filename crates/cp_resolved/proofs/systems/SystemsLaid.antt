@@ -21,7 +21,7 @@ use Rattle.cp_resolved.specs.InStep.{Numbering, CellsAre, PartsAre, BoundIs, InS
 use Rattle.cp_resolved.specs.Openings.{Opening, parts_scope, definition_openings, definitions_openings, part_openings, parts_openings, openings_of, routine_openings, initial_opening, AreOpened}
 use Rattle.cp_resolved.specs.Small.{Each, IsSmallSystem, IsSmallDefinition, IsSmallProgramPart, IsSmallProgram, AreNumbered}
 use Rattle.cp_resolved.specs.TreeLayouts.{definition_parts, definitions_parts, part_parts, program_parts_parts, whole_laid}
-use Rattle.cp_resolved.proofs.laid.Declares.{type_declares, constants_declare, variables_declare}
+use Rattle.cp_resolved.proofs.laid.Declares.{type_declares, constants_declare, variables_declare, declares_trans, declares_names}
 use Rattle.cp_resolved.proofs.laid.Extends.{Longer, Extends, extends_trans, initial_extends, routines_extend, system_extends, system_definitions_extend, program_parts_extend}
 use Rattle.cp_resolved.proofs.systems.HandedComponents.{AreBound, system_bound}
 use Rattle.cp_resolved.proofs.names.KeptNames as kept
@@ -151,7 +151,7 @@ module _ (k : Numbering) (end : Layer) where
       let c = type_declares l t in
       let y = written_type l t in
       added_none l (type_named n.name.name y) d (definition_in d n (syntax.type_definition t)) (ap (λ (j : Layer). j.systems) c.same) refl (
-      owns_declared k l (type_named n.name.name y) d.variables (record { names = (n.name.name, meaning.Kind y.0) ∷ c.names; types = c.types; constants = c.constants; same = ap (λ (j : Layer). type_named n.name.name (y.0, j)) c.same }) (definition_owned l (syntax.type_definition t))
+      owns_declared k l (type_named n.name.name y) d.variables (declares_trans l y.1 (type_named n.name.name y) c (declares_names y.1 ((n.name.name, meaning.Kind y.0) ∷ []) y.1.owned y.1.frame (type_named n.name.name y).noted)) (definition_owned l (syntax.type_definition t))
       (under_kind l.names n.name.name y.0 y.1.names (kept.type_keep (Under l.names) IsOther (under_added l.names) (λ b z i. i) (λ v i. i) l t (under_same l.names))) o
       )
   definition_added l d n (syntax.system_definition s) h f e i w out x o =
