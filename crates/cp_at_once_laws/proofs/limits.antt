@@ -1,4 +1,3 @@
-pub mod Basics
 pub mod More
 pub mod Closed
 pub mod Complete

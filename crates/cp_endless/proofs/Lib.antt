@@ -1,4 +1,4 @@
-mod Basics
+pub mod Basics
 pub mod possible
 pub mod steps
 pub mod waiting

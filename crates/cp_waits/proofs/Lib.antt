@@ -1,11 +1,9 @@
 pub mod Adding
 pub mod Alike
 pub mod Edges
-pub mod Failing
 pub mod Falling
 pub mod Graphs
 pub mod Insides
-pub mod Joined
 pub mod Legs
 pub mod Numbers
 pub mod Runs

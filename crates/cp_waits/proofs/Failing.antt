@@ -1,1 +1,0 @@
--- What is handed on is an error.

@@ -1,1 +1,0 @@
--- What is so of all elements of joined lists, or of one.
