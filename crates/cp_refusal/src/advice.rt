@@ -7,7 +7,7 @@ use crate::foreign::is_start;
 use crate::place::has_comment_before;
 use crate::rules::{mark_at, mark_before, name_at};
 use cp_prose::Prose;
-use cp_text::{Kind, Mark, Tokens};
+use cp_text::{Mark, Tokens};
 use std::alloc::Global;
 
 /// A token that the parser refuses.
@@ -34,6 +34,15 @@ impl<'a> Refused<'a> {
 
     fn takes_mark(&self, text: &mut Prose, mark: Mark) -> bool {
         self.takes(text, Candidate::Mark(mark))
+    }
+
+    fn takes_one_of(&self, text: &mut Prose, marks: &[Mark]) -> bool {
+        for mark in marks {
+            if self.takes_mark(text, *mark) {
+                return true;
+            }
+        }
+        false
     }
 
     fn mark(&self) -> Option<Mark> {
@@ -84,29 +93,93 @@ fn is_after_string(refused: Refused, text: &mut Prose) -> bool {
     has_comment_before(refused.source, refused.at) && refused.takes_mark(text, Mark::Not)
 }
 
-// Of pairs of signs that other languages have.
-fn sign_advice(refused: Refused) -> &'static str {
-    match (refused.before(), refused.mark(), refused.next()) {
-        (_, Some(Mark::OpenParenthesis), Some(Mark::Times))
-        | (Some(Mark::OpenParenthesis), Some(Mark::Times), _) => {
-            ": comments stand between double quotes"
-        }
-        (Some(Mark::Equal), Some(Mark::Equal), _) => ": write =",
-        (Some(Mark::And), Some(Mark::And), _) => ": write and",
-        (_, Some(Mark::Plus), Some(Mark::Plus | Mark::Equal)) => ": write x := x + 1",
-        (_, Some(Mark::Minus), Some(Mark::Minus | Mark::Equal)) => ": write x := x - 1",
-        (Some(Mark::OpenParenthesis), Some(Mark::CloseParenthesis), _) => {
-            ": a call without arguments has no parentheses"
-        }
-        _ => "",
+/// A sign between others that other languages have. Where none is named before it or after it, any may stand there.
+struct SignAdvice {
+    before: Option<Mark>,
+    mark: Mark,
+    next: Option<Mark>,
+    said: &'static str,
+}
+
+impl SignAdvice {
+    fn fits(&self, refused: Refused) -> bool {
+        refused.mark() == Some(self.mark)
+            && (self.before.is_none() || self.before == refused.before())
+            && (self.next.is_none() || self.next == refused.next())
     }
+}
+
+static SIGN_ADVICE: [SignAdvice; 9] = [
+    SignAdvice {
+        before: None,
+        mark: Mark::OpenParenthesis,
+        next: Some(Mark::Times),
+        said: ": comments stand between double quotes",
+    },
+    SignAdvice {
+        before: Some(Mark::OpenParenthesis),
+        mark: Mark::Times,
+        next: None,
+        said: ": comments stand between double quotes",
+    },
+    SignAdvice {
+        before: Some(Mark::Equal),
+        mark: Mark::Equal,
+        next: None,
+        said: ": write =",
+    },
+    SignAdvice {
+        before: Some(Mark::And),
+        mark: Mark::And,
+        next: None,
+        said: ": write and",
+    },
+    SignAdvice {
+        before: None,
+        mark: Mark::Plus,
+        next: Some(Mark::Plus),
+        said: ": write x := x + 1",
+    },
+    SignAdvice {
+        before: None,
+        mark: Mark::Plus,
+        next: Some(Mark::Equal),
+        said: ": write x := x + 1",
+    },
+    SignAdvice {
+        before: None,
+        mark: Mark::Minus,
+        next: Some(Mark::Minus),
+        said: ": write x := x - 1",
+    },
+    SignAdvice {
+        before: None,
+        mark: Mark::Minus,
+        next: Some(Mark::Equal),
+        said: ": write x := x - 1",
+    },
+    SignAdvice {
+        before: Some(Mark::OpenParenthesis),
+        mark: Mark::CloseParenthesis,
+        next: None,
+        said: ": a call without arguments has no parentheses",
+    },
+];
+
+fn sign_advice(refused: Refused) -> &'static str {
+    for advice in &SIGN_ADVICE {
+        if advice.fits(refused) {
+            return advice.said;
+        }
+    }
+    ""
 }
 
 fn mark_advice(refused: Refused, text: &mut Prose, mark: Mark) -> &'static str {
     if is_initial_value(refused, mark) {
         return ": a variable gets its value in the body";
     }
-    if is_in_constant(refused) && refused.takes_mark(text, Mark::Semicolon) && is_operator(mark) {
+    if is_constant_operator(refused, text, mark) {
         return ": a constant is a number, a name or a character";
     }
     if is_relation(Some(mark)) {
@@ -115,17 +188,29 @@ fn mark_advice(refused: Refused, text: &mut Prose, mark: Mark) -> &'static str {
     if mark == Mark::Comma && refused.takes_mark(text, Mark::CloseBracket) {
         return ": where two indices are meant, write a[1][2], and array [1..2] of array [1..2] of ..";
     }
-    match (refused.before(), mark) {
-        (Some(Mark::Semicolon), Mark::Else) => ": no semicolon stands before else",
-        (_, Mark::Var) if is_system_parameter(refused) => {
+    place_advice(refused, mark)
+}
+
+// Of a mark that stands at a wrong place.
+fn place_advice(refused: Refused, mark: Mark) -> &'static str {
+    match mark {
+        Mark::Else if refused.before() == Some(Mark::Semicolon) => {
+            ": no semicolon stands before else"
+        }
+        Mark::Var if is_system_parameter(refused) => {
             ": parameters of a class, a monitor or a process have no var"
         }
-        (_, Mark::Const | Mark::Type | Mark::Var) => {
+        Mark::Const | Mark::Type | Mark::Var => {
             ": constants, types and variables are declared before the routines, or an end is missing further up"
         }
-        (None, Mark::Period) => ": there are no real numbers",
+        Mark::Period if refused.before().is_none() => ": there are no real numbers",
         _ => "",
     }
+}
+
+// Whether it is an operator after the value of a constant's declaration.
+fn is_constant_operator(refused: Refused, text: &mut Prose, mark: Mark) -> bool {
+    is_in_constant(refused) && refused.takes_mark(text, Mark::Semicolon) && is_operator(mark)
 }
 
 fn is_operator(mark: Mark) -> bool {
@@ -178,17 +263,19 @@ fn relation_advice(refused: Refused, text: &mut Prose) -> &'static str {
 
 // Of a name, a number or a character, or at the end of the source.
 fn word_advice(refused: Refused, text: &mut Prose) -> &'static str {
-    let before = refused.name_before();
-    let Some(kind) = refused.tokens.get(refused.at) else {
+    if refused.at >= refused.tokens.count() {
         return end_advice(refused, text);
-    };
-    match kind {
-        Kind::Name(name) if name.as_str() == "elsif" => ": write else if",
-        _ if before == "return" => {
-            ": a function gives its result by an assignment to its own name"
-        }
-        Kind::Name(_) if is_start(before) => ": processes are started by init",
-        _ => "",
+    }
+    let name = name_at(refused.tokens, refused.at);
+    let before = refused.name_before();
+    if name == "elsif" {
+        ": write else if"
+    } else if before == "return" {
+        ": a function gives its result by an assignment to its own name"
+    } else if !name.is_empty() && is_start(before) {
+        ": processes are started by init"
+    } else {
+        ""
     }
 }
 
@@ -200,19 +287,21 @@ fn end_advice(refused: Refused, text: &mut Prose) -> &'static str {
     }
 }
 
+/// What may stand where more than a name is wanted.
+const MORE_THAN_NAMES: [Mark; 3] = [Mark::Not, Mark::While, Mark::Begin];
+
 /// Whether a reserved word stands where a name is wanted.
 pub fn is_reserved_name(refused: Refused, text: &mut Prose) -> bool {
-    let is_word = match refused.mark() {
-        Some(mark) => spelling(mark)
-            .as_bytes()
-            .first()
-            .is_some_and(|byte| byte.is_ascii_alphabetic()),
-        None => false,
-    };
-    is_word
+    is_word(refused)
         && !is_system_parameter(refused)
         && refused.takes(text, Candidate::Name)
-        && !refused.takes_mark(text, Mark::Not)
-        && !refused.takes_mark(text, Mark::While)
-        && !refused.takes_mark(text, Mark::Begin)
+        && !refused.takes_one_of(text, &MORE_THAN_NAMES)
+}
+
+// Whether it is a reserved word.
+fn is_word(refused: Refused) -> bool {
+    match refused.mark() {
+        Some(mark) => matches!(spelling(mark).as_bytes(), [b'a'..=b'z', ..]),
+        None => false,
+    }
 }

@@ -15,14 +15,30 @@ pub struct Called {
     pub tokens: Extent,
 }
 
-// What the language itself declares.
+/// What the language itself declares.
+static PREDECLARED: [(&str, Declared); 13] = [
+    ("display", Declared::Procedure),
+    ("delay", Declared::Procedure),
+    ("continue", Declared::Procedure),
+    ("abs", Declared::Function),
+    ("chr", Declared::Function),
+    ("empty", Declared::Function),
+    ("ord", Declared::Function),
+    ("pred", Declared::Function),
+    ("succ", Declared::Function),
+    ("boolean", Declared::Type),
+    ("char", Declared::Type),
+    ("integer", Declared::Type),
+    ("queue", Declared::Type),
+];
+
 fn find_predeclared(name: &str) -> Option<Declared> {
-    match name {
-        "display" | "delay" | "continue" => Some(Declared::Procedure),
-        "abs" | "chr" | "empty" | "ord" | "pred" | "succ" => Some(Declared::Function),
-        "boolean" | "char" | "integer" | "queue" => Some(Declared::Type),
-        _ => None,
+    for (predeclared, what) in &PREDECLARED {
+        if *predeclared == name {
+            return Some(*what);
+        }
     }
+    None
 }
 
 // What a routine of a component is.
@@ -32,11 +48,12 @@ fn routine_at(program: &Program, looked: Looked, routine: &str) -> Option<Declar
         None => type_in_program(program, looked.name)?,
     };
     let system = system_named(program, owner)?;
-    let found = system
-        .routines
-        .iter()
-        .find(|one| one.name.name.as_str() == routine)?;
-    Some(declared_as(found))
+    for one in &system.routines {
+        if one.name.name.as_str() == routine {
+            return Some(declared_as(one));
+        }
+    }
+    None
 }
 
 /// What the name at a token stands for, or the routine of the component that it names.

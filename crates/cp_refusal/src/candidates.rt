@@ -9,7 +9,7 @@ use cp_tree::{ParseFault, parse};
 use std::alloc::{AllocError, Global};
 
 /// A kind of token that may be tried.
-#[derive(Clone, Copy, PartialEq, Eq)]
+#[derive(Clone, Copy)]
 pub enum Candidate {
     Name,
     Number,
@@ -89,13 +89,23 @@ pub fn may_stand(
     at: usize,
     candidate: Candidate,
 ) -> Result<bool, AllocError> {
+    match tokens_with(alloc, tokens, at, candidate)? {
+        Some(tried) => reads_past(alloc, &tried, at),
+        None => Ok(false),
+    }
+}
+
+/// The tokens before this number and this kind of token.
+fn tokens_with(
+    alloc: Global,
+    tokens: &Tokens,
+    at: usize,
+    candidate: Candidate,
+) -> Result<Option<Tokens>, AllocError> {
     let mut draft = Draft::new(alloc);
     draft.push_copies(tokens, Extent { from: 0, to: at });
     push_candidate(&mut draft, candidate);
-    let Some(tried) = draft.tokens(alloc)? else {
-        return Ok(false);
-    };
-    reads_past(alloc, &tried, at)
+    draft.tokens(alloc)
 }
 
 /// Whether the parser refuses none of the tokens up to this number.
@@ -113,7 +123,7 @@ fn reads_past(alloc: Global, tokens: &Tokens, at: usize) -> Result<bool, AllocEr
 }
 
 /// Whether a word or sign begins a statement, an operand, or joins operands. Those are told by one word for all.
-#[derive(Clone, Copy, PartialEq, Eq)]
+#[derive(Clone, Copy)]
 enum Role {
     Statement,
     Operand,
@@ -181,6 +191,13 @@ fn push_word(text: &mut Prose, word: Word) {
     }
 }
 
+/// What an expression is made of, and a word for each.
+static OPERANDS: [(Candidate, &str); 3] = [
+    (Candidate::Name, "a name"),
+    (Candidate::Number, "a number"),
+    (Candidate::Character, "a character"),
+];
+
 /// What may stand at a place of some tokens, as a choice: `a`, `a or b`, `a, b or c`.
 #[derive(Drop)]
 struct CandidateChoice<'a> {
@@ -246,9 +263,9 @@ impl<'a> CandidateChoice<'a> {
         if kinds.statement || kinds.operand {
             return;
         }
-        self.add_if_taken(Candidate::Name, "a name");
-        self.add_if_taken(Candidate::Number, "a number");
-        self.add_if_taken(Candidate::Character, "a character");
+        for (candidate, word) in &OPERANDS {
+            self.add_if_taken(*candidate, word);
+        }
     }
 
     /// Adds a reserved word or sign.
@@ -263,9 +280,9 @@ impl<'a> CandidateChoice<'a> {
         if kinds.operator {
             self.add(Word::Kind("an operator"));
         }
-        for mark in MARKS {
-            if !is_covered(mark, kinds) {
-                self.add_mark(mark);
+        for mark in &MARKS {
+            if !is_covered(*mark, kinds) {
+                self.add_mark(*mark);
             }
         }
         self.add_mark(Mark::Period);

@@ -3,7 +3,7 @@
 use cp_prose::Prose;
 
 /// How characters are shown.
-#[derive(Clone, Copy, PartialEq, Eq)]
+#[derive(Clone, Copy)]
 pub enum Look {
     /// Each as it is.
     Whole,

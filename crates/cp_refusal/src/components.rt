@@ -69,7 +69,12 @@ fn element_of<'a>(program: &'a Program, name: &'a str) -> &'a str {
 }
 
 fn has(names: &[Identifier], name: &str) -> bool {
-    names.iter().any(|one| one.name.as_str() == name)
+    for one in names {
+        if one.name.as_str() == name {
+            return true;
+        }
+    }
+    false
 }
 
 /// The name of the system type of the components of a group of variables; of no system type where they are none.
@@ -78,8 +83,12 @@ pub fn type_of_group<'a>(program: &'a Program, group: &'a VariableGroup) -> &'a 
 }
 
 fn type_in_groups<'a>(groups: &'a [Group], name: &str) -> Option<&'a str> {
-    let group = groups.iter().find(|group| has(&group.names, name))?;
-    Some(group.type_name.name.as_str())
+    for group in groups {
+        if has(&group.names, name) {
+            return Some(group.type_name.name.as_str());
+        }
+    }
+    None
 }
 
 fn type_in_parts<'a>(program: &'a Program, parts: &'a [Part], name: &str) -> Option<&'a str> {

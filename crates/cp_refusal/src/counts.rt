@@ -2,18 +2,17 @@
 
 use crate::extent::{Extent, after_bracket, after_designator, expression_at};
 use crate::page::push_tokens;
-use crate::rules::{mark_at, name_at};
+use crate::rules::{mark_at, mark_before, name_at};
 use crate::sorts::Asker;
 use cp_prose::Prose;
 use cp_text::{Mark, Tokens};
 
 /// Whether the name at a token is that of a heading.
 fn is_heading(tokens: &Tokens, at: usize) -> bool {
-    let before = match at.checked_sub(1) {
-        Some(place) => mark_at(tokens, place),
-        None => None,
-    };
-    matches!(before, Some(Mark::Procedure | Mark::Function | Mark::Entry))
+    matches!(
+        mark_before(tokens, at),
+        Some(Mark::Procedure | Mark::Function | Mark::Entry)
+    )
 }
 
 /// The only heading with a name.
@@ -71,35 +70,41 @@ fn arguments(tokens: &Tokens, call: usize) -> usize {
     number
 }
 
+/// The language's own routines, each of which takes one argument.
+const OWN_ROUTINES: [&str; 9] = [
+    "delay", "continue", "empty", "succ", "pred", "chr", "ord", "abs", "display",
+];
+
+/// How many arguments the routine with a name takes; none where it is not known.
+fn count_taken(tokens: &Tokens, name: &str) -> Option<usize> {
+    if OWN_ROUTINES.contains(&name) {
+        return Some(1);
+    }
+    let heading = heading_of(tokens, name)?;
+    Some(parameters(tokens, heading))
+}
+
 /// Says how many arguments a call has and should have. The answer tells whether something was said.
 pub fn push_counts(asker: &Asker, text: &mut Prose, at: usize) -> bool {
     let tokens = asker.tokens;
-    let after = after_designator(tokens, at);
-    let name = name_at(tokens, after.saturating_sub(1));
-    let wanted = match name {
-        "delay" | "continue" | "empty" | "succ" | "pred" | "chr" | "ord" | "abs" | "display" => 1,
-        _ => match heading_of(tokens, name) {
-            Some(heading) => parameters(tokens, heading),
-            None => return false,
-        },
+    let to = after_designator(tokens, at);
+    let name = name_at(tokens, to.saturating_sub(1));
+    let Some(taken) = count_taken(tokens, name) else {
+        return false;
     };
-    let given = arguments(tokens, at);
-    push_tokens(
-        text,
-        asker.source,
-        Extent {
-            from: at,
-            to: after,
-        },
-    );
+    push_tokens(text, asker.source, Extent { from: at, to });
+    push_both_counts(text, taken, arguments(tokens, at));
+    true
+}
+
+fn push_both_counts(text: &mut Prose, taken: usize, given: usize) {
     text.put(" takes ");
-    text.put_display(wanted);
-    text.put(if wanted == 1 {
+    text.put_display(taken);
+    text.put(if taken == 1 {
         " argument"
     } else {
         " arguments"
     });
     text.put(", but is called with ");
     text.put_display(given);
-    true
 }

@@ -2,11 +2,12 @@
 
 use cp_tree::{
     ConstantDefinition, Definition, Group, Identifier, ParameterGroup, Part, PartKind, Program,
-    ProgramPart, ProgramPartKind, Routine, RoutineKind, System, SystemDefinition, VariableGroup,
+    ProgramPart, ProgramPartKind, Routine, RoutineKind, System, SystemDefinition, TypeDefinition,
+    VariableGroup,
 };
 
 /// What a name was declared as.
-#[derive(Clone, Copy, PartialEq, Eq)]
+#[derive(Clone, Copy)]
 pub enum Declared {
     Constant,
     Type,
@@ -38,8 +39,12 @@ fn is_this(looked: Looked, declared: &Identifier) -> bool {
 
 // The declaration among these that has the name, as what they all are.
 fn among(looked: Looked, declared: &[Identifier], what: Declared) -> Option<Declaration> {
-    let one = declared.iter().find(|one| is_this(looked, one))?;
-    Some(Declaration { what, at: one.at })
+    for one in declared {
+        if is_this(looked, one) {
+            return Some(Declaration { what, at: one.at });
+        }
+    }
+    None
 }
 
 fn in_variables(looked: Looked, groups: &[VariableGroup]) -> Option<Declaration> {
@@ -61,24 +66,46 @@ fn in_groups(looked: Looked, groups: &[Group]) -> Option<Declaration> {
 }
 
 fn in_constants(looked: Looked, all: &[ConstantDefinition]) -> Option<Declaration> {
-    let one = all.iter().find(|one| is_this(looked, &one.name))?;
-    Some(Declaration {
-        what: Declared::Constant,
-        at: one.name.at,
-    })
+    for one in all {
+        if is_this(looked, &one.name) {
+            return Some(Declaration {
+                what: Declared::Constant,
+                at: one.name.at,
+            });
+        }
+    }
+    None
+}
+
+fn in_types(looked: Looked, all: &[TypeDefinition]) -> Option<Declaration> {
+    for one in all {
+        if is_this(looked, &one.name) {
+            return Some(Declaration {
+                what: Declared::Type,
+                at: one.name.at,
+            });
+        }
+    }
+    None
+}
+
+fn in_definitions(looked: Looked, all: &[SystemDefinition]) -> Option<Declaration> {
+    for one in all {
+        if is_this(looked, &one.name) {
+            return Some(Declaration {
+                what: Declared::Type,
+                at: one.name.at,
+            });
+        }
+    }
+    None
 }
 
 fn in_parts(parts: &[Part], looked: Looked) -> Option<Declaration> {
     for part in parts {
         let found = match &part.kind {
             PartKind::Constants(all) => in_constants(looked, all),
-            PartKind::Types(all) => {
-                let one = all.iter().find(|one| is_this(looked, &one.name));
-                one.map(|one| Declaration {
-                    what: Declared::Type,
-                    at: one.name.at,
-                })
-            }
+            PartKind::Types(all) => in_types(looked, all),
             PartKind::Variables(groups) => in_variables(looked, groups),
         };
         if found.is_some() {
@@ -163,13 +190,7 @@ fn system_at<'a>(definitions: &'a [SystemDefinition], looked: Looked) -> Option<
 fn in_program_part(part: &ProgramPart, looked: Looked) -> Option<Declaration> {
     match &part.kind {
         ProgramPartKind::Constants(all) => in_constants(looked, all),
-        ProgramPartKind::Types(all) => {
-            let one = all.iter().find(|one| is_this(looked, &one.name))?;
-            Some(Declaration {
-                what: Declared::Type,
-                at: one.name.at,
-            })
-        }
+        ProgramPartKind::Types(all) => in_definitions(looked, all),
         ProgramPartKind::Variables(groups) => in_variables(looked, groups),
     }
 }
@@ -212,11 +233,16 @@ pub fn find_declared(program: &Program, looked: Looked) -> Option<Declaration> {
 
 /// What a name stands for at a place; none where it is not declared, or is a constant of an enumeration.
 pub fn declared_at(program: &Program, looked: Looked) -> Option<Declared> {
-    find_declared(program, looked).map(|found| found.what)
+    Some(find_declared(program, looked)?.what)
 }
 
 fn is_in_routines(routines: &[Routine], looked: Looked) -> bool {
-    routines.iter().any(|one| is_this(looked, &one.name) || in_routine(one, looked).is_some())
+    for one in routines {
+        if is_this(looked, &one.name) || in_routine(one, looked).is_some() {
+            return true;
+        }
+    }
+    false
 }
 
 fn is_in_system(system: &System, looked: Looked) -> bool {
@@ -230,14 +256,20 @@ fn is_in_part(part: &ProgramPart, looked: Looked) -> bool {
         return true;
     }
     match &part.kind {
-        ProgramPartKind::Types(all) => {
-            all.iter().any(|one| match &one.value {
-                Definition::System(system) => is_in_system(system, looked),
-                Definition::Type(_) => false,
-            })
-        }
+        ProgramPartKind::Types(all) => is_in_definitions(all, looked),
         _ => false,
     }
+}
+
+fn is_in_definitions(all: &[SystemDefinition], looked: Looked) -> bool {
+    for one in all {
+        if let Definition::System(system) = &one.value {
+            if is_in_system(system, looked) {
+                return true;
+            }
+        }
+    }
+    false
 }
 
 /// Whether a name is declared in some block of a program, be it visible or not.
@@ -246,6 +278,10 @@ pub fn is_declared_somewhere(program: &Program, name: &str) -> bool {
         name,
         at: usize::MAX,
     };
+    for part in &program.parts {
+        if is_in_part(part, looked) {
+            return true;
+        }
+    }
     is_in_routines(&program.routines, looked)
-        || program.parts.iter().any(|part| is_in_part(part, looked))
 }

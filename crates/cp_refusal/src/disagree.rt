@@ -9,7 +9,7 @@ use crate::rules::{mark_at, name_at};
 use crate::sorts::{Asker, Sort};
 use crate::wanted::{Operands, Sorts};
 use cp_prose::Prose;
-use cp_text::{Kind, Mark, Tokens};
+use cp_text::{Mark, Tokens};
 
 /// Says `x is a set`.
 fn push_sort(asker: &Asker, text: &mut Prose, value: Extent, sort: Sort) {
@@ -34,11 +34,41 @@ fn unless(asker: &Asker, text: &mut Prose, taker: &str, wanted: Sorts, value: Ex
     true
 }
 
-/// Says of which sorts two values are.
-fn push_both(asker: &Asker, text: &mut Prose, left: (Extent, Sort), right: (Extent, Sort)) {
-    push_sort(asker, text, left.0, left.1);
-    text.put(" and ");
-    push_sort(asker, text, right.0, right.1);
+/// A value and its sort.
+#[derive(Clone, Copy)]
+struct SortedValue {
+    value: Extent,
+    sort: Sort,
+}
+
+fn value_with_sort(asker: &Asker, text: &mut Prose, value: Extent) -> Option<SortedValue> {
+    let sort = asker.sort_of(text, value)?;
+    Some(SortedValue { value, sort })
+}
+
+/// Two values, where both have a sort.
+fn both_with_sorts(
+    asker: &Asker,
+    text: &mut Prose,
+    left: Extent,
+    right: Extent,
+) -> Option<(SortedValue, SortedValue)> {
+    let left = value_with_sort(asker, text, left)?;
+    let right = value_with_sort(asker, text, right)?;
+    Some((left, right))
+}
+
+/// Says of which sorts two values are, with some words between.
+fn push_both(
+    asker: &Asker,
+    text: &mut Prose,
+    left: SortedValue,
+    between: &str,
+    right: SortedValue,
+) {
+    push_sort(asker, text, left.value, left.sort);
+    text.put(between);
+    push_sort(asker, text, right.value, right.sort);
 }
 
 fn operation(
@@ -48,33 +78,38 @@ fn operation(
     operator: usize,
     right: Extent,
 ) -> bool {
-    let (Some(mark), Some(l), Some(r)) = (
-        mark_at(asker.tokens, operator),
-        asker.sort_of(text, left),
-        asker.sort_of(text, right),
-    ) else {
+    let operands = Operands::of(mark_at(asker.tokens, operator));
+    let Some((left, right)) = both_with_sorts(asker, text, left, right) else {
         return false;
     };
-    let operands = Operands::of(mark);
-    if l == r && operands.admit(l) {
+    if left.sort == right.sort && operands.admit(left.sort) {
         return false;
     }
     push_tokens(text, asker.source, single(operator));
     text.put(" takes ");
     text.put(operands.phrase());
     text.put(", but ");
-    if operands.admit(l) && !operands.admit(r) {
-        push_sort(asker, text, right, r);
-    } else if operands.admit(r) && !operands.admit(l) {
-        push_sort(asker, text, left, l);
-    } else {
-        push_both(asker, text, (left, l), (right, r));
-    }
+    push_unfit(asker, text, operands, left, right);
     true
 }
 
+/// Says of the operand that does not fit, or of both.
+fn push_unfit(
+    asker: &Asker,
+    text: &mut Prose,
+    operands: Operands,
+    left: SortedValue,
+    right: SortedValue,
+) {
+    match (operands.admit(left.sort), operands.admit(right.sort)) {
+        (true, false) => push_sort(asker, text, right.value, right.sort),
+        (false, true) => push_sort(asker, text, left.value, left.sort),
+        _ => push_both(asker, text, left, " and ", right),
+    }
+}
+
 /// A level of an expression: its operands are factors, terms, or expressions that commas part.
-#[derive(Clone, Copy, PartialEq, Eq)]
+#[derive(Clone, Copy)]
 enum OperandLevel {
     Term,
     Sum,
@@ -190,7 +225,8 @@ fn sum(asker: &Asker, text: &mut Prose, at: usize) -> bool {
 /// The comparison that begins at a token, where there is one.
 fn comparison(asker: &Asker, text: &mut Prose, at: usize) -> bool {
     let operator = after_sum(asker.tokens, at);
-    if !is_relation(mark_at(asker.tokens, operator)) {
+    let mark = mark_at(asker.tokens, operator);
+    if !is_relation(mark) {
         return false;
     }
     let from = operator.saturating_add(1);
@@ -202,33 +238,27 @@ fn comparison(asker: &Asker, text: &mut Prose, at: usize) -> bool {
         from,
         to: after_sum(asker.tokens, from),
     };
-    let (Some(l), Some(r)) = (asker.sort_of(text, left), asker.sort_of(text, right)) else {
+    let Some((left, right)) = both_with_sorts(asker, text, left, right) else {
         return false;
     };
-    if mark_at(asker.tokens, operator) == Some(Mark::In) {
-        return membership(asker, text, (left, l), (right, r));
-    }
-    push_tokens(text, asker.source, single(operator));
-    text.put(if l != r {
-        " compares two values of one type, but "
-    } else if l.is_ordinal() {
-        " compares two values of one type, and these are of two: "
+    if mark == Some(Mark::In) {
+        text.put("in asks whether a value is in a set of such values, but ");
     } else {
-        " can't compare these: "
-    });
-    push_both(asker, text, (left, l), (right, r));
+        push_tokens(text, asker.source, single(operator));
+        text.put(why_not_compared(left.sort, right.sort));
+    }
+    push_both(asker, text, left, " and ", right);
     true
 }
 
-fn membership(
-    asker: &Asker,
-    text: &mut Prose,
-    left: (Extent, Sort),
-    right: (Extent, Sort),
-) -> bool {
-    text.put("in asks whether a value is in a set of such values, but ");
-    push_both(asker, text, left, right);
-    true
+fn why_not_compared(left: Sort, right: Sort) -> &'static str {
+    if left != right {
+        " compares two values of one type, but "
+    } else if left.is_ordinal() {
+        " compares two values of one type, and these are of two: "
+    } else {
+        " can't compare these: "
+    }
 }
 
 /// The selectors of a name: an index of what is no array, a field of what has none.
@@ -290,32 +320,35 @@ fn index_of(asker: &Asker, text: &mut Prose, name: Extent, index: Extent) -> boo
 
 /// The two sides of an assignment.
 fn assignment(asker: &Asker, text: &mut Prose, target: Extent, value: Extent) -> bool {
-    let Some(r) = asker.sort_of(text, value) else {
+    let Some(value) = value_with_sort(asker, text, value) else {
         return false;
     };
-    let Some(l) = asker.sort_of(text, target) else {
-        push_sort(asker, text, value, r);
-        text.put(", and ");
-        push_tokens(text, asker.source, target);
-        text.put(" is of another type");
-        return true;
-    };
-    if matches!(l, Sort::Queue | Sort::Component) {
-        push_sort(asker, text, target, l);
-        text.put(", and can't be assigned");
-        return true;
+    match value_with_sort(asker, text, target) {
+        Some(target) => push_assignment(asker, text, target, value),
+        None => {
+            push_sort(asker, text, value.value, value.sort);
+            text.put(", and ");
+            push_tokens(text, asker.source, target);
+            text.put(" is of another type");
+        }
     }
-    if l == r {
-        push_both(asker, text, (target, l), (value, r));
-        text.put(", but of another type");
-        return true;
-    }
-    push_tokens(text, asker.source, target);
-    text.put(" takes ");
-    text.put(l.phrase());
-    text.put(", but ");
-    push_sort(asker, text, value, r);
     true
+}
+
+fn push_assignment(asker: &Asker, text: &mut Prose, target: SortedValue, value: SortedValue) {
+    if matches!(target.sort, Sort::Queue | Sort::Component) {
+        push_sort(asker, text, target.value, target.sort);
+        text.put(", and can't be assigned");
+    } else if target.sort == value.sort {
+        push_both(asker, text, target, " and ", value);
+        text.put(", but of another type");
+    } else {
+        push_tokens(text, asker.source, target.value);
+        text.put(" takes ");
+        text.put(target.sort.phrase());
+        text.put(", but ");
+        push_sort(asker, text, value.value, value.sort);
+    }
 }
 
 /// What is said before the sorts of some values: tokens, where there are any, and words.
@@ -366,31 +399,40 @@ fn push_values(
     !is_first
 }
 
+/// What the language's own routines take.
+static OWN_ROUTINES: [(&str, Sorts); 8] = [
+    ("delay", Sorts::Queue),
+    ("continue", Sorts::Queue),
+    ("empty", Sorts::Queue),
+    ("abs", Sorts::Integer),
+    ("chr", Sorts::Integer),
+    ("succ", Sorts::Ordinal),
+    ("pred", Sorts::Ordinal),
+    ("ord", Sorts::Ordinal),
+];
+
+/// The argument of a routine of the language itself.
+fn own_argument(asker: &Asker, text: &mut Prose, at: usize, argument: Extent) -> bool {
+    let name = name_at(asker.tokens, at);
+    for (routine, wanted) in &OWN_ROUTINES {
+        if *routine == name {
+            return unless(asker, text, name, *wanted, argument);
+        }
+    }
+    false
+}
+
 /// The arguments of a call.
 fn call(asker: &Asker, text: &mut Prose, at: usize) -> bool {
     let open = after_designator(asker.tokens, at);
+    let from = open.saturating_add(1);
+    if own_argument(asker, text, at, expression_at(asker.tokens, from)) {
+        return true;
+    }
     let arguments = Extent {
-        from: open.saturating_add(1),
+        from,
         to: after_bracket(asker.tokens, open).saturating_sub(1),
     };
-    let name = name_at(asker.tokens, at);
-    let wanted = match name {
-        "delay" | "continue" | "empty" => Some(Sorts::Queue),
-        "abs" | "chr" => Some(Sorts::Integer),
-        "succ" | "pred" | "ord" => Some(Sorts::Ordinal),
-        _ => None,
-    };
-    if let Some(wanted) = wanted {
-        if unless(
-            asker,
-            text,
-            name,
-            wanted,
-            expression_at(asker.tokens, arguments.from),
-        ) {
-            return true;
-        }
-    }
     let beginning = SentenceBeginning {
         named: Some(Extent { from: at, to: open }),
         words: " has a parameter of another type than its argument: ",
@@ -425,20 +467,21 @@ fn statement(asker: &Asker, text: &mut Prose, at: usize) -> bool {
     }
 }
 
+/// Whether a call stands at a token that has no sort.
+fn is_unsound_call(asker: &Asker, text: &mut Prose, at: usize) -> bool {
+    let to = after_factor(asker.tokens, at);
+    let after = after_designator(asker.tokens, at);
+    mark_at(asker.tokens, after) == Some(Mark::OpenParenthesis)
+        && asker.sort_of(text, Extent { from: at, to }).is_none()
+}
+
 /// What begins at a token of an expression, the innermost first.
 fn expression(asker: &Asker, text: &mut Prose, at: usize) -> bool {
-    if let Some(Kind::Name(_)) = asker.tokens.get(at) {
+    if !name_at(asker.tokens, at).is_empty() {
         if selectors(asker, text, at) {
             return true;
         }
-        let after = after_designator(asker.tokens, at);
-        let named = Extent {
-            from: at,
-            to: after_factor(asker.tokens, at),
-        };
-        if mark_at(asker.tokens, after) == Some(Mark::OpenParenthesis)
-            && asker.sort_of(text, named).is_none()
-        {
+        if is_unsound_call(asker, text, at) {
             return call(asker, text, at);
         }
     }
@@ -450,22 +493,21 @@ fn expression(asker: &Asker, text: &mut Prose, at: usize) -> bool {
 /// The variable and the bounds of a `for`.
 fn loop_bounds(asker: &Asker, text: &mut Prose, at: usize) -> bool {
     let variable = single(at.saturating_add(1));
+    if unless(asker, text, "for", Sorts::Ordinal, variable) {
+        return true;
+    }
+    let Some(variable) = value_with_sort(asker, text, variable) else {
+        return false;
+    };
     let low = expression_at(asker.tokens, at.saturating_add(3));
     let high = expression_at(asker.tokens, low.to.saturating_add(1));
-    let (Some(v), Some(l), Some(h)) = (
-        asker.sort_of(text, variable),
-        asker.sort_of(text, low),
-        asker.sort_of(text, high),
-    ) else {
-        return unless(asker, text, "for", Sorts::Ordinal, variable);
+    let Some((low, high)) = both_with_sorts(asker, text, low, high) else {
+        return false;
     };
-    if !v.is_ordinal() {
-        return unless(asker, text, "for", Sorts::Ordinal, variable);
-    }
     text.put("the variable and the bounds of for have to be of one type, but ");
-    push_sort(asker, text, variable, v);
-    text.put(", ");
-    push_both(asker, text, (low, l), (high, h));
+    push_both(asker, text, variable, ", ", low);
+    text.put(" and ");
+    push_sort(asker, text, high.value, high.sort);
     true
 }
 
@@ -500,13 +542,11 @@ fn first_other(
     if asker.may_share_set(text, first, other) {
         return false;
     }
-    let (Some(f), Some(o)) = (asker.sort_of(text, first), asker.sort_of(text, other)) else {
+    let Some((first, other)) = both_with_sorts(asker, text, first, other) else {
         return false;
     };
     push_beginning(asker, text, beginning);
-    push_sort(asker, text, first, f);
-    text.put(", ");
-    push_sort(asker, text, other, o);
+    push_both(asker, text, first, ", ", other);
     true
 }
 
@@ -526,51 +566,39 @@ fn selector(asker: &Asker, text: &mut Prose, at: usize) -> bool {
     }
 }
 
+/// What takes a boolean at a token, and that boolean.
+fn condition_at(tokens: &Tokens, at: usize) -> Option<(&'static str, Extent)> {
+    let next = at.saturating_add(1);
+    match mark_at(tokens, at)? {
+        Mark::If => Some(("if", expression_at(tokens, next))),
+        Mark::While => Some(("while", expression_at(tokens, next))),
+        Mark::Repeat => {
+            let after = until_of(tokens, at).saturating_add(1);
+            Some(("until", expression_at(tokens, after)))
+        }
+        Mark::Not => {
+            let to = after_factor(tokens, next);
+            Some(("not", Extent { from: next, to }))
+        }
+        _ => None,
+    }
+}
+
+/// Whether a token is a name that begins the statement.
+fn is_first_name(asker: &Asker, at: usize) -> bool {
+    at == asker.place && !name_at(asker.tokens, at).is_empty()
+}
+
 /// Says what is there and what is wanted in the construct that begins at a token.
 pub fn push_disagreement(asker: &Asker, text: &mut Prose, at: usize) -> bool {
-    let next = at.saturating_add(1);
+    if let Some((taker, value)) = condition_at(asker.tokens, at) {
+        return unless(asker, text, taker, Sorts::Boolean, value);
+    }
     match mark_at(asker.tokens, at) {
-        Some(Mark::If) => {
-            unless(
-                asker,
-                text,
-                "if",
-                Sorts::Boolean,
-                expression_at(asker.tokens, next),
-            )
-        }
-        Some(Mark::While) => {
-            unless(
-                asker,
-                text,
-                "while",
-                Sorts::Boolean,
-                expression_at(asker.tokens, next),
-            )
-        }
-        Some(Mark::Repeat) => {
-            let after = until_of(asker.tokens, at).saturating_add(1);
-            unless(
-                asker,
-                text,
-                "until",
-                Sorts::Boolean,
-                expression_at(asker.tokens, after),
-            )
-        }
-        Some(Mark::Not) => {
-            let value = Extent {
-                from: next,
-                to: after_factor(asker.tokens, next),
-            };
-            unless(asker, text, "not", Sorts::Boolean, value)
-        }
         Some(Mark::Case) => selector(asker, text, at),
         Some(Mark::For) => loop_bounds(asker, text, at),
         Some(Mark::OpenBracket) => { elements(asker, text, at) || expression(asker, text, at) }
-        _ if at == asker.place && matches!(asker.tokens.get(at), Some(Kind::Name(_))) => {
-            statement(asker, text, at)
-        }
+        _ if is_first_name(asker, at) => statement(asker, text, at),
         _ => expression(asker, text, at),
     }
 }

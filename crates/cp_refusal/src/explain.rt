@@ -234,36 +234,75 @@ fn parse_refused(
     tokens: &Tokens,
     fault: &ParseFault,
 ) -> Result<Explanation, AllocError> {
-    let mut text = Prose::new(alloc);
-    let mut missing = Missing::Nothing;
-    let at = match fault {
+    match fault {
         ParseFault::Unexpected(at) => {
-            let refused = Refused {
+            unexpected(Refused {
                 alloc,
                 source,
                 tokens,
                 at: *at,
-            };
-            missing = what_is_missing(refused, &mut text);
-            push_unexpected(refused, &mut text, &missing);
-            *at
+            })
         }
-        ParseFault::OutsideProfile(at) => {
-            push_tokens(&mut text, source, single(*at));
-            text.put(" is a reserved word for what is left out of this language");
-            *at
-        }
-        ParseFault::TooDeep(at) => {
-            text.put("this is nested more than 50 levels deep");
-            *at
-        }
-        ParseFault::Memory => return Err(AllocError),
-    };
+        ParseFault::OutsideProfile(at) => outside_profile(alloc, source, tokens, *at),
+        ParseFault::TooDeep(at) => too_deep(alloc, source, tokens, *at),
+        ParseFault::Memory => Err(AllocError),
+    }
+}
+
+fn unexpected(refused: Refused) -> Result<Explanation, AllocError> {
+    let mut text = Prose::new(refused.alloc);
+    let missing = what_is_missing(refused, &mut text);
+    push_unexpected(refused, &mut text, &missing);
+    let Refused {
+        source,
+        tokens,
+        at,
+        ..
+    } = refused;
+    not_parsed(
+        source,
+        tokens,
+        at,
+        text.finish(),
+        earlier(source, tokens, &missing),
+    )
+}
+
+fn outside_profile(
+    alloc: Global,
+    source: &[u8],
+    tokens: &Tokens,
+    at: usize,
+) -> Result<Explanation, AllocError> {
+    let mut text = Prose::new(alloc);
+    push_tokens(&mut text, source, single(at));
+    text.put(" is a reserved word for what is left out of this language");
+    not_parsed(source, tokens, at, text.finish(), None)
+}
+
+fn too_deep(
+    alloc: Global,
+    source: &[u8],
+    tokens: &Tokens,
+    at: usize,
+) -> Result<Explanation, AllocError> {
+    let sentence = String::from_str(alloc, "this is nested more than 50 levels deep");
+    not_parsed(source, tokens, at, sentence, None)
+}
+
+// What is said of a token that the parser refuses, and the place further up that belongs to it.
+fn not_parsed(
+    source: &[u8],
+    tokens: &Tokens,
+    at: usize,
+    sentence: Result<String, AllocError>,
+    earlier: Option<ByteRange>,
+) -> Result<Explanation, AllocError> {
     Ok(Explanation::Refused(ExplainedRefusal {
         kind: "parse",
-        sentence: text.finish()?,
+        sentence: sentence?,
         more: "see \"Grammar\" in docs/LANGUAGE.md",
         span: Some(span_of(source, at, tokens)),
-        earlier: earlier(source, tokens, &missing),
+        earlier,
     }))
 }

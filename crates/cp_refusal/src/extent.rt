@@ -4,7 +4,7 @@ use crate::rules::mark_at;
 use cp_text::{Kind, Mark, Tokens};
 
 /// The tokens from one number to before another.
-#[derive(Clone, Copy, PartialEq, Eq)]
+#[derive(Clone, Copy)]
 pub struct Extent {
     pub from: usize,
     pub to: usize,

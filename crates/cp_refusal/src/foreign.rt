@@ -31,7 +31,7 @@ const TIME: &str =
 const PROCESSES: &str =
     ": a process is a variable of a process type, and is started by init in the body";
 
-const WORDS: [Foreign; 42] = [
+static WORDS: [Foreign; 42] = [
     Foreign {
         word: "condition",
         said: ": a condition is a queue, as in q: queue",
@@ -204,32 +204,84 @@ const WORDS: [Foreign; 42] = [
 
 /// What stands here for a name of another language; empty where nothing is known of it.
 pub fn instead_of(name: &str) -> &'static str {
-    match WORDS.iter().find(|one| one.word == name) {
-        Some(one) => one.said,
-        None => "",
+    for one in &WORDS {
+        if one.word == name {
+            return one.said;
+        }
     }
+    ""
 }
+
+/// Fields of a component that are meant to start it.
+const STARTS: [&str; 3] = ["start", "run", "fork"];
 
 /// Whether a field of a component is meant to start it.
 pub fn is_start(name: &str) -> bool {
-    name == "start" || name == "run" || name == "fork"
+    STARTS.contains(&name)
 }
+
+const NO_COMMENT: &str = "this sign is none of the language: comments stand between double quotes";
+
+/// How a text begins with a sign that is none of the language, and what is said of it.
+struct ForeignSign {
+    beginning: &'static [u8],
+    said: &'static str,
+}
+
+/// A sign that begins like another one stands before it.
+static SIGNS: [ForeignSign; 11] = [
+    ForeignSign {
+        beginning: &[0xEF, 0xBB, 0xBF],
+        said: "the file begins with a byte order mark, which is no part of a program: save it without one",
+    },
+    ForeignSign {
+        beginning: b"{",
+        said: NO_COMMENT,
+    },
+    ForeignSign {
+        beginning: b"}",
+        said: NO_COMMENT,
+    },
+    ForeignSign {
+        beginning: b"//",
+        said: NO_COMMENT,
+    },
+    ForeignSign {
+        beginning: b"/*",
+        said: NO_COMMENT,
+    },
+    ForeignSign {
+        beginning: b"/",
+        said: "this sign is none of the language: integers are divided by div",
+    },
+    ForeignSign {
+        beginning: b"!=",
+        said: "this sign is none of the language: write <> in place of !=",
+    },
+    ForeignSign {
+        beginning: b"!",
+        said: "this sign is none of the language: write not",
+    },
+    ForeignSign {
+        beginning: b"|",
+        said: "this sign is none of the language: write or",
+    },
+    ForeignSign {
+        beginning: b"%",
+        said: "this sign is none of the language: write mod",
+    },
+    ForeignSign {
+        beginning: b"^",
+        said: "this sign is none of the language: there are no pointers",
+    },
+];
 
 /// What is said of a sign that begins no lexeme, and stands at the front of a text.
 pub fn sign_sentence(text: &[u8]) -> &'static str {
-    match text {
-        [0xEF, 0xBB, 0xBF, ..] => {
-            "the file begins with a byte order mark, which is no part of a program: save it without one"
+    for sign in &SIGNS {
+        if text.starts_with(sign.beginning) {
+            return sign.said;
         }
-        [b'{', ..] | [b'}', ..] | [b'/', b'/', ..] | [b'/', b'*', ..] => {
-            "this sign is none of the language: comments stand between double quotes"
-        }
-        [b'/', ..] => "this sign is none of the language: integers are divided by div",
-        [b'!', b'=', ..] => "this sign is none of the language: write <> in place of !=",
-        [b'!', ..] => "this sign is none of the language: write not",
-        [b'|', ..] => "this sign is none of the language: write or",
-        [b'%', ..] => "this sign is none of the language: write mod",
-        [b'^', ..] => "this sign is none of the language: there are no pointers",
-        _ => "this sign is none of the language",
     }
+    "this sign is none of the language"
 }

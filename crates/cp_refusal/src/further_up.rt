@@ -3,7 +3,7 @@
 use crate::advice::Refused;
 use crate::candidates::Candidate;
 use crate::page::are_on_one_line;
-use crate::rules::mark_at;
+use crate::rules::{is_mark_of, mark_at, name_at};
 use cp_prose::Prose;
 use cp_text::{Kind, Mark, Tokens};
 
@@ -31,51 +31,50 @@ pub fn what_is_missing(refused: Refused, text: &mut Prose) -> Missing {
     }
 }
 
+/// What follows a whole block.
+const AFTER_BLOCKS: [Mark; 6] = [
+    Mark::Const,
+    Mark::Type,
+    Mark::Var,
+    Mark::Procedure,
+    Mark::Function,
+    Mark::Period,
+];
+
+/// What a statement, a declaration or a routine can begin with.
+const BEGINNINGS: [Mark; 13] = [
+    Mark::If,
+    Mark::Case,
+    Mark::While,
+    Mark::Repeat,
+    Mark::For,
+    Mark::Cycle,
+    Mark::Init,
+    Mark::Begin,
+    Mark::Var,
+    Mark::Type,
+    Mark::Const,
+    Mark::Procedure,
+    Mark::Function,
+];
+
+/// What a construct can end with.
+const ENDINGS: [Mark; 3] = [Mark::CloseParenthesis, Mark::CloseBracket, Mark::End];
+
 // Whether what begins with a token follows a whole block.
 fn is_after_a_block(refused: Refused) -> bool {
-    match refused.tokens.get(refused.at) {
-        None => true,
-        Some(Kind::Mark(mark)) => matches!(
-            mark,
-            Mark::Const | Mark::Type | Mark::Var | Mark::Procedure | Mark::Function | Mark::Period
-        ),
-        Some(_) => false,
-    }
+    refused.at >= refused.tokens.count() || is_mark_of(refused.tokens, refused.at, &AFTER_BLOCKS)
 }
 
 // Whether a statement, a declaration or a routine can begin with a token.
 fn is_beginning(tokens: &Tokens, at: usize) -> bool {
-    match tokens.get(at) {
-        Some(Kind::Name(_)) => true,
-        Some(Kind::Mark(mark)) => matches!(
-            mark,
-            Mark::If
-                | Mark::Case
-                | Mark::While
-                | Mark::Repeat
-                | Mark::For
-                | Mark::Cycle
-                | Mark::Init
-                | Mark::Begin
-                | Mark::Var
-                | Mark::Type
-                | Mark::Const
-                | Mark::Procedure
-                | Mark::Function
-        ),
-        _ => false,
-    }
+    !name_at(tokens, at).is_empty() || is_mark_of(tokens, at, &BEGINNINGS)
 }
 
 // Whether a construct can end with a token.
 fn is_ending(tokens: &Tokens, at: usize) -> bool {
     match tokens.get(at) {
-        Some(Kind::Mark(mark)) => {
-            matches!(
-                mark,
-                Mark::CloseParenthesis | Mark::CloseBracket | Mark::End
-            )
-        }
+        Some(Kind::Mark(mark)) => ENDINGS.contains(mark),
         Some(_) => true,
         None => false,
     }

@@ -117,13 +117,7 @@ impl<'a> Gathering<'a> {
         if self.is_full() {
             return;
         }
-        let mut sentence = Prose::new(self.alloc);
-        sentence.put("whoever waits in ");
-        push_tokens(&mut sentence, self.source, inner.call);
-        sentence.put(" is still inside ");
-        sentence.put(inner.outer);
-        sentence.put(", so that nobody else can come in there, not even to wake it");
-        self.add(inner.call.from, sentence.finish());
+        self.add(inner.call.from, sentence_on(self.alloc, self.source, inner));
     }
 
     fn add_inner_waits(&mut self) {
@@ -204,6 +198,16 @@ impl BodyWalk {
             && is_in_sequence(tokens, at)
             && mark_at(tokens, at.saturating_add(3)) == Some(Mark::CloseParenthesis)
     }
+}
+
+fn sentence_on(alloc: Global, source: &[u8], inner: Inner) -> Result<String, AllocError> {
+    let mut sentence = Prose::new(alloc);
+    sentence.put("whoever waits in ");
+    push_tokens(&mut sentence, source, inner.call);
+    sentence.put(" is still inside ");
+    sentence.put(inner.outer);
+    sentence.put(", so that nobody else can come in there, not even to wake it");
+    sentence.finish()
 }
 
 fn said_of(care: Care) -> &'static str {

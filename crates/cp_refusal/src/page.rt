@@ -42,12 +42,21 @@ fn push_blanks(text: &mut Prose, number: usize) {
 /// The line that begins at a place, without what ends it.
 fn line_at(source: &[u8], start: usize) -> &[u8] {
     let rest = &source[start.min(source.len())..];
-    let end = rest.iter().position(|byte| *byte == b'\n');
-    let line = &rest[..end.unwrap_or(rest.len()).min(rest.len())];
+    let line = &rest[..line_len(rest).min(rest.len())];
     match line {
         [before @ .., b'\r'] => before,
         _ => line,
     }
+}
+
+/// The bytes before the end of a line.
+fn line_len(text: &[u8]) -> usize {
+    for (at, byte) in text.iter().enumerate() {
+        if *byte == b'\n' {
+            return at;
+        }
+    }
+    text.len()
 }
 
 /// The most bytes of a line that are shown.
@@ -79,28 +88,51 @@ fn whole_from(line: &[u8], from: usize) -> usize {
     from
 }
 
+/// What is shown of a line: the part before a place, and all of it.
+#[derive(Clone, Copy)]
+struct ShownLine<'a> {
+    before: &'a [u8],
+    whole: &'a [u8],
+    is_begun: bool,
+    goes_on: bool,
+}
+
+fn shown_line(source: &[u8], at: usize) -> ShownLine<'_> {
+    let start = line_start(source, at).min(source.len());
+    let line = line_at(source, start);
+    let place = at.saturating_sub(start).min(line.len());
+    let part = shown_part(line, place);
+    ShownLine {
+        before: line.get(part.from..place).unwrap_or(&[]),
+        whole: line.get(part.from..part.to).unwrap_or(&[]),
+        is_begun: part.from > 0,
+        goes_on: part.to < line.len(),
+    }
+}
+
 /// Appends the line of a place with its number, and below it a mark under the place. Of a long line what is around the place is shown.
 pub fn push_marked_line(text: &mut Prose, source: &[u8], span: ByteRange) {
-    let start = line_start(source, span.from).min(source.len());
-    let line = line_at(source, start);
-    let place = span.from.saturating_sub(start).min(line.len());
-    let part = shown_part(line, place);
+    let line = shown_line(source, span.from);
     let before = text.len();
     text.put_display(line_number(source, span.from));
     let width = text.len().saturating_sub(before);
-    text.put(" | ");
-    text.put(if part.from > 0 { CUT } else { "" });
-    push_characters(
-        text,
-        line.get(part.from..part.to).unwrap_or(&[]),
-        Look::Whole,
-    );
-    text.put(if part.to < line.len() { CUT } else { "" });
-    text.put("\n");
+    push_line(text, &line);
     push_blanks(text, width);
+    push_mark(text, &line);
+}
+
+fn push_line(text: &mut Prose, line: &ShownLine) {
     text.put(" | ");
-    push_blanks(text, if part.from > 0 { CUT.len() } else { 0 });
-    push_characters(text, line.get(part.from..place).unwrap_or(&[]), Look::Blank);
+    text.put(if line.is_begun { CUT } else { "" });
+    push_characters(text, line.whole, Look::Whole);
+    text.put(if line.goes_on { CUT } else { "" });
+    text.put("\n");
+}
+
+fn push_mark(text: &mut Prose, line: &ShownLine) {
+    text.put(" | ");
+    push_blanks(text, if line.is_begun { CUT.len() } else { 0 });
+    push_characters(text, line.before, Look::Blank);
     text.put("^\n");
 }
 

@@ -203,14 +203,12 @@ fn value(digits: &[u8]) -> u32 {
 fn has_fault(cause: ScanCause, shape: PieceKind, text: &[u8], before: usize) -> bool {
     match cause {
         ScanCause::BadByte => shape == PieceKind::Unknown,
-        ScanCause::OpenComment => shape == PieceKind::Open,
-        ScanCause::OpenChar => shape == PieceKind::Open,
+        ScanCause::OpenComment | ScanCause::OpenChar => shape == PieceKind::Open,
         ScanCause::BadChar => shape == PieceKind::Character && !is_character(text),
         ScanCause::NumberTooLarge => shape == PieceKind::Number && value(text) > 32767,
         ScanCause::NameTooLong => shape == PieceKind::Name && text.len() > 40,
         ScanCause::TooManyTokens => is_token(shape) && before >= 20_000,
-        ScanCause::TooLong => false,
-        ScanCause::Memory => false,
+        ScanCause::TooLong | ScanCause::Memory => false,
     }
 }
 

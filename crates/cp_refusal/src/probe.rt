@@ -1,29 +1,24 @@
 //! Questions to the checker: whether it would accept a few tokens more at a place of a program.
 
-use crate::draft::{Draft, spelling};
+use crate::draft::Draft;
 use crate::extent::Extent;
 use cp_check::{CheckFault, Rule, check};
 use cp_drops::{drop_checked, drop_tree};
-use cp_text::{Kind, Mark, Tokens};
+use cp_text::Tokens;
 use cp_tree::{ParseFault, parse};
 use std::alloc::{AllocError, Global};
 
 /// Tokens that are put in.
 #[derive(Clone, Copy)]
 pub enum Insertion {
-    Mark(Mark),
-    Number(u16),
-    Character(u8),
-    /// A name that is not declared anywhere.
-    NewName,
-    /// The name `empty`.
-    Empty,
+    /// Each of these is one token.
+    Words(&'static [&'static str]),
     /// Tokens of the program once more.
     Copied(Extent),
 }
 
 /// What the checker says of tokens that were put in.
-#[derive(Clone, Copy, PartialEq, Eq)]
+#[derive(Clone, Copy)]
 pub enum Reply {
     /// No rule is broken in them.
     Fine,
@@ -33,16 +28,13 @@ pub enum Reply {
     Unknown,
 }
 
-/// A name of the greatest length, that no program is likely to have.
-const NEW_NAME: &str = "q012345678901234567890123456789012345678";
-
 fn push_piece(draft: &mut Draft, tokens: &Tokens, piece: Insertion) {
     match piece {
-        Insertion::Mark(mark) => draft.push_text(spelling(mark)),
-        Insertion::Number(value) => draft.push_kind(&Kind::Number(value)),
-        Insertion::Character(code) => draft.push_kind(&Kind::Character(code)),
-        Insertion::NewName => draft.push_text(NEW_NAME),
-        Insertion::Empty => draft.push_text("empty"),
+        Insertion::Words(words) => {
+            for word in words {
+                draft.push_text(word);
+            }
+        }
         Insertion::Copied(extent) => draft.push_copies(tokens, extent),
     }
 }
@@ -66,8 +58,17 @@ pub fn ask(
         to: tokens.count(),
     };
     draft.push_copies(tokens, rest);
-    match draft.tokens(alloc)? {
-        Some(tokens) => reply_for(alloc, &tokens, Extent { from, to }),
+    reply_in(alloc, draft.tokens(alloc), Extent { from, to })
+}
+
+/// What the checker says of some tokens, where memory was not refused for all of them.
+fn reply_in(
+    alloc: Global,
+    made: Result<Option<Tokens>, AllocError>,
+    pieces: Extent,
+) -> Result<Reply, AllocError> {
+    match made? {
+        Some(tokens) => reply_for(alloc, &tokens, pieces),
         None => Ok(Reply::Unknown),
     }
 }

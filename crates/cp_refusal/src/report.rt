@@ -102,16 +102,25 @@ fn push_refusal(text: &mut Prose, source: &[u8], refusal: &ExplainedRefusal, fil
 fn push_accepted(text: &mut Prose, source: &[u8], hints: &Hints, file: Option<&str>) {
     text.put("accepted\n");
     for hint in &hints.all {
-        text.put(if file.is_some() { "" } else { "hint: " });
-        push_position(text, source, hint.span, file);
-        text.put(if file.is_some() { "hint: " } else { "" });
-        text.put(hint.sentence.as_str());
-        text.put("\n");
-        push_marked_line(text, source, hint.span);
+        push_hint(text, source, hint, file);
     }
     match hints.more {
         0 => {}
         1 => text.put("and 1 more hint\n"),
         more => text.put_display(format_args!("and {more} more hints\n")),
     }
+}
+
+// As editors read it, where the name of the file is given.
+fn push_hint(text: &mut Prose, source: &[u8], hint: &Hint, file: Option<&str>) {
+    if file.is_some() {
+        push_position(text, source, hint.span, file);
+        text.put("hint: ");
+    } else {
+        text.put("hint: ");
+        push_position(text, source, hint.span, file);
+    }
+    text.put(hint.sentence.as_str());
+    text.put("\n");
+    push_marked_line(text, source, hint.span);
 }

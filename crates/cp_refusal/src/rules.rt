@@ -41,69 +41,155 @@ pub fn mark_before(tokens: &Tokens, at: usize) -> Option<Mark> {
     }
 }
 
-/// What does not agree in a construct that begins with a name, a number or a character.
-fn disagreement_after(tokens: &Tokens, at: usize) -> &'static str {
-    match mark_at(tokens, after_designator(tokens, at)) {
-        Some(Mark::Becomes) => ": the two sides of this assignment are of different types",
-        Some(Mark::OpenParenthesis) => match name_at(tokens, at) {
-            "delay" => " takes one queue variable",
-            "continue" => " takes one queue variable",
-            "empty" => " takes one queue variable",
-            _ => ": it can't be called so, or an argument is of another type than its parameter",
-        },
-        Some(
-            Mark::Equal
-            | Mark::NotEqual
-            | Mark::Less
-            | Mark::Greater
-            | Mark::AtMost
-            | Mark::AtLeast
-            | Mark::In,
-        ) => ": the two sides of this comparison are of different types",
-        Some(
-            Mark::Plus | Mark::Minus | Mark::Times | Mark::Div | Mark::Mod | Mark::And | Mark::Or,
-        ) => ": an operand of this operation is of the wrong type",
-        Some(Mark::DoublePeriod) => ": the bounds of a subrange have to be ordinal and of one type",
-        Some(Mark::Semicolon | Mark::End | Mark::Else | Mark::Until) => {
-            ": only a procedure can be called so"
-        }
-        _ => " is used as what it is not: its type does not agree",
+/// Whether one of these reserved words and signs stands at this number.
+pub fn is_mark_of(tokens: &Tokens, at: usize, marks: &[Mark]) -> bool {
+    match tokens.get(at) {
+        Some(Kind::Mark(mark)) => marks.contains(mark),
+        _ => false,
     }
 }
 
+/// What is said where one of some words and signs stands.
+struct MarkSentence {
+    marks: &'static [Mark],
+    said: &'static str,
+}
+
+/// What is said of the word or sign at this number; empty where nothing is.
+fn said_at(tokens: &Tokens, at: usize, sentences: &'static [MarkSentence]) -> &'static str {
+    for sentence in sentences {
+        if is_mark_of(tokens, at, sentence.marks) {
+            return sentence.said;
+        }
+    }
+    ""
+}
+
+/// What does not agree, by what stands after a name, a number or a character.
+static DISAGREEMENTS_AFTER: [MarkSentence; 5] = [
+    MarkSentence {
+        marks: &[Mark::Becomes],
+        said: ": the two sides of this assignment are of different types",
+    },
+    MarkSentence {
+        marks: &[
+            Mark::Equal,
+            Mark::NotEqual,
+            Mark::Less,
+            Mark::Greater,
+            Mark::AtMost,
+            Mark::AtLeast,
+            Mark::In,
+        ],
+        said: ": the two sides of this comparison are of different types",
+    },
+    MarkSentence {
+        marks: &[
+            Mark::Plus,
+            Mark::Minus,
+            Mark::Times,
+            Mark::Div,
+            Mark::Mod,
+            Mark::And,
+            Mark::Or,
+        ],
+        said: ": an operand of this operation is of the wrong type",
+    },
+    MarkSentence {
+        marks: &[Mark::DoublePeriod],
+        said: ": the bounds of a subrange have to be ordinal and of one type",
+    },
+    MarkSentence {
+        marks: &[Mark::Semicolon, Mark::End, Mark::Else, Mark::Until],
+        said: ": only a procedure can be called so",
+    },
+];
+
+/// The language's own routines that take a queue.
+const QUEUE_ROUTINES: [&str; 3] = ["delay", "continue", "empty"];
+
+/// What does not agree in a construct that begins with a name, a number or a character.
+fn disagreement_after(tokens: &Tokens, at: usize) -> &'static str {
+    let after = after_designator(tokens, at);
+    let said = said_at(tokens, after, &DISAGREEMENTS_AFTER);
+    if !said.is_empty() {
+        return said;
+    }
+    if mark_at(tokens, after) != Some(Mark::OpenParenthesis) {
+        " is used as what it is not: its type does not agree"
+    } else if QUEUE_ROUTINES.contains(&name_at(tokens, at)) {
+        " takes one queue variable"
+    } else {
+        ": it can't be called so, or an argument is of another type than its parameter"
+    }
+}
+
+/// What does not agree in a construct, by the word or sign that begins it.
+static DISAGREEMENTS: [MarkSentence; 9] = [
+    MarkSentence {
+        marks: &[Mark::If, Mark::While],
+        said: ": its condition is not boolean",
+    },
+    MarkSentence {
+        marks: &[Mark::Repeat],
+        said: ": the condition after its until is not boolean",
+    },
+    MarkSentence {
+        marks: &[Mark::For],
+        said: ": its variable is not ordinal, or a bound is of another type",
+    },
+    MarkSentence {
+        marks: &[Mark::Case],
+        said: ": its selector is not ordinal, or a label is of another type",
+    },
+    MarkSentence {
+        marks: &[Mark::Function],
+        said: ": its result may not be an array, a record or a set",
+    },
+    MarkSentence {
+        marks: &[Mark::Array],
+        said: ": its index type is not ordinal",
+    },
+    MarkSentence {
+        marks: &[Mark::Not],
+        said: " takes a boolean",
+    },
+    MarkSentence {
+        marks: &[Mark::OpenBracket],
+        said: ": the elements of a set have to be ordinal and of one type",
+    },
+    MarkSentence {
+        marks: &[Mark::Plus, Mark::Minus],
+        said: ": a sign takes an integer",
+    },
+];
+
 fn disagreement(tokens: &Tokens, at: usize) -> &'static str {
-    match mark_at(tokens, at) {
-        Some(Mark::If) => ": its condition is not boolean",
-        Some(Mark::While) => ": its condition is not boolean",
-        Some(Mark::Repeat) => ": the condition after its until is not boolean",
-        Some(Mark::For) => ": its variable is not ordinal, or a bound is of another type",
-        Some(Mark::Case) => ": its selector is not ordinal, or a label is of another type",
-        Some(Mark::Function) => ": its result may not be an array, a record or a set",
-        Some(Mark::Array) => ": its index type is not ordinal",
-        Some(Mark::Not) => " takes a boolean",
-        Some(Mark::OpenBracket) => ": the elements of a set have to be ordinal and of one type",
-        Some(Mark::Plus) => ": a sign takes an integer",
-        Some(Mark::Minus) => ": a sign takes an integer",
-        _ => disagreement_after(tokens, at),
+    let said = said_at(tokens, at, &DISAGREEMENTS);
+    if said.is_empty() {
+        disagreement_after(tokens, at)
+    } else {
+        said
     }
 }
 
 fn wrong_entry(tokens: &Tokens, at: usize) -> &'static str {
     if mark_at(tokens, at) == Some(Mark::Entry) {
-        return " stands only in a class or a monitor: nobody calls a process or the program";
+        " stands only in a class or a monitor: nobody calls a process or the program"
+    } else if mark_before(tokens, at) == Some(Mark::Period) {
+        " can't be called from outside: its heading has no entry"
+    } else {
+        " is an entry, and can't be called within its own type: put what both need into a routine without entry"
     }
-    if mark_before(tokens, at) == Some(Mark::Period) {
-        return " can't be called from outside: its heading has no entry";
-    }
-    " is an entry, and can't be called within its own type: put what both need into a routine without entry"
 }
 
-fn wrong_wait(tokens: &Tokens, at: usize) -> &'static str {
-    match name_at(tokens, at) {
-        "delay" => " stands only in the routines of a monitor",
-        "continue" => " stands only in the body of an entry procedure of a monitor",
-        _ =>
-            " leads to a delay, and an initial statement may not wait: nobody could come in to wake it",
+fn wrong_wait(name: &str) -> &'static str {
+    if name == "delay" {
+        " stands only in the routines of a monitor"
+    } else if name == "continue" {
+        " stands only in the body of an entry procedure of a monitor"
+    } else {
+        " leads to a delay, and an initial statement may not wait: nobody could come in to wake it"
     }
 }
 
@@ -116,62 +202,51 @@ fn too_large(tokens: &Tokens, at: usize) -> &'static str {
     }
 }
 
+/// What is wrong with a token where a rule is broken, in the order of `Rule`; empty where that hangs on the token.
+const COMPLAINTS: [&str; 21] = [
+    " is not declared here",
+    " is declared twice in one block",
+    " is no constant, and its value has to be known before the program runs",
+    " is not the name of a type",
+    "",
+    " can't be assigned: it is no variable that may change here",
+    " is called with a wrong number of arguments",
+    " is no routine of this component, whose variables can't be reached from outside",
+    "",
+    " calls itself: no routine may",
+    " can't stand here: a queue is declared only among the permanent variables of a monitor",
+    "",
+    " can't stand here: a component is declared only among permanent variables, a monitor in the program, a process or a monitor, a process in the program, a class in any of these",
+    " is a class, and a monitor or a process can't be given a class: what is shared has to be a monitor",
+    " is a process or a queue, and can't be a parameter",
+    " stands only in the initial statement of the program or of a system type",
+    " is no component variable of this block, so that init can't start it",
+    " begins a subrange whose upper bound is below its lower bound",
+    " comes twice among the labels of this case",
+    "",
+    " is an array, a record or a set",
+];
+
 /// What is wrong with the token of this number, after its spelling.
 fn complaint(tokens: &Tokens, at: usize, rule: Rule) -> &'static str {
     match rule {
-        Rule::C1 => " is not declared here",
-        Rule::C2 => " is declared twice in one block",
-        Rule::C3 => " is no constant, and its value has to be known before the program runs",
-        Rule::C4 => " is not the name of a type",
         Rule::C5 => disagreement(tokens, at),
-        Rule::C6 => " can't be assigned: it is no variable that may change here",
-        Rule::C7 => " is called with a wrong number of arguments",
-        Rule::C8 =>
-            " is no routine of this component, whose variables can't be reached from outside",
         Rule::C9 => wrong_entry(tokens, at),
-        Rule::C10 => " calls itself: no routine may",
-        Rule::C11 =>
-            " can't stand here: a queue is declared only among the permanent variables of a monitor",
-        Rule::C12 => wrong_wait(tokens, at),
-        Rule::C13 =>
-            " can't stand here: a component is declared only among permanent variables, a monitor in the program, a process or a monitor, a process in the program, a class in any of these",
-        Rule::C14 =>
-            " is a class, and a monitor or a process can't be given a class: what is shared has to be a monitor",
-        Rule::C15 => " is a process or a queue, and can't be a parameter",
-        Rule::C16 => " stands only in the initial statement of the program or of a system type",
-        Rule::C17 => " is no component variable of this block, so that init can't start it",
-        Rule::C18 => " begins a subrange whose upper bound is below its lower bound",
-        Rule::C19 => " comes twice among the labels of this case",
+        Rule::C12 => wrong_wait(name_at(tokens, at)),
         Rule::C20 => too_large(tokens, at),
-        Rule::C21 => " is an array, a record or a set",
+        _ => COMPLAINTS[rule as usize],
     }
 }
 
+/// The numbers of the rules, in the order of `Rule`.
+const CODES: [&str; 21] = [
+    "C1", "C2", "C3", "C4", "C5", "C6", "C7", "C8", "C9", "C10", "C11", "C12", "C13", "C14", "C15",
+    "C16", "C17", "C18", "C19", "C20", "C21",
+];
+
 /// The number of a rule.
 pub fn code(rule: Rule) -> &'static str {
-    match rule {
-        Rule::C1 => "C1",
-        Rule::C2 => "C2",
-        Rule::C3 => "C3",
-        Rule::C4 => "C4",
-        Rule::C5 => "C5",
-        Rule::C6 => "C6",
-        Rule::C7 => "C7",
-        Rule::C8 => "C8",
-        Rule::C9 => "C9",
-        Rule::C10 => "C10",
-        Rule::C11 => "C11",
-        Rule::C12 => "C12",
-        Rule::C13 => "C13",
-        Rule::C14 => "C14",
-        Rule::C15 => "C15",
-        Rule::C16 => "C16",
-        Rule::C17 => "C17",
-        Rule::C18 => "C18",
-        Rule::C19 => "C19",
-        Rule::C20 => "C20",
-        Rule::C21 => "C21",
-    }
+    CODES[rule as usize]
 }
 
 /// A fault of a program that the checker refuses.
@@ -223,27 +298,29 @@ fn push_particular(asker: &Asker, text: &mut Prose, broken: Broken) -> bool {
 
 /// Says of a name that is not visible where it is declared, what is meant by it elsewhere, or which name may have been meant.
 fn push_undeclared(asker: &Asker, text: &mut Prose, broken: Broken) -> bool {
-    let at = broken.at;
-    let name = name_at(asker.tokens, at);
-    push_tokens(text, asker.source, single(at));
-    if mark_before(asker.tokens, at) == Some(Mark::Period) {
+    push_tokens(text, asker.source, single(broken.at));
+    if mark_before(asker.tokens, broken.at) == Some(Mark::Period) {
         text.put(" is no field of this record");
         return true;
     }
     text.put(" is not declared here");
-    if is_declared_somewhere(broken.program, name) {
-        text.put(ELSEWHERE);
-        return true;
-    }
-    let instead = instead_of(name);
-    if !instead.is_empty() {
-        text.put(instead);
-        return true;
-    }
-    if let Some(other) = similar_declaration(broken.program, asker.tokens, at) {
+    let name = name_at(asker.tokens, broken.at);
+    let known = what_is_known(broken.program, name);
+    if !known.is_empty() {
+        text.put(known);
+    } else if let Some(other) = similar_declaration(broken.program, asker.tokens, broken.at) {
         push_declared(asker, text, other);
     }
     true
+}
+
+/// What is known of a name that is not declared where it stands; empty where nothing is.
+fn what_is_known(program: &Program, name: &str) -> &'static str {
+    if is_declared_somewhere(program, name) {
+        ELSEWHERE
+    } else {
+        instead_of(name)
+    }
 }
 
 const ELSEWHERE: &str =
@@ -262,7 +339,7 @@ fn push_declared(asker: &Asker, text: &mut Prose, at: usize) {
 }
 
 /// How a name is used.
-#[derive(Clone, Copy, PartialEq, Eq)]
+#[derive(Clone, Copy)]
 enum RuleUse {
     /// As a statement that calls it.
     Statement,
@@ -338,10 +415,13 @@ fn push_array(asker: &Asker, text: &mut Prose, at: usize) -> bool {
         return false;
     }
     push_tokens(text, asker.source, array);
-    text.put(" is an array, and init takes its elements: init ");
-    push_tokens(text, asker.source, array);
-    text.put("[1](..), ");
-    push_tokens(text, asker.source, array);
+    for words in [
+        " is an array, and init takes its elements: init ",
+        "[1](..), ",
+    ] {
+        text.put(words);
+        push_tokens(text, asker.source, array);
+    }
     text.put("[2](..)");
     true
 }
@@ -350,16 +430,19 @@ fn push_undisplayed(asker: &Asker, text: &mut Prose, at: usize) -> bool {
     let value = expression_at(asker.tokens, at);
     text.put("display takes a value, but ");
     push_tokens(text, asker.source, value);
+    text.put(" is ");
     let sort = asker.sort_of(text, value);
-    text.put(match sort {
-        Some(Sort::Queue) => " is a queue",
-        Some(Sort::Set) => " is a set",
-        Some(Sort::Record) => " is a record",
-        Some(Sort::Array) => " is an array",
-        Some(Sort::Component) => " is a component",
-        _ => " is an array, a record or a set",
-    });
+    text.put(phrase_of(sort));
     true
+}
+
+/// The sort of what is not displayed.
+fn phrase_of(sort: Option<Sort>) -> &'static str {
+    match sort {
+        Some(sort @ (Sort::Queue | Sort::Set | Sort::Record | Sort::Array | Sort::Component)) =>
+            sort.phrase(),
+        _ => "an array, a record or a set",
+    }
 }
 
 fn push_general(asker: &Asker, text: &mut Prose, broken: Broken) {

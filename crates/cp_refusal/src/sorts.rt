@@ -4,7 +4,7 @@ use crate::extent::Extent;
 use crate::probe::{Insertion, Reply, ask};
 use cp_check::Rule;
 use cp_prose::Prose;
-use cp_text::{Mark, Tokens};
+use cp_text::Tokens;
 use std::alloc::{AllocError, Global};
 
 /// What sort of value an expression has.
@@ -55,170 +55,135 @@ pub struct Asker<'a> {
     pub place: usize,
 }
 
+/// Words around a value, at which the checker tells of what sort it is.
+struct Question {
+    before: &'static [&'static str],
+    after: &'static [&'static str],
+}
+
 /// The sorts of which one question tells whether a value has them, in the order of these questions.
-const PLAIN_SORTS: [Sort; 6] = [
-    Sort::Integer,
-    Sort::Boolean,
-    Sort::Character,
-    Sort::Set,
-    Sort::Enumeration,
-    Sort::Queue,
+static PLAIN_SORTS: [(Sort, Question); 6] = [
+    (
+        Sort::Integer,
+        Question {
+            before: &["if", "("],
+            after: &[")", "=", "1", "then"],
+        },
+    ),
+    (
+        Sort::Boolean,
+        Question {
+            before: &["if", "not", "("],
+            after: &[")", "then"],
+        },
+    ),
+    (
+        Sort::Character,
+        Question {
+            before: &["if", "("],
+            after: &[")", "=", "'(:65:)'", "then"],
+        },
+    ),
+    (
+        Sort::Set,
+        Question {
+            before: &["if", "("],
+            after: &[")", "=", "[", "]", "then"],
+        },
+    ),
+    (
+        Sort::Enumeration,
+        Question {
+            before: &["if", "["],
+            after: &["]", "=", "[", "]", "then"],
+        },
+    ),
+    (
+        Sort::Queue,
+        Question {
+            before: &["if", "empty", "("],
+            after: &[")", "then"],
+        },
+    ),
 ];
 
-/// An index of a sort, to be tried.
-const INDICES: [Insertion; 2] = [Insertion::Number(1), Insertion::Character(65)];
+/// A field with a name of the greatest length, that no program is likely to have.
+static NEW_FIELD: Question = Question {
+    before: &["if"],
+    after: &[".", "q012345678901234567890123456789012345678", "then"],
+};
+
+/// An index of each sort that is tried.
+static INDICES: [Question; 2] = [
+    Question {
+        before: &["if"],
+        after: &["[", "1", "]", "then"],
+    },
+    Question {
+        before: &["if"],
+        after: &["[", "'(:65:)'", "]", "then"],
+    },
+];
 
 impl<'a> Asker<'a> {
-    fn asks(&self, pieces: &[Insertion]) -> Result<Reply, AllocError> {
-        ask(self.alloc, self.tokens, self.place, pieces)
-    }
-
-    fn accepts(&self, pieces: &[Insertion]) -> Result<bool, AllocError> {
-        Ok(self.asks(pieces)? == Reply::Fine)
-    }
-
-    /// Whether an expression may be compared with this piece.
-    fn equals(&self, value: Extent, other: Insertion) -> Result<bool, AllocError> {
-        self.accepts(&[
-            Insertion::Mark(Mark::If),
-            Insertion::Mark(Mark::OpenParenthesis),
+    /// What is said of a value between the words of a question.
+    fn reply_to(&self, value: Extent, question: &Question) -> Result<Reply, AllocError> {
+        let pieces = [
+            Insertion::Words(question.before),
             Insertion::Copied(value),
-            Insertion::Mark(Mark::CloseParenthesis),
-            Insertion::Mark(Mark::Equal),
-            other,
-            Insertion::Mark(Mark::Then),
-        ])
-    }
-
-    fn is_boolean(&self, value: Extent) -> Result<bool, AllocError> {
-        self.accepts(&[
-            Insertion::Mark(Mark::If),
-            Insertion::Mark(Mark::Not),
-            Insertion::Mark(Mark::OpenParenthesis),
-            Insertion::Copied(value),
-            Insertion::Mark(Mark::CloseParenthesis),
-            Insertion::Mark(Mark::Then),
-        ])
-    }
-
-    /// Whether an expression may be compared with a set of what these brackets hold.
-    fn is_set(&self, value: Extent) -> Result<bool, AllocError> {
-        self.accepts(&[
-            Insertion::Mark(Mark::If),
-            Insertion::Mark(Mark::OpenParenthesis),
-            Insertion::Copied(value),
-            Insertion::Mark(Mark::CloseParenthesis),
-            Insertion::Mark(Mark::Equal),
-            Insertion::Mark(Mark::OpenBracket),
-            Insertion::Mark(Mark::CloseBracket),
-            Insertion::Mark(Mark::Then),
-        ])
-    }
-
-    /// Whether a set may have an expression as an element.
-    fn is_element(&self, value: Extent) -> Result<bool, AllocError> {
-        self.accepts(&[
-            Insertion::Mark(Mark::If),
-            Insertion::Mark(Mark::OpenBracket),
-            Insertion::Copied(value),
-            Insertion::Mark(Mark::CloseBracket),
-            Insertion::Mark(Mark::Equal),
-            Insertion::Mark(Mark::OpenBracket),
-            Insertion::Mark(Mark::CloseBracket),
-            Insertion::Mark(Mark::Then),
-        ])
+            Insertion::Words(question.after),
+        ];
+        ask(self.alloc, self.tokens, self.place, &pieces)
     }
 
     /// Whether a set may have both of two expressions as elements.
     fn are_elements(&self, one: Extent, other: Extent) -> Result<bool, AllocError> {
-        self.accepts(&[
-            Insertion::Mark(Mark::If),
-            Insertion::Mark(Mark::OpenBracket),
+        let pieces = [
+            Insertion::Words(&["if", "["]),
             Insertion::Copied(one),
-            Insertion::Mark(Mark::Comma),
+            Insertion::Words(&[","]),
             Insertion::Copied(other),
-            Insertion::Mark(Mark::CloseBracket),
-            Insertion::Mark(Mark::Equal),
-            Insertion::Mark(Mark::OpenBracket),
-            Insertion::Mark(Mark::CloseBracket),
-            Insertion::Mark(Mark::Then),
-        ])
-    }
-
-    fn is_queue(&self, value: Extent) -> Result<bool, AllocError> {
-        self.accepts(&[
-            Insertion::Mark(Mark::If),
-            Insertion::Empty,
-            Insertion::Mark(Mark::OpenParenthesis),
-            Insertion::Copied(value),
-            Insertion::Mark(Mark::CloseParenthesis),
-            Insertion::Mark(Mark::Then),
-        ])
-    }
-
-    /// What is said of a field of a value that nothing has.
-    fn field_reply(&self, value: Extent) -> Result<Reply, AllocError> {
-        self.asks(&[
-            Insertion::Mark(Mark::If),
-            Insertion::Copied(value),
-            Insertion::Mark(Mark::Period),
-            Insertion::NewName,
-            Insertion::Mark(Mark::Then),
-        ])
+            Insertion::Words(&["]", "=", "[", "]", "then"]),
+        ];
+        let reply = ask(self.alloc, self.tokens, self.place, &pieces)?;
+        Ok(matches!(reply, Reply::Fine))
     }
 
     /// Whether the fault with an index is another than that there is none.
-    fn takes_index(&self, value: Extent, index: Insertion) -> Result<bool, AllocError> {
-        let reply = self.asks(&[
-            Insertion::Mark(Mark::If),
-            Insertion::Copied(value),
-            Insertion::Mark(Mark::OpenBracket),
-            index,
-            Insertion::Mark(Mark::CloseBracket),
-            Insertion::Mark(Mark::Then),
-        ])?;
-        Ok(match reply {
+    fn takes_index(&self, value: Extent, question: &Question) -> Result<bool, AllocError> {
+        Ok(match self.reply_to(value, question)? {
             Reply::Fine => true,
             Reply::Broken { rule: Rule::C5, at } => at == 0,
             _ => false,
         })
     }
 
-    /// Whether an expression is accepted where values of a plain sort are.
-    fn is_plain(&self, value: Extent, sort: Sort) -> Result<bool, AllocError> {
-        match sort {
-            Sort::Integer => self.equals(value, Insertion::Number(1)),
-            Sort::Boolean => self.is_boolean(value),
-            Sort::Character => self.equals(value, Insertion::Character(65)),
-            Sort::Set => self.is_set(value),
-            Sort::Enumeration => self.is_element(value),
-            Sort::Queue => self.is_queue(value),
-            Sort::Record | Sort::Array | Sort::Component => Ok(false),
-        }
-    }
-
     fn plain_sort(&self, value: Extent) -> Result<Option<Sort>, AllocError> {
-        for sort in &PLAIN_SORTS {
-            if self.is_plain(value, *sort)? {
+        for (sort, question) in &PLAIN_SORTS {
+            if matches!(self.reply_to(value, question)?, Reply::Fine) {
                 return Ok(Some(*sort));
             }
         }
         Ok(None)
     }
 
-    /// The sort of what has fields or indices.
-    fn compound_sort(&self, value: Extent) -> Result<Option<Sort>, AllocError> {
-        match self.field_reply(value)? {
-            Reply::Broken { rule: Rule::C1, at } if at > 1 => return Ok(Some(Sort::Record)),
-            Reply::Broken { rule: Rule::C8, .. } => return Ok(Some(Sort::Component)),
-            _ => {}
-        }
-        for index in &INDICES {
-            if self.takes_index(value, *index)? {
-                return Ok(Some(Sort::Array));
+    fn is_array(&self, value: Extent) -> Result<bool, AllocError> {
+        for question in &INDICES {
+            if self.takes_index(value, question)? {
+                return Ok(true);
             }
         }
-        Ok(None)
+        Ok(false)
+    }
+
+    /// The sort of what has fields or indices.
+    fn compound_sort(&self, value: Extent) -> Result<Option<Sort>, AllocError> {
+        match self.reply_to(value, &NEW_FIELD)? {
+            Reply::Broken { rule: Rule::C1, at } if at > 1 => Ok(Some(Sort::Record)),
+            Reply::Broken { rule: Rule::C8, .. } => Ok(Some(Sort::Component)),
+            _ if self.is_array(value)? => Ok(Some(Sort::Array)),
+            _ => Ok(None),
+        }
     }
 
     fn find_sort(&self, value: Extent) -> Result<Option<Sort>, AllocError> {

@@ -8,7 +8,7 @@ use cp_tree::{Body, PartKind, Program, ProgramPartKind, SystemKind, VariableGrou
 use std::alloc::{AllocError, Global};
 
 /// What is said of a component.
-#[derive(Clone, Copy, PartialEq, Eq)]
+#[derive(Clone, Copy)]
 pub enum Care {
     /// It is a process that is never started.
     NotStarted,
@@ -38,6 +38,13 @@ impl RemarkList {
         if self.all.push(Remark { at, care }).is_err() {
             self.is_refused = true;
         }
+    }
+
+    fn finish(self) -> Result<Vec<Remark>, AllocError> {
+        if self.is_refused {
+            return Err(AllocError);
+        }
+        Ok(self.all)
     }
 }
 
@@ -144,8 +151,12 @@ fn extent_of(tokens: &Tokens, body: &Body) -> Extent {
 /// The kind of the components of a group of variables, where they are components.
 fn kind_of(program: &Program, types: &[NamedSystem], group: &VariableGroup) -> Option<SystemKind> {
     let name = type_of_group(program, group);
-    let found = types.iter().find(|one| one.name == name)?;
-    Some(found.system.kind)
+    for one in types {
+        if one.name == name {
+            return Some(one.system.kind);
+        }
+    }
+    None
 }
 
 /// Adds the remarks on the components of some groups, that a body starts.
@@ -178,6 +189,38 @@ fn add_groups(
     }
 }
 
+/// Adds the remarks on the components of the system types.
+fn add_systems(
+    tokens: &Tokens,
+    program: &Program,
+    types: &[NamedSystem],
+    remarks: &mut RemarkList,
+) {
+    for named in types {
+        let body = extent_of(tokens, &named.system.body);
+        for part in &named.system.parts {
+            if let PartKind::Variables(groups) = &part.kind {
+                add_groups(tokens, program, types, groups, body, remarks);
+            }
+        }
+    }
+}
+
+/// Adds the remarks on the components of the program itself.
+fn add_program(
+    tokens: &Tokens,
+    program: &Program,
+    types: &[NamedSystem],
+    remarks: &mut RemarkList,
+) {
+    let body = extent_of(tokens, &program.body);
+    for part in &program.parts {
+        if let ProgramPartKind::Variables(groups) = &part.kind {
+            add_groups(tokens, program, types, groups, body, remarks);
+        }
+    }
+}
+
 /// The remarks on the starts of a program's components.
 pub fn remarks(
     alloc: Global,
@@ -189,22 +232,7 @@ pub fn remarks(
         all: Vec::new(alloc),
         is_refused: false,
     };
-    for named in &types {
-        let body = extent_of(tokens, &named.system.body);
-        for part in &named.system.parts {
-            if let PartKind::Variables(groups) = &part.kind {
-                add_groups(tokens, program, &types, groups, body, &mut remarks);
-            }
-        }
-    }
-    let body = extent_of(tokens, &program.body);
-    for part in &program.parts {
-        if let ProgramPartKind::Variables(groups) = &part.kind {
-            add_groups(tokens, program, &types, groups, body, &mut remarks);
-        }
-    }
-    if remarks.is_refused {
-        return Err(AllocError);
-    }
-    Ok(remarks.all)
+    add_systems(tokens, program, &types, &mut remarks);
+    add_program(tokens, program, &types, &mut remarks);
+    remarks.finish()
 }

@@ -26,9 +26,12 @@ pub struct Inner<'a> {
 }
 
 fn waits(known: &[RoutineWaits], owner: &str, name: &str) -> bool {
-    known
-        .iter()
-        .any(|one| one.waits && one.owner == owner && one.name == name)
+    for one in known {
+        if one.waits && one.owner == owner && one.name == name {
+            return true;
+        }
+    }
+    false
 }
 
 /// The number of the token after the name at this number and an index, where it has one.
@@ -97,45 +100,70 @@ fn body_of(system: &System, number: usize, routine: &Routine) -> Extent {
     }
 }
 
-/// Adds the routines of a system type, in their order: each calls only those before it.
-fn add_routines<'a>(
-    tokens: &Tokens,
-    program: &'a Program,
-    named: NamedSystem<'a>,
-    known: &mut Vec<RoutineWaits<'a>>,
-) -> Result<(), AllocError> {
-    for (number, routine) in named.system.routines.iter().enumerate() {
-        let body = body_of(named.system, number, routine);
-        let waits = may_wait(tokens, program, named, known, body);
-        known.push(RoutineWaits {
-            owner: named.name,
-            name: routine.name.name.as_str(),
-            waits,
-        })?;
-    }
-    Ok(())
+/// What is found out of routines, and whether memory was refused for some of it.
+#[derive(Drop)]
+struct Findings<'a> {
+    known: Vec<RoutineWaits<'a>>,
+    inner: Vec<Inner<'a>>,
+    is_refused: bool,
 }
 
-/// Adds the calls in a monitor type that may wait in another monitor.
-fn add_inner<'a>(
-    tokens: &Tokens,
-    program: &'a Program,
-    named: NamedSystem<'a>,
-    known: &[RoutineWaits],
-    found: &mut Vec<Inner<'a>>,
-) -> Result<(), AllocError> {
-    for (number, routine) in named.system.routines.iter().enumerate() {
-        let body = body_of(named.system, number, routine);
-        for at in body.from..body.to {
-            if let Some(call) = waiting_call(tokens, program, named.system, known, at) {
-                found.push(Inner {
-                    outer: named.name,
-                    call,
-                })?;
+impl<'a> Findings<'a> {
+    fn add_known(&mut self, known: RoutineWaits<'a>) {
+        if self.known.push(known).is_err() {
+            self.is_refused = true;
+        }
+    }
+
+    fn add_call(&mut self, call: Inner<'a>) {
+        if self.inner.push(call).is_err() {
+            self.is_refused = true;
+        }
+    }
+
+    /// Adds the routines of a system type, in their order: each calls only those before it.
+    fn add_routines(&mut self, tokens: &Tokens, program: &'a Program, named: NamedSystem<'a>) {
+        for (number, routine) in named.system.routines.iter().enumerate() {
+            let body = body_of(named.system, number, routine);
+            let waits = may_wait(tokens, program, named, &self.known, body);
+            self.add_known(RoutineWaits {
+                owner: named.name,
+                name: routine.name.name.as_str(),
+                waits,
+            });
+        }
+    }
+
+    /// Adds the calls in a monitor type that may wait in another monitor.
+    fn add_inner(&mut self, tokens: &Tokens, program: &'a Program, named: NamedSystem<'a>) {
+        for (number, routine) in named.system.routines.iter().enumerate() {
+            let body = body_of(named.system, number, routine);
+            for at in body.from..body.to {
+                if let Some(call) = waiting_call(tokens, program, named.system, &self.known, at) {
+                    self.add_call(Inner {
+                        outer: named.name,
+                        call,
+                    });
+                }
             }
         }
     }
-    Ok(())
+
+    fn add_all(&mut self, tokens: &Tokens, program: &'a Program, types: &[NamedSystem<'a>]) {
+        for named in types {
+            if named.system.kind == SystemKind::Monitor {
+                self.add_inner(tokens, program, *named);
+            }
+            self.add_routines(tokens, program, *named);
+        }
+    }
+
+    fn finish(self) -> Result<Vec<Inner<'a>>, AllocError> {
+        if self.is_refused {
+            return Err(AllocError);
+        }
+        Ok(self.inner)
+    }
 }
 
 /// The calls, within monitors, of other monitors in which they may wait.
@@ -144,13 +172,12 @@ pub fn inner_waits<'a>(
     tokens: &Tokens,
     program: &'a Program,
 ) -> Result<Vec<Inner<'a>>, AllocError> {
-    let mut known = Vec::new(alloc);
-    let mut found = Vec::new(alloc);
-    for named in &system_types(alloc, program)? {
-        if named.system.kind == SystemKind::Monitor {
-            add_inner(tokens, program, *named, &known, &mut found)?;
-        }
-        add_routines(tokens, program, *named, &mut known)?;
-    }
-    Ok(found)
+    let types = system_types(alloc, program)?;
+    let mut findings = Findings {
+        known: Vec::new(alloc),
+        inner: Vec::new(alloc),
+        is_refused: false,
+    };
+    findings.add_all(tokens, program, &types);
+    findings.finish()
 }

@@ -4,7 +4,7 @@ use crate::sorts::Sort;
 use cp_text::Mark;
 
 /// Of which sorts a single value has to be.
-#[derive(Clone, Copy, PartialEq, Eq)]
+#[derive(Clone, Copy)]
 pub enum Sorts {
     Boolean,
     Integer,
@@ -36,7 +36,7 @@ impl Sorts {
 }
 
 /// Of which sorts the operands of an operation may be, both of one.
-#[derive(Clone, Copy, PartialEq, Eq)]
+#[derive(Clone, Copy)]
 pub enum Operands {
     Integers,
     IntegersOrSets,
@@ -45,10 +45,10 @@ pub enum Operands {
 
 impl Operands {
     /// The operands of an operator between terms or factors.
-    pub fn of(operator: Mark) -> Operands {
+    pub fn of(operator: Option<Mark>) -> Operands {
         match operator {
-            Mark::And | Mark::Or => Operands::BooleansOrSets,
-            Mark::Minus => Operands::IntegersOrSets,
+            Some(Mark::And | Mark::Or) => Operands::BooleansOrSets,
+            Some(Mark::Minus) => Operands::IntegersOrSets,
             _ => Operands::Integers,
         }
     }
