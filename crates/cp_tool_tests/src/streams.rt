@@ -65,7 +65,9 @@ pub fn answer_by<X: Threads + Sync>(
     let reader = OneByteReader::new(source, refusals.read);
     let writer = OneByteWriter::new(alloc, refusals.write, refusals.refusal);
     let (reads, writes) = (Blank::new(3), Blank::new(3));
-    told_by::<X, OneByteReader<'_>, Brand, Brand>(rt, alloc, options, reader, writer, reads, writes)
+    answer_of::<X, OneByteReader<'_>, Brand, Brand>(
+        rt, alloc, options, reader, writer, reads, writes,
+    )
 }
 
 /// What the program answers to a source that never ends.

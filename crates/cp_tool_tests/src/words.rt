@@ -4,7 +4,7 @@ use cp_tool::{OptionFault, Options, read_options};
 use std::alloc::Global;
 use std::test::Fail;
 
-static ALL: [&str; 13] = [
+const ALL: [&str; 13] = [
     "cpx",
     "--choices",
     "5",
@@ -21,7 +21,7 @@ static ALL: [&str; 13] = [
 ];
 
 /// Words that spell the numbers 5, 20, 1 and 0, and the empty schedule word.
-static SPELLINGS: [&str; 10] = [
+const SPELLINGS: [&str; 10] = [
     "cpx",
     "--choices=+5",
     "--steps",
@@ -35,7 +35,7 @@ static SPELLINGS: [&str; 10] = [
 ];
 
 /// Words that ask for merging, with numbers that only then are in their ranges.
-static MERGED: [&str; 8] = [
+const MERGED: [&str; 8] = [
     "cpx",
     "--merge",
     "--states",
@@ -47,7 +47,7 @@ static MERGED: [&str; 8] = [
 ];
 
 /// Words that ask for the ends of schedules of any length, with numbers that only then, or with merging, are in their ranges.
-static ENDS: [&str; 5] = [
+const ENDS: [&str; 5] = [
     "cpx",
     "--schedule",
     "0.0.0.0.0.0.0.0.0.0.0.0.0.0.0.0.0.0.0.0.15",
@@ -55,7 +55,7 @@ static ENDS: [&str; 5] = [
     "--steps=7",
 ];
 
-static LONGEST: [&str; 3] = [
+const LONGEST: [&str; 3] = [
     "cpx",
     "--schedule",
     "15.0.1.2.3.4.5.6.7.8.9.10.11.12.13.14.15.0.1.2",
