@@ -117,7 +117,7 @@ impl ChangeLines {
     fn end_monitor(&mut self, alloc: Global) {
         if let Some(monitor) = self.monitor.take() {
             let words = mem::replace(&mut self.words, Prose::new(alloc));
-            match broken(alloc, words, self.width) {
+            match break_words(alloc, words, self.width) {
                 Ok(lines) => self.push_all(monitor, lines),
                 Err(_) => self.is_refused = true,
             }
@@ -142,6 +142,6 @@ impl ChangeLines {
     }
 }
 
-fn broken(alloc: Global, words: Prose, width: f64) -> Result<Vec<String>, AllocError> {
+fn break_words(alloc: Global, words: Prose, width: f64) -> Result<Vec<String>, AllocError> {
     wrap(alloc, words.as_str()?, width, 10.5 * WIDTH)
 }

@@ -62,9 +62,9 @@ fn draw_stay(alloc: Global, svg: &mut Svg, scene: Scene<'_>, plan: &Plan, stay: 
     svg.begin_title();
     svg.digits(u32::from(stay.process));
     svg.raw(" ");
-    svg.escaped(scene.legend.process_name(stay.process));
+    svg.escape(scene.legend.process_name(stay.process));
     svg.raw(" is inside ");
-    svg.escaped_made(call_words(alloc, scene, stay));
+    svg.escape_made(call_words(alloc, scene, stay));
     svg.end_title();
     svg.block(Block {
         left: lane.left + 1.0 + inset,
@@ -91,13 +91,13 @@ fn draw_pause(svg: &mut Svg, scene: Scene<'_>, plan: &Plan, pause: &Pause, is_st
     svg.begin_title();
     svg.digits(u32::from(pause.process));
     svg.raw(" ");
-    svg.escaped(scene.legend.process_name(pause.process));
+    svg.escape(scene.legend.process_name(pause.process));
     svg.raw(if pause.at_gate {
         " waits at the gate of "
     } else {
         " waits in a queue of "
     });
-    svg.escaped(scene.legend.monitor_name(pause.monitor));
+    svg.escape(scene.legend.monitor_name(pause.monitor));
     svg.end_title();
     svg.block(Block {
         left: plan.dot(pause.process) - 9.0,
@@ -116,11 +116,11 @@ fn draw_hold(svg: &mut Svg, scene: Scene<'_>, plan: &Plan, hold: &Hold) {
     let bar = plan.bar(hold.monitor);
     let middle = bar.left + bar.width / 2.0;
     svg.begin_title();
-    svg.escaped(scene.legend.monitor_name(hold.monitor));
+    svg.escape(scene.legend.monitor_name(hold.monitor));
     svg.raw(" is held by ");
     svg.digits(u32::from(hold.process));
     svg.raw(" ");
-    svg.escaped(scene.legend.process_name(hold.process));
+    svg.escape(scene.legend.process_name(hold.process));
     svg.end_title();
     svg.block(Block {
         left: middle - 12.0,

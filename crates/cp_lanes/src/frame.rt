@@ -28,17 +28,17 @@ const MARKER: &str =
 pub fn draw_patterns(alloc: Global, svg: &mut Svg, scene: Scene<'_>, title: &str) {
     svg.raw("<title>");
     if !title.is_empty() {
-        svg.escaped(title);
+        svg.escape(title);
         svg.raw(", ");
     }
     if let RunEnd::Ended { .. } = scene.story.end {
-        svg.escaped_made(end_words(alloc, scene.story));
+        svg.escape_made(end_words(alloc, scene.story));
         svg.raw(", ");
     }
     svg.raw("schedule ");
-    svg.escaped(scene.schedule);
+    svg.escape(scene.schedule);
     svg.raw("</title>\n<desc>");
-    svg.escaped(scene.end.trim());
+    svg.escape(scene.end.trim());
     svg.raw("</desc>\n<defs>\n");
     for number in 0..scene.legend.monitors().max(1).min(HUES) {
         draw_pattern(svg, number);
@@ -129,10 +129,10 @@ fn open_lane(svg: &mut Svg, process: u8, name: &str, type_name: &str) {
     svg.raw("process ");
     svg.digits(u32::from(process));
     svg.raw(": ");
-    svg.escaped(name);
+    svg.escape(name);
     if !type_name.is_empty() {
         svg.raw(" ");
-        svg.escaped(type_name);
+        svg.escape(type_name);
     }
     svg.end_title();
 }
@@ -200,9 +200,9 @@ fn draw_bar_head(
     let name = scene.legend.monitor_name(monitor);
     svg.begin_title();
     svg.raw("monitor ");
-    svg.escaped(name);
+    svg.escape(name);
     svg.raw(" ");
-    svg.escaped(scene.legend.monitor_type(monitor));
+    svg.escape(scene.legend.monitor_type(monitor));
     svg.end_title();
     svg.block(Block {
         radius: 6.0,

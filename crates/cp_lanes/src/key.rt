@@ -33,7 +33,7 @@ const FULL: &str = "stroke-width=\"1.5\" marker-end=\"url(#arrow)\"";
 const BROKEN: &str = "stroke-width=\"1.5\" stroke-dasharray=\"4 3\" marker-end=\"url(#arrow)\"";
 
 /// A sign of the key.
-#[derive(Clone, Copy, PartialEq, Eq)]
+#[derive(Clone, Copy)]
 enum KeySign {
     Stay,
     Gate,
@@ -119,14 +119,14 @@ impl Signs {
     pub fn height(self, width: f64) -> f64 {
         let mut x = 20.0;
         let mut height = 36.0;
-        for sign in ALL {
-            if self.has(sign) {
-                let next = x + width_of(sign);
+        for sign in &ALL {
+            if self.has(*sign) {
+                let next = x + width_of(*sign);
                 if x > 20.0 && next > width {
                     x = 20.0;
                     height += 24.0;
                 }
-                x += width_of(sign);
+                x += width_of(*sign);
             }
         }
         height
@@ -165,16 +165,16 @@ pub fn draw_key(svg: &mut Svg, signs: Signs, width: f64, top: f64) {
     svg.open("what the signs mean");
     let mut x = 20.0;
     let mut y = top;
-    for sign in ALL {
-        if signs.has(sign) {
-            let next = x + width_of(sign);
+    for sign in &ALL {
+        if signs.has(*sign) {
+            let next = x + width_of(*sign);
             if x > 20.0 && next > width {
                 x = 20.0;
                 y += 24.0;
             }
-            draw_sign(svg, sign, x, y);
-            svg.words(x + sign_width(sign), y + 11.0, FAINT, words_of(sign));
-            x += width_of(sign);
+            draw_sign(svg, *sign, x, y);
+            svg.words(x + sign_width(*sign), y + 11.0, FAINT, words_of(*sign));
+            x += width_of(*sign);
         }
     }
     svg.close();

@@ -124,10 +124,10 @@ fn draw_folded(
 // How much room a label has, with that of the lanes beside it in which there is nothing but the line of a life.
 fn room_of_label(plan: &Plan, spans: &Spans, event: &StoryEvent, fold: Fold, y: f64) -> f64 {
     let process = event.plain.process;
-    if fold != Fold::None || points_right(event) {
-        return plan.lane(process).width - 36.0;
+    match fold {
+        Fold::None if !points_right(event) => room_beside(plan, spans, process, y),
+        _ => plan.lane(process).width - 36.0,
     }
-    room_beside(plan, spans, process, y)
 }
 
 // Whether an arrow of an event lies over the lanes on the right.
@@ -200,19 +200,19 @@ fn write_event(alloc: Global, svg: &mut Svg, scene: Scene<'_>, event: &StoryEven
     let process = event.plain.process;
     svg.digits(u32::from(process));
     svg.raw(" ");
-    svg.escaped(scene.legend.process_name(process));
+    svg.escape(scene.legend.process_name(process));
     if let Some(line) = event.line {
         svg.raw(", line ");
         svg.digits(line);
     }
     svg.raw(": ");
-    svg.escaped_made(happening_words(alloc, scene.legend, event));
+    svg.escape_made(happening_words(alloc, scene.legend, event));
 }
 
 fn write_changes(svg: &mut Svg, changes: &str) {
     if !changes.is_empty() {
         svg.raw("; ");
-        svg.escaped(changes);
+        svg.escape(changes);
     }
 }
 

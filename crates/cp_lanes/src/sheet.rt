@@ -19,7 +19,7 @@ pub const EDGE: f64 = 24.0;
 pub const LINE: f64 = 13.0;
 
 /// Which rows are drawn, counted from 1.
-#[derive(Clone, Copy, PartialEq, Eq)]
+#[derive(Clone, Copy)]
 pub enum SheetExtent {
     All,
     Between(usize, usize),
@@ -27,7 +27,7 @@ pub enum SheetExtent {
 }
 
 /// Why a row stands for several events.
-#[derive(Clone, Copy, PartialEq, Eq)]
+#[derive(Clone, Copy)]
 pub enum Fold {
     None,
     /// Starts at the beginning.

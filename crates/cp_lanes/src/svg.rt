@@ -127,9 +127,9 @@ impl Svg {
     }
 
     /// Appends a text that may have failed for want of memory.
-    pub fn escaped_made(&mut self, made: Result<String, AllocError>) {
+    pub fn escape_made(&mut self, made: Result<String, AllocError>) {
         match made {
-            Ok(text) => self.escaped(text.as_str()),
+            Ok(text) => self.escape(text.as_str()),
             Err(_) => self.refuse(),
         }
     }
@@ -193,7 +193,7 @@ impl Svg {
     }
 
     /// Appends a text of the program or of its source.
-    pub fn escaped(&mut self, text: &str) {
+    pub fn escape(&mut self, text: &str) {
         for character in text.chars() {
             let written = push_escaped_char(&mut self.text, character);
             self.keep(written);
@@ -219,7 +219,7 @@ impl Svg {
     /// A title.
     pub fn title(&mut self, title: &str) {
         self.raw("<title>");
-        self.escaped(title);
+        self.escape(title);
         self.raw("</title>\n");
     }
 
@@ -298,7 +298,7 @@ impl Svg {
     /// A text, whose baseline begins at a point.
     pub fn words(&mut self, x: f64, y: f64, style: Style<'_>, words: &str) {
         self.begin_text(x, y, style);
-        self.escaped(words);
+        self.escape(words);
         self.raw("</text>\n");
     }
 

@@ -97,19 +97,32 @@ fn push_holds(alloc: Global, text: &mut Prose, marked: &Marked) {
 
 // Of which schedules it holds where some ended at a limit.
 fn reach_words(judgements: &[Judgement]) -> &'static str {
-    let by_each = judgements
-        .iter()
-        .any(|judgement| matches!(judgement, Judgement::Holds));
-    let may_go_on = judgements
-        .iter()
-        .any(|judgement| ended_for_choices(judgement));
-    if may_go_on {
+    if some_may_go_on(judgements) {
         "shown by a schedule; some ended at "
-    } else if by_each {
+    } else if some_hold(judgements) {
         "shown by each schedule, for every greater number of choices too; some ended at "
     } else {
         "shown by a schedule, for every greater number of choices too; others ended at "
     }
+}
+
+// Whether each schedule shows one of them.
+fn some_hold(judgements: &[Judgement]) -> bool {
+    for judgement in judgements {
+        if let Judgement::Holds = judgement {
+            return true;
+        }
+    }
+    false
+}
+
+fn some_may_go_on(judgements: &[Judgement]) -> bool {
+    for judgement in judgements {
+        if ended_for_choices(judgement) {
+            return true;
+        }
+    }
+    false
 }
 
 // Whether a schedule shows it that ended for want of choices: of a greater number nothing is proved then.

@@ -37,7 +37,7 @@ const SIMPLEST: OptionWords = OptionWords::Switch(
 );
 
 // Which schedule is shown, where one is.
-const ONE_SCHEDULE: [OptionWords; 5] = [
+static ONE_SCHEDULE: [OptionWords; 5] = [
     OptionWords::Valued(
         "schedule",
         "WORD",
@@ -77,7 +77,7 @@ const GATES: OptionWords = OptionWords::Valued(
 );
 
 // How far all schedules are looked at.
-const LIMITS: [OptionWords; 5] = [
+static LIMITS: [OptionWords; 5] = [
     CHOICES,
     STEPS,
     GATES,
@@ -179,7 +179,7 @@ fn lanes<'a>(alloc: Global) -> Result<Command<'a>, AllocError> {
 }
 
 // What of a picture is drawn.
-const DRAWING: [OptionWords; 3] = [
+static DRAWING: [OptionWords; 3] = [
     OptionWords::Valued("rows", "A-B", "Draw these rows alone, counted from 1"),
     OptionWords::Valued("last", "N", "Draw the last N rows alone"),
     OptionWords::Switch(
@@ -198,7 +198,7 @@ fn page<'a>(alloc: Global) -> Result<Command<'a>, AllocError> {
     Ok(with_options(alloc, Ok(command), &PLAYING)?.arg(page_states(alloc))?)
 }
 
-const PLAYING: [OptionWords; 8] = [
+static PLAYING: [OptionWords; 8] = [
     OptionWords::Valued(
         "schedule",
         "WORD",
@@ -254,7 +254,7 @@ fn ends<'a>(alloc: Global) -> Result<Command<'a>, AllocError> {
     with_options(alloc, Ok(command), &ENDING)
 }
 
-const ENDING: [OptionWords; 6] = [
+static ENDING: [OptionWords; 6] = [
     OptionWords::Switch(
         "waits",
         "Tell as well who may wait for ever while others go on",
@@ -310,7 +310,7 @@ fn expectation<'a>(alloc: Global) -> Arg<'a> {
         .help("What is expected, as never all-waiting")
 }
 
-const MARKING: [OptionWords; 4] = [
+static MARKING: [OptionWords; 4] = [
     ENDS,
     OptionWords::Switch(
         "at-once",

@@ -7,6 +7,9 @@ use std::alloc::{AllocError, Global};
 /// The options that are those of `cpx`, but for `--choices`.
 const SHARED: [&str; 3] = ["steps", "gates", "states"];
 
+/// The switches that are those of `cpx`, but for `--ends` and `--merge`.
+const SWITCHES: [&str; 2] = ["waits", "at-once"];
+
 /// How many choices a schedule has where the words do not say so.
 const USUAL_CHOICES: &str = "100";
 
@@ -84,7 +87,7 @@ pub fn shared_words(
     words.add(String::from_str(alloc, "cpx"));
     let choices = matches.get_str("choices").unwrap_or(USUAL_CHOICES);
     words.add(format!(in alloc; "--choices={choices}"));
-    for name in SHARED {
+    for name in &SHARED {
         if let Some(value) = matches.get_str(name) {
             words.add(format!(in alloc; "--{name}={value}"));
         }
@@ -100,7 +103,7 @@ fn add_switches(alloc: Global, matches: &ArgMatches<'_>, with_ends: bool, words:
     let has_ends = with_ends || matches.get_flag("ends") || matches.get_str("again").is_some();
     let length = if has_ends { "--ends" } else { "--merge" };
     words.add(String::from_str(alloc, length));
-    for name in ["waits", "at-once"] {
+    for name in &SWITCHES {
         if matches.get_flag(name) {
             words.add(format!(in alloc; "--{name}"));
         }

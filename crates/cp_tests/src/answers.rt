@@ -9,7 +9,7 @@ pub enum CallAnswer {
 }
 
 /// The answer of a call that was not refused memory.
-pub fn unrefused(is_wanted: bool) -> CallAnswer {
+pub fn ample_answer(is_wanted: bool) -> CallAnswer {
     if is_wanted {
         CallAnswer::Ample
     } else {
@@ -18,7 +18,7 @@ pub fn unrefused(is_wanted: bool) -> CallAnswer {
 }
 
 /// The answer of a call that was refused memory.
-pub fn refused(stands: bool) -> CallAnswer {
+pub fn memory_answer(stands: bool) -> CallAnswer {
     if stands {
         CallAnswer::Memory
     } else {

@@ -47,7 +47,10 @@ fn draw_all(alloc: Global, board: &Board, mut seat: Seat) -> Drawer
 }
 
 // The seats that come back, in order, and all that was drawn.
-fn collected(alloc: Global, drawers: Vec<Drawer>) -> Result<(Vec<Seat>, Vec<u32>, bool), AllocError>
+fn collect_all(
+    alloc: Global,
+    drawers: Vec<Drawer>,
+) -> Result<(Vec<Seat>, Vec<u32>, bool), AllocError>
     ensures { IfOk result (λ r. r.0.items ≡ map (λ d. d.seat) drawers.items) }
 {
     let mut seats = Vec::new(alloc);
@@ -87,7 +90,7 @@ fn play<R: Threads + Sync>(
             ensures { IsSeatOf shared.entry.now result.seat }
         { draw_all(alloc, shared, seat) },
     )?;
-    let (mut drawn_by, drawn, is_whole) = collected(alloc, drawers)?;
+    let (mut drawn_by, drawn, is_whole) = collect_all(alloc, drawers)?;
     seats.append(&mut drawn_by)?;
     Ok(Game {
         drawn,

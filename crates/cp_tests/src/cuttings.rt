@@ -66,11 +66,12 @@ fn whole<'a>(alloc: Global, program: &'a Resolved, choices: u8) -> Result<Cuttin
 /// Whether these are the members.
 pub fn are_members(cutting: &Cutting, words: &[&[u8]]) -> bool {
     let members = cutting.members();
+    for (member, word) in members.iter().zip(words) {
+        if member.as_slice() != *word {
+            return false;
+        }
+    }
     members.len() == words.len()
-        && members
-            .iter()
-            .zip(words.iter())
-            .all(|(member, word)| member.as_slice() == *word)
 }
 
 /// Whether a word that is complete can't be split, and stays the one member.
@@ -128,9 +129,13 @@ fn to_depth_members(rt: HostRuntime) -> Result<(), Fail> {
 
 /// How many rows begin with a word.
 fn count_after(rows: &[Row], word: &[u8]) -> usize {
-    rows.iter()
-        .filter(|row| row.word.as_slice().starts_with(word))
-        .count()
+    let mut count = 0usize;
+    for row in rows {
+        if row.word.as_slice().starts_with(word) {
+            count = count.saturating_add(1);
+        }
+    }
+    count
 }
 
 #[test]
@@ -276,12 +281,18 @@ pub fn cut_pieces(
 
 /// Whether these rows are the same.
 pub fn are_same(rows: &[Row], others: &[Row]) -> bool {
+    for (row, other) in rows.iter().zip(others) {
+        if !is_same(row, other) {
+            return false;
+        }
+    }
     rows.len() == others.len()
-        && rows.iter().zip(others.iter()).all(|(row, other)| {
-            row.word.as_slice() == other.word.as_slice()
-                && row.outcome.kind == other.outcome.kind
-                && row.outcome.output.as_slice() == other.outcome.output.as_slice()
-        })
+}
+
+fn is_same(row: &Row, other: &Row) -> bool {
+    row.word.as_slice() == other.word.as_slice()
+        && row.outcome.kind == other.outcome.kind
+        && row.outcome.output.as_slice() == other.outcome.output.as_slice()
 }
 
 /// The five digits of a number below 3125, to the base 5.
@@ -296,7 +307,12 @@ fn digits_of(code: u32) -> [u32; 5] {
 }
 
 fn is_order(digits: [u32; 5]) -> bool {
-    (0..5).all(|task| digits.contains(&task))
+    for task in 0..5u32 {
+        if !digits.contains(&task) {
+            return false;
+        }
+    }
+    true
 }
 
 /// The orders of the five tasks.
@@ -379,14 +395,17 @@ fn beginnings_at(alloc: Global, source: &str, choices: u8) -> Result<u64, Fail> 
     count
 }
 
+/// A source, the choices of its table, and how many words begin those of its rows.
+static COUNTS: [(&str, u8, u64); 3] = [
+    (TWO_DISPLAYS, 5, 82),
+    (TWO_CYCLES, 2, 7),
+    (TWO_DISPLAYS, 0, 1),
+];
+
 #[test]
 fn beginnings_counts(rt: HostRuntime) -> Result<(), Fail> {
-    for (source, choices, count) in [
-        (TWO_DISPLAYS, 5, 82),
-        (TWO_CYCLES, 2, 7),
-        (TWO_DISPLAYS, 0, 1),
-    ] {
-        assert!(rt; beginnings_at(rt.alloc(), source, choices)? == count);
+    for (source, choices, count) in &COUNTS {
+        assert!(rt; beginnings_at(rt.alloc(), source, *choices)? == *count);
     }
     Ok(())
 }

@@ -56,7 +56,7 @@ fn ending_of_nested(rt: &HostRuntime, levels: usize) -> Result<ParseEnding, Fail
 }
 
 // The first tokens of the buffer, with token `at` replaced by `with`.
-fn copied(rt: &HostRuntime, count: usize, at: usize) -> Result<Tokens, Fail> {
+fn copy_with(rt: &HostRuntime, count: usize, at: usize) -> Result<Tokens, Fail> {
     let words: Vec<&str> = BUFFER.split_whitespace().collect(rt.alloc())?;
     let mut text = String::new(rt.alloc());
     for i in 0..count.min(words.len()) {
@@ -66,8 +66,8 @@ fn copied(rt: &HostRuntime, count: usize, at: usize) -> Result<Tokens, Fail> {
     tokens_of(rt.alloc(), text.as_str())
 }
 
-fn ending_of_copied(rt: &HostRuntime, count: usize, at: usize) -> Result<ParseEnding, Fail> {
-    Ok(ending_after(rt, &copied(rt, count, at)?))
+fn ending_of_copy(rt: &HostRuntime, count: usize, at: usize) -> Result<ParseEnding, Fail> {
+    Ok(ending_after(rt, &copy_with(rt, count, at)?))
 }
 
 // Whether the second statement has no `else`, and the `if` in it has one.
@@ -100,7 +100,7 @@ fn with_at_each_token(rt: HostRuntime) -> Result<(), Fail> {
     let tokens = tokens_of(rt.alloc(), BUFFER)?;
     assert!(rt; ending_after(&rt, &tokens) == ParseEnding::Read);
     for at in 0..tokens.count() {
-        let ending = ending_of_copied(&rt, tokens.count(), at)?;
+        let ending = ending_of_copy(&rt, tokens.count(), at)?;
         assert!(rt; ending == ParseEnding::OutsideProfile(at), "{at}");
     }
     Ok(())
@@ -110,7 +110,7 @@ fn with_at_each_token(rt: HostRuntime) -> Result<(), Fail> {
 fn cut_at_each_token(rt: HostRuntime) -> Result<(), Fail> {
     let tokens = tokens_of(rt.alloc(), BUFFER)?;
     for count in 0..tokens.count() {
-        let ending = ending_of_copied(&rt, count, count)?;
+        let ending = ending_of_copy(&rt, count, count)?;
         assert!(rt; ending == ParseEnding::Unexpected(count), "{count}");
     }
     Ok(())
@@ -157,7 +157,7 @@ static ENDINGS: [(&str, ParseEnding); 21] = [
 ];
 
 #[test]
-fn refused(rt: HostRuntime) -> Result<(), Fail> {
+fn endings_of_sources(rt: HostRuntime) -> Result<(), Fail> {
     for (source, wanted) in &ENDINGS {
         assert!(rt; ending_of(&rt, source)? == *wanted, "{source}");
     }

@@ -56,12 +56,12 @@ fn state_after<S: Ledger, C: Ledger>(
     let mut steps: Ticks<S> = Ticks::new(blank);
     let mut calls: Ticks<C> = Ticks::new(other);
     let mut state = State::start(alloc, program, limits.gates)?;
-    chosen(program, limits, &mut state, word, &mut steps, &mut calls)?;
+    choose_all(program, limits, &mut state, word, &mut steps, &mut calls)?;
     Ok(state)
 }
 
 /// The choices of a word, from the opening state on.
-fn chosen<S: Ledger, C: Ledger>(
+fn choose_all<S: Ledger, C: Ledger>(
     program: &Resolved,
     limits: Limits,
     state: &mut State,

@@ -3,10 +3,10 @@
 
 ghost use Rattle.std.specs.Prelude.{◌≡◌, ◌≤◌};
 
-use crate::answers::{CallAnswer, are_right, refused, unrefused};
+use crate::answers::{CallAnswer, ample_answer, are_right, memory_answer};
 use crate::cuttings::{MEMBERS, are_members, are_same, cut_pieces};
 use crate::programs::{BUFFER, TWO_DISPLAYS, fault_of, has_ended, limits_of};
-use crate::steps::{LAST_STEPS, stepped};
+use crate::steps::{LAST_STEPS, step_alone};
 use crate::traces::is_first_trace;
 use crate::workers::REPORT;
 use cp_check::check;
@@ -65,25 +65,25 @@ fn program_at_last(alloc: Global, source: &str) -> Result<Resolved, Fail> {
 }
 
 /// A table as a report of `TWO_DISPLAYS`.
-fn reported(alloc: Global, program: &Resolved, table: &Table) -> CallAnswer {
+fn report_answer(alloc: Global, program: &Resolved, table: &Table) -> CallAnswer {
     match report(alloc, program, table, false) {
-        Ok(told) => unrefused(told.text.as_str() == REPORT),
+        Ok(told) => ample_answer(told.text.as_str() == REPORT),
         Err(_) => CallAnswer::Memory,
     }
 }
 
 /// The table by one walk.
-fn explored<L: Ledger>(alloc: Global, job: Job, calls: &mut Ticks<L>) -> CallAnswer
+fn walk_answer<L: Ledger>(alloc: Global, job: Job, calls: &mut Ticks<L>) -> CallAnswer
     requires { job.limits.choices ≤ 20 }
 {
     match explore_one(alloc, job, calls) {
-        Ok(table) => reported(alloc, job.program, &table),
+        Ok(table) => report_answer(alloc, job.program, &table),
         Err(ExploreFault::Memory) => CallAnswer::Memory,
         Err(ExploreFault::TooManyRows) => CallAnswer::Other,
     }
 }
 
-fn explored_twice<L: Ledger>(alloc: Global, job: Job, blank: Blank) -> [CallAnswer; 2]
+fn answers_to_two_walks<L: Ledger>(alloc: Global, job: Job, blank: Blank) -> [CallAnswer; 2]
     requires name { blank.name ≡ L.name }
     requires parts { blank.parts ≡ L.parts }
     requires one { L.parts ≡ 1 }
@@ -91,38 +91,24 @@ fn explored_twice<L: Ledger>(alloc: Global, job: Job, blank: Blank) -> [CallAnsw
 {
     let mut calls: Ticks<L> = Ticks::new(blank);
     [
-        explored(alloc, job, &mut calls),
-        explored(alloc, job, &mut calls),
+        walk_answer(alloc, job, &mut calls),
+        walk_answer(alloc, job, &mut calls),
     ]
 }
 
-#[test]
-fn refused_growth_of_a_walk(rt: HostRuntime) -> Result<(), Fail> {
-    let limits = limits_of(5, Gates::First)?;
-    let program = program_at_last(rt.alloc(), TWO_DISPLAYS)?;
-    let job = Job {
-        program: &program,
-        limits,
-    };
-    let answers = explored_twice::<Brand>(rt.alloc(), job, Blank::new(1));
-    drop_program(program);
-    assert!(rt; are_right(&answers));
-    Ok(())
-}
-
 /// The pieces of a table, put together.
-fn gathered(alloc: Global, table: &Table) -> CallAnswer {
+fn gather_answer(alloc: Global, table: &Table) -> CallAnswer {
     let Ok(pieces) = cut_pieces(alloc, table, &[3, 0, 4, 2, 1]) else {
         return CallAnswer::Memory;
     };
     match gather(alloc, 5, pieces) {
-        Ok(all) => unrefused(are_same(all.rows.as_slice(), table.rows.as_slice())),
+        Ok(all) => ample_answer(are_same(all.rows.as_slice(), table.rows.as_slice())),
         Err(GatherFault::Memory) => CallAnswer::Memory,
         Err(_) => CallAnswer::Other,
     }
 }
 
-fn explored_and_gathered<L: Ledger>(alloc: Global, job: Job, blank: Blank) -> [CallAnswer; 2]
+fn answers_to_two_gatherings<L: Ledger>(alloc: Global, job: Job, blank: Blank) -> [CallAnswer; 2]
     requires name { blank.name ≡ L.name }
     requires parts { blank.parts ≡ L.parts }
     requires one { L.parts ≡ 1 }
@@ -131,24 +117,10 @@ fn explored_and_gathered<L: Ledger>(alloc: Global, job: Job, blank: Blank) -> [C
     let mut calls: Ticks<L> = Ticks::new(blank);
     for _ in 0..2u8 {
         if let Ok(table) = explore_one(alloc, job, &mut calls) {
-            return [gathered(alloc, &table), gathered(alloc, &table)];
+            return [gather_answer(alloc, &table), gather_answer(alloc, &table)];
         }
     }
     [CallAnswer::Other, CallAnswer::Other]
-}
-
-#[test]
-fn refused_growth_of_gathering(rt: HostRuntime) -> Result<(), Fail> {
-    let limits = limits_of(5, Gates::First)?;
-    let program = program_at_last(rt.alloc(), TWO_DISPLAYS)?;
-    let job = Job {
-        program: &program,
-        limits,
-    };
-    let answers = explored_and_gathered::<Brand>(rt.alloc(), job, Blank::new(1));
-    drop_program(program);
-    assert!(rt; are_right(&answers));
-    Ok(())
 }
 
 static WORD: [u8; 5] = [0, 0, 2, 2, 1];
@@ -158,7 +130,7 @@ fn is_end(end: &RunEnd) -> bool {
 }
 
 /// The end of a run of the buffer.
-fn run_to_its_end<L: Ledger>(
+fn run_answer<L: Ledger>(
     alloc: Global,
     program: &Resolved,
     limits: Limits,
@@ -169,13 +141,13 @@ fn run_to_its_end<L: Ledger>(
         return CallAnswer::Other;
     }
     match run(alloc, program, limits, word, ticks) {
-        Ok(end) => unrefused(is_end(&end)),
+        Ok(end) => ample_answer(is_end(&end)),
         Err(_) => CallAnswer::Memory,
     }
 }
 
 /// The trace of that run.
-fn traced<L: Ledger>(
+fn trace_answer<L: Ledger>(
     alloc: Global,
     program: &Resolved,
     limits: Limits,
@@ -186,12 +158,12 @@ fn traced<L: Ledger>(
         return CallAnswer::Other;
     }
     match trace(alloc, program, limits, word, ticks) {
-        Ok((lines, end)) => unrefused(is_first_trace(&lines) && is_end(&end)),
+        Ok((lines, end)) => ample_answer(is_first_trace(&lines) && is_end(&end)),
         Err(_) => CallAnswer::Memory,
     }
 }
 
-fn run_and_traced<L: Ledger>(
+fn answers_to_runs_and_traces<L: Ledger>(
     alloc: Global,
     program: &Resolved,
     limits: Limits,
@@ -203,10 +175,10 @@ fn run_and_traced<L: Ledger>(
 {
     let mut ticks: Ticks<L> = Ticks::new(blank);
     [
-        run_to_its_end(alloc, program, limits, &WORD, &mut ticks),
-        traced(alloc, program, limits, &WORD, &mut ticks),
-        run_to_its_end(alloc, program, limits, &WORD, &mut ticks),
-        traced(alloc, program, limits, &WORD, &mut ticks),
+        run_answer(alloc, program, limits, &WORD, &mut ticks),
+        trace_answer(alloc, program, limits, &WORD, &mut ticks),
+        run_answer(alloc, program, limits, &WORD, &mut ticks),
+        trace_answer(alloc, program, limits, &WORD, &mut ticks),
     ]
 }
 
@@ -214,7 +186,7 @@ fn run_and_traced<L: Ledger>(
 fn refused_growth_of_a_run_and_its_trace(rt: HostRuntime) -> Result<(), Fail> {
     let limits = limits_of(8, Gates::First)?;
     let program = program_at_last(rt.alloc(), BUFFER)?;
-    let answers = run_and_traced::<Brand>(rt.alloc(), &program, limits, Blank::new(1));
+    let answers = answers_to_runs_and_traces::<Brand>(rt.alloc(), &program, limits, Blank::new(1));
     drop_program(program);
     assert!(rt; are_right(&answers));
     Ok(())
@@ -241,8 +213,8 @@ fn split_first(
         return CallAnswer::Other;
     }
     match cutting.split(alloc, 0) {
-        Ok(()) => unrefused(are_members(cutting, after)),
-        Err(SplitFault::Memory) => refused(are_members(cutting, before)),
+        Ok(()) => ample_answer(are_members(cutting, after)),
+        Err(SplitFault::Memory) => memory_answer(are_members(cutting, before)),
         Err(_) => CallAnswer::Other,
     }
 }
@@ -263,7 +235,7 @@ fn split_at_last(
     }
 }
 
-fn split_twice(alloc: Global, job: Job) -> Result<[CallAnswer; 2], Fail>
+fn answers_to_two_splits(alloc: Global, job: Job) -> Result<[CallAnswer; 2], Fail>
     requires { job.limits.choices ≤ 20 }
 {
     let mut cutting = whole_at_last(alloc, job)?;
@@ -275,38 +247,28 @@ fn split_twice(alloc: Global, job: Job) -> Result<[CallAnswer; 2], Fail>
     ])
 }
 
-#[test]
-fn refused_growth_of_a_split(rt: HostRuntime) -> Result<(), Fail> {
-    let limits = limits_of(5, Gates::First)?;
-    let program = program_at_last(rt.alloc(), TWO_DISPLAYS)?;
-    let job = Job {
-        program: &program,
-        limits,
-    };
-    let answers = split_twice(rt.alloc(), job);
-    drop_program(program);
-    assert!(rt; are_right(&answers?));
-    Ok(())
-}
-
 /// A cutting's members are split to a depth.
-fn deepened(alloc: Global, cutting: &mut Cutting) -> CallAnswer {
+fn depth_answer(alloc: Global, cutting: &mut Cutting) -> CallAnswer {
     match cutting.to_depth(alloc, 2, &mut Unobserved) {
-        Ok(()) => unrefused(are_members(cutting, &MEMBERS)),
+        Ok(()) => ample_answer(are_members(cutting, &MEMBERS)),
         Err(_) => CallAnswer::Memory,
     }
 }
 
 /// The table of a cutting, by two workers.
-fn explored_by_two<X: Threads + Sync>(rt: &X, alloc: Global, cutting: &Cutting) -> CallAnswer {
+fn answer_of_two_workers<X: Threads + Sync>(
+    rt: &X,
+    alloc: Global,
+    cutting: &Cutting,
+) -> CallAnswer {
     match explore(rt, alloc, cutting, 2, &NoGate, &mut Unobserved) {
-        Ok(table) => reported(alloc, cutting.job.program, &table),
+        Ok(table) => report_answer(alloc, cutting.job.program, &table),
         Err(ExploreFault::Memory) => CallAnswer::Memory,
         Err(ExploreFault::TooManyRows) => CallAnswer::Other,
     }
 }
 
-fn deepened_and_explored<X: Threads + Sync>(
+fn answers_to_a_cutting<X: Threads + Sync>(
     rt: &X,
     alloc: Global,
     job: Job,
@@ -315,33 +277,83 @@ fn deepened_and_explored<X: Threads + Sync>(
 {
     let mut cutting = whole_at_last(alloc, job)?;
     Ok([
-        deepened(alloc, &mut cutting),
-        explored_by_two(rt, alloc, &cutting),
-        deepened(alloc, &mut cutting),
-        explored_by_two(rt, alloc, &cutting),
+        depth_answer(alloc, &mut cutting),
+        answer_of_two_workers(rt, alloc, &cutting),
+        depth_answer(alloc, &mut cutting),
+        answer_of_two_workers(rt, alloc, &cutting),
     ])
+}
+
+/// What is asked of a job twice.
+#[derive(Clone, Copy)]
+enum Trial {
+    Walk,
+    Gathering,
+    Split,
+    Cutting,
+}
+
+fn answers_well<X: Threads + Sync>(
+    rt: &X,
+    alloc: Global,
+    job: Job,
+    trial: Trial,
+) -> Result<bool, Fail>
+    requires { job.limits.choices ≤ 20 }
+{
+    Ok(match trial {
+        Trial::Walk => are_right(&answers_to_two_walks::<Brand>(alloc, job, Blank::new(1))),
+        Trial::Gathering => {
+            are_right(&answers_to_two_gatherings::<Brand>(alloc, job, Blank::new(1)))
+        }
+        Trial::Split => are_right(&answers_to_two_splits(alloc, job)?),
+        Trial::Cutting => are_right(&answers_to_a_cutting(rt, alloc, job)?),
+    })
+}
+
+/// Whether the answers are right that concern `TWO_DISPLAYS`.
+fn is_right<X: Threads + Sync>(rt: &X, alloc: Global, trial: Trial) -> Result<bool, Fail> {
+    let limits = limits_of(5, Gates::First)?;
+    let program = program_at_last(alloc, TWO_DISPLAYS)?;
+    let job = Job {
+        program: &program,
+        limits,
+    };
+    let answers_well = answers_well(rt, alloc, job, trial);
+    drop_program(program);
+    answers_well
+}
+
+#[test]
+fn refused_growth_of_a_walk(rt: HostRuntime) -> Result<(), Fail> {
+    assert!(rt; is_right(&rt, rt.alloc(), Trial::Walk)?);
+    Ok(())
+}
+
+#[test]
+fn refused_growth_of_gathering(rt: HostRuntime) -> Result<(), Fail> {
+    assert!(rt; is_right(&rt, rt.alloc(), Trial::Gathering)?);
+    Ok(())
+}
+
+#[test]
+fn refused_growth_of_a_split(rt: HostRuntime) -> Result<(), Fail> {
+    assert!(rt; is_right(&rt, rt.alloc(), Trial::Split)?);
+    Ok(())
 }
 
 /// Where a depth was not reached for want of memory, the cutting is explored all the same.
 #[test]
 fn refused_growth_of_a_cutting(rt: HostRuntime) -> Result<(), Fail> {
-    let limits = limits_of(5, Gates::First)?;
-    let program = program_at_last(rt.alloc(), TWO_DISPLAYS)?;
-    let job = Job {
-        program: &program,
-        limits,
-    };
-    let answers = deepened_and_explored(&rt, rt.alloc(), job);
-    drop_program(program);
-    assert!(rt; are_right(&answers?));
+    assert!(rt; is_right(&rt, rt.alloc(), Trial::Cutting)?);
     Ok(())
 }
 
 /// A tree is checked. Where memory is refused, it comes back, and is checked again.
-fn checked(alloc: Global, tree: Tree, wanted: Option<CheckFault>) -> CallAnswer {
+fn check_answer(alloc: Global, tree: Tree, wanted: Option<CheckFault>) -> CallAnswer {
     match check(alloc, tree) {
-        Err((CheckFault::Memory, back)) => refused(fault_of(check(alloc, back)) == wanted),
-        other => unrefused(fault_of(other) == wanted),
+        Err((CheckFault::Memory, back)) => memory_answer(fault_of(check(alloc, back)) == wanted),
+        other => ample_answer(fault_of(other) == wanted),
     }
 }
 
@@ -352,8 +364,8 @@ fn refused_growth_of_a_check(rt: HostRuntime) -> Result<(), Fail> {
         rule: Rule::C1,
     };
     let answers = [
-        checked(rt.alloc(), tree_at_last(rt.alloc(), BUFFER)?, None),
-        checked(
+        check_answer(rt.alloc(), tree_at_last(rt.alloc(), BUFFER)?, None),
+        check_answer(
             rt.alloc(),
             tree_at_last(rt.alloc(), "begin x := 1; y := 2 end.")?,
             Some(broken),
@@ -364,13 +376,13 @@ fn refused_growth_of_a_check(rt: HostRuntime) -> Result<(), Fail> {
 }
 
 /// A process goes its steps, though the copy of its state before one of them is refused.
-fn stepped_beside_copies(alloc: Global, program: &Resolved, limits: Limits) -> CallAnswer {
-    match stepped::<Brand>(alloc, program, limits, Blank::new(1)) {
+fn answer_beside_copies(alloc: Global, program: &Resolved, limits: Limits) -> CallAnswer {
+    match step_alone::<Brand>(alloc, program, limits, Blank::new(1)) {
         Ok(alone) => {
             let is_told = LAST_STEPS.tells_of(&alone);
             match alone.refused_copies() {
-                0 => unrefused(is_told),
-                1 => refused(is_told),
+                0 => ample_answer(is_told),
+                1 => memory_answer(is_told),
                 _ => CallAnswer::Other,
             }
         }
@@ -383,8 +395,8 @@ fn refused_growth_of_a_copy(rt: HostRuntime) -> Result<(), Fail> {
     let limits = limits_of(8, Gates::First)?;
     let program = program_at_last(rt.alloc(), LAST_STEPS.source)?;
     let answers = [
-        stepped_beside_copies(rt.alloc(), &program, limits),
-        stepped_beside_copies(rt.alloc(), &program, limits),
+        answer_beside_copies(rt.alloc(), &program, limits),
+        answer_beside_copies(rt.alloc(), &program, limits),
     ];
     drop_program(program);
     assert!(rt; are_right(&answers));

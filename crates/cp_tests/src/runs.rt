@@ -142,7 +142,12 @@ static ENDINGS: [RunEnding; 13] = [
 ];
 
 fn are_ones(output: &[Shown], count: usize) -> bool {
-    output.len() == count && output.iter().all(|shown| *shown == Shown::Integer(1))
+    for shown in output {
+        if *shown != Shown::Integer(1) {
+            return false;
+        }
+    }
+    output.len() == count
 }
 
 fn is_as_wanted(end: &RunEnd, ending: &RunEnding) -> bool {

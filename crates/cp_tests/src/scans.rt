@@ -189,7 +189,7 @@ fn each_fault_with_its_line(rt: HostRuntime) -> Result<(), Fail> {
 }
 
 /// A text of this length that begins with these bytes and goes on with that one.
-fn filled(alloc: Global, start: &[u8], next: u8, length: usize) -> Result<Vec<u8>, Fail> {
+fn filled_text(alloc: Global, start: &[u8], next: u8, length: usize) -> Result<Vec<u8>, Fail> {
     let mut text = Vec::from_slice(alloc, start)?;
     for _ in start.len()..length {
         text.push(next)?;
@@ -199,7 +199,7 @@ fn filled(alloc: Global, start: &[u8], next: u8, length: usize) -> Result<Vec<u8
 
 /// How many tokens a source has that begins with these bytes and goes on with that one.
 fn count_of(alloc: Global, start: &[u8], next: u8, length: usize) -> Result<usize, Fail> {
-    let text = filled(alloc, start, next, length)?;
+    let text = filled_text(alloc, start, next, length)?;
     Ok(tokens(alloc, text.as_slice())?.count())
 }
 
@@ -211,7 +211,7 @@ fn has_fault_after(
     line: u32,
     cause: ScanCause,
 ) -> Result<bool, Fail> {
-    let mut text = filled(alloc, start, next, length)?;
+    let mut text = filled_text(alloc, start, next, length)?;
     text.push(last)?;
     has_fault(alloc, text.as_slice(), line, cause)
 }

@@ -59,7 +59,7 @@ fn is_over(event: Event) -> bool {
 }
 
 /// What process 0 of a program does alone.
-pub fn stepped<L: Ledger>(
+pub fn step_alone<L: Ledger>(
     alloc: Global,
     program: &Resolved,
     limits: Limits,
@@ -71,12 +71,12 @@ pub fn stepped<L: Ledger>(
 {
     let mut ticks: Ticks<L> = Ticks::new(blank);
     let mut state = State::start(alloc, program, limits.gates)?;
-    let done = steps_done(alloc, program, limits, &mut state, &mut ticks);
+    let done = step_to_the_end(alloc, program, limits, &mut state, &mut ticks);
     Ok(Alone { done, state })
 }
 
 /// The steps of process 0 from a state on.
-fn steps_done<L: Ledger>(
+fn step_to_the_end<L: Ledger>(
     alloc: Global,
     program: &Resolved,
     limits: Limits,
@@ -109,10 +109,10 @@ fn steps_done<L: Ledger>(
     done
 }
 
-fn stepped_alone(alloc: Global, source: &str) -> Result<Alone, Fail> {
+fn what_is_done_alone(alloc: Global, source: &str) -> Result<Alone, Fail> {
     let limits = limits_of(8, Gates::First)?;
     let program = program_of(alloc, source)?;
-    let alone = stepped::<Brand>(alloc, &program, limits, Blank::new(1));
+    let alone = step_alone::<Brand>(alloc, &program, limits, Blank::new(1));
     drop_program(program);
     Ok(alone?)
 }
@@ -285,7 +285,7 @@ pub static LAST_STEPS: StepRow = StepRow {
 };
 
 fn is_told(alloc: Global, row: &StepRow) -> Result<bool, Fail> {
-    Ok(row.tells_of(&stepped_alone(alloc, row.source)?))
+    Ok(row.tells_of(&what_is_done_alone(alloc, row.source)?))
 }
 
 #[test]

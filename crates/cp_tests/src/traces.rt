@@ -148,11 +148,12 @@ fn is_told(line: &TraceLine, told: &Told) -> bool {
 }
 
 fn are_told(lines: &[TraceLine], told: &[Told]) -> bool {
+    for (line, told) in lines.iter().zip(told) {
+        if !is_told(line, told) {
+            return false;
+        }
+    }
     lines.len() == told.len()
-        && lines
-            .iter()
-            .zip(told.iter())
-            .all(|(line, told)| is_told(line, told))
 }
 
 /// Whether these are the lines of the first of `TRACES`.
@@ -234,14 +235,17 @@ fn admits_once(alloc: Global, word: &str, process: u8) -> Result<bool, Fail> {
     Ok(is_admitted_once(&lines, process))
 }
 
+/// A word, and the process that it lets in at a gate.
+static ADMISSIONS: [(&str, u8); 2] = [
+    ("0.0.0.1.2.3.2.2.2.3.3.1.2", 2),
+    ("0.0.0.1.2.3.3.3.3.2.2.1.2", 3),
+];
+
 /// Where the gate wants a choice, one line tells of it.
 #[test]
 fn one_line_of_an_admission(rt: HostRuntime) -> Result<(), Fail> {
-    for (word, process) in [
-        ("0.0.0.1.2.3.2.2.2.3.3.1.2", 2u8),
-        ("0.0.0.1.2.3.3.3.3.2.2.1.2", 3),
-    ] {
-        assert!(rt; admits_once(rt.alloc(), word, process)?, "{word}");
+    for (word, process) in &ADMISSIONS {
+        assert!(rt; admits_once(rt.alloc(), word, *process)?, "{word}");
     }
     Ok(())
 }

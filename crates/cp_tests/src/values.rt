@@ -56,21 +56,24 @@ fn two_sets(rt: &HostRuntime) -> Result<(SetValue, SetValue), Fail> {
     Ok((left, right))
 }
 
+// An operation of two sets, and whether it has a member.
+static MEMBERS: [(SetOperation, i16, bool); 8] = [
+    (SetOperation::Intersection, 3, true),
+    (SetOperation::Intersection, 1, false),
+    (SetOperation::Difference, 1, true),
+    (SetOperation::Difference, 127, false),
+    (SetOperation::Union, 4, true),
+    (SetOperation::Union, 0, false),
+    (SetOperation::Union, 200, false),
+    (SetOperation::Union, -1, false),
+];
+
 #[test]
 fn set_operations(rt: HostRuntime) -> Result<(), Fail> {
     let (left, right) = two_sets(&rt)?;
-    for (operation, member, expected) in [
-        (SetOperation::Intersection, 3, true),
-        (SetOperation::Intersection, 1, false),
-        (SetOperation::Difference, 1, true),
-        (SetOperation::Difference, 127, false),
-        (SetOperation::Union, 4, true),
-        (SetOperation::Union, 0, false),
-        (SetOperation::Union, 200, false),
-        (SetOperation::Union, -1, false),
-    ] {
-        let whole = set::combine_sets(operation, left, right);
-        assert!(rt; set::is_member(whole, member) == expected, "{member}");
+    for (operation, member, is_in) in &MEMBERS {
+        let whole = set::combine_sets(*operation, left, right);
+        assert!(rt; set::is_member(whole, *member) == *is_in, "{member}");
     }
     Ok(())
 }
@@ -88,21 +91,24 @@ fn set_comparisons(rt: HostRuntime) -> Result<(), Fail> {
     Ok(())
 }
 
+// An operation of two integers, and its result.
+static RESULTS: [(Arithmetic, i16, i16, Result<i16, ErrorName>); 10] = [
+    (Arithmetic::Divide, -7, 2, Ok(-3)),
+    (Arithmetic::Modulo, -7, 2, Ok(-1)),
+    (Arithmetic::Modulo, 7, -2, Ok(1)),
+    (Arithmetic::Divide, -32768, -1, Err(ErrorName::Overflow)),
+    (Arithmetic::Modulo, -32768, -1, Ok(0)),
+    (Arithmetic::Modulo, 1, 0, Err(ErrorName::ZeroDivisor)),
+    (Arithmetic::Multiply, 181, 181, Ok(32761)),
+    (Arithmetic::Multiply, 182, 182, Err(ErrorName::Overflow)),
+    (Arithmetic::Add, 32767, 1, Err(ErrorName::Overflow)),
+    (Arithmetic::Subtract, -32768, 1, Err(ErrorName::Overflow)),
+];
+
 #[test]
 fn integers(rt: HostRuntime) -> Result<(), Fail> {
-    for (operator, left, right, expected) in [
-        (Arithmetic::Divide, -7, 2, Ok(-3)),
-        (Arithmetic::Modulo, -7, 2, Ok(-1)),
-        (Arithmetic::Modulo, 7, -2, Ok(1)),
-        (Arithmetic::Divide, -32768, -1, Err(ErrorName::Overflow)),
-        (Arithmetic::Modulo, -32768, -1, Ok(0)),
-        (Arithmetic::Modulo, 1, 0, Err(ErrorName::ZeroDivisor)),
-        (Arithmetic::Multiply, 181, 181, Ok(32761)),
-        (Arithmetic::Multiply, 182, 182, Err(ErrorName::Overflow)),
-        (Arithmetic::Add, 32767, 1, Err(ErrorName::Overflow)),
-        (Arithmetic::Subtract, -32768, 1, Err(ErrorName::Overflow)),
-    ] {
-        assert!(rt; calculate(operator, left, right) == expected);
+    for (operator, left, right, result) in &RESULTS {
+        assert!(rt; calculate(*operator, *left, *right) == *result);
     }
     Ok(())
 }
@@ -125,19 +131,22 @@ fn row(rt: &HostRuntime, index: i16) -> Result<Place, Fail>
     })
 }
 
+// An index of the table, and the address of its row.
+static PLACES: [(i16, Result<Address, ErrorName>); 4] = [
+    (1, Ok(Address::Permanent(1))),
+    (3, Ok(Address::Permanent(5))),
+    (4, Err(ErrorName::Range)),
+    (0, Err(ErrorName::Range)),
+];
+
 #[test]
 fn addresses(rt: HostRuntime) -> Result<(), Fail> {
     let room = room(&rt)?;
     let cells = [0, 1, 2, 3, 4, 5, 6];
-    for (index, expected) in [
-        (1, Ok(Address::Permanent(1))),
-        (3, Ok(Address::Permanent(5))),
-        (4, Err(ErrorName::Range)),
-        (0, Err(ErrorName::Range)),
-    ] {
-        let place = row(&rt, index)?;
+    for (index, wanted) in &PLACES {
+        let place = row(&rt, *index)?;
         assert!(rt;
-            address(&place, &cells, &room, &FRAME) == expected,
+            address(&place, &cells, &room, &FRAME) == *wanted,
             "{index}"
         );
     }

@@ -33,13 +33,13 @@ fn is_reported<X: Threads + Sync, G: StartGate + Sync>(
         program: &program,
         limits,
     };
-    let told = reported(rt, alloc, job, depth, workers, gate);
+    let told = report_by(rt, alloc, job, depth, workers, gate);
     drop_program(program);
     Ok(told?.text.as_str() == REPORT)
 }
 
 /// The report of a job by workers that draw the words of this many choices.
-fn reported<X: Threads + Sync, G: StartGate + Sync>(
+fn report_by<X: Threads + Sync, G: StartGate + Sync>(
     rt: &X,
     alloc: Global,
     job: Job,

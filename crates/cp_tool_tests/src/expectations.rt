@@ -20,87 +20,93 @@ fn read_again(alloc: Global, text: &str) -> Result<String, Fail> {
     Ok(again)
 }
 
+/// A text, and what is read from it, written again; or why it is refused.
+static READINGS: [(&str, &str); 15] = [
+    ("never all-waiting", "never all-waiting;"),
+    ("some  run-error range", "some run-error range;"),
+    (
+        "only finished output 1 2 finished output 2 1 .. and never run-error",
+        "only finished output 1 2 or finished output 2 1 ..;never run-error;",
+    ),
+    (
+        "never finished output - or all-waiting output ..",
+        "never finished output - or all-waiting output ..;",
+    ),
+    (
+        "only finished output (finished) .. 2 .. or shown (red)",
+        "only finished output (finished) .. 2 .. or shown red;",
+    ),
+    (
+        "some shown -32768 and never shown 'a' shown '(:32:)'",
+        "some shown -32768;never shown 'a' or shown '(:32:)';",
+    ),
+    (
+        "only finished output finished",
+        "expected a value, - or .., found \"finished\"\nfinished begins an outcome; as a value it is written (finished)\n",
+    ),
+    ("never shown 32768", "expected a value, found \"32768\"\n"),
+    (
+        "never finished output 1, 2",
+        "expected a value, - or .., found \"1,\"\n",
+    ),
+    (
+        "always finished",
+        "expected never, some or only, found \"always\"\n",
+    ),
+    (
+        "never",
+        "expected finished, all-waiting, run-error or shown, found the end\n",
+    ),
+    (
+        "never deadlock",
+        "expected finished, all-waiting, run-error or shown, found \"deadlock\"\n",
+    ),
+    (
+        "never finished output",
+        "expected a value, - or .., found the end\n",
+    ),
+    (
+        "never finished with",
+        "expected output, and, or, finished, all-waiting, run-error or shown, found \"with\"\n",
+    ),
+    (
+        "never finished output - 2",
+        "expected and, or, finished, all-waiting, run-error or shown, found \"2\"\n",
+    ),
+];
+
 #[test]
 fn reads_expectations(rt: HostRuntime) -> Result<(), Fail> {
-    for (text, again) in [
-        ("never all-waiting", "never all-waiting;"),
-        ("some  run-error range", "some run-error range;"),
-        (
-            "only finished output 1 2 finished output 2 1 .. and never run-error",
-            "only finished output 1 2 or finished output 2 1 ..;never run-error;",
-        ),
-        (
-            "never finished output - or all-waiting output ..",
-            "never finished output - or all-waiting output ..;",
-        ),
-        (
-            "only finished output (finished) .. 2 .. or shown (red)",
-            "only finished output (finished) .. 2 .. or shown red;",
-        ),
-        (
-            "some shown -32768 and never shown 'a' shown '(:32:)'",
-            "some shown -32768;never shown 'a' or shown '(:32:)';",
-        ),
-        (
-            "only finished output finished",
-            "expected a value, - or .., found \"finished\"\nfinished begins an outcome; as a value it is written (finished)\n",
-        ),
-        ("never shown 32768", "expected a value, found \"32768\"\n"),
-        (
-            "never finished output 1, 2",
-            "expected a value, - or .., found \"1,\"\n",
-        ),
-        (
-            "always finished",
-            "expected never, some or only, found \"always\"\n",
-        ),
-        (
-            "never",
-            "expected finished, all-waiting, run-error or shown, found the end\n",
-        ),
-        (
-            "never deadlock",
-            "expected finished, all-waiting, run-error or shown, found \"deadlock\"\n",
-        ),
-        (
-            "never finished output",
-            "expected a value, - or .., found the end\n",
-        ),
-        (
-            "never finished with",
-            "expected output, and, or, finished, all-waiting, run-error or shown, found \"with\"\n",
-        ),
-        (
-            "never finished output - 2",
-            "expected and, or, finished, all-waiting, run-error or shown, found \"2\"\n",
-        ),
-    ] {
-        assert_eq!(rt; read_again(rt.alloc(), text)?.as_str(), again);
+    for (text, again) in &READINGS {
+        assert_eq!(rt; read_again(rt.alloc(), text)?.as_str(), *again);
     }
     Ok(())
 }
 
+/// A source, and the text of the expectations in its comments.
+static COMMENTED: [(&str, &str); 5] = [
+    ("begin end.", ""),
+    (
+        "\"(* expect never all-waiting *)\" begin end.",
+        " never all-waiting ",
+    ),
+    (
+        "begin end. \"(* expect\tnever\r\nfinished *)\" \"(* expected *)\"",
+        " never  finished ",
+    ),
+    (
+        "begin \" (* expect never\n all-waiting\" display('\"') end. \"(* expect some finished*)\"",
+        " never  all-waiting and  some finished",
+    ),
+    ("\"expect never all-waiting\" begin end.", ""),
+];
+
 #[test]
 fn finds_expectations_in_comments(rt: HostRuntime) -> Result<(), Fail> {
-    for (source, text) in [
-        ("begin end.", ""),
-        (
-            "\"(* expect never all-waiting *)\" begin end.",
-            " never all-waiting ",
-        ),
-        (
-            "begin end. \"(* expect\tnever\r\nfinished *)\" \"(* expected *)\"",
-            " never  finished ",
-        ),
-        (
-            "begin \" (* expect never\n all-waiting\" display('\"') end. \"(* expect some finished*)\"",
-            " never  all-waiting and  some finished",
-        ),
-        ("\"expect never all-waiting\" begin end.", ""),
-    ] {
+    for (source, text) in &COMMENTED {
         assert_eq!(rt;
             expectations_in(rt.alloc(), source.as_bytes())?.as_str(),
-            text
+            *text
         );
     }
     Ok(())

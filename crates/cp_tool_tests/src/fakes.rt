@@ -53,7 +53,7 @@ impl Read for EndlessReader {
 }
 
 /// What a writer does at the call of its choice.
-#[derive(Clone, Copy, PartialEq, Eq)]
+#[derive(Clone, Copy)]
 pub enum FakeRefusal {
     Fails,
     TakesNothing,

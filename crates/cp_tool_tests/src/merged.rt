@@ -1,7 +1,7 @@
 //! Schedules that are counted by their states.
 
-use crate::rows::WorkedRow;
-use crate::streams::{NEVER, answer_by, answer_to};
+use crate::rows::{WorkedRow, first_other};
+use crate::streams::{NEVER, answer_by};
 use cp_tool::{OptionFault, read_options};
 use std::alloc::Global;
 use std::test::Fail;
@@ -126,12 +126,7 @@ static ROWS: [WorkedRow; 14] = [
 
 #[test]
 fn merged_rows(rt: HostRuntime) -> Result<(), Fail> {
-    for row in &ROWS {
-        let told = answer_to(&rt, rt.alloc(), row.words, row.source.as_bytes(), NEVER)?;
-        let name = row.name;
-        assert_eq!(rt; told.status.code, row.code, "{name}");
-        assert_eq!(rt; told.text.as_slice(), row.text.as_bytes(), "{name}");
-    }
+    assert_eq!(rt; first_other(&rt, rt.alloc(), &ROWS)?, None);
     Ok(())
 }
 
@@ -141,7 +136,7 @@ fn merged_rows(rt: HostRuntime) -> Result<(), Fail> {
 fn a_refused_growth_is_told_alone(rt: HostRuntime) -> Result<(), Fail> {
     let mut is_refused = false;
     for row in ROWS.iter().take(4) {
-        match compared(&rt, rt.alloc(), row) {
+        match row_answer(&rt, rt.alloc(), row) {
             RowAnswer::Ample => {}
             RowAnswer::Memory => {
                 assert!(rt; !is_refused);
@@ -161,19 +156,19 @@ enum RowAnswer {
     Other,
 }
 
-fn compared<X: Threads + Sync>(rt: &X, alloc: Global, row: &WorkedRow) -> RowAnswer {
+fn row_answer<X: Threads + Sync>(rt: &X, alloc: Global, row: &WorkedRow) -> RowAnswer {
     let options = match read_options(alloc, row.words) {
         Ok(options) => options,
         Err(OptionFault::Memory) => return RowAnswer::Memory,
         Err(_fault) => return RowAnswer::Other,
     };
-    let told = answer_by(rt, alloc, &options, row.source.as_bytes(), NEVER);
+    let answer = answer_by(rt, alloc, &options, row.source.as_bytes(), NEVER);
     let wanted = row.text.as_bytes();
     // The test's own writer takes memory too: where that is refused, a write failed.
-    let is_cut_short = told.status.code == 4 && wanted.starts_with(&told.text);
-    if told.status.code == row.code && told.text.as_slice() == wanted {
+    let is_cut_short = answer.status.code == 4 && wanted.starts_with(&answer.text);
+    if answer.is(row.code, wanted) {
         RowAnswer::Ample
-    } else if is_cut_short || (told.status.code == 3 && told.text.is_empty()) {
+    } else if is_cut_short || answer.is(3, b"") {
         RowAnswer::Memory
     } else {
         RowAnswer::Other

@@ -28,9 +28,16 @@ pub const NEVER: Refusals = Refusals {
 
 /// What was written, and with which status.
 #[derive(Drop)]
-pub struct Told {
+pub struct Answer {
     pub status: ExitStatus,
     pub text: Vec<u8>,
+}
+
+impl Answer {
+    /// Whether this was written, with this status.
+    pub fn is(&self, code: u8, text: &[u8]) -> bool {
+        self.status.code == code && self.text.as_slice() == text
+    }
 }
 
 /// What the program answers to a source.
@@ -40,7 +47,7 @@ pub fn answer_to<'a, X: Threads + Sync>(
     words: &'a [&'a str],
     source: &[u8],
     refusals: Refusals,
-) -> Result<Told, Fail> {
+) -> Result<Answer, Fail> {
     let Ok(options) = read_options(alloc, words) else {
         return Err(Fail::from("refused words"));
     };
@@ -54,18 +61,20 @@ pub fn answer_by<X: Threads + Sync>(
     options: &Options,
     source: &[u8],
     refusals: Refusals,
-) -> Told {
+) -> Answer {
     let reader = OneByteReader::new(source, refusals.read);
     let writer = OneByteWriter::new(alloc, refusals.write, refusals.refusal);
     let (reads, writes) = (Blank::new(3), Blank::new(3));
-    told_by::<X, OneByteReader<'_>, Brand, Brand>(rt, alloc, options, reader, writer, reads, writes)
+    answer_of::<X, OneByteReader<'_>, Brand, Brand>(
+        rt, alloc, options, reader, writer, reads, writes,
+    )
 }
 
 /// What the program answers to a source that never ends.
-pub fn answer_to_endless<X: Threads + Sync>(rt: &X, alloc: Global, options: &Options) -> Told {
+pub fn answer_to_endless<X: Threads + Sync>(rt: &X, alloc: Global, options: &Options) -> Answer {
     let writer = OneByteWriter::new(alloc, NEVER.write, NEVER.refusal);
     let (reads, writes) = (Blank::new(3), Blank::new(3));
-    told_by::<X, EndlessReader, Brand, Brand>(
+    answer_of::<X, EndlessReader, Brand, Brand>(
         rt,
         alloc,
         options,
@@ -76,7 +85,7 @@ pub fn answer_to_endless<X: Threads + Sync>(rt: &X, alloc: Global, options: &Opt
     )
 }
 
-fn told_by<X: Threads + Sync, R: Read + Drop, A: Ledger, B: Ledger>(
+fn answer_of<X: Threads + Sync, R: Read + Drop, A: Ledger, B: Ledger>(
     rt: &X,
     alloc: Global,
     options: &Options,
@@ -84,7 +93,7 @@ fn told_by<X: Threads + Sync, R: Read + Drop, A: Ledger, B: Ledger>(
     writer: OneByteWriter,
     reads: Blank,
     writes: Blank,
-) -> Told
+) -> Answer
     requires read_name { reads.name ≡ A.name }
     requires read_parts { (reads.parts ≡ A.parts) × (A.parts ≡ 3) }
     requires write_name { writes.name ≡ B.name }
@@ -93,7 +102,7 @@ fn told_by<X: Threads + Sync, R: Read + Drop, A: Ledger, B: Ledger>(
     let mut source: Wrapped<R, A> = Wrapped::new(reader, reads);
     let mut sink: Wrapped<OneByteWriter, B> = Wrapped::new(writer, writes);
     let status = explore_stream(rt, alloc, options, &mut Unobserved, &mut source, &mut sink);
-    Told {
+    Answer {
         status,
         text: sink.into_inner().taken,
     }

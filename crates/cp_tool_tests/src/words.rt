@@ -1,10 +1,10 @@
 use cp_machine::Gates;
-use cp_tests::answers::{CallAnswer, are_right, unrefused};
+use cp_tests::answers::{CallAnswer, ample_answer, are_right};
 use cp_tool::{OptionFault, Options, read_options};
 use std::alloc::Global;
 use std::test::Fail;
 
-static ALL: [&str; 13] = [
+const ALL: [&str; 13] = [
     "cpx",
     "--choices",
     "5",
@@ -21,7 +21,7 @@ static ALL: [&str; 13] = [
 ];
 
 /// Words that spell the numbers 5, 20, 1 and 0, and the empty schedule word.
-static SPELLINGS: [&str; 10] = [
+const SPELLINGS: [&str; 10] = [
     "cpx",
     "--choices=+5",
     "--steps",
@@ -35,7 +35,7 @@ static SPELLINGS: [&str; 10] = [
 ];
 
 /// Words that ask for merging, with numbers that only then are in their ranges.
-static MERGED: [&str; 8] = [
+const MERGED: [&str; 8] = [
     "cpx",
     "--merge",
     "--states",
@@ -47,7 +47,7 @@ static MERGED: [&str; 8] = [
 ];
 
 /// Words that ask for the ends of schedules of any length, with numbers that only then, or with merging, are in their ranges.
-static ENDS: [&str; 5] = [
+const ENDS: [&str; 5] = [
     "cpx",
     "--schedule",
     "0.0.0.0.0.0.0.0.0.0.0.0.0.0.0.0.0.0.0.0.15",
@@ -55,7 +55,7 @@ static ENDS: [&str; 5] = [
     "--steps=7",
 ];
 
-static LONGEST: [&str; 3] = [
+const LONGEST: [&str; 3] = [
     "cpx",
     "--schedule",
     "15.0.1.2.3.4.5.6.7.8.9.10.11.12.13.14.15.0.1.2",
@@ -161,13 +161,6 @@ fn has_defaults(options: &Options) -> bool {
     has_numbers && is_plain && options.schedule.is_none() && options.gates == Gates::First
 }
 
-#[test]
-fn without_words_each_option_has_its_default(rt: HostRuntime) -> Result<(), Fail> {
-    let options = options_of(rt.alloc(), &["cpx"])?;
-    assert!(rt; has_defaults(&options));
-    Ok(())
-}
-
 fn has_values_of_merged(options: &Options) -> bool {
     let is_word = match &options.schedule {
         Some(word) => word.len() == 21 && word.last() == Some(&15),
@@ -175,13 +168,6 @@ fn has_values_of_merged(options: &Options) -> bool {
     };
     let is_merged = options.merge && !options.ends;
     is_merged && options.states == 10_000_000 && options.choices == 100 && is_word
-}
-
-#[test]
-fn merging_has_wider_ranges(rt: HostRuntime) -> Result<(), Fail> {
-    let options = options_of(rt.alloc(), &MERGED)?;
-    assert!(rt; has_values_of_merged(&options));
-    Ok(())
 }
 
 fn has_values_of_ends(options: &Options) -> bool {
@@ -192,13 +178,6 @@ fn has_values_of_ends(options: &Options) -> bool {
     options.ends && options.choices == 100 && options.steps == 7 && is_word
 }
 
-#[test]
-fn ends_have_the_choices_of_a_long_trace(rt: HostRuntime) -> Result<(), Fail> {
-    let options = options_of(rt.alloc(), &ENDS)?;
-    assert!(rt; has_values_of_ends(&options));
-    Ok(())
-}
-
 fn has_values_of_all(options: &Options) -> bool {
     let has_numbers = options.choices == 5
         && options.steps == 100_000
@@ -206,13 +185,6 @@ fn has_values_of_all(options: &Options) -> bool {
         && options.cut == 0
         && options.cut_is_given;
     has_numbers && options.rows && options.gates == Gates::Any && has_word(options, &[0, 0, 2, 15])
-}
-
-#[test]
-fn each_option_has_the_value_of_its_words(rt: HostRuntime) -> Result<(), Fail> {
-    let options = options_of(rt.alloc(), &ALL)?;
-    assert!(rt; has_values_of_all(&options));
-    Ok(())
 }
 
 /// Where a growth is refused, one answer is Memory, and each other one is that of ample memory.
@@ -236,7 +208,7 @@ fn all_or_memory(alloc: Global) -> CallAnswer {
         Err(OptionFault::Memory) => return CallAnswer::Memory,
         Err(_fault) => return CallAnswer::Other,
     };
-    unrefused(has_values_of_all(&options))
+    ample_answer(has_values_of_all(&options))
 }
 
 fn refusal_or_memory(alloc: Global) -> CallAnswer {
@@ -264,23 +236,54 @@ fn has_values_of_spellings(options: &Options) -> bool {
     has_numbers && options.gates == Gates::First && has_word(options, &[])
 }
 
-#[test]
-fn numbers_may_have_a_plus_and_leading_zeros(rt: HostRuntime) -> Result<(), Fail> {
-    let options = options_of(rt.alloc(), &SPELLINGS)?;
-    assert!(rt; has_values_of_spellings(&options));
-    Ok(())
+/// Which values options have.
+#[derive(Clone, Copy)]
+enum Values {
+    /// Each option has its default.
+    Defaults,
+    /// Each option has the value of its words.
+    All,
+    /// Merging has wider ranges.
+    Merged,
+    /// Ends have the choices of a long trace.
+    Ends,
+    /// Numbers may have a plus and leading zeros.
+    Spellings,
+    /// A schedule may have twenty numbers.
+    Longest,
 }
 
+fn have_values(options: &Options, values: Values) -> bool {
+    match values {
+        Values::Defaults => has_defaults(options),
+        Values::All => has_values_of_all(options),
+        Values::Merged => has_values_of_merged(options),
+        Values::Ends => has_values_of_ends(options),
+        Values::Spellings => has_values_of_spellings(options),
+        Values::Longest => has_word(options, &LONGEST_NUMBERS),
+    }
+}
+
+static LONGEST_NUMBERS: [u8; 20] = [
+    15, 0, 1, 2, 3, 4, 5, 6, 7, 8, 9, 10, 11, 12, 13, 14, 15, 0, 1, 2,
+];
+
+static ACCEPTED: [(&[&str], Values); 6] = [
+    (&["cpx"], Values::Defaults),
+    (&ALL, Values::All),
+    (&MERGED, Values::Merged),
+    (&ENDS, Values::Ends),
+    (&SPELLINGS, Values::Spellings),
+    (&LONGEST, Values::Longest),
+];
+
 #[test]
-fn a_schedule_may_have_twenty_numbers(rt: HostRuntime) -> Result<(), Fail> {
-    let options = options_of(rt.alloc(), &LONGEST)?;
-    let is_longest = has_word(
-        &options,
-        &[
-            15, 0, 1, 2, 3, 4, 5, 6, 7, 8, 9, 10, 11, 12, 13, 14, 15, 0, 1, 2,
-        ],
-    );
-    assert!(rt; is_longest);
+fn options_have_the_values_of_their_words(rt: HostRuntime) -> Result<(), Fail> {
+    for (words, values) in &ACCEPTED {
+        let options = options_of(rt.alloc(), words)?;
+        let last = words.last().copied().unwrap_or("");
+        assert!(rt; have_values(&options, *values), "at {last}");
+    }
     Ok(())
 }
 

@@ -58,7 +58,12 @@ pub struct Marked {
 }
 
 fn is_stopped(seen: &[Seen], kind: OutcomeKind) -> bool {
-    seen.iter().any(|one| one.outcome.kind == kind)
+    for one in seen {
+        if one.outcome.kind == kind {
+            return true;
+        }
+    }
+    false
 }
 
 fn stops_of(seen: &[Seen]) -> Stops {

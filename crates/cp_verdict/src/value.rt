@@ -51,10 +51,16 @@ pub fn is_value(word: &str) -> bool {
 
 /// Whether a word is a number that is written without zeros before it.
 fn is_plain(word: &str) -> bool {
-    word == "0"
-        || !word.is_empty()
-            && !word.starts_with("0")
-            && word.bytes().all(|byte| byte.is_ascii_digit())
+    word == "0" || !word.is_empty() && !word.starts_with("0") && are_digits(word.as_bytes())
+}
+
+fn are_digits(bytes: &[u8]) -> bool {
+    for byte in bytes {
+        if !byte.is_ascii_digit() {
+            return false;
+        }
+    }
+    true
 }
 
 fn is_integer(word: &str) -> bool {
@@ -91,8 +97,16 @@ fn is_name(word: &str) -> bool {
     };
     first.is_ascii_lowercase()
         && word.len() <= MOST_LETTERS
-        && word.bytes().all(|byte| byte.is_ascii_lowercase()
-            || byte.is_ascii_digit()
-            || byte == b'_')
-        && !RESERVED.iter().any(|reserved| *reserved == word)
+        && are_letters(word.as_bytes())
+        && !RESERVED.contains(&word)
+}
+
+/// Whether a name can go on with these.
+fn are_letters(bytes: &[u8]) -> bool {
+    for byte in bytes {
+        if !matches!(byte, b'a'..=b'z' | b'0'..=b'9' | b'_') {
+            return false;
+        }
+    }
+    true
 }

@@ -1,5 +1,5 @@
 use Rattle.cp_machine.specs.System.{IsStateOf}
-use Rattle.cp_tests.proofs.readings.chosen.Given as goal
+use Rattle.cp_tests.proofs.readings.choose_all.Given as goal
 
 abbrev pub invariant-loop-process : goal.invariant-loop-process
 invariant-loop-process g l = IsStateOf l.program l.state

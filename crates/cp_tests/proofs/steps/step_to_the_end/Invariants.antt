@@ -1,5 +1,5 @@
 use Rattle.cp_machine.specs.System.{IsStateOf}
-use Rattle.cp_tests.proofs.steps.steps_done.Given as goal
+use Rattle.cp_tests.proofs.steps.step_to_the_end.Given as goal
 
 abbrev pub invariant-loop-turn : goal.invariant-loop-turn
 invariant-loop-turn g l = IsStateOf l.program l.state
