@@ -1,5 +1,10 @@
 //! The types of a program, as far as its values are to be written.
 
+ghost use Rattle.std.specs.Prelude.{◌≡◌, length, map, slice_get};
+ghost use Rattle.cp_layout.specs.Symbols.{field_symbol_seen};
+ghost use Rattle.cp_legend.specs.Values as spec;
+ghost use Rattle.cp_legend.specs.Values.{types_seen};
+
 use cp_layout::{ArrayType, CellRange, CellType, FieldSymbol, TypeSymbol};
 
 /// The cells of a set.
@@ -19,7 +24,10 @@ pub fn nth(range: CellRange, number: usize) -> i16 {
 
 impl LegendTypes {
     /// How many arrays and records there are.
-    pub fn count(&self) -> usize {
+    #[tactic(auto, unfolding(crate::specs::Values::types_seen))]
+    pub fn count(&self) -> usize
+        ensures { result ≡ length (types_seen self.now) }
+    {
         self.compounds.len()
     }
 
@@ -40,7 +48,10 @@ impl LegendTypes {
     }
 
     /// The array of a number.
-    pub fn array(&self, number: usize) -> Option<ArrayType> {
+    #[tactic(auto, unfolding(crate::specs::Values::types_seen))]
+    pub fn array(&self, number: usize) -> Option<ArrayType>
+        ensures { result ≡ spec.as_array (slice_get (types_seen self.now) number) }
+    {
         match self.compounds.get(number) {
             Some(TypeSymbol::Array(array)) => Some(*array),
             _ => None,
@@ -48,7 +59,10 @@ impl LegendTypes {
     }
 
     /// The fields of the record of a number.
-    pub fn fields(&self, number: usize) -> &[FieldSymbol] {
+    #[tactic(auto, unfolding(crate::specs::Values::types_seen))]
+    pub fn fields(&self, number: usize) -> &[FieldSymbol]
+        ensures { map field_symbol_seen result.now ≡ spec.fields_in (slice_get (types_seen self.now) number) }
+    {
         match self.compounds.get(number) {
             Some(TypeSymbol::Record(fields, _)) => fields.as_slice(),
             _ => &[],
