@@ -1,5 +1,5 @@
 -- What can stand in a page.
-use Rattle.std.specs.Prelude.{ℕ, List, Bool, false, ◌==◌, ◌&&◌, ◌||◌, not, nat_le}
+use Rattle.std.specs.Prelude.{ℕ, List, Bool, ◌==◌, ◌&&◌, ◌||◌, not, nat_le}
 use Rattle.std.specs.List.{list_all}
 
 -- printable ASCII and the end of a line, without the characters that begin a tag, end one, or name a character

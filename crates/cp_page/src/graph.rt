@@ -498,14 +498,36 @@ impl<'a> PageGraph<'a> {
         ensures all { All (λ s. IsStateOf program.now s) states.new.items }
     {
         for at in 0..most {
-            if at >= states.len() {
-                return;
-            }
-            if !self.is_last(limits, at) {
-                self.expand(
-                    alloc, program, limits, observer, states, before, state, at, ticks,
-                );
-            }
+            self.explore_at(
+                alloc, program, limits, observer, states, before, state, at, ticks,
+            );
+        }
+    }
+
+    // Goes on from a state, if there is one at this place and fewer than K choices lead to it, where there is such a limit.
+    fn explore_at<O: ObserveProgress, S: Ledger>(
+        &mut self,
+        alloc: Global,
+        program: &Resolved,
+        limits: Limits,
+        observer: &mut O,
+        states: &mut Vec<State>,
+        before: &mut State,
+        state: &mut State,
+        at: usize,
+        ticks: &mut Ticks<S>,
+    )
+        requires before { IsStateOf program.now before.old }
+        requires own { IsStateOf program.now state.old }
+        requires all { All (λ s. IsStateOf program.now s) states.old.items }
+        ensures before { IsStateOf program.now before.new }
+        ensures own { IsStateOf program.now state.new }
+        ensures all { All (λ s. IsStateOf program.now s) states.new.items }
+    {
+        if at < states.len() && !self.is_last(limits, at) {
+            self.expand(
+                alloc, program, limits, observer, states, before, state, at, ticks,
+            );
         }
     }
 
@@ -541,15 +563,42 @@ impl<'a> PageGraph<'a> {
             let Some(at) = self.target_of(edge) else {
                 return count;
             };
-            if self.is_open(at) {
-                self.expand(
-                    alloc, program, limits, observer, states, before, state, at, ticks,
-                );
-                count = count.saturating_add(1);
-            }
+            let opened = self.expand_once(
+                alloc, program, limits, observer, states, before, state, at, ticks,
+            );
+            count = count.saturating_add(opened);
             edge = self.edge_of(at, *number);
         }
         count
+    }
+
+    // Goes on from a state, if it was not gone on from; the answer is how many states that were.
+    fn expand_once<O: ObserveProgress, S: Ledger>(
+        &mut self,
+        alloc: Global,
+        program: &Resolved,
+        limits: Limits,
+        observer: &mut O,
+        states: &mut Vec<State>,
+        before: &mut State,
+        state: &mut State,
+        at: usize,
+        ticks: &mut Ticks<S>,
+    ) -> usize
+        requires before { IsStateOf program.now before.old }
+        requires own { IsStateOf program.now state.old }
+        requires all { All (λ s. IsStateOf program.now s) states.old.items }
+        ensures before { IsStateOf program.now before.new }
+        ensures own { IsStateOf program.now state.new }
+        ensures all { All (λ s. IsStateOf program.now s) states.new.items }
+    {
+        if !self.is_open(at) {
+            return 0;
+        }
+        self.expand(
+            alloc, program, limits, observer, states, before, state, at, ticks,
+        );
+        1
     }
 
     // The state to which an edge leads.
