@@ -71,7 +71,7 @@ impl Members {
         if self.is_refused {
             return Err(AllocError);
         }
-        Ok(self.object.done())
+        Ok(self.object.into_value())
     }
 }
 

@@ -155,7 +155,7 @@ impl<'a> EndsReader<'a> {
             }
             "shown" => {
                 self.go_on();
-                self.shown(alloc)
+                self.read_shown(alloc)
             }
             _ => Ok(self.ends(alloc, WantedEndsWord::Topic)?.map(Topic::Ends)),
         }
@@ -180,7 +180,7 @@ impl<'a> EndsReader<'a> {
     }
 
     // What follows `shown`.
-    fn shown(&mut self, alloc: Global) -> Result<Option<Topic>, AllocError> {
+    fn read_shown(&mut self, alloc: Global) -> Result<Option<Topic>, AllocError> {
         if self.is_over() {
             return Ok(self.miss(WantedEndsWord::Value));
         }

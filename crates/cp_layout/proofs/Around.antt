@@ -13,7 +13,7 @@ use Rattle.cp_layout.specs.declared.layer.Passing.{Passing}
 use Rattle.cp_layout.specs.declared.layer.Passing.TheVariants as passing
 use Rattle.cp_layout.specs.declared.layer.Layouter as code_layer
 use Rattle.cp_layout.specs.declared.value.Designated as code_designated
-use Rattle.cp_slots.specs.Code.{Place, Expression, Action}
+use Rattle.cp_slots.specs.Code.{Place, OrdinalExpression, Action}
 use Rattle.cp_layout.specs.Values.{Value, Designated, designated_seen, ordinal_of, a_value, a_variable, a_contained, a_component, a_routine, an_entry, a_standard, no_designated}
 use Rattle.cp_layout.specs.Layers.{Layer, layer_seen, around_seen, added, Lays}
 use Rattle.cp_layout.specs.LaidExpressions.{expression, designator, selector, field_selected, component_of_array, component_found, element_selected, passed}
@@ -32,7 +32,7 @@ module _ (l : code_layer.Layouter) where
   field_around (a_standard r) x = refl
   field_around no_designated x = refl
 
-  of_array : (first : ℕ) (a : ArrayType) (t : CellType) (e : Expression) → component_of_array (around_seen l.around) first a t e ≡ component_of_array (layer_seen l) first a t e
+  of_array : (first : ℕ) (a : ArrayType) (t : CellType) (e : OrdinalExpression) → component_of_array (around_seen l.around) first a t e ≡ component_of_array (layer_seen l) first a t e
   unfolding layer_seen
   of_array first a (types.Ordinal r) e = refl
   of_array first a types.Queue e = refl
@@ -41,11 +41,11 @@ module _ (l : code_layer.Layouter) where
   of_array first a (types.Record n) e = refl
   of_array first a (types.System n) e = refl
 
-  found : (first : ℕ) (o : Option ArrayType) (e : Expression) → component_found (around_seen l.around) first o e ≡ component_found (layer_seen l) first o e
+  found : (first : ℕ) (o : Option ArrayType) (e : OrdinalExpression) → component_found (around_seen l.around) first o e ≡ component_found (layer_seen l) first o e
   found first None e = refl
   found first (Some a) e = of_array first a a.element e
 
-  element_around : (d : Designated) (e : Expression) → element_selected (around_seen l.around) d e ≡ element_selected (layer_seen l) d e
+  element_around : (d : Designated) (e : OrdinalExpression) → element_selected (around_seen l.around) d e ≡ element_selected (layer_seen l) d e
   unfolding layer_seen
   element_around (a_value v) e = refl
   element_around (a_variable p t) e = refl
@@ -92,7 +92,7 @@ module _ (s : tree_selector.Selector) (d : Designated) where
   unfolding selector
   field_laid l i is e h = ap (λ x. selector (layer_seen l) d (selector_view x)) is ∙ ap (λ x. selector (layer_seen l) d x) (field_view i) ∙ ap (λ x. (let y : Designated × Layer = (x, layer_seen l) in y)) (sym (h ∙ field_around l d i.name))
 
-  pub element_laid : {E : Type 0} (l : Layer) (m : code_layer.Layouter) (a : tree_expression.Expression) (v : Value) (at : Expression) (r : Result code_designated.Designated E) → s ≡ tree_selector.Index a → expression l (expression_view a) ≡ (v, layer_seen m) → at ≡ ordinal_of v
+  pub element_laid : {E : Type 0} (l : Layer) (m : code_layer.Layouter) (a : tree_expression.Expression) (v : Value) (at : OrdinalExpression) (r : Result code_designated.Designated E) → s ≡ tree_selector.Index a → expression l (expression_view a) ≡ (v, layer_seen m) → at ≡ ordinal_of v
       → IfOk r (λ x. designated_seen x ≡ element_selected (around_seen m.around) d at) → Lays designated_seen (selector l d (selector_view s)) (layer_seen m) r
   unfolding selector
   element_laid l m a v at (Ok x) is h e k =

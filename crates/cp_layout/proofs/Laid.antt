@@ -15,7 +15,7 @@ use Rattle.cp_tree.specs.View.{expression_view, expressions_view, expressions_of
 use Rattle.cp_slots.specs.declared.place.PlaceOrigin.{PlaceOrigin}
 use Rattle.cp_slots.specs.declared.place.Index as code_index
 use Rattle.cp_slots.specs.declared.place.Place as code_place
-use Rattle.cp_slots.specs.declared.place.Expression.{the_lemmas as place_lemmas}
+use Rattle.cp_slots.specs.declared.place.OrdinalExpression.{the_lemmas as place_lemmas}
 use Rattle.cp_layout.specs.declared.layer.ParameterLayout.{ParameterLayout}
 use Rattle.cp_slots.specs.Code as code
 use Rattle.cp_slots.specs.Code.{Index, Indices, SetExpression, Argument, place_seen, index_seen, indices_of}

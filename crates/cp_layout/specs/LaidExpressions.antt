@@ -18,7 +18,7 @@ use Rattle.cp_layout.specs.declared.layer.ParameterLayout.{ParameterLayout}
 use Rattle.cp_layout.specs.declared.layer.FunctionResult.{FunctionResult}
 use Rattle.cp_layout.specs.Kinds.{Field, field_of, array_of, cells_of, plus}
 use Rattle.cp_slots.specs.Code as code
-use Rattle.cp_slots.specs.Code.{Place, Indices, Index, Expression, SetExpression, ComponentPlace, ArgumentValue, Argument}
+use Rattle.cp_slots.specs.Code.{Place, Indices, Index, OrdinalExpression, SetExpression, ComponentPlace, ArgumentValue, Argument}
 use Rattle.cp_layout.specs.Values as values
 use Rattle.cp_layout.specs.Values.{Value, component_value, Designated, a_value, a_variable, a_contained, a_component, a_routine, an_entry, a_standard, no_designated, number_value, no_value, place_at, loaded, place_of, ordinal_of, set_of, set_value, component_value, applied}
 use Rattle.cp_layout.specs.Layers.{find, Layer, Heading, System, parameter_of, result_of, with_cell, with_room, call_need, added}
@@ -86,20 +86,20 @@ count_in (Some s) = s.owned.count
 abbrev pub component_count : Layer → ℕ → ℕ
 component_count l k = count_in (slice_get l.systems k)
 
-abbrev pub element_found : Place → Option ArrayType → Expression → Designated
+abbrev pub element_found : Place → Option ArrayType → OrdinalExpression → Designated
 element_found p None e = no_designated
 element_found p (Some a) e = a_variable (with_index p (code.index e a.index.low a.index.high a.element_cells)) a.element
 
-abbrev pub component_of_array : Layer → ℕ → ArrayType → CellType → Expression → Designated
+abbrev pub component_of_array : Layer → ℕ → ArrayType → CellType → OrdinalExpression → Designated
 component_of_array l first a (types.System k) e = a_component (code.element first a.index.low a.index.high (component_count l k) e) k
 component_of_array l first a t e = no_designated
 
-abbrev pub component_found : Layer → ℕ → Option ArrayType → Expression → Designated
+abbrev pub component_found : Layer → ℕ → Option ArrayType → OrdinalExpression → Designated
 component_found l first None e = no_designated
 component_found l first (Some a) e = component_of_array l first a a.element e
 
 -- an element of an array
-abbrev pub element_selected : Layer → Designated → Expression → Designated
+abbrev pub element_selected : Layer → Designated → OrdinalExpression → Designated
 element_selected l (a_variable p t) e = element_found p (array_of l.types t) e
 element_selected l (a_contained first t) e = component_found l first (array_of l.types t) e
 element_selected l d e = no_designated

@@ -28,11 +28,11 @@ use Rattle.cp_layout.specs.declared.value.Designated as code_designated
 use Rattle.cp_layout.specs.declared.value.Designated.TheVariants as designated
 use Rattle.cp_layout.specs.Kinds.{whole}
 use Rattle.cp_slots.specs.Code as code
-use Rattle.cp_slots.specs.Code.{Place, Expression, SetExpression, ComponentPlace, place_seen, expression_seen, set_seen, component_seen}
+use Rattle.cp_slots.specs.Code.{Place, OrdinalExpression, SetExpression, ComponentPlace, place_seen, expression_seen, set_seen, component_seen}
 
 -- the value of an expression
 pub data Value : Type 0 where
-  ordinal_value : Expression → CellBase → Value
+  ordinal_value : OrdinalExpression → CellBase → Value
   set_value : SetExpression → Value
   -- an array, a record or a queue
   whole_value : Place → CellType → Value
@@ -81,7 +81,7 @@ loaded p (types.Ordinal r) = ordinal_value (code.load p) r.base
 loaded p (types.Set r) = set_value (code.load_set p)
 loaded p t = whole_value p t
 
-abbrev pub load_place : Expression → Place
+abbrev pub load_place : OrdinalExpression → Place
 load_place (code.load p) = p
 load_place e = place_at (origin.Local 0)
 
@@ -96,7 +96,7 @@ place_of (set_value e) = set_place e
 place_of (whole_value p t) = p
 place_of (component_value c) = place_at (origin.Local 0)
 
-abbrev pub ordinal_of : Value → Expression
+abbrev pub ordinal_of : Value → OrdinalExpression
 ordinal_of (ordinal_value e b) = e
 ordinal_of v = code.number (pos 0)
 
@@ -156,7 +156,7 @@ related relation.Greater v w = compared comparison.Greater v w
 related relation.AtMost v w = compared comparison.AtMost v w
 related relation.AtLeast v w = compared comparison.AtLeast v w
 
-abbrev pub applied_to : PredeclaredRoutine → Expression → CellBase → Value
+abbrev pub applied_to : PredeclaredRoutine → OrdinalExpression → CellBase → Value
 applied_to predeclared.Succ e b = ordinal_value (code.successor e (whole b).high) b
 applied_to predeclared.Pred e b = ordinal_value (code.predecessor e (whole b).low) b
 applied_to predeclared.Chr e b = ordinal_value (code.character e) base.Char

@@ -11,7 +11,7 @@ use crate::layer::{HeadingLayout, SystemCells};
 use crate::names::{LayoutMeaning, Names};
 use crate::surroundings::Surroundings;
 use crate::value::{Designated, number, place_at};
-use cp_slots::{ComponentPlace, Expression, Index, Place};
+use cp_slots::{ComponentPlace, OrdinalExpression, Index, Place};
 use cp_tree::Identifier;
 use std::alloc::{AllocError, Global};
 
@@ -80,7 +80,7 @@ impl<'a> Surroundings<'a> {
         &self,
         alloc: Global,
         whole: Designated,
-        index: Expression,
+        index: OrdinalExpression,
     ) -> Result<Designated, AllocError>
         ensures { IfOk result (λ d. designated_seen d ≡ spec.element_selected (around_seen self.now) (designated_seen whole) (expression_seen index)) }
     {
@@ -110,7 +110,7 @@ impl<'a> Surroundings<'a> {
         alloc: Global,
         first: usize,
         value_type: CellType,
-        index: Expression,
+        index: OrdinalExpression,
     ) -> Result<Designated, AllocError>
         ensures { IfOk result (λ d. designated_seen d ≡ spec.element_selected (around_seen self.now) (a_contained first value_type) (expression_seen index)) }
     {

@@ -16,7 +16,7 @@ use crate::value::{
     ordinal, place_at, place_of, product_of, set_expression, standard_value, sum_of,
 };
 use cp_slots::{
-    Action, Argument, ArgumentValue, ComponentPlace, Expression, PlaceOrigin, SetExpression,
+    Action, Argument, ArgumentValue, ComponentPlace, OrdinalExpression, PlaceOrigin, SetExpression,
 };
 use cp_tree::{
     Addition, Designator, Expression as Written, Factor, FactorKind, Multiplication, Selector,
@@ -400,7 +400,7 @@ fn with_sign(alloc: Global, sign: Option<Sign>, value: Value) -> Result<Value, A
 fn with_element(
     alloc: Global,
     whole: SetExpression,
-    element: Expression,
+    element: OrdinalExpression,
 ) -> Result<SetExpression, AllocError>
     ensures { IfOk result (λ s. set_seen s ≡ code.with_element (set_seen whole) (expression_seen element)) }
 {

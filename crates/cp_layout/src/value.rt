@@ -8,7 +8,7 @@ ghost use Rattle.cp_layout.specs.Values.{value_seen};
 use crate::kinds::{CellBase, CellType};
 use crate::names::PredeclaredRoutine;
 use cp_slots::{
-    Arithmetic, Comparison, ComponentPlace, Expression, Logic, Place, PlaceOrigin, SetExpression,
+    Arithmetic, Comparison, ComponentPlace, OrdinalExpression, Logic, Place, PlaceOrigin, SetExpression,
     SetOperation,
 };
 use cp_tree::{Addition, Multiplication, Relation};
@@ -17,7 +17,7 @@ use std::alloc::{AllocError, Global};
 /// The value of an expression.
 #[derive(Drop)]
 pub enum Value {
-    Ordinal(Expression, CellBase),
+    Ordinal(OrdinalExpression, CellBase),
     Set(SetExpression),
     /// An array, a record or a queue.
     Whole(Place, CellType),
@@ -43,7 +43,7 @@ pub enum Designated {
 pub fn number(number: i16, base: CellBase) -> Value
     ensures { value_seen result ≡ spec.number_value number base }
 {
-    Value::Ordinal(Expression::Number(number), base)
+    Value::Ordinal(OrdinalExpression::Number(number), base)
 }
 
 /// What stands for a value that cannot be.
@@ -69,7 +69,7 @@ pub fn load(place: Place, value_type: CellType) -> Value
     ensures { value_seen result ≡ spec.loaded (place_seen place) value_type }
 {
     match value_type {
-        CellType::Ordinal(range) => Value::Ordinal(Expression::Load(place), range.base),
+        CellType::Ordinal(range) => Value::Ordinal(OrdinalExpression::Load(place), range.base),
         CellType::Set(_) => Value::Set(SetExpression::Load(place)),
         _ => Value::Whole(place, value_type),
     }
@@ -80,7 +80,7 @@ pub fn place_of(alloc: Global, value: Value) -> Place
     ensures { place_seen result ≡ spec.place_of (value_seen value) }
 {
     match value {
-        Value::Ordinal(Expression::Load(place), _) => place,
+        Value::Ordinal(OrdinalExpression::Load(place), _) => place,
         Value::Set(SetExpression::Load(place)) => place,
         Value::Whole(place, _) => place,
         _ => place_at(alloc, PlaceOrigin::Local(0)),
@@ -88,12 +88,12 @@ pub fn place_of(alloc: Global, value: Value) -> Place
 }
 
 /// The expression of an ordinal value.
-pub fn ordinal(value: Value) -> Expression
+pub fn ordinal(value: Value) -> OrdinalExpression
     ensures { expression_seen result ≡ spec.ordinal_of (value_seen value) }
 {
     match value {
         Value::Ordinal(expression, _) => expression,
-        _ => Expression::Number(0),
+        _ => OrdinalExpression::Number(0),
     }
 }
 
@@ -112,7 +112,7 @@ pub fn negation_of(alloc: Global, value: Value) -> Result<Value, AllocError>
     ensures { IfOk result (λ v. value_seen v ≡ spec.negated (value_seen value)) }
 {
     let inner = Box::new(alloc, ordinal(value))?;
-    Ok(Value::Ordinal(Expression::Not(inner), CellBase::Boolean))
+    Ok(Value::Ordinal(OrdinalExpression::Not(inner), CellBase::Boolean))
 }
 
 /// A value with the sign `-`.
@@ -120,7 +120,7 @@ pub fn opposite(alloc: Global, value: Value) -> Result<Value, AllocError>
     ensures { IfOk result (λ v. value_seen v ≡ spec.opposite (value_seen value)) }
 {
     let inner = Box::new(alloc, ordinal(value))?;
-    Ok(Value::Ordinal(Expression::Negate(inner), CellBase::Integer))
+    Ok(Value::Ordinal(OrdinalExpression::Negate(inner), CellBase::Integer))
 }
 
 /// Two values, each in a box. They are let go here where memory fails, whatever they are: that takes each caller a long proof.
@@ -146,7 +146,7 @@ fn arithmetic(
 {
     let (left, right) = in_two_boxes(alloc, ordinal(left), ordinal(right))?;
     Ok(Value::Ordinal(
-        Expression::Arithmetic(operation, left, right),
+        OrdinalExpression::Arithmetic(operation, left, right),
         CellBase::Integer,
     ))
 }
@@ -155,7 +155,7 @@ fn logic(alloc: Global, operation: Logic, left: Value, right: Value) -> Result<V
     ensures { IfOk result (λ v. value_seen v ≡ spec.logic_of operation (value_seen left) (value_seen right)) }
 {
     let (left, right) = in_two_boxes(alloc, ordinal(left), ordinal(right))?;
-    Ok(Value::Ordinal(Expression::Logic(operation, left, right), CellBase::Boolean))
+    Ok(Value::Ordinal(OrdinalExpression::Logic(operation, left, right), CellBase::Boolean))
 }
 
 fn combined_sets(
@@ -217,14 +217,14 @@ fn member(alloc: Global, left: Value, right: Value) -> Result<Value, AllocError>
     ensures { IfOk result (λ v. value_seen v ≡ spec.member_of (value_seen left) (value_seen right)) }
 {
     let (element, set) = in_two_boxes(alloc, ordinal(left), set_expression(right))?;
-    Ok(Value::Ordinal(Expression::Member(element, set), CellBase::Boolean))
+    Ok(Value::Ordinal(OrdinalExpression::Member(element, set), CellBase::Boolean))
 }
 
 fn same_set(alloc: Global, is_same: bool, left: Value, right: Value) -> Result<Value, AllocError>
     ensures { IfOk result (λ v. value_seen v ≡ spec.same_sets is_same (value_seen left) (value_seen right)) }
 {
     let (left, right) = in_two_boxes(alloc, set_expression(left), set_expression(right))?;
-    Ok(Value::Ordinal(Expression::SameSet(is_same, left, right), CellBase::Boolean))
+    Ok(Value::Ordinal(OrdinalExpression::SameSet(is_same, left, right), CellBase::Boolean))
 }
 
 fn comparison(
@@ -237,7 +237,7 @@ fn comparison(
 {
     let (left, right) = in_two_boxes(alloc, ordinal(left), ordinal(right))?;
     Ok(Value::Ordinal(
-        Expression::Compare(relation, left, right),
+        OrdinalExpression::Compare(relation, left, right),
         CellBase::Boolean,
     ))
 }
@@ -280,22 +280,22 @@ pub fn standard_value(
     let range = base.whole();
     Ok(match function {
         PredeclaredRoutine::Succ => Value::Ordinal(
-            Expression::Successor(Box::new(alloc, inner)?, range.high),
+            OrdinalExpression::Successor(Box::new(alloc, inner)?, range.high),
             base,
         ),
         PredeclaredRoutine::Pred => Value::Ordinal(
-            Expression::Predecessor(Box::new(alloc, inner)?, range.low),
+            OrdinalExpression::Predecessor(Box::new(alloc, inner)?, range.low),
             base,
         ),
         PredeclaredRoutine::Chr => {
             Value::Ordinal(
-                Expression::Character(Box::new(alloc, inner)?),
+                OrdinalExpression::Character(Box::new(alloc, inner)?),
                 CellBase::Char,
             )
         }
         PredeclaredRoutine::Abs => {
             Value::Ordinal(
-                Expression::Absolute(Box::new(alloc, inner)?),
+                OrdinalExpression::Absolute(Box::new(alloc, inner)?),
                 CellBase::Integer,
             )
         }
@@ -306,5 +306,5 @@ pub fn standard_value(
 fn is_empty(place: Place) -> Value
     ensures { value_seen result ≡ spec.empty_queue (place_seen place) }
 {
-    Value::Ordinal(Expression::IsEmpty(place), CellBase::Boolean)
+    Value::Ordinal(OrdinalExpression::IsEmpty(place), CellBase::Boolean)
 }

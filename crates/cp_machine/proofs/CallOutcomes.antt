@@ -8,7 +8,7 @@ use Rattle.cp_slots.specs.Tables.{Tables, component_at}
 use Rattle.cp_slots.specs.declared.item.ResolvedArm.{ResolvedArm}
 use Rattle.cp_slots.specs.declared.place.Argument.{Argument}
 use Rattle.cp_slots.specs.declared.place.ComponentPlace.{ComponentPlace}
-use Rattle.cp_slots.specs.declared.place.Expression.{Expression}
+use Rattle.cp_slots.specs.declared.place.OrdinalExpression.{OrdinalExpression}
 use Rattle.cp_slots.specs.declared.place.Place.{Place}
 use Rattle.cp_store.specs.declared.argument.Bound.{Bound}
 use Rattle.cp_store.specs.declared.error.ErrorName.{ErrorName}
@@ -80,14 +80,14 @@ uninitialised_is Initialised = refl
 
 -- ---- tests
 
-module _ (m : Machine) (pid line : ℕ) (test : Expression) (list other : Option ℕ) (rest : List Entry) where
+module _ (m : Machine) (pid line : ℕ) (test : OrdinalExpression) (list other : Option ℕ) (rest : List Entry) where
   pub branch_fails : (x : ErrorName) → value_of m pid test ≡ Err x → branch m pid line test list other rest ≡ fault m pid line x
   branch_fails x e = value_fails (fault m pid line) (λ v. local (with_stack m pid (rest_of (if is_true v then list else other) rest))) e
 
   pub branch_goes : (v : ℤ) (b : Bool) → value_of m pid test ≡ Ok v → is_true v ≡ b → branch m pid line test list other rest ≡ local (with_stack m pid (rest_of (if b then list else other) rest))
   branch_goes v b e is = value_goes (fault m pid line) (λ v. local (with_stack m pid (rest_of (if is_true v then list else other) rest))) e ∙ ap (λ b. local (with_stack m pid (rest_of (if b then list else other) rest))) is
 
-module _ (m : Machine) (pid line : ℕ) (test : Expression) (list : Option ℕ) (again : ℕ) (next : Option ℕ) (es : List Entry) where
+module _ (m : Machine) (pid line : ℕ) (test : OrdinalExpression) (list : Option ℕ) (again : ℕ) (next : Option ℕ) (es : List Entry) where
   pub while_fails : (x : ErrorName) → value_of m pid test ≡ Err x → while_do m pid line test list again next es ≡ fault m pid line x
   while_fails x e = value_fails (fault m pid line) (λ v. local (with_stack m pid (if is_true v then rest_of list (Rest again ∷ es) else rest_of next es))) e
 
@@ -100,7 +100,7 @@ module _ (m : Machine) (pid line : ℕ) (test : Expression) (list : Option ℕ) 
   pub until_goes : (v : ℤ) (b : Bool) → value_of m pid test ≡ Ok v → is_true v ≡ b → until m pid line test list again next es ≡ local (with_stack m pid (if b then rest_of next es else rest_of list (Rest again ∷ es)))
   until_goes v b e is = value_goes (fault m pid line) (λ v. local (with_stack m pid (if is_true v then rest_of next es else rest_of list (Rest again ∷ es)))) e ∙ ap (λ b. local (with_stack m pid (if b then rest_of next es else rest_of list (Rest again ∷ es)))) is
 
-module _ (m : Machine) (pid line : ℕ) (selector : Expression) (arms : List ResolvedArm) (rest : List Entry) where
+module _ (m : Machine) (pid line : ℕ) (selector : OrdinalExpression) (arms : List ResolvedArm) (rest : List Entry) where
   pub case_fails : (x : ErrorName) → value_of m pid selector ≡ Err x → case_of m pid line selector arms rest ≡ fault m pid line x
   case_fails x e = value_fails (fault m pid line) (λ v. with_value (arm_for v arms) (fault m pid line) (λ list. local (with_stack m pid (rest_of list rest)))) e
 

@@ -9,7 +9,7 @@ use Rattle.cp_slots.specs.declared.place.Argument.{Argument}
 use Rattle.cp_slots.specs.declared.place.ArgumentValue.{ArgumentValue}
 use Rattle.cp_slots.specs.declared.place.ArgumentValue.TheVariants as value
 use Rattle.cp_slots.specs.declared.place.ComponentPlace.{ComponentPlace}
-use Rattle.cp_slots.specs.declared.place.Expression.{Expression}
+use Rattle.cp_slots.specs.declared.place.OrdinalExpression.{OrdinalExpression}
 use Rattle.cp_slots.specs.declared.place.Place.{Place}
 use Rattle.cp_slots.specs.declared.place.SetExpression.{SetExpression}
 use Rattle.cp_store.specs.Arguments.{bindings_after, bound_at, bounds_after, bounds_at, put_binding}
@@ -40,7 +40,7 @@ module _ (x : Memory) (known : List ℕ) (f : Frame) (bindings : List ℕ) (numb
   plain : (c : Bound) → IsPlain c → ◌≡◌ {A = Result Bound ErrorName} (Ok c) (Ok b) → IsPlain b
   plain c p is = subst IsPlain (ok_is is) p
 
-  scalar_plain : (e : Expression) (low high : ℤ) → bound_at x known f (value.Scalar e low high) ≡ Ok b → IsPlain b
+  scalar_plain : (e : OrdinalExpression) (low high : ℤ) → bound_at x known f (value.Scalar e low high) ≡ Ok b → IsPlain b
   scalar_plain e low high is = from_ok IsPlain b (value_at x f e) _ (λ z. from_ok IsPlain b (ranged low high z) _ (λ v. plain (Scalar v) refl)) is
 
   set_plain : (e : SetExpression) (low high : ℕ) → bound_at x known f (value.Set e low high) ≡ Ok b → IsPlain b

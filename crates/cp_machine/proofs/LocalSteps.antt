@@ -7,7 +7,7 @@ use Rattle.cp_slots.specs.Tables.{Tables}
 use Rattle.cp_slots.specs.declared.item.Action.{Action}
 use Rattle.cp_slots.specs.declared.item.Action.TheVariants.{For}
 use Rattle.cp_slots.specs.declared.item.Item.{Item}
-use Rattle.cp_slots.specs.declared.place.Expression.{Expression}
+use Rattle.cp_slots.specs.declared.place.OrdinalExpression.{OrdinalExpression}
 use Rattle.cp_slots.specs.declared.place.Place.{Place}
 use Rattle.cp_store.specs.declared.error.ErrorName.{ErrorName}
 use Rattle.cp_store.specs.Values.{ranged}
@@ -41,19 +41,19 @@ either_calm : (m : Machine) (b : Bool) (x y : Stepped) → Calm m x → Calm m y
 either_calm m true x y h k = h
 either_calm m false x y h k = k
 
-pub assign_calm : (m : Machine) (pid line : ℕ) (target : Place) (value : Expression) (low high : ℤ) (rest : List Entry) → Calm m (assign m pid line target value low high rest)
+pub assign_calm : (m : Machine) (pid line : ℕ) (target : Place) (value : OrdinalExpression) (low high : ℤ) (rest : List Entry) → Calm m (assign m pid line target value low high rest)
 assign_calm m pid line target value low high rest =
     value_calm m (value_of m pid value) _ _ (λ e. (λ h. refl, refl)) (λ v.
     value_calm m (address_of m pid target) _ _ (λ e. (λ h. refl, refl)) (λ p.
     value_calm m (ranged low high v) _ _ (λ e. (λ h. refl, refl)) (λ w. done m _ refl)))
 
-pub branch_calm : (m : Machine) (pid line : ℕ) (test : Expression) (list other : Option ℕ) (rest : List Entry) → Calm m (branch m pid line test list other rest)
+pub branch_calm : (m : Machine) (pid line : ℕ) (test : OrdinalExpression) (list other : Option ℕ) (rest : List Entry) → Calm m (branch m pid line test list other rest)
 branch_calm m pid line test list other rest = value_calm m (value_of m pid test) _ _ (λ e. (λ h. refl, refl)) (λ v. done m _ refl)
 
-pub while_calm : (m : Machine) (pid line : ℕ) (test : Expression) (list : Option ℕ) (again : ℕ) (next : Option ℕ) (es : List Entry) → Calm m (while_do m pid line test list again next es)
+pub while_calm : (m : Machine) (pid line : ℕ) (test : OrdinalExpression) (list : Option ℕ) (again : ℕ) (next : Option ℕ) (es : List Entry) → Calm m (while_do m pid line test list again next es)
 while_calm m pid line test list again next es = value_calm m (value_of m pid test) _ _ (λ e. (λ h. refl, refl)) (λ v. done m _ refl)
 
-pub until_calm : (m : Machine) (pid line : ℕ) (test : Expression) (list : Option ℕ) (again : ℕ) (next : Option ℕ) (es : List Entry) → Calm m (until m pid line test list again next es)
+pub until_calm : (m : Machine) (pid line : ℕ) (test : OrdinalExpression) (list : Option ℕ) (again : ℕ) (next : Option ℕ) (es : List Entry) → Calm m (until m pid line test list again next es)
 until_calm m pid line test list again next es = value_calm m (value_of m pid test) _ _ (λ e. (λ h. refl, refl)) (λ v. done m _ refl)
 
 pub succeeded_calm : (m : Machine) (pid at : ℕ) (item : Item) (a : Action) (es : List Entry) (z last : ℤ) → Calm m (succeeded m pid at item a es z last)

@@ -3,7 +3,7 @@ use Rattle.std.proofs.Common.{◌≡◌, ◌∙◌, ℕ, ◌<◌, Bool, true, fa
 use Rattle.std.specs.Prelude.{ℤ}
 use Rattle.std.specs.Ordering.{int_eq}
 use Rattle.std.proofs.lemmas.List.{length-map, length-set}
-use Rattle.cp_slots.specs.declared.place.Expression.{Expression}
+use Rattle.cp_slots.specs.declared.place.OrdinalExpression.{OrdinalExpression}
 use Rattle.cp_slots.specs.declared.place.PlaceOrigin.{PlaceOrigin}
 use Rattle.cp_slots.specs.declared.place.Place.{Place}
 use Rattle.cp_slots.specs.declared.place.SetExpression.{SetExpression}
@@ -43,7 +43,7 @@ replaced_has s t pid es at cells after lt h =
 
 -- ---- assignments
 
-module _ (m : Machine) (pid line : ℕ) (target : Place) (value : Expression) (low high : ℤ) (rest : List Entry) where
+module _ (m : Machine) (pid line : ℕ) (target : Place) (value : OrdinalExpression) (low high : ℤ) (rest : List Entry) where
   right_is : {o p : Result ℤ ErrorName} → o ≡ p → with_value o (fault m pid line) (λ v. with_value (address_of m pid target) (fault m pid line) (assigned m pid line low high rest v)) ≡ with_value p (fault m pid line) (λ v. with_value (address_of m pid target) (fault m pid line) (assigned m pid line low high rest v))
   right_is e = ap (λ o. with_value o (fault m pid line) (λ v. with_value (address_of m pid target) (fault m pid line) (assigned m pid line low high rest v))) e
 

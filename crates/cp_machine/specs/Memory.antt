@@ -3,7 +3,7 @@ use Rattle.std.specs.Prelude.{ℕ, List, ◌++◌, replicate, Result, ℤ}
 use Rattle.cp_slots.specs.Tables.{RoutineView}
 use Rattle.cp_slots.specs.declared.place.Argument.{Argument}
 use Rattle.cp_slots.specs.declared.place.ComponentPlace.{ComponentPlace}
-use Rattle.cp_slots.specs.declared.place.Expression.{Expression}
+use Rattle.cp_slots.specs.declared.place.OrdinalExpression.{OrdinalExpression}
 use Rattle.cp_slots.specs.declared.place.PlaceOrigin.{PlaceOrigin}
 use Rattle.cp_slots.specs.declared.place.Place.{Place}
 use Rattle.cp_slots.specs.declared.place.SetExpression.{SetExpression}
@@ -26,7 +26,7 @@ with_memory m pid x = with_thread (with_permanents m x.permanents) pid (record (
 
 -- ---- readings, in the frame that the process executes
 
-abbrev pub value_of : Machine → ℕ → Expression → Result ℤ ErrorName
+abbrev pub value_of : Machine → ℕ → OrdinalExpression → Result ℤ ErrorName
 value_of m pid e = value_at (memory_at m pid) (thread_at m.threads pid).frame e
 
 abbrev pub set_of : Machine → ℕ → SetExpression → Result SetValue ErrorName

@@ -3,7 +3,7 @@ use Rattle.std.specs.Prelude.{◌≡◌, ℕ, ◌+◌, ◌<◌, ◌≤◌, false
 use Rattle.cp_slots.specs.Inside.{has, room_from}
 use Rattle.cp_slots.specs.declared.place.Argument.{Argument}
 use Rattle.cp_slots.specs.declared.place.ComponentPlace.{ComponentPlace}
-use Rattle.cp_slots.specs.declared.place.Expression.{Expression}
+use Rattle.cp_slots.specs.declared.place.OrdinalExpression.{OrdinalExpression}
 use Rattle.cp_slots.specs.declared.place.PlaceOrigin.{PlaceOrigin}
 use Rattle.cp_slots.specs.declared.place.Place.{Place}
 use Rattle.cp_slots.specs.declared.place.SetExpression.{SetExpression}
@@ -121,7 +121,7 @@ abbrev pub frame_at : Machine → (pid : ℕ) → Frame
 frame_at m pid = (thread_at m.threads pid).frame
 
 -- all that an expression, or a set, reads is there
-abbrev pub CanRead : Machine → (pid : ℕ) → Expression → Type 0
+abbrev pub CanRead : Machine → (pid : ℕ) → OrdinalExpression → Type 0
 CanRead m pid e = store.CanRead (memory_at m pid) (frame_at m pid) e
 
 abbrev pub CanReadSet : Machine → (pid : ℕ) → SetExpression → Type 0

@@ -8,7 +8,7 @@ use Rattle.cp_slots.specs.declared.item.ResolvedArm.{ResolvedArm}
 use Rattle.cp_slots.specs.declared.item.Item.{Item}
 use Rattle.cp_slots.specs.declared.item.ShownKind.{ShownKind}
 use Rattle.cp_slots.specs.declared.item.ShownKind.TheVariants as kind
-use Rattle.cp_slots.specs.declared.place.Expression.{Expression}
+use Rattle.cp_slots.specs.declared.place.OrdinalExpression.{OrdinalExpression}
 use Rattle.cp_slots.specs.declared.place.PlaceOrigin.{PlaceOrigin}
 use Rattle.cp_slots.specs.declared.place.Place.{Place}
 use Rattle.cp_slots.specs.declared.place.SetExpression.{SetExpression}
@@ -57,7 +57,7 @@ with_value (Err e) failed go = failed e
 abbrev pub assigned : Machine → (pid line : ℕ) → (low high : ℤ) → List Entry → ℤ → Address → Stepped
 assigned m pid line low high rest v a = with_value (ranged low high v) (fault m pid line) (λ w. local (number_put (with_stack m pid rest) pid a w))
 
-abbrev pub assign : Machine → (pid line : ℕ) → Place → Expression → (low high : ℤ) → List Entry → Stepped
+abbrev pub assign : Machine → (pid line : ℕ) → Place → OrdinalExpression → (low high : ℤ) → List Entry → Stepped
 assign m pid line target value low high rest =
     with_value (value_of m pid value) (fault m pid line)
     (λ v. with_value (address_of m pid target) (fault m pid line) (assigned m pid line low high rest v))
@@ -78,7 +78,7 @@ copy m pid line target source size rest =
 
 -- ---- choices
 
-abbrev pub branch : Machine → (pid line : ℕ) → Expression → (list other : Option ℕ) → List Entry → Stepped
+abbrev pub branch : Machine → (pid line : ℕ) → OrdinalExpression → (list other : Option ℕ) → List Entry → Stepped
 branch m pid line test list other rest =
     with_value (value_of m pid test) (fault m pid line)
     (λ v. local (with_stack m pid (rest_of (if is_true v then list else other) rest)))
@@ -91,7 +91,7 @@ abbrev pub arm_for : ℤ → List ResolvedArm → Result (Option ℕ) ErrorName
 arm_for z [] = Err NoCase
 arm_for z (a ∷ as') = if has_label z a.labels.items then Ok a.body else arm_for z as'
 
-abbrev pub case_of : Machine → (pid line : ℕ) → Expression → List ResolvedArm → List Entry → Stepped
+abbrev pub case_of : Machine → (pid line : ℕ) → OrdinalExpression → List ResolvedArm → List Entry → Stepped
 case_of m pid line selector arms rest =
     with_value (value_of m pid selector) (fault m pid line)
     (λ v. with_value (arm_for v arms) (fault m pid line) (λ list. local (with_stack m pid (rest_of list rest))))
@@ -99,13 +99,13 @@ case_of m pid line selector arms rest =
 -- ---- loops. `es` stands below the loop itself, and `again` is where its test begins
 
 -- true: the list, and the loop again; false: removed
-abbrev pub while_do : Machine → (pid line : ℕ) → Expression → (list : Option ℕ) → (again : ℕ) → (next : Option ℕ) → List Entry → Stepped
+abbrev pub while_do : Machine → (pid line : ℕ) → OrdinalExpression → (list : Option ℕ) → (again : ℕ) → (next : Option ℕ) → List Entry → Stepped
 while_do m pid line test list again next es =
     with_value (value_of m pid test) (fault m pid line)
     (λ v. local (with_stack m pid (if is_true v then rest_of list (Rest again ∷ es) else rest_of next es)))
 
 -- true: removed; false: the list, and the test again
-abbrev pub until : Machine → (pid line : ℕ) → Expression → (list : Option ℕ) → (again : ℕ) → (next : Option ℕ) → List Entry → Stepped
+abbrev pub until : Machine → (pid line : ℕ) → OrdinalExpression → (list : Option ℕ) → (again : ℕ) → (next : Option ℕ) → List Entry → Stepped
 until m pid line test list again next es =
     with_value (value_of m pid test) (fault m pid line)
     (λ v. local (with_stack m pid (if is_true v then rest_of next es else rest_of list (Rest again ∷ es))))
@@ -128,7 +128,7 @@ for_from m pid line at variable low high down list next es first last =
     if is_beyond down first last then local (with_stack m pid (rest_of next es))
     else with_value (ranged low high first) (fault m pid line) (λ v. local (gone_on m pid at variable list es last v))
 
-abbrev pub for_do : Machine → (pid line at : ℕ) → PlaceOrigin → (low high : ℤ) → (first last : Expression) → Bool → (list next : Option ℕ) → List Entry → Stepped
+abbrev pub for_do : Machine → (pid line at : ℕ) → PlaceOrigin → (low high : ℤ) → (first last : OrdinalExpression) → Bool → (list next : Option ℕ) → List Entry → Stepped
 for_do m pid line at variable low high first last down list next es =
     with_value (value_of m pid first) (fault m pid line)
     (λ a. with_value (value_of m pid last) (fault m pid line) (for_from m pid line at variable low high down list next es a))
@@ -167,5 +167,5 @@ show m pid rest v =
     if length m.output == MOST_SHOWN then record { machine = m; event = OutputFull }
     else record { machine = with_output (with_stack m pid rest) (m.output ++ v ∷ []); event = Kernel Display }
 
-abbrev pub display : Machine → (pid line : ℕ) → Expression → ShownKind → List Entry → Stepped
+abbrev pub display : Machine → (pid line : ℕ) → OrdinalExpression → ShownKind → List Entry → Stepped
 display m pid line value shown rest = with_value (value_of m pid value) (fault m pid line) (λ v. show m pid rest (shown_as shown v))

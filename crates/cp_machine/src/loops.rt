@@ -14,7 +14,7 @@ use crate::memory::{origin_of, put_number, value_of};
 use crate::process::Entry;
 use crate::stack::{replace, replace_by};
 use crate::state::State;
-use cp_slots::{Expression, Item, PlaceOrigin};
+use cp_slots::{OrdinalExpression, Item, PlaceOrigin};
 use cp_store::arithmetic::{self, check_range, is_true};
 
 /// `while`: true: becomes its list and itself; false: removed.
@@ -23,7 +23,7 @@ pub fn while_do(
     state: &mut State,
     pid: u8,
     item: &Item,
-    test: &Expression,
+    test: &OrdinalExpression,
     list: Option<usize>,
     again: usize,
 ) -> Result<Event, ErrorName>
@@ -49,7 +49,7 @@ pub fn until(
     state: &mut State,
     pid: u8,
     item: &Item,
-    test: &Expression,
+    test: &OrdinalExpression,
     list: Option<usize>,
     again: usize,
 ) -> Result<Event, ErrorName>
@@ -148,8 +148,8 @@ pub fn for_do(
     pid: u8,
     item: &Item,
     course: Course,
-    first: &Expression,
-    last: &Expression,
+    first: &OrdinalExpression,
+    last: &OrdinalExpression,
 ) -> Result<Event, ErrorName>
     requires pid { pid < length state.old.processes.items }
     requires busy { IsBusy state.old pid }

@@ -14,7 +14,7 @@ ghost use Rattle.cp_machine.specs.Reach.{CanFind, CanGive, CanName, CanReach, Ca
 use crate::event::ErrorName;
 use crate::process::Status;
 use crate::state::State;
-use cp_slots::{Argument, ComponentPlace, Expression, Place, PlaceOrigin, SetExpression};
+use cp_slots::{Argument, ComponentPlace, OrdinalExpression, Place, PlaceOrigin, SetExpression};
 use cp_store::set::SetValue;
 use cp_store::{
     Address, Frame, address, bind_component, bind_frame, component, copy_cells, evaluate,
@@ -40,7 +40,7 @@ pub fn status_of(state: &State, pid: u8) -> Status
 
 /// The value of an expression.
 #[inline(always)]
-pub fn value_of(state: &State, pid: u8, expression: &Expression) -> Result<i16, ErrorName>
+pub fn value_of(state: &State, pid: u8, expression: &OrdinalExpression) -> Result<i16, ErrorName>
     requires pid { pid < length state.now.processes.items }
     requires reads { CanRead (machine_of state.now) pid expression.now }
     ensures { result ≡ spec.value_of (machine_of state.now) pid expression.now }
@@ -51,7 +51,7 @@ pub fn value_of(state: &State, pid: u8, expression: &Expression) -> Result<i16, 
 
 /// The same, computed where it is asked for.
 #[inline(always)]
-pub fn value_here(state: &State, pid: u8, expression: &Expression) -> Result<i16, ErrorName>
+pub fn value_here(state: &State, pid: u8, expression: &OrdinalExpression) -> Result<i16, ErrorName>
     requires pid { pid < length state.now.processes.items }
     requires reads { CanRead (machine_of state.now) pid expression.now }
     ensures { result ≡ spec.value_of (machine_of state.now) pid expression.now }

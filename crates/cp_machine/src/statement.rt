@@ -14,7 +14,7 @@ use crate::memory::{address_of, put_cells, put_number, put_set, set_of, value_he
 use crate::shown::Shown;
 use crate::stack::replace;
 use crate::state::{MOST_SHOWN, State};
-use cp_slots::{Expression, Item, Place, ResolvedArm, SetExpression, ShownKind};
+use cp_slots::{OrdinalExpression, Item, Place, ResolvedArm, SetExpression, ShownKind};
 use cp_store::arithmetic::{check_range, is_true};
 use cp_store::set;
 
@@ -25,7 +25,7 @@ pub fn assign(
     pid: u8,
     item: &Item,
     target: &Place,
-    value: &Expression,
+    value: &OrdinalExpression,
     low: &i16,
     high: &i16,
 ) -> Result<Event, ErrorName>
@@ -100,7 +100,7 @@ pub fn branch(
     state: &mut State,
     pid: u8,
     item: &Item,
-    test: &Expression,
+    test: &OrdinalExpression,
     list: Option<usize>,
     other: Option<usize>,
 ) -> Result<Event, ErrorName>
@@ -146,7 +146,7 @@ pub fn case_of(
     state: &mut State,
     pid: u8,
     item: &Item,
-    selector: &Expression,
+    selector: &OrdinalExpression,
     arms: &[ResolvedArm],
 ) -> Result<Event, ErrorName>
     requires pid { pid < length state.old.processes.items }
@@ -218,7 +218,7 @@ pub fn display(
     state: &mut State,
     pid: u8,
     item: &Item,
-    value: &Expression,
+    value: &OrdinalExpression,
     kind: ShownKind,
 ) -> Result<Event, ErrorName>
     requires pid { pid < length state.old.processes.items }

@@ -72,7 +72,7 @@ fn put_limits(alloc: Global, object: &mut Object, tallies: &Tallies) -> Result<(
 
 // An object on a line of its own.
 fn line(alloc: Global, object: Object) -> Result<String, AllocError> {
-    let mut text = object.done().to_string(alloc)?;
+    let mut text = object.into_value().to_string(alloc)?;
     text.push('\n')?;
     Ok(text)
 }
@@ -107,7 +107,7 @@ fn tally_object<L: Ledger>(
         object.number("switches", u64::from(simple.switches))?;
     }
     put_end(alloc, subject, &mut object, tally, ticks)?;
-    Ok(object.done())
+    Ok(object.into_value())
 }
 
 fn put_count(
@@ -163,7 +163,7 @@ fn stops(alloc: Global, tallies: &Tallies) -> Result<Vec<Value>, AllocError> {
             let mut object = Object::new(alloc);
             object.text("kind", limit.name())?;
             object.put("count", count_value(alloc, &count)?)?;
-            items.push(object.done())?;
+            items.push(object.into_value())?;
         }
     }
     Ok(items)
@@ -188,7 +188,7 @@ pub fn excess_json(
     };
     object.number("choices", u64::from(choices))?;
     // What is told is an object itself: it becomes the last member.
-    let object = object.done().to_string(alloc)?;
+    let object = object.into_value().to_string(alloc)?;
     let before = object.as_str().trim_end_matches('}');
     format!(in alloc; "{before},\"known\":{}}}\n", told.trim_end())
 }

@@ -59,7 +59,7 @@ impl Write for FakeTerminal {
 }
 
 // What a terminal is told of so many layers, of which each takes a hundred milliseconds.
-fn told(alloc: Global, layers: u32, is_broken: bool) -> FakeTerminal {
+fn lines_told(alloc: Global, layers: u32, is_broken: bool) -> FakeTerminal {
     let clock = TickingClock {
         reads: Cell::new(0),
     };
@@ -85,13 +85,13 @@ fn told(alloc: Global, layers: u32, is_broken: bool) -> FakeTerminal {
 
 #[test]
 fn short_work_tells_nothing(rt: HostRuntime) {
-    assert!(rt; told(rt.alloc(), 0, false).taken.is_empty());
-    assert!(rt; told(rt.alloc(), 19, false).taken.is_empty());
+    assert!(rt; lines_told(rt.alloc(), 0, false).taken.is_empty());
+    assert!(rt; lines_told(rt.alloc(), 19, false).taken.is_empty());
 }
 
 #[test]
 fn the_line_comes_and_goes(rt: HostRuntime) {
-    let terminal = told(rt.alloc(), 20, false);
+    let terminal = lines_told(rt.alloc(), 20, false);
     let wanted =
         "\rchoices done: 19, states: 1000000, outcomes so far: 3\r                                                     \r";
     assert!(rt; terminal.taken.as_slice() == wanted.as_bytes());
@@ -99,7 +99,7 @@ fn the_line_comes_and_goes(rt: HostRuntime) {
 
 #[test]
 fn a_shorter_line_hides_a_longer_one(rt: HostRuntime) {
-    let terminal = told(rt.alloc(), 24, false);
+    let terminal = lines_told(rt.alloc(), 24, false);
     let wanted =
         "\rchoices done: 19, states: 1000000, outcomes so far: 3\rchoices done: 22, states: 7, outcomes so far: 3      \r                                               \r";
     assert!(rt; terminal.taken.as_slice() == wanted.as_bytes());
@@ -107,7 +107,7 @@ fn a_shorter_line_hides_a_longer_one(rt: HostRuntime) {
 
 #[test]
 fn a_broken_terminal_changes_nothing(rt: HostRuntime) {
-    assert!(rt; told(rt.alloc(), 24, true).taken.is_empty());
+    assert!(rt; lines_told(rt.alloc(), 24, true).taken.is_empty());
 }
 
 #[test]

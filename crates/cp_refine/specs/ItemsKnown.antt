@@ -40,7 +40,7 @@ HasFewConstants g (enumerated at xs) = g.firsts at + (length xs - 1) < 65536
 HasFewConstants g b = Unit {0}
 
 abbrev pub DisplayKnown : Ground → Here → Expression → Type 0
-DisplayKnown g h e = (r : Range) (c : code.Expression) → IsOrdinal h e (ordinal r) c → HasFewConstants g r.base
+DisplayKnown g h e = (r : Range) (c : code.OrdinalExpression) → IsOrdinal h e (ordinal r) c → HasFewConstants g r.base
 
 -- a queue is a permanent variable of a monitor, or an element of one
 pub record QueueKnown (h : Here) (e : Expression) : Type 0 where

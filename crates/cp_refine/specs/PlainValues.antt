@@ -1,6 +1,6 @@
 -- What plain expressions, sets and places are in a memory.
 use Rattle.std.specs.Prelude.{◌≡◌, not, Result, Ok, ℤ, pos}
-use Rattle.cp_slots.specs.declared.place.Expression as code_expression
+use Rattle.cp_slots.specs.declared.place.OrdinalExpression as code_expression
 use Rattle.cp_slots.specs.declared.place.SetExpression as code_set
 use Rattle.cp_slots.specs.declared.place.Place as code_place
 use Rattle.cp_store.specs.declared.error.ErrorName.{ErrorName}
@@ -14,7 +14,7 @@ use Rattle.cp_store.specs.Values.{then_with, ranged, truth, is_true, negated, ab
 use Rattle.cp_slots.specs.Code as code
 
 abbrev mutual
-  pub plain_value : Memory → Frame → code.Expression → Result ℤ ErrorName
+  pub plain_value : Memory → Frame → code.OrdinalExpression → Result ℤ ErrorName
   plain_value m f (code.number z) = Ok z
   plain_value m f (code.load p) = loaded m (plain_address m f p)
   plain_value m f (code.negate c) = then_with (plain_value m f c) negated
@@ -46,6 +46,6 @@ abbrev mutual
 
 -- the code's expressions are what their views are
 pub record ViewsAgree : Type 0 where
-  pub value : (m : Memory) (f : Frame) (e : code_expression.Expression) → value_at m f e ≡ plain_value m f (code.expression_seen e)
+  pub value : (m : Memory) (f : Frame) (e : code_expression.OrdinalExpression) → value_at m f e ≡ plain_value m f (code.expression_seen e)
   pub set : (m : Memory) (f : Frame) (e : code_set.SetExpression) → set_at m f e ≡ plain_set m f (code.set_seen e)
   pub place : (m : Memory) (f : Frame) (p : code_place.Place) → address_at m f p ≡ plain_address m f (code.place_seen p)

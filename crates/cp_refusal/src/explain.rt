@@ -236,7 +236,7 @@ fn parse_refused(
 ) -> Result<Explanation, AllocError> {
     match fault {
         ParseFault::Unexpected(at) => {
-            unexpected(Refused {
+            explain_unexpected(Refused {
                 alloc,
                 source,
                 tokens,
@@ -249,7 +249,7 @@ fn parse_refused(
     }
 }
 
-fn unexpected(refused: Refused) -> Result<Explanation, AllocError> {
+fn explain_unexpected(refused: Refused) -> Result<Explanation, AllocError> {
     let mut text = Prose::new(refused.alloc);
     let missing = what_is_missing(refused, &mut text);
     push_unexpected(refused, &mut text, &missing);

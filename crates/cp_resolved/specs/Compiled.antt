@@ -33,7 +33,7 @@ then_form (Some x) go = go x
 -- ---- the form of a value: an ordinal, a set, a variable of another type, or a component
 
 pub data Form : Type 0 where
-  as_ordinal : code.Expression → Form
+  as_ordinal : code.OrdinalExpression → Form
   as_set : code.SetExpression → Form
   as_place : code.Place → Form
   as_component : code.ComponentPlace → Form
@@ -43,10 +43,10 @@ pub record Formed : Type 0 where
   pub ty : Ty
   pub form : Form
 
-abbrev pub integer_form : code.Expression → Option Formed
+abbrev pub integer_form : code.OrdinalExpression → Option Formed
 integer_form c = Some (record { ty = ordinal all_integers; form = as_ordinal c })
 
-abbrev pub truth_form : code.Expression → Option Formed
+abbrev pub truth_form : code.OrdinalExpression → Option Formed
 truth_form c = Some (record { ty = ordinal all_booleans; form = as_ordinal c })
 
 abbrev pub set_form : code.SetExpression → Option Formed
@@ -93,7 +93,7 @@ begun_form h x (Some (local_variable t)) = Some (a_variable (code.place ((frame_
 begun_form h x (Some (routine_meaning r)) = result_begun h (is_own h x)
 begun_form h x o = None
 
-abbrev pub with_index : code.Indices → code.Expression → Range → ℕ → code.Indices
+abbrev pub with_index : code.Indices → code.OrdinalExpression → Range → ℕ → code.Indices
 with_index code.no_indices c r size = code.more_indices (code.index c r.low r.high size) code.no_indices
 with_index (code.more_indices (code.index d low high n) is) c r size = code.more_indices (code.index d low high n) (with_index is c r size)
 
@@ -111,16 +111,16 @@ with_field_form (a_variable p t) x = field_of_form t p x
 with_field_form (a_component c k) x = Some (a_component c k)
 with_field_form (some_components first r k) x = None
 
-abbrev pub element_of_form : Ty → code.Place → code.Expression → Option Designated
+abbrev pub element_of_form : Ty → code.Place → code.OrdinalExpression → Option Designated
 element_of_form (array_over r t) (code.place o offset is) c = Some (a_variable (code.place o offset (with_index is c r (cells_of t))) t)
 element_of_form t p c = None
 
-abbrev pub with_element_form : Here → Designated → code.Expression → Option Designated
+abbrev pub with_element_form : Here → Designated → code.OrdinalExpression → Option Designated
 with_element_form h (a_variable p t) c = element_of_form t p c
 with_element_form h (some_components first r k) c = Some (a_component (code.element first r.low r.high (h.layouts.systems k).count c) k)
 with_element_form h (a_component c k) e = None
 
-abbrev pub ordinal_form : Form → Option code.Expression
+abbrev pub ordinal_form : Form → Option code.OrdinalExpression
 ordinal_form (as_ordinal c) = Some c
 ordinal_form f = None
 
@@ -150,7 +150,7 @@ abbrev pub is_boolean : Ty → Bool
 is_boolean (ordinal r) = is_boolean_base r.base
 is_boolean t = false
 
-abbrev pub compared_ordinals : Relation → code.Expression → code.Expression → Option Formed
+abbrev pub compared_ordinals : Relation → code.OrdinalExpression → code.OrdinalExpression → Option Formed
 compared_ordinals Equal a b = truth_form (code.compare comparison.Equal a b)
 compared_ordinals NotEqual a b = truth_form (code.compare comparison.NotEqual a b)
 compared_ordinals Less a b = truth_form (code.compare comparison.Less a b)
@@ -159,7 +159,7 @@ compared_ordinals AtMost a b = truth_form (code.compare comparison.AtMost a b)
 compared_ordinals AtLeast a b = truth_form (code.compare comparison.AtLeast a b)
 compared_ordinals In a b = None
 
-abbrev pub member_form : Relation → code.Expression → code.SetExpression → Option Formed
+abbrev pub member_form : Relation → code.OrdinalExpression → code.SetExpression → Option Formed
 member_form In a b = truth_form (code.member a b)
 member_form r a b = None
 
@@ -174,7 +174,7 @@ compared_forms r (as_ordinal a) (as_set b) = member_form r a b
 compared_forms r (as_set a) (as_set b) = compared_sets r a b
 compared_forms r a b = None
 
-abbrev pub added_ordinals : Addition → (is_number is_truth : Bool) → code.Expression → code.Expression → Option Formed
+abbrev pub added_ordinals : Addition → (is_number is_truth : Bool) → code.OrdinalExpression → code.OrdinalExpression → Option Formed
 added_ordinals Plus true t a b = integer_form (code.arithmetic arithmetic.Add a b)
 added_ordinals Minus true t a b = integer_form (code.arithmetic arithmetic.Subtract a b)
 added_ordinals Or n true a b = truth_form (code.logic logic.Or a b)
@@ -190,7 +190,7 @@ added_forms o x y (as_ordinal a) (as_ordinal b) = added_ordinals o (is_integer x
 added_forms o x y (as_set a) (as_set b) = added_sets o a b
 added_forms o x y f g = None
 
-abbrev pub multiplied_ordinals : Multiplication → (is_number is_truth : Bool) → code.Expression → code.Expression → Option Formed
+abbrev pub multiplied_ordinals : Multiplication → (is_number is_truth : Bool) → code.OrdinalExpression → code.OrdinalExpression → Option Formed
 multiplied_ordinals Times true t a b = integer_form (code.arithmetic arithmetic.Multiply a b)
 multiplied_ordinals Div true t a b = integer_form (code.arithmetic arithmetic.Divide a b)
 multiplied_ordinals Mod true t a b = integer_form (code.arithmetic arithmetic.Modulo a b)
@@ -222,7 +222,7 @@ not_form_of t f = None
 abbrev pub not_form : Formed → Option Formed
 not_form x = not_form_of (is_boolean x.ty) x.form
 
-abbrev pub applied_ordinal : Standard → Ty → Bool → code.Expression → Option Formed
+abbrev pub applied_ordinal : Standard → Ty → Bool → code.OrdinalExpression → Option Formed
 applied_ordinal succ_function (ordinal r) t c = Some (record { ty = ordinal (range_of_base r.base); form = as_ordinal (code.successor c (range_of_base r.base).high) })
 applied_ordinal pred_function (ordinal r) t c = Some (record { ty = ordinal (range_of_base r.base); form = as_ordinal (code.predecessor c (range_of_base r.base).low) })
 applied_ordinal chr_function (ordinal r) true c = Some (record { ty = ordinal all_characters; form = as_ordinal (code.character c) })

@@ -1,27 +1,24 @@
 -- What the expressions of statements are on slots, in the statements themselves and in those inside them: tests, selectors, bounds, values and components.
 use Rattle.std.specs.Prelude.{◌≡◌, ℕ, Option, Some}
 use Rattle.cp_tree.specs.declared.constant.Identifier.{Identifier}
-use Rattle.cp_tree.specs.Syntax.{Expression, Expressions, no_expressions, more_expressions, Designator, Start, Statement, empty, assign, invoke, block, if_then, if_else, case_of, while_do, repeat_until, for_do, cycle, init, Statements, no_statements, more_statements, Arms, no_arms, more_arms, Arm, arm, Tree}
-use Rattle.cp_lawful.specs.Accepted.{IsAccepted}
+use Rattle.cp_tree.specs.Syntax.{Expression, Expressions, no_expressions, more_expressions, Designator, Start, Statement, empty, assign, invoke, block, if_then, if_else, case_of, while_do, repeat_until, for_do, cycle, init, Statements, no_statements, more_statements, Arms, no_arms, more_arms, Arm, arm}
 use Rattle.cp_meaning.specs.Types.{Range, Ty, ordinal, queue_type, set_over, array_over, record_with}
 use Rattle.cp_meaning.specs.Scopes.{Meaning, routine_meaning, standard_meaning, Standard, delay_procedure, continue_procedure, display_procedure, find}
 use Rattle.cp_meaning.specs.Expressions.{name_of}
 use Rattle.cp_slots.specs.Code as code
-use Rattle.cp_resolved.specs.Layouts.{Layouts, Here}
+use Rattle.cp_resolved.specs.Layouts.{Here}
 use Rattle.cp_resolved.specs.Compiled.{as_ordinal, as_set, as_place, Designated, a_variable, a_component, begun_form, expression_form, designator_form}
-use Rattle.cp_resolved.specs.Openings.{Opening, openings_of}
-use Rattle.cp_tree.specs.Read.{IsRead}
 use Rattle.cp_resolved.specs.Small.{Each}
 use Rattle.cp_resolved.specs.Stands.{IsTest}
 
 -- ---- forms
 
 abbrev pub HasTest : Here → Expression → Type 0
-HasTest h e = (c : code.Expression) × IsTest h e c
+HasTest h e = (c : code.OrdinalExpression) × IsTest h e c
 
 pub record HasOrdinal (h : Here) (e : Expression) : Type 0 where
   pub range : Range
-  pub code : code.Expression
+  pub code : code.OrdinalExpression
   pub formed : expression_form h e ≡ Some (record { ty = ordinal range; form = as_ordinal code })
 
 pub record HasSet (h : Here) (e : Expression) : Type 0 where
@@ -107,11 +104,3 @@ abbrev mutual
 
   pub IsArmFormed : Here → Arm → Type 0
   IsArmFormed h (arm cs t) = IsFormed h t
-
--- ---- the law
-
--- by any layouts, the statements of each routine and of each initial statement
-abbrev pub FormsLaw : Type 0
-FormsLaw =
-    (t : Tree) → IsRead t.program → IsAccepted t →
-    Each (λ (o : Opening). (l : Layouts) (k n : ℕ) → AreFormed (record { program = t.program; layouts = l; system = k; routine = n; scope = o.meaning.scope }) o.meaning.body) (openings_of t.program)

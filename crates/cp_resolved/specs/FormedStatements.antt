@@ -28,13 +28,13 @@ use Rattle.cp_resolved.specs.Used.{IsBare, HasResult, AreEntry, IsOne, IsUsed, A
 -- ---- expressions
 
 pub record TestFormed (h : Here) (e : Expression) : Type 0 where
-  pub cell : code.Expression
+  pub cell : code.OrdinalExpression
   pub test : IsTest h e cell
   pub used : IsUsed h e
 
 pub record OrdinalFormed (h : Here) (e : Expression) : Type 0 where
   pub ty : Ty
-  pub cell : code.Expression
+  pub cell : code.OrdinalExpression
   pub formed : IsOrdinal h e ty cell
   pub used : IsUsed h e
 
@@ -81,7 +81,7 @@ pub record QueueFormed (h : Here) (e : Expression) : Type 0 where
 
 pub record DisplayFormed (h : Here) (e : Expression) : Type 0 where
   pub range : Range
-  pub cell : code.Expression
+  pub cell : code.OrdinalExpression
   pub formed : IsOrdinal h e (ordinal range) cell
   pub used : IsUsed h e
 

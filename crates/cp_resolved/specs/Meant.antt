@@ -23,7 +23,7 @@ AreHeld h (function_call at d es ∷ is) = (look (temporary at) (frame_here h).v
 AreHeld h (i ∷ is) = ⊥
 
 -- the form of an expression that has an ordinal type
-pub record IsCell (h : Here) (c : code.Expression) : Type 0 where
+pub record IsCell (h : Here) (c : code.OrdinalExpression) : Type 0 where
   pub expression : Expression
   pub ty : Ty
   pub formed : IsOrdinal h expression ty c

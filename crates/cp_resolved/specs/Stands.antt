@@ -33,11 +33,11 @@ pub record Ground : Type 0 where
 -- ---- expressions
 
 -- an ordinal of a type
-abbrev pub IsOrdinal : Here → Expression → Ty → code.Expression → Type 0
+abbrev pub IsOrdinal : Here → Expression → Ty → code.OrdinalExpression → Type 0
 IsOrdinal h e t c = expression_form h e ≡ Some (record { ty = t; form = as_ordinal c })
 
 -- a truth value
-pub record IsTest (h : Here) (e : Expression) (c : code.Expression) : Type 0 where
+pub record IsTest (h : Here) (e : Expression) (c : code.OrdinalExpression) : Type 0 where
   pub ty : Ty
   pub cell : IsOrdinal h e ty c
   pub truth : is_boolean ty ≡ true
@@ -163,7 +163,7 @@ first_of (more_expressions e es) = Some e
 
 pub record DisplayItem (g : Ground) (h : Here) (n at : ℕ) (e : Expression) (next : Option ℕ) : Type 0 where
   pub range : Range
-  pub cell : code.Expression
+  pub cell : code.OrdinalExpression
   pub formed : IsOrdinal h e (ordinal range) cell
   pub item : ItemAt g n at next (code.display cell (kind_of g.firsts range.base))
 
@@ -226,7 +226,7 @@ Leads g h first t own next = (n : ℕ) × CallsAre g h first (calls_in h.scope t
 
 -- the test after the statements of a `repeat`, whose list stands for these statements once more
 pub record UntilItem (g : Ground) (h : Here) (IsBody : Option ℕ → Type 0) (m : ℕ) (e : Expression) (next : Option ℕ) : Type 0 where
-  pub test : code.Expression
+  pub test : code.OrdinalExpression
   pub body : Option ℕ
   pub again : ℕ
   pub formed : IsTest h e test
@@ -244,7 +244,7 @@ pub record RepeatItem (g : Ground) (h : Here) (IsBody : Option ℕ → Type 0) (
   pub item : ItemAt g n at test (code.block body)
 
 pub record WhileItem (g : Ground) (h : Here) (IsBody : Option ℕ → Type 0) (n at : ℕ) (e : Expression) (next : Option ℕ) : Type 0 where
-  pub test : code.Expression
+  pub test : code.OrdinalExpression
   pub body : Option ℕ
   pub again : ℕ
   pub formed : IsTest h e test
@@ -261,8 +261,8 @@ pub record ForItem (g : Ground) (h : Here) (IsBody : Option ℕ → Type 0) (n a
   pub range : Range
   pub from_ty : Ty
   pub to_ty : Ty
-  pub from : code.Expression
-  pub to : code.Expression
+  pub from : code.OrdinalExpression
+  pub to : code.OrdinalExpression
   pub body : Option ℕ
   pub variable : begun_form h i.name (find i.name h.scope) ≡ Some (a_variable (code.place origin 0 code.no_indices) (ordinal range))
   pub first : IsOrdinal h e from_ty from
@@ -280,10 +280,10 @@ abbrev mutual
   Own g h (assign at d e) n next = AssignItem g h n at d e next
   Own g h (invoke at d es) n next = InvokedBy g h n at (find (name_of d) h.scope) d es next
   Own g h (block at ss) n next = (list : Option ℕ) × OwnAll g h ss list None × ItemAt g n at next (code.block list)
-  Own g h (if_then at e t) n next = (c : code.Expression) × (list : Option ℕ) × IsTest h e c × Leads g h list t (Own g h t) None × ItemAt g n at next (code.choose c list None)
+  Own g h (if_then at e t) n next = (c : code.OrdinalExpression) × (list : Option ℕ) × IsTest h e c × Leads g h list t (Own g h t) None × ItemAt g n at next (code.choose c list None)
   Own g h (if_else at e t u) n next =
-      (c : code.Expression) × (list : Option ℕ) × (other : Option ℕ) × IsTest h e c × Leads g h list t (Own g h t) None × Leads g h other u (Own g h u) None × ItemAt g n at next (code.choose c list other)
-  Own g h (case_of at e as' b) n next = (c : code.Expression) × (t : Ty) × (arms : List code.Arm) × IsOrdinal h e t c × OwnArms g h as' arms × ItemAt g n at next (code.select c arms)
+      (c : code.OrdinalExpression) × (list : Option ℕ) × (other : Option ℕ) × IsTest h e c × Leads g h list t (Own g h t) None × Leads g h other u (Own g h u) None × ItemAt g n at next (code.choose c list other)
+  Own g h (case_of at e as' b) n next = (c : code.OrdinalExpression) × (t : Ty) × (arms : List code.Arm) × IsOrdinal h e t c × OwnArms g h as' arms × ItemAt g n at next (code.select c arms)
   Own g h (while_do at e t) n next = WhileItem g h (λ list. Leads g h list t (Own g h t) None) n at e next
   Own g h (repeat_until at ss e) n next = RepeatItem g h (λ list. OwnAll g h ss list None) n at e next
   Own g h (for_do at i e d f t) n next = ForItem g h (λ list. Leads g h list t (Own g h t) None) n at i e d f next

@@ -258,7 +258,7 @@ IsSet v = (o : Option Range) × (v ≡ types.Set o)
 
 -- Of a value, the form that its type wants. Of the value of a set no range is kept.
 abbrev pub FormIs : Written → ValueType → Ty → Form → Type 0
-FormIs w v (named.ordinal q) f = (c : code.Expression) × (f ≡ as_ordinal c) × OrdinalIs w.tokens q v
+FormIs w v (named.ordinal q) f = (c : code.OrdinalExpression) × (f ≡ as_ordinal c) × OrdinalIs w.tokens q v
 FormIs w v (named.set_over q) f = (c : code.SetExpression) × (f ≡ as_set c) × IsSet v
 FormIs w v (named.component_of n) f = (c : code.ComponentPlace) × (f ≡ as_component c) × ComponentIs w n v
 FormIs w v t f = (p : code.Place) × (f ≡ as_place p) × TypeIs w t v

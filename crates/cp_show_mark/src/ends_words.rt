@@ -46,7 +46,7 @@ fn said_objects(alloc: Global, each: &[Said]) -> Result<Vec<Value>, AllocError> 
 fn said_object(alloc: Global, said: &Said) -> Result<Value, AllocError> {
     let mut item = Object::new(alloc);
     put_said(&mut item, said)?;
-    Ok(item.done())
+    Ok(item.into_value())
 }
 
 fn put_said(item: &mut Object, said: &Said) -> Result<(), AllocError> {

@@ -14,7 +14,7 @@ use std::alloc::{AllocError, Global};
 
 /// An object on a line of its own.
 pub fn object_line(alloc: Global, object: Object) -> Result<String, AllocError> {
-    let mut text = object.done().to_string(alloc)?;
+    let mut text = object.into_value().to_string(alloc)?;
     text.push('\n')?;
     Ok(text)
 }
@@ -103,7 +103,7 @@ fn judged_object(
 ) -> Result<Value, AllocError> {
     let mut object = Object::new(alloc);
     put_judged(alloc, examinee, &mut object, expectation, judgement, marked)?;
-    Ok(object.done())
+    Ok(object.into_value())
 }
 
 fn put_judged(

@@ -1,9 +1,9 @@
 -- That threads may share a resolved program: each of its types is of what may be shared.
 use denote.Param.Send.{IsSync, sendable}
 use Rattle.std.proofs.Crossing.{crosses}
-use Rattle.cp_slots.proofs.place.Expression.TheLaws.TheKnot.{sync-Expression, sync-Place, sync-SetExpression}
+use Rattle.cp_slots.proofs.place.OrdinalExpression.TheLaws.TheKnot.{sync-OrdinalExpression, sync-Place, sync-SetExpression}
 use Rattle.cp_slots.specs.contracts.place.Place as place
-use Rattle.cp_slots.specs.contracts.place.Expression as expression
+use Rattle.cp_slots.specs.contracts.place.OrdinalExpression as expression
 use Rattle.cp_slots.specs.contracts.place.SetExpression as set_expression
 use Rattle.cp_slots.specs.contracts.place.ComponentPlace as component
 use Rattle.cp_slots.specs.contracts.place.ArgumentValue as value
@@ -19,7 +19,7 @@ place_sync : IsSync place.the_field.row
 place_sync = search (shared, sync-Place) depth 20
 
 expression_sync : IsSync expression.the_field.row
-expression_sync = search (shared, sync-Expression) depth 20
+expression_sync = search (shared, sync-OrdinalExpression) depth 20
 
 set_sync : IsSync set_expression.the_field.row
 set_sync = search (shared, sync-SetExpression) depth 20

@@ -7,9 +7,9 @@ use Rattle.cp_slots.specs.declared.place.Comparison.{Comparison}
 use Rattle.cp_slots.specs.declared.place.SetOperation.{SetOperation}
 use Rattle.cp_slots.specs.declared.place.Place as code_place
 use Rattle.cp_slots.specs.declared.place.Index as code_index
-use Rattle.cp_slots.specs.declared.place.Expression as code_expression
+use Rattle.cp_slots.specs.declared.place.OrdinalExpression as code_expression
 use Rattle.cp_slots.specs.declared.place.SetExpression as code_set
-use Rattle.cp_slots.specs.declared.place.Expression.TheOpen.{Expression-F, SetExpression-F, Index-F, Place-F}
+use Rattle.cp_slots.specs.declared.place.OrdinalExpression.TheOpen.{OrdinalExpression-F, SetExpression-F, Index-F, Place-F}
 use Rattle.cp_slots.specs.declared.place.ComponentPlace as code_component
 use Rattle.cp_slots.specs.declared.place.ComponentPlace.TheVariants as component
 use Rattle.cp_slots.specs.declared.place.ArgumentValue as code_value
@@ -34,28 +34,28 @@ mutual
 
   pub data Index : Type 0 where
     -- the index, its least and its last value, and the cells of an element
-    index : Expression → ℤ → ℤ → ℕ → Index
+    index : OrdinalExpression → ℤ → ℤ → ℕ → Index
 
-  pub data Expression : Type 0 where
-    number : ℤ → Expression
-    load : Place → Expression
-    negate : Expression → Expression
-    absolute : Expression → Expression
-    opposite : Expression → Expression
-    successor : Expression → ℤ → Expression
-    predecessor : Expression → ℤ → Expression
-    character : Expression → Expression
-    arithmetic : Arithmetic → Expression → Expression → Expression
-    logic : Logic → Expression → Expression → Expression
-    compare : Comparison → Expression → Expression → Expression
-    same_set : Bool → SetExpression → SetExpression → Expression
-    member : Expression → SetExpression → Expression
-    is_empty : Place → Expression
+  pub data OrdinalExpression : Type 0 where
+    number : ℤ → OrdinalExpression
+    load : Place → OrdinalExpression
+    negate : OrdinalExpression → OrdinalExpression
+    absolute : OrdinalExpression → OrdinalExpression
+    opposite : OrdinalExpression → OrdinalExpression
+    successor : OrdinalExpression → ℤ → OrdinalExpression
+    predecessor : OrdinalExpression → ℤ → OrdinalExpression
+    character : OrdinalExpression → OrdinalExpression
+    arithmetic : Arithmetic → OrdinalExpression → OrdinalExpression → OrdinalExpression
+    logic : Logic → OrdinalExpression → OrdinalExpression → OrdinalExpression
+    compare : Comparison → OrdinalExpression → OrdinalExpression → OrdinalExpression
+    same_set : Bool → SetExpression → SetExpression → OrdinalExpression
+    member : OrdinalExpression → SetExpression → OrdinalExpression
+    is_empty : Place → OrdinalExpression
 
   pub data SetExpression : Type 0 where
     load_set : Place → SetExpression
     empty_set : SetExpression
-    with_element : SetExpression → Expression → SetExpression
+    with_element : SetExpression → OrdinalExpression → SetExpression
     combine : SetOperation → SetExpression → SetExpression → SetExpression
 
 abbrev pub indices_of : List Index → Indices
@@ -64,29 +64,29 @@ indices_of (i ∷ is) = more_indices i (indices_of is)
 
 -- one level, with each part already seen
 
-abbrev pub place_step : Place-F Expression SetExpression Index Place → Place
+abbrev pub place_step : Place-F OrdinalExpression SetExpression Index Place → Place
 place_step p = place p.origin p.offset (indices_of p.indices.items)
 
-abbrev pub index_step : Index-F Expression SetExpression Index Place → Index
+abbrev pub index_step : Index-F OrdinalExpression SetExpression Index Place → Index
 index_step i = index i.at i.low i.high i.size
 
-abbrev pub expression_step : Expression-F Expression SetExpression Index Place → Expression
-expression_step (Expression-F.Number z) = number z
-expression_step (Expression-F.«Expression::Load» p) = load p
-expression_step (Expression-F.Negate e) = negate e.value
-expression_step (Expression-F.Absolute e) = absolute e.value
-expression_step (Expression-F.Not e) = opposite e.value
-expression_step (Expression-F.Successor e last) = successor e.value last
-expression_step (Expression-F.Predecessor e first) = predecessor e.value first
-expression_step (Expression-F.Character e) = character e.value
-expression_step (Expression-F.Arithmetic o a b) = arithmetic o a.value b.value
-expression_step (Expression-F.Logic o a b) = logic o a.value b.value
-expression_step (Expression-F.Compare o a b) = compare o a.value b.value
-expression_step (Expression-F.SameSet wanted a b) = same_set wanted a.value b.value
-expression_step (Expression-F.Member e a) = member e.value a.value
-expression_step (Expression-F.IsEmpty p) = is_empty p
+abbrev pub expression_step : OrdinalExpression-F OrdinalExpression SetExpression Index Place → OrdinalExpression
+expression_step (OrdinalExpression-F.Number z) = number z
+expression_step (OrdinalExpression-F.«OrdinalExpression::Load» p) = load p
+expression_step (OrdinalExpression-F.Negate e) = negate e.value
+expression_step (OrdinalExpression-F.Absolute e) = absolute e.value
+expression_step (OrdinalExpression-F.Not e) = opposite e.value
+expression_step (OrdinalExpression-F.Successor e last) = successor e.value last
+expression_step (OrdinalExpression-F.Predecessor e first) = predecessor e.value first
+expression_step (OrdinalExpression-F.Character e) = character e.value
+expression_step (OrdinalExpression-F.Arithmetic o a b) = arithmetic o a.value b.value
+expression_step (OrdinalExpression-F.Logic o a b) = logic o a.value b.value
+expression_step (OrdinalExpression-F.Compare o a b) = compare o a.value b.value
+expression_step (OrdinalExpression-F.SameSet wanted a b) = same_set wanted a.value b.value
+expression_step (OrdinalExpression-F.Member e a) = member e.value a.value
+expression_step (OrdinalExpression-F.IsEmpty p) = is_empty p
 
-abbrev pub set_step : SetExpression-F Expression SetExpression Index Place → SetExpression
+abbrev pub set_step : SetExpression-F OrdinalExpression SetExpression Index Place → SetExpression
 set_step (SetExpression-F.«SetExpression::Load» p) = load_set p
 set_step SetExpression-F.Empty = empty_set
 set_step (SetExpression-F.With a e) = with_element a.value e.value
@@ -94,17 +94,17 @@ set_step (SetExpression-F.Combine o a b) = combine o a.value b.value
 
 -- all levels
 
-abbrev pub expression_seen : code_expression.Expression → Expression
-expression_seen = code_expression.fold-Expression Expression SetExpression Index Place expression_step set_step index_step place_step
+abbrev pub expression_seen : code_expression.OrdinalExpression → OrdinalExpression
+expression_seen = code_expression.fold-OrdinalExpression OrdinalExpression SetExpression Index Place expression_step set_step index_step place_step
 
 abbrev pub set_seen : code_set.SetExpression → SetExpression
-set_seen = code_set.fold-SetExpression Expression SetExpression Index Place expression_step set_step index_step place_step
+set_seen = code_set.fold-SetExpression OrdinalExpression SetExpression Index Place expression_step set_step index_step place_step
 
 abbrev pub place_seen : code_place.Place → Place
-place_seen = code_place.fold-Place Expression SetExpression Index Place expression_step set_step index_step place_step
+place_seen = code_place.fold-Place OrdinalExpression SetExpression Index Place expression_step set_step index_step place_step
 
 abbrev pub index_seen : code_index.Index → Index
-index_seen = code_index.fold-Index Expression SetExpression Index Place expression_step set_step index_step place_step
+index_seen = code_index.fold-Index OrdinalExpression SetExpression Index Place expression_step set_step index_step place_step
 
 -- ---- components and arguments
 
@@ -112,7 +112,7 @@ pub data ComponentPlace : Type 0 where
   own : ComponentPlace
   contained : ℕ → ComponentPlace
   -- the first, the least and the last index, the stride, the index
-  element : ℕ → ℤ → ℤ → ℕ → Expression → ComponentPlace
+  element : ℕ → ℤ → ℤ → ℕ → OrdinalExpression → ComponentPlace
   parameter : ℕ → ComponentPlace
 
 abbrev pub component_seen : code_component.ComponentPlace → ComponentPlace
@@ -122,7 +122,7 @@ component_seen (component.Element first low high stride e) = element first low h
 component_seen (component.Parameter slot) = parameter slot
 
 pub data ArgumentValue : Type 0 where
-  scalar : Expression → ℤ → ℤ → ArgumentValue
+  scalar : OrdinalExpression → ℤ → ℤ → ArgumentValue
   set : SetExpression → ℕ → ℕ → ArgumentValue
   copy : Place → ℕ → ArgumentValue
   reference : Place → ArgumentValue
@@ -153,24 +153,24 @@ arm_seen a = record { labels = a.labels.items; body = a.body }
 
 pub data Action : Type 0 where
   nothing : Action
-  assign : Place → Expression → ℤ → ℤ → Action
+  assign : Place → OrdinalExpression → ℤ → ℤ → Action
   assign_set : Place → SetExpression → ℕ → ℕ → Action
   -- target, source, cells
   copy_cells : Place → Place → ℕ → Action
   block : Option ℕ → Action
-  choose : Expression → Option ℕ → Option ℕ → Action
-  select : Expression → List Arm → Action
-  while_do : Expression → Option ℕ → ℕ → Action
-  until : Expression → Option ℕ → ℕ → Action
+  choose : OrdinalExpression → Option ℕ → Option ℕ → Action
+  select : OrdinalExpression → List Arm → Action
+  while_do : OrdinalExpression → Option ℕ → ℕ → Action
+  until : OrdinalExpression → Option ℕ → ℕ → Action
   -- variable, least, last, from, to, downwards, list
-  for_do : PlaceOrigin → ℤ → ℤ → Expression → Expression → Bool → Option ℕ → Action
+  for_do : PlaceOrigin → ℤ → ℤ → OrdinalExpression → OrdinalExpression → Bool → Option ℕ → Action
   cycle : Option ℕ → Action
   -- routine, component, by a component, arguments, result
   call : ℕ → ComponentPlace → Bool → List Argument → Option ℕ → Action
   start : ComponentPlace → ℕ → List Argument → Action
   delay : Place → Action
   continue_at : Place → Action
-  display : Expression → ShownKind → Action
+  display : OrdinalExpression → ShownKind → Action
 
 abbrev pub action_seen : code_action.Action → Action
 action_seen action.Empty = nothing

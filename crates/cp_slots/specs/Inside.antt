@@ -11,9 +11,9 @@ use Rattle.cp_slots.specs.declared.place.PlaceOrigin.{PlaceOrigin}
 use Rattle.cp_slots.specs.declared.place.PlaceOrigin.TheVariants as origin
 use Rattle.cp_slots.specs.declared.place.Place as code_place
 use Rattle.cp_slots.specs.declared.place.Index as code_index
-use Rattle.cp_slots.specs.declared.place.Expression as code_expression
+use Rattle.cp_slots.specs.declared.place.OrdinalExpression as code_expression
 use Rattle.cp_slots.specs.declared.place.SetExpression as code_set
-use Rattle.cp_slots.specs.declared.place.Expression.TheOpen.{Expression-F, SetExpression-F, Index-F, Place-F}
+use Rattle.cp_slots.specs.declared.place.OrdinalExpression.TheOpen.{OrdinalExpression-F, SetExpression-F, Index-F, Place-F}
 use Rattle.cp_slots.specs.Tables.{Tables, RoutineView, routine_at}
 
 -- what is left of this many cells after the first ones, if there are that many
@@ -66,21 +66,21 @@ place_step p = λ r. then_some (room_from r p.origin) (λ cells. then_some (behi
 abbrev pub index_step : Index-F ToInside ToInside ToRoomBehind ToRoom → ToRoomBehind
 index_step i = λ r left. if i.at r then behind (unsigned_abs (i.high -ℤ i.low) * i.size) left else None
 
-abbrev pub expression_step : Expression-F ToInside ToInside ToRoomBehind ToRoom → ToInside
-expression_step (Expression-F.Number z) = λ r. true
-expression_step (Expression-F.«Expression::Load» p) = λ r. has 1 (p r)
-expression_step (Expression-F.Negate e) = λ r. e.value r
-expression_step (Expression-F.Absolute e) = λ r. e.value r
-expression_step (Expression-F.Not e) = λ r. e.value r
-expression_step (Expression-F.Successor e last) = λ r. e.value r
-expression_step (Expression-F.Predecessor e first) = λ r. e.value r
-expression_step (Expression-F.Character e) = λ r. e.value r
-expression_step (Expression-F.Arithmetic o a b) = λ r. a.value r && b.value r
-expression_step (Expression-F.Logic o a b) = λ r. a.value r && b.value r
-expression_step (Expression-F.Compare o a b) = λ r. a.value r && b.value r
-expression_step (Expression-F.SameSet wanted a b) = λ r. a.value r && b.value r
-expression_step (Expression-F.Member e a) = λ r. e.value r && a.value r
-expression_step (Expression-F.IsEmpty p) = λ r. has 1 (p r)
+abbrev pub expression_step : OrdinalExpression-F ToInside ToInside ToRoomBehind ToRoom → ToInside
+expression_step (OrdinalExpression-F.Number z) = λ r. true
+expression_step (OrdinalExpression-F.«OrdinalExpression::Load» p) = λ r. has 1 (p r)
+expression_step (OrdinalExpression-F.Negate e) = λ r. e.value r
+expression_step (OrdinalExpression-F.Absolute e) = λ r. e.value r
+expression_step (OrdinalExpression-F.Not e) = λ r. e.value r
+expression_step (OrdinalExpression-F.Successor e last) = λ r. e.value r
+expression_step (OrdinalExpression-F.Predecessor e first) = λ r. e.value r
+expression_step (OrdinalExpression-F.Character e) = λ r. e.value r
+expression_step (OrdinalExpression-F.Arithmetic o a b) = λ r. a.value r && b.value r
+expression_step (OrdinalExpression-F.Logic o a b) = λ r. a.value r && b.value r
+expression_step (OrdinalExpression-F.Compare o a b) = λ r. a.value r && b.value r
+expression_step (OrdinalExpression-F.SameSet wanted a b) = λ r. a.value r && b.value r
+expression_step (OrdinalExpression-F.Member e a) = λ r. e.value r && a.value r
+expression_step (OrdinalExpression-F.IsEmpty p) = λ r. has 1 (p r)
 
 abbrev pub set_step : SetExpression-F ToInside ToInside ToRoomBehind ToRoom → ToInside
 set_step (SetExpression-F.«SetExpression::Load» p) = λ r. has SET_CELLS (p r)
@@ -90,8 +90,8 @@ set_step (SetExpression-F.Combine o a b) = λ r. a.value r && b.value r
 
 -- ---- all levels
 
-abbrev pub expression_inside : RoutineView → code_expression.Expression → Bool
-expression_inside r e = code_expression.fold-Expression ToInside ToInside ToRoomBehind ToRoom expression_step set_step index_step place_step e r
+abbrev pub expression_inside : RoutineView → code_expression.OrdinalExpression → Bool
+expression_inside r e = code_expression.fold-OrdinalExpression ToInside ToInside ToRoomBehind ToRoom expression_step set_step index_step place_step e r
 
 abbrev pub set_inside : RoutineView → code_set.SetExpression → Bool
 set_inside r e = code_set.fold-SetExpression ToInside ToInside ToRoomBehind ToRoom expression_step set_step index_step place_step e r

@@ -1,6 +1,6 @@
 //! The items of the lists of statements.
 
-use crate::place::{Argument, ComponentPlace, Expression, Place, PlaceOrigin, SetExpression};
+use crate::place::{Argument, ComponentPlace, OrdinalExpression, Place, PlaceOrigin, SetExpression};
 
 /// How a value is shown.
 #[derive(Clone, Copy, Drop)]
@@ -27,7 +27,7 @@ pub enum Action {
     Empty,
     Assign {
         target: Place,
-        value: Expression,
+        value: OrdinalExpression,
         low: i16,
         high: i16,
     },
@@ -46,21 +46,21 @@ pub enum Action {
     /// `begin`, and `repeat`, after which its `until` follows.
     Block(Option<usize>),
     If {
-        test: Expression,
+        test: OrdinalExpression,
         then: Option<usize>,
         otherwise: Option<usize>,
     },
     Case {
-        selector: Expression,
+        selector: OrdinalExpression,
         arms: Vec<ResolvedArm>,
     },
     While {
-        test: Expression,
+        test: OrdinalExpression,
         body: Option<usize>,
         again: usize,
     },
     Until {
-        test: Expression,
+        test: OrdinalExpression,
         body: Option<usize>,
         again: usize,
     },
@@ -69,8 +69,8 @@ pub enum Action {
         /// The bounds of the variable's type.
         low: i16,
         high: i16,
-        from: Expression,
-        to: Expression,
+        from: OrdinalExpression,
+        to: OrdinalExpression,
         down: bool,
         body: Option<usize>,
     },
@@ -93,7 +93,7 @@ pub enum Action {
     Delay(Place),
     Continue(Place),
     Display {
-        value: Expression,
+        value: OrdinalExpression,
         kind: ShownKind,
     },
 }

@@ -8,7 +8,7 @@ pub mod tables;
 
 pub use item::{Action, Item, ResolvedArm, ShownKind};
 pub use place::{
-    Argument, ArgumentValue, Arithmetic, Comparison, ComponentPlace, Expression, Index, Logic,
+    Argument, ArgumentValue, Arithmetic, Comparison, ComponentPlace, OrdinalExpression, Index, Logic,
     Place, PlaceOrigin, SetExpression, SetOperation,
 };
 pub use resolved::Resolved;

@@ -26,7 +26,7 @@ pub struct Place {
 #[cycle(place)]
 #[derive(Drop)]
 pub struct Index {
-    pub at: Expression,
+    pub at: OrdinalExpression,
     pub low: i16,
     pub high: i16,
     /// The cells of an element.
@@ -68,25 +68,25 @@ pub enum SetOperation {
 /// An expression of an ordinal type; its value is the `ord`.
 #[cycle(place)]
 #[derive(Drop)]
-pub enum Expression {
+pub enum OrdinalExpression {
     Number(i16),
     /// The cell at a place.
     Load(Place),
-    Negate(Box<Expression>),
-    Absolute(Box<Expression>),
-    Not(Box<Expression>),
+    Negate(Box<OrdinalExpression>),
+    Absolute(Box<OrdinalExpression>),
+    Not(Box<OrdinalExpression>),
     /// With the last value of the type.
-    Successor(Box<Expression>, i16),
+    Successor(Box<OrdinalExpression>, i16),
     /// With the first value of the type.
-    Predecessor(Box<Expression>, i16),
+    Predecessor(Box<OrdinalExpression>, i16),
     /// The character of a number.
-    Character(Box<Expression>),
-    Arithmetic(Arithmetic, Box<Expression>, Box<Expression>),
-    Logic(Logic, Box<Expression>, Box<Expression>),
-    Compare(Comparison, Box<Expression>, Box<Expression>),
+    Character(Box<OrdinalExpression>),
+    Arithmetic(Arithmetic, Box<OrdinalExpression>, Box<OrdinalExpression>),
+    Logic(Logic, Box<OrdinalExpression>, Box<OrdinalExpression>),
+    Compare(Comparison, Box<OrdinalExpression>, Box<OrdinalExpression>),
     /// Whether two sets are equal, or, where the truth value is false, whether they differ.
     SameSet(bool, Box<SetExpression>, Box<SetExpression>),
-    Member(Box<Expression>, Box<SetExpression>),
+    Member(Box<OrdinalExpression>, Box<SetExpression>),
     /// Whether no process waits in a queue.
     IsEmpty(Place),
 }
@@ -99,7 +99,7 @@ pub enum SetExpression {
     Load(Place),
     Empty,
     /// A set and one element more.
-    With(Box<SetExpression>, Box<Expression>),
+    With(Box<SetExpression>, Box<OrdinalExpression>),
     Combine(SetOperation, Box<SetExpression>, Box<SetExpression>),
 }
 
@@ -116,7 +116,7 @@ pub enum ComponentPlace {
         low: i16,
         high: i16,
         stride: usize,
-        index: Box<Expression>,
+        index: Box<OrdinalExpression>,
     },
     /// The component that a parameter is bound to, by the permanent cell of the parameter.
     Parameter(usize),
@@ -127,7 +127,7 @@ pub enum ComponentPlace {
 pub enum ArgumentValue {
     /// An ordinal within the bounds of the parameter's type.
     Scalar {
-        value: Expression,
+        value: OrdinalExpression,
         low: i16,
         high: i16,
     },

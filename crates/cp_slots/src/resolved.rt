@@ -23,7 +23,7 @@ impl Model for Resolved {
 
     ghost use Rattle.cp_slots.specs.contracts.place.Place as p;
     ghost use Rattle.cp_slots.specs.contracts.place.Index as i;
-    ghost use Rattle.cp_slots.specs.contracts.place.Expression as e;
+    ghost use Rattle.cp_slots.specs.contracts.place.OrdinalExpression as e;
     ghost use Rattle.cp_slots.specs.contracts.place.SetExpression as s;
     ghost use Rattle.std.specs.Coded.{codes};
 

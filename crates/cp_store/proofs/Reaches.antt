@@ -9,7 +9,7 @@ use Rattle.cp_slots.specs.declared.place.Index.{Index, out-Index}
 use Rattle.cp_slots.specs.declared.place.Place.{Place, out-Place}
 use Rattle.cp_slots.specs.declared.place.PlaceOrigin.{PlaceOrigin}
 use Rattle.cp_slots.specs.declared.place.PlaceOrigin.TheVariants as origin
-use Rattle.cp_slots.specs.declared.place.Expression.TheFolds.{fold_out-Index, fold_out-Place}
+use Rattle.cp_slots.specs.declared.place.OrdinalExpression.TheFolds.{fold_out-Index, fold_out-Place}
 use Rattle.cp_slots.specs.Inside as inside
 use Rattle.cp_slots.specs.Inside.{ToInside, ToRoom, ToRoomBehind, behind, has, then_some, room_from, expression_inside, index_room, indices_room, place_room}
 use Rattle.cp_slots.specs.Tables.{RoutineView}

@@ -6,7 +6,7 @@ use Rattle.cp_slots.specs.declared.place.ArgumentValue.{ArgumentValue}
 use Rattle.cp_slots.specs.declared.place.ArgumentValue.TheVariants as value
 use Rattle.cp_slots.specs.declared.place.ComponentPlace.{ComponentPlace}
 use Rattle.cp_slots.specs.declared.place.ComponentPlace.TheVariants.{Own, Contained, Element, Parameter}
-use Rattle.cp_slots.specs.declared.place.Expression.{Expression}
+use Rattle.cp_slots.specs.declared.place.OrdinalExpression.{OrdinalExpression}
 use Rattle.cp_slots.specs.declared.place.Index.{Index}
 use Rattle.cp_slots.specs.declared.place.PlaceOrigin.{PlaceOrigin}
 use Rattle.cp_slots.specs.declared.place.PlaceOrigin.TheVariants as origin
@@ -43,7 +43,7 @@ pub record Covers (m : Memory) (r : RoutineView) (f : Frame) : Type 0 where
 -- ---- what is read is there
 
 -- all that an expression, or a set, reads is inside for a routine whose frame the memory covers
-abbrev pub CanRead : Memory → Frame → Expression → Type 0
+abbrev pub CanRead : Memory → Frame → OrdinalExpression → Type 0
 CanRead m f e = (r : RoutineView) × Covers m r f × IsTrue (expression_inside r e)
 
 abbrev pub CanReadSet : Memory → Frame → SetExpression → Type 0

@@ -5,9 +5,9 @@ use Rattle.cp_slots.specs.declared.place.PlaceOrigin.{PlaceOrigin}
 use Rattle.cp_slots.specs.declared.place.PlaceOrigin.TheVariants as origin
 use Rattle.cp_slots.specs.declared.place.Place as code_place
 use Rattle.cp_slots.specs.declared.place.Index as code_index
-use Rattle.cp_slots.specs.declared.place.Expression as code_expression
+use Rattle.cp_slots.specs.declared.place.OrdinalExpression as code_expression
 use Rattle.cp_slots.specs.declared.place.SetExpression as code_set
-use Rattle.cp_slots.specs.declared.place.Expression.TheOpen.{Expression-F, SetExpression-F, Index-F, Place-F}
+use Rattle.cp_slots.specs.declared.place.OrdinalExpression.TheOpen.{OrdinalExpression-F, SetExpression-F, Index-F, Place-F}
 use Rattle.cp_store.specs.declared.error.ErrorName.{ErrorName}
 use Rattle.cp_store.specs.declared.memory.Address.{Address}
 use Rattle.cp_store.specs.declared.memory.Address.TheVariants.{Permanent, Local}
@@ -65,21 +65,21 @@ index_step i = λ m f at. then_with (i.at m f) (λ v. then_with (element_offset 
 abbrev pub both : ToValue → ToValue → (ℤ → ℤ → Result ℤ ErrorName) → ToValue
 both a b go = λ m f. then_with (a m f) (λ x. then_with (b m f) (λ y. go x y))
 
-abbrev pub expression_step : Expression-F ToValue ToSet ToElement ToAddress → ToValue
-expression_step (Expression-F.Number z) = λ m f. Ok z
-expression_step (Expression-F.«Expression::Load» p) = λ m f. loaded m (p m f)
-expression_step (Expression-F.Negate e) = λ m f. then_with (e.value m f) negated
-expression_step (Expression-F.Absolute e) = λ m f. then_with (e.value m f) absolute
-expression_step (Expression-F.Not e) = λ m f. then_with (e.value m f) (λ x. Ok (truth (not (is_true x))))
-expression_step (Expression-F.Successor e last) = λ m f. then_with (e.value m f) (successor last)
-expression_step (Expression-F.Predecessor e first) = λ m f. then_with (e.value m f) (predecessor first)
-expression_step (Expression-F.Character e) = λ m f. then_with (e.value m f) (ranged (pos 0) (pos 127))
-expression_step (Expression-F.Arithmetic o a b) = both a.value b.value (calculated o)
-expression_step (Expression-F.Logic o a b) = both a.value b.value (λ x y. Ok (combined o x y))
-expression_step (Expression-F.Compare r a b) = both a.value b.value (λ x y. Ok (compared r x y))
-expression_step (Expression-F.SameSet wanted a b) = λ m f. then_with (a.value m f) (λ s. then_with (b.value m f) (λ t. Ok (sets.compared wanted s t)))
-expression_step (Expression-F.Member e a) = λ m f. then_with (e.value m f) (λ x. then_with (a.value m f) (λ s. Ok (truth (sets.is_member s x))))
-expression_step (Expression-F.IsEmpty p) = λ m f. then_with (loaded m (p m f)) (λ x. Ok (truth (not (is_true x))))
+abbrev pub expression_step : OrdinalExpression-F ToValue ToSet ToElement ToAddress → ToValue
+expression_step (OrdinalExpression-F.Number z) = λ m f. Ok z
+expression_step (OrdinalExpression-F.«OrdinalExpression::Load» p) = λ m f. loaded m (p m f)
+expression_step (OrdinalExpression-F.Negate e) = λ m f. then_with (e.value m f) negated
+expression_step (OrdinalExpression-F.Absolute e) = λ m f. then_with (e.value m f) absolute
+expression_step (OrdinalExpression-F.Not e) = λ m f. then_with (e.value m f) (λ x. Ok (truth (not (is_true x))))
+expression_step (OrdinalExpression-F.Successor e last) = λ m f. then_with (e.value m f) (successor last)
+expression_step (OrdinalExpression-F.Predecessor e first) = λ m f. then_with (e.value m f) (predecessor first)
+expression_step (OrdinalExpression-F.Character e) = λ m f. then_with (e.value m f) (ranged (pos 0) (pos 127))
+expression_step (OrdinalExpression-F.Arithmetic o a b) = both a.value b.value (calculated o)
+expression_step (OrdinalExpression-F.Logic o a b) = both a.value b.value (λ x y. Ok (combined o x y))
+expression_step (OrdinalExpression-F.Compare r a b) = both a.value b.value (λ x y. Ok (compared r x y))
+expression_step (OrdinalExpression-F.SameSet wanted a b) = λ m f. then_with (a.value m f) (λ s. then_with (b.value m f) (λ t. Ok (sets.compared wanted s t)))
+expression_step (OrdinalExpression-F.Member e a) = λ m f. then_with (e.value m f) (λ x. then_with (a.value m f) (λ s. Ok (truth (sets.is_member s x))))
+expression_step (OrdinalExpression-F.IsEmpty p) = λ m f. then_with (loaded m (p m f)) (λ x. Ok (truth (not (is_true x))))
 
 abbrev pub set_step : SetExpression-F ToValue ToSet ToElement ToAddress → ToSet
 set_step (SetExpression-F.«SetExpression::Load» p) = λ m f. then_with (p m f) (λ at. Ok (sets.stored_at m at))
@@ -90,8 +90,8 @@ set_step (SetExpression-F.Combine o a b) = λ m f. then_with (a.value m f) (λ s
 -- ---- all levels
 
 -- the value of an expression
-abbrev pub value_at : Memory → Frame → code_expression.Expression → Result ℤ ErrorName
-value_at m f e = code_expression.fold-Expression ToValue ToSet ToElement ToAddress expression_step set_step index_step place_step e m f
+abbrev pub value_at : Memory → Frame → code_expression.OrdinalExpression → Result ℤ ErrorName
+value_at m f e = code_expression.fold-OrdinalExpression ToValue ToSet ToElement ToAddress expression_step set_step index_step place_step e m f
 
 -- the value of a set expression
 abbrev pub set_at : Memory → Frame → code_set.SetExpression → Result SetValue ErrorName
@@ -110,23 +110,23 @@ abbrev pub indexed_at : Memory → Frame → Address → List code_index.Index �
 indexed_at m f at is = through (map element_at is) m f at
 
 -- whether an expression compares sets, or asks for a member
-abbrev pub is_set_test_step : Expression-F Bool Bool Bool Bool → Bool
-is_set_test_step (Expression-F.SameSet wanted a b) = true
-is_set_test_step (Expression-F.Member e a) = true
+abbrev pub is_set_test_step : OrdinalExpression-F Bool Bool Bool Bool → Bool
+is_set_test_step (OrdinalExpression-F.SameSet wanted a b) = true
+is_set_test_step (OrdinalExpression-F.Member e a) = true
 is_set_test_step e = false
 
-abbrev pub is_set_test : code_expression.Expression → Bool
-is_set_test e = code_expression.fold-Expression Bool Bool Bool Bool is_set_test_step (λ _. false) (λ _. false) (λ _. false) e
+abbrev pub is_set_test : code_expression.OrdinalExpression → Bool
+is_set_test e = code_expression.fold-OrdinalExpression Bool Bool Bool Bool is_set_test_step (λ _. false) (λ _. false) (λ _. false) e
 
 -- whether an expression is of a form that few programs use
-abbrev pub is_rare_step : Expression-F Bool Bool Bool Bool → Bool
-is_rare_step (Expression-F.Negate e) = true
-is_rare_step (Expression-F.Absolute e) = true
-is_rare_step (Expression-F.Successor e last) = true
-is_rare_step (Expression-F.Predecessor e first) = true
-is_rare_step (Expression-F.Character e) = true
-is_rare_step (Expression-F.IsEmpty p) = true
+abbrev pub is_rare_step : OrdinalExpression-F Bool Bool Bool Bool → Bool
+is_rare_step (OrdinalExpression-F.Negate e) = true
+is_rare_step (OrdinalExpression-F.Absolute e) = true
+is_rare_step (OrdinalExpression-F.Successor e last) = true
+is_rare_step (OrdinalExpression-F.Predecessor e first) = true
+is_rare_step (OrdinalExpression-F.Character e) = true
+is_rare_step (OrdinalExpression-F.IsEmpty p) = true
 is_rare_step e = false
 
-abbrev pub is_rare : code_expression.Expression → Bool
-is_rare e = code_expression.fold-Expression Bool Bool Bool Bool is_rare_step (λ _. false) (λ _. false) (λ _. false) e
+abbrev pub is_rare : code_expression.OrdinalExpression → Bool
+is_rare e = code_expression.fold-OrdinalExpression Bool Bool Bool Bool is_rare_step (λ _. false) (λ _. false) (λ _. false) e

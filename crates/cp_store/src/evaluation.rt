@@ -14,7 +14,7 @@ use crate::arithmetic::{
 use crate::error::ErrorName;
 use crate::memory::{Address, Frame, Room, cell};
 use crate::set::{self, SetValue};
-use cp_slots::{Expression, Index, Place, PlaceOrigin, SetExpression};
+use cp_slots::{OrdinalExpression, Index, Place, PlaceOrigin, SetExpression};
 
 /// Where a variable begins.
 #[inline(always)]
@@ -104,7 +104,7 @@ fn through(
 #[cycle(evaluate)]
 #[inline(always)]
 pub fn evaluate(
-    expression: &Expression,
+    expression: &OrdinalExpression,
     permanents: &[i16],
     room: &Room,
     frame: &Frame,
@@ -113,8 +113,8 @@ pub fn evaluate(
     ensures { result ≡ spec.value_at (memory_of permanents.now room.now) frame.now expression.now }
 {
     match expression {
-        Expression::Number(value) => Ok(*value),
-        Expression::Load(place) => load_value(place, permanents, room, frame),
+        OrdinalExpression::Number(value) => Ok(*value),
+        OrdinalExpression::Load(place) => load_value(place, permanents, room, frame),
         _ => answer(
             expression,
             &EvaluationView {
@@ -131,7 +131,7 @@ pub fn evaluate(
 /// operations.
 #[inline(always)]
 pub fn evaluate_here(
-    expression: &Expression,
+    expression: &OrdinalExpression,
     permanents: &[i16],
     room: &Room,
     frame: &Frame,
@@ -158,13 +158,13 @@ struct EvaluationView<'a> {
 // The value of a part.
 #[cycle(evaluate)]
 #[inline(always)]
-fn operand_value(expression: &Expression, view: &EvaluationView) -> Result<i16, ErrorName>
+fn operand_value(expression: &OrdinalExpression, view: &EvaluationView) -> Result<i16, ErrorName>
     requires { CanRead (memory_of view.now.permanents.now view.now.room.now) view.now.frame.now expression.now }
     ensures { result ≡ spec.value_at (memory_of view.now.permanents.now view.now.room.now) view.now.frame.now expression.now }
 {
     match expression {
-        Expression::Number(value) => Ok(*value),
-        Expression::Load(place) => load_value(place, view.permanents, view.room, view.frame),
+        OrdinalExpression::Number(value) => Ok(*value),
+        OrdinalExpression::Load(place) => load_value(place, view.permanents, view.room, view.frame),
         _ => answer(expression, view).result(),
     }
 }
@@ -172,11 +172,11 @@ fn operand_value(expression: &Expression, view: &EvaluationView) -> Result<i16, 
 // The value of the left side of an operation, which often is one itself: that is computed where it stands.
 #[cycle(evaluate)]
 #[inline(always)]
-fn left_part(expression: &Expression, view: &EvaluationView) -> Result<i16, ErrorName>
+fn left_part(expression: &OrdinalExpression, view: &EvaluationView) -> Result<i16, ErrorName>
     requires { CanRead (memory_of view.now.permanents.now view.now.room.now) view.now.frame.now expression.now }
     ensures { result ≡ spec.value_at (memory_of view.now.permanents.now view.now.room.now) view.now.frame.now expression.now }
 {
-    if let Expression::Arithmetic(operator, left, right) = expression {
+    if let OrdinalExpression::Arithmetic(operator, left, right) = expression {
         let left = operand_value(left, view)?;
         let right = operand_value(right, view)?;
         return calculate(*operator, left, right);
@@ -187,7 +187,7 @@ fn left_part(expression: &Expression, view: &EvaluationView) -> Result<i16, Erro
 // The value of an expression, handed over in a register.
 #[cycle(evaluate)]
 #[inline(never)]
-fn answer(expression: &Expression, view: &EvaluationView) -> Evaluation
+fn answer(expression: &OrdinalExpression, view: &EvaluationView) -> Evaluation
     requires { CanRead (memory_of view.now.permanents.now view.now.room.now) view.now.frame.now expression.now }
     ensures { answered result ≡ spec.value_at (memory_of view.now.permanents.now view.now.room.now) view.now.frame.now expression.now }
 {
@@ -197,41 +197,41 @@ fn answer(expression: &Expression, view: &EvaluationView) -> Evaluation
 // The value of an expression by its parts.
 #[cycle(evaluate)]
 #[inline(always)]
-fn compute_value(expression: &Expression, view: &EvaluationView) -> Result<i16, ErrorName>
+fn compute_value(expression: &OrdinalExpression, view: &EvaluationView) -> Result<i16, ErrorName>
     requires { CanRead (memory_of view.now.permanents.now view.now.room.now) view.now.frame.now expression.now }
     ensures { result ≡ spec.value_at (memory_of view.now.permanents.now view.now.room.now) view.now.frame.now expression.now }
 {
     // The most frequent form is not looked up in a table.
-    if let Expression::Arithmetic(operator, left, right) = expression {
+    if let OrdinalExpression::Arithmetic(operator, left, right) = expression {
         let left = left_part(left, view)?;
         let right = operand_value(right, view)?;
         return calculate(*operator, left, right);
     }
     match expression {
-        Expression::Number(value) => Ok(*value),
-        Expression::Load(place) => load_value(place, view.permanents, view.room, view.frame),
-        Expression::Arithmetic(_, _, _) => unreachable!(),
-        Expression::Compare(relation, left, right) => {
+        OrdinalExpression::Number(value) => Ok(*value),
+        OrdinalExpression::Load(place) => load_value(place, view.permanents, view.room, view.frame),
+        OrdinalExpression::Arithmetic(_, _, _) => unreachable!(),
+        OrdinalExpression::Compare(relation, left, right) => {
             let left = operand_value(left, view)?;
             let right = operand_value(right, view)?;
             Ok(compare(*relation, left, right))
         }
-        Expression::Logic(operator, left, right) => {
+        OrdinalExpression::Logic(operator, left, right) => {
             let left = operand_value(left, view)?;
             let right = operand_value(right, view)?;
             Ok(apply_logic(*operator, left, right))
         }
-        Expression::Not(operand) => {
+        OrdinalExpression::Not(operand) => {
             let value = operand_value(operand, view)?;
             Ok(truth(!is_true(value)))
         }
-        Expression::Negate(_) | Expression::Absolute(_) | Expression::Successor(_, _) => {
+        OrdinalExpression::Negate(_) | OrdinalExpression::Absolute(_) | OrdinalExpression::Successor(_, _) => {
             rare(expression, view).result()
         }
-        Expression::Predecessor(_, _) | Expression::Character(_) | Expression::IsEmpty(_) => {
+        OrdinalExpression::Predecessor(_, _) | OrdinalExpression::Character(_) | OrdinalExpression::IsEmpty(_) => {
             rare(expression, view).result()
         }
-        Expression::SameSet(_, _, _) | Expression::Member(_, _) => {
+        OrdinalExpression::SameSet(_, _, _) | OrdinalExpression::Member(_, _) => {
             set_test(expression, view).result()
         }
     }
@@ -240,7 +240,7 @@ fn compute_value(expression: &Expression, view: &EvaluationView) -> Result<i16, 
 // The value of a rarer form: apart, so that the frequent ones save fewer registers.
 #[cycle(evaluate)]
 #[inline(never)]
-fn rare(expression: &Expression, view: &EvaluationView) -> Evaluation
+fn rare(expression: &OrdinalExpression, view: &EvaluationView) -> Evaluation
     requires form { IsTrue (spec.is_rare expression.now) }
     requires reads { CanRead (memory_of view.now.permanents.now view.now.room.now) view.now.frame.now expression.now }
     ensures { answered result ≡ spec.value_at (memory_of view.now.permanents.now view.now.room.now) view.now.frame.now expression.now }
@@ -249,42 +249,42 @@ fn rare(expression: &Expression, view: &EvaluationView) -> Evaluation
 }
 
 #[cycle(evaluate)]
-fn rare_value(expression: &Expression, view: &EvaluationView) -> Result<i16, ErrorName>
+fn rare_value(expression: &OrdinalExpression, view: &EvaluationView) -> Result<i16, ErrorName>
     requires form { IsTrue (spec.is_rare expression.now) }
     requires reads { CanRead (memory_of view.now.permanents.now view.now.room.now) view.now.frame.now expression.now }
     ensures { result ≡ spec.value_at (memory_of view.now.permanents.now view.now.room.now) view.now.frame.now expression.now }
 {
     match expression {
-        Expression::Negate(operand) => negate(operand_value(operand, view)?),
-        Expression::Absolute(operand) => absolute(operand_value(operand, view)?),
-        Expression::Successor(operand, last) => successor(operand_value(operand, view)?, *last),
-        Expression::Predecessor(operand, first) => predecessor(
+        OrdinalExpression::Negate(operand) => negate(operand_value(operand, view)?),
+        OrdinalExpression::Absolute(operand) => absolute(operand_value(operand, view)?),
+        OrdinalExpression::Successor(operand, last) => successor(operand_value(operand, view)?, *last),
+        OrdinalExpression::Predecessor(operand, first) => predecessor(
             operand_value(operand, view)?,
             *first,
         ),
-        Expression::Character(operand) => {
+        OrdinalExpression::Character(operand) => {
             let number = operand_value(operand, view)?;
             check_range(number, 0, 127)
         }
-        Expression::IsEmpty(queue) => {
+        OrdinalExpression::IsEmpty(queue) => {
             let waits = load_value(queue, view.permanents, view.room, view.frame)?;
             Ok(truth(!is_true(waits)))
         }
-        Expression::Number(_)
-        | Expression::Load(_)
-        | Expression::Not(_)
-        | Expression::Arithmetic(_, _, _)
-        | Expression::Logic(_, _, _)
-        | Expression::Compare(_, _, _)
-        | Expression::SameSet(_, _, _)
-        | Expression::Member(_, _) => unreachable!(),
+        OrdinalExpression::Number(_)
+        | OrdinalExpression::Load(_)
+        | OrdinalExpression::Not(_)
+        | OrdinalExpression::Arithmetic(_, _, _)
+        | OrdinalExpression::Logic(_, _, _)
+        | OrdinalExpression::Compare(_, _, _)
+        | OrdinalExpression::SameSet(_, _, _)
+        | OrdinalExpression::Member(_, _) => unreachable!(),
     }
 }
 
 // Whether two sets are the same, or an element belongs to a set: apart, since sets go through memory.
 #[cycle(evaluate)]
 #[inline(never)]
-fn set_test(expression: &Expression, view: &EvaluationView) -> Evaluation
+fn set_test(expression: &OrdinalExpression, view: &EvaluationView) -> Evaluation
     requires test { IsTrue (spec.is_set_test expression.now) }
     requires reads { CanRead (memory_of view.now.permanents.now view.now.room.now) view.now.frame.now expression.now }
     ensures { answered result ≡ spec.value_at (memory_of view.now.permanents.now view.now.room.now) view.now.frame.now expression.now }
@@ -293,34 +293,34 @@ fn set_test(expression: &Expression, view: &EvaluationView) -> Evaluation
 }
 
 #[cycle(evaluate)]
-fn test_sets(expression: &Expression, view: &EvaluationView) -> Result<i16, ErrorName>
+fn test_sets(expression: &OrdinalExpression, view: &EvaluationView) -> Result<i16, ErrorName>
     requires test { IsTrue (spec.is_set_test expression.now) }
     requires reads { CanRead (memory_of view.now.permanents.now view.now.room.now) view.now.frame.now expression.now }
     ensures { result ≡ spec.value_at (memory_of view.now.permanents.now view.now.room.now) view.now.frame.now expression.now }
 {
     match expression {
-        Expression::SameSet(wanted, left, right) => {
+        OrdinalExpression::SameSet(wanted, left, right) => {
             let left = evaluate_set(left, view.permanents, view.room, view.frame)?;
             let right = evaluate_set(right, view.permanents, view.room, view.frame)?;
             Ok(set::compare_sets(*wanted, left, right))
         }
-        Expression::Member(element, whole) => {
+        OrdinalExpression::Member(element, whole) => {
             let element = operand_value(element, view)?;
             let whole = evaluate_set(whole, view.permanents, view.room, view.frame)?;
             Ok(truth(set::is_member(whole, element)))
         }
-        Expression::Number(_)
-        | Expression::Load(_)
-        | Expression::Negate(_)
-        | Expression::Absolute(_)
-        | Expression::Not(_)
-        | Expression::Successor(_, _)
-        | Expression::Predecessor(_, _)
-        | Expression::Character(_)
-        | Expression::Arithmetic(_, _, _)
-        | Expression::Logic(_, _, _)
-        | Expression::Compare(_, _, _)
-        | Expression::IsEmpty(_) => unreachable!(),
+        OrdinalExpression::Number(_)
+        | OrdinalExpression::Load(_)
+        | OrdinalExpression::Negate(_)
+        | OrdinalExpression::Absolute(_)
+        | OrdinalExpression::Not(_)
+        | OrdinalExpression::Successor(_, _)
+        | OrdinalExpression::Predecessor(_, _)
+        | OrdinalExpression::Character(_)
+        | OrdinalExpression::Arithmetic(_, _, _)
+        | OrdinalExpression::Logic(_, _, _)
+        | OrdinalExpression::Compare(_, _, _)
+        | OrdinalExpression::IsEmpty(_) => unreachable!(),
     }
 }
 

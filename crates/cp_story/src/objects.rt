@@ -44,7 +44,7 @@ impl Object {
     }
 
     /// The object with its members.
-    pub fn done(self) -> Value {
+    pub fn into_value(self) -> Value {
         Value::Object(self.members)
     }
 }
@@ -62,7 +62,7 @@ pub fn json(
     put_outcome(alloc, legend, &mut whole, story, word)?;
     whole.put("final", waits(alloc, legend, &story.waits)?)?;
     whole.put("source", lines(alloc, source)?)?;
-    let mut text = whole.done().to_string(alloc)?;
+    let mut text = whole.into_value().to_string(alloc)?;
     text.push('\n')?;
     Ok(text)
 }
@@ -116,7 +116,7 @@ fn named_value(alloc: Global, name: &str, type_name: &str) -> Result<Value, Allo
     let mut object = Object::new(alloc);
     object.text("name", name)?;
     object.text("type", type_name)?;
-    Ok(object.done())
+    Ok(object.into_value())
 }
 
 /// The processes with their names and types.
@@ -155,7 +155,7 @@ fn event_object(alloc: Global, legend: &Legend, event: &StoryEvent) -> Result<Va
         object.put("returned", returned_values(alloc, &event.returned)?)?;
     }
     put_effects(alloc, legend, &mut object, event)?;
-    Ok(object.done())
+    Ok(object.into_value())
 }
 
 // Whose event it is, on which line, and after which choice.
@@ -193,7 +193,7 @@ fn returned_values(alloc: Global, returned: &[Returned]) -> Result<Value, AllocE
             object.text("name", one.name.as_str())?;
         }
         object.put("value", value(alloc, &one.value)?)?;
-        items.push(object.done())?;
+        items.push(object.into_value())?;
     }
     Ok(Value::Array(items))
 }
@@ -205,7 +205,7 @@ fn choice_object(alloc: Global, choice: &Choice) -> Result<Value, AllocError> {
     if choice.at_gate {
         object.put("gate", Value::Bool(true))?;
     }
-    Ok(object.done())
+    Ok(object.into_value())
 }
 
 fn put_call(legend: &Legend, object: &mut Object, call: OpenCall) -> Result<(), AllocError> {
@@ -290,7 +290,7 @@ fn record(alloc: Global, members: &[Member]) -> Result<Value, AllocError> {
     for member in members {
         object.put(member.name.as_str(), value(alloc, &member.value)?)?;
     }
-    Ok(object.done())
+    Ok(object.into_value())
 }
 
 fn put_status(
@@ -321,7 +321,7 @@ fn statuses(alloc: Global, legend: &Legend, statuses: &[Status]) -> Result<Value
     for status in statuses {
         let mut object = Object::new(alloc);
         put_status(alloc, legend, &mut object, *status)?;
-        items.push(object.done())?;
+        items.push(object.into_value())?;
     }
     Ok(Value::Array(items))
 }
@@ -344,7 +344,7 @@ fn changes(alloc: Global, legend: &Legend, changes: &[Change]) -> Result<Value, 
         object.number("monitor", u64::from(change.monitor))?;
         object.text("name", change.name.as_str())?;
         object.put("value", value(alloc, &change.value)?)?;
-        items.push(object.done())?;
+        items.push(object.into_value())?;
     }
     Ok(Value::Array(items))
 }
@@ -357,7 +357,7 @@ pub fn waits(alloc: Global, legend: &Legend, waits: &[Wait]) -> Result<Value, Al
         object.number("process", u64::from(wait.process))?;
         put_status(alloc, legend, &mut object, wait.status)?;
         object.put("inside", numbers(alloc, &wait.inside)?)?;
-        items.push(object.done())?;
+        items.push(object.into_value())?;
     }
     Ok(Value::Array(items))
 }
@@ -382,7 +382,7 @@ fn end(alloc: Global, story: &Story) -> Result<Value, AllocError> {
     if let Some(choice) = &story.last_choice {
         object.put("choice", choice_object(alloc, choice)?)?;
     }
-    Ok(object.done())
+    Ok(object.into_value())
 }
 
 // Who went on to a limit and where, and who waits already in a queue that is in use.

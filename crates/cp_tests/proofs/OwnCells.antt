@@ -2,7 +2,7 @@
 use Rattle.std.proofs.Common.{◌≡◌, ℕ, ◌^◌, ◌<◌, ◌≤◌, true, [], length, Option, Some, None, lit<, arith}
 use Rattle.std.specs.Prelude.{IsTrue}
 use Rattle.std.proofs.lemmas.Bool.{le-leb, leb-true}
-use Rattle.cp_slots.specs.declared.place.Expression.{Expression}
+use Rattle.cp_slots.specs.declared.place.OrdinalExpression.{OrdinalExpression}
 use Rattle.cp_slots.specs.declared.place.Place.{Place}
 use Rattle.cp_slots.specs.Inside.{expression_inside, has, place_room}
 use Rattle.cp_slots.specs.Tables.{RoutineView}
@@ -33,5 +33,5 @@ module _ (m : Memory) (f : Frame) (own_first : f.own ≡ 0) (base_first : f.base
   pub own_reach : (p : Place) (cells : ℕ) → ((r : RoutineView) → length m.permanents ≤ r.own → IsTrue (has cells (place_room r p))) → CanReach m f p cells
   own_reach p cells each = (all_own, covered, each all_own (omega arith))
 
-  pub own_read : (e : Expression) → ((r : RoutineView) → length m.permanents ≤ r.own → IsTrue (expression_inside r e)) → CanRead m f e
+  pub own_read : (e : OrdinalExpression) → ((r : RoutineView) → length m.permanents ≤ r.own → IsTrue (expression_inside r e)) → CanRead m f e
   own_read e each = (all_own, covered, each all_own (omega arith))

@@ -38,7 +38,7 @@ fn ending_of(rt: &HostRuntime, source: &str) -> Result<ParseEnding, Fail> {
 }
 
 // The statements of `begin .. end.` with this many `begin` before as many `end`.
-fn nested(rt: &HostRuntime, levels: usize) -> Result<String, Fail> {
+fn nested_text(rt: &HostRuntime, levels: usize) -> Result<String, Fail> {
     let mut text = String::new(rt.alloc());
     for _ in 0..levels {
         text.push_str("begin ")?;
@@ -51,7 +51,7 @@ fn nested(rt: &HostRuntime, levels: usize) -> Result<String, Fail> {
 }
 
 fn ending_of_nested(rt: &HostRuntime, levels: usize) -> Result<ParseEnding, Fail> {
-    let text = nested(rt, levels)?;
+    let text = nested_text(rt, levels)?;
     ending_of(rt, text.as_str())
 }
 

@@ -5,7 +5,7 @@ ghost use Rattle.cp_slots.specs.Inside.{expression_inside, has, place_room};
 ghost use Rattle.cp_slots.specs.Tables.{RoutineView};
 
 use cp_slots::{
-    Argument, ArgumentValue, Arithmetic, ComponentPlace, Expression, Index, Place, PlaceOrigin,
+    Argument, ArgumentValue, Arithmetic, ComponentPlace, OrdinalExpression, Index, Place, PlaceOrigin,
     SetOperation,
 };
 use cp_store::arithmetic::calculate;
@@ -119,7 +119,7 @@ fn row(rt: &HostRuntime, index: i16) -> Result<Place, Fail>
 {
     let mut indices = Vec::with_capacity(rt.alloc(), 1)?;
     indices.push(Index {
-        at: Expression::Number(index),
+        at: OrdinalExpression::Number(index),
         low: 1,
         high: 3,
         size: 2,
@@ -155,11 +155,11 @@ fn addresses(rt: HostRuntime) -> Result<(), Fail> {
 
 // The first cell of a row.
 #[tactic(auto, using(crate::proofs::OwnCells::one_of_two))]
-fn load(rt: &HostRuntime, index: i16) -> Result<Expression, Fail>
+fn load(rt: &HostRuntime, index: i16) -> Result<OrdinalExpression, Fail>
     ensures { IfOk result (λ e. (r : RoutineView) → 7 ≤ r.own → IsTrue (expression_inside r e)) }
 {
     let place = row(rt, index)?;
-    Ok(Expression::Load(place))
+    Ok(OrdinalExpression::Load(place))
 }
 
 #[test]
@@ -213,11 +213,11 @@ fn references(rt: HostRuntime) -> Result<(), Fail> {
     Ok(())
 }
 
-fn number(rt: &HostRuntime, value: i16) -> Result<Box<Expression>, Fail>
+fn number(rt: &HostRuntime, value: i16) -> Result<Box<OrdinalExpression>, Fail>
     ensures { IfOk result (λ e. (r : RoutineView) → IsTrue (expression_inside r e.value)) }
 {
     Ok(
-        Box::new(rt.alloc(), Expression::Number(value))
+        Box::new(rt.alloc(), OrdinalExpression::Number(value))
             .ok()
             .ok_or("memory")?,
     )

@@ -35,7 +35,7 @@ fn name_of(file: &Option<String>) -> Option<&str> {
 fn json(alloc: Global, source: &[u8], said: &Said) -> Result<String, AllocError> {
     let mut object = Object::new(alloc);
     put_said(alloc, &mut object, source, said)?;
-    let mut text = object.done().to_string(alloc)?;
+    let mut text = object.into_value().to_string(alloc)?;
     text.push('\n')?;
     Ok(text)
 }
@@ -99,7 +99,7 @@ fn hint_objects(alloc: Global, source: &[u8], hints: &[Hint]) -> Result<Vec<Valu
 fn hint_object(alloc: Global, source: &[u8], hint: &Hint) -> Result<Value, AllocError> {
     let mut one = Object::new(alloc);
     put_hint(&mut one, source, hint)?;
-    Ok(one.done())
+    Ok(one.into_value())
 }
 
 fn put_hint(object: &mut Object, source: &[u8], hint: &Hint) -> Result<(), AllocError> {

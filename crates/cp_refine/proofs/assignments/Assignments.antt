@@ -4,7 +4,7 @@ use Rattle.std.specs.Prelude.{ℤ, Result, Ok, Err, slice_index}
 use Rattle.cp_tree.specs.Syntax.{Program, Expression, Designator, assign}
 use Rattle.cp_slots.specs.declared.item.Action.{Action}
 use Rattle.cp_slots.specs.declared.item.Action.TheVariants as action
-use Rattle.cp_slots.specs.declared.place.Expression as code_expression
+use Rattle.cp_slots.specs.declared.place.OrdinalExpression as code_expression
 use Rattle.cp_slots.specs.declared.place.Place as code_place
 use Rattle.cp_slots.specs.Tables.{item_at}
 use Rattle.cp_store.specs.declared.error.ErrorName as slots
@@ -41,7 +41,7 @@ use Rattle.cp_refine.proofs.calls.Kept.{kept_left, kept_right}
 use Rattle.cp_refine.proofs.expressions.Views.{views_agree}
 use Rattle.cp_refine.proofs.control.Running.{Executes, frames_below, sees_now}
 
-is_assign : (a : Action) (p : code.Place) (c : code.Expression) (low high : ℤ) → code.action_seen a ≡ code.assign p c low high → (t : code_place.Place) × (x : code_expression.Expression) × (a ≡ action.Assign t x low high) × (code.place_seen t ≡ p) × (code.expression_seen x ≡ c)
+is_assign : (a : Action) (p : code.Place) (c : code.OrdinalExpression) (low high : ℤ) → code.action_seen a ≡ code.assign p c low high → (t : code_place.Place) × (x : code_expression.OrdinalExpression) × (a ≡ action.Assign t x low high) × (code.place_seen t ≡ p) × (code.expression_seen x ≡ c)
 is_assign (action.Assign t x l h) p c low high e = (t, x, cc, cc, cc)
 is_assign a p c low high e = absurd (cc)
 
@@ -77,7 +77,7 @@ module _ (g : Ground) (p : Program) (l : Layouts) (s : State) (m : Machine) (q a
 
 -- the whole step, for any variable that is found
 pub assign_runs : (g : Ground) (p : Program) (l : Layouts) (s : State) (m : Machine) (q at token : ℕ) (d : Designator) (e : Expression) (mid : Option ℕ) (es : List Entry) (xs ys : List Item) → (k : Taken g p l s m q at (statement_item (assign token d e)) mid es xs ys) → (ex : Executes g p l m q) →
-    (range : Range) (t : Ty) (c : code.Expression) (place : code.Place) → ItemAt g at token mid (code.assign place c range.low range.high) →
+    (range : Range) (t : Ty) (c : code.OrdinalExpression) (place : code.Place) → ItemAt g at token mid (code.assign place c range.low range.high) →
     designator_form (here p l (thread_at m.threads q).frame.routine) d ≡ Some (a_variable place (ordinal range)) → expression_form (here p l (thread_at m.threads q).frame.routine) e ≡ Some (record { ty = t; form = as_ordinal c }) →
     ((w : Place) (a : Address) (z : ℤ) (o : Option ℕ) → o ≡ mid → PlaceAt g.tables l ((thread_at m.threads q).frame ∷ frames_below g p l s m q at (statement_item (assign token d e)) mid es xs ys k ex) w (ordinal range) a → is_within range z ≡ true →
     StepIs g p l q (slice_index g.lines token) (settled p s q (becomes (stored (view_of p s q) w (number_value z)) (xs ++ ys))) (statements.local (number_put (with_stack m q (rest_of o es)) q a z))) →

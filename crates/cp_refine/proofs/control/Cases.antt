@@ -10,7 +10,7 @@ use Rattle.cp_tree.specs.Syntax.{Program, Expression, Statement, Arms, no_arms, 
 use Rattle.cp_slots.specs.declared.item.Action.{Action}
 use Rattle.cp_slots.specs.declared.item.Action.TheVariants as action
 use Rattle.cp_slots.specs.declared.item.ResolvedArm as slot_arm
-use Rattle.cp_slots.specs.declared.place.Expression as code_expression
+use Rattle.cp_slots.specs.declared.place.OrdinalExpression as code_expression
 use Rattle.cp_slots.specs.Code as code
 use Rattle.cp_slots.specs.Tables.{item_at}
 use Rattle.cp_store.specs.declared.error.ErrorName as slots
@@ -40,7 +40,7 @@ use Rattle.cp_refine.proofs.control.Control.{Taken, StepIs, takes_item, acts, fa
 use Rattle.cp_refine.proofs.control.Lists.{statement_items}
 use Rattle.cp_refine.proofs.expressions.Views.{views_agree}
 
-is_case : (a : Action) (c : code.Expression) (arms : List code.Arm) → code.action_seen a ≡ code.select c arms → (x : code_expression.Expression) × (v : Vec slot_arm.ResolvedArm Global) × (a ≡ action.Case x v) × (code.expression_seen x ≡ c) × (map code.arm_seen v.items ≡ arms)
+is_case : (a : Action) (c : code.OrdinalExpression) (arms : List code.Arm) → code.action_seen a ≡ code.select c arms → (x : code_expression.OrdinalExpression) × (v : Vec slot_arm.ResolvedArm Global) × (a ≡ action.Case x v) × (code.expression_seen x ≡ c) × (map code.arm_seen v.items ≡ arms)
 is_case (action.Case x v) c arms e = (x, v, refl, cc, cc)
 is_case a c arms e = absurd (cc)
 
@@ -74,7 +74,7 @@ arms_agree g h z (more_arms (arm cs t) as') (x ∷ xs) k =
 -- ---- the step
 
 -- the selector of the item gives the same on names and on slots
-abbrev pub SelectorAgrees : Program → State → Machine → ℕ → Expression → Ty → code.Expression → Type 0
+abbrev pub SelectorAgrees : Program → State → Machine → ℕ → Expression → Ty → code.OrdinalExpression → Type 0
 SelectorAgrees p s m q e t c = OrdinalAgrees (value (view_of p s q) e) t (plain_value (memory_at m q) (thread_at m.threads q).frame c)
 
 module _ (g : Ground) (p : Program) (l : Layouts) (s : State) (m : Machine) (q at token : ℕ) (e : Expression) (as' : Arms) (b : Bool) (mid : Option ℕ) (es : List Entry) (xs ys : List Item) (k : Taken g p l s m q at (statement_item (case_of token e as' b)) mid es xs ys) where

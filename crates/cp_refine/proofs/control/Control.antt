@@ -5,7 +5,7 @@ use Rattle.cp_tree.specs.Syntax.{Expression, Statement, empty, block, if_then, S
 use Rattle.cp_slots.specs.declared.item.Action.{Action}
 use Rattle.cp_slots.specs.declared.item.Action.TheVariants as action
 use Rattle.cp_slots.specs.declared.item.Item as slot_item
-use Rattle.cp_slots.specs.declared.place.Expression as code_expression
+use Rattle.cp_slots.specs.declared.place.OrdinalExpression as code_expression
 use Rattle.cp_slots.specs.Tables.{Tables, component_at, item_at}
 use Rattle.cp_store.specs.declared.memory.Frame.{Frame}
 use Rattle.cp_store.specs.Memory.{Memory}
@@ -58,7 +58,7 @@ pub is_block : (a : Action) (list : Option ℕ) → code.action_seen a ≡ code.
 is_block (action.Block k) list e = cc
 is_block a list e = absurd (cc)
 
-pub is_if : (a : Action) (c : code.Expression) (list other : Option ℕ) → code.action_seen a ≡ code.choose c list other → (x : code_expression.Expression) × (a ≡ action.If x list other) × (code.expression_seen x ≡ c)
+pub is_if : (a : Action) (c : code.OrdinalExpression) (list other : Option ℕ) → code.action_seen a ≡ code.choose c list other → (x : code_expression.OrdinalExpression) × (a ≡ action.If x list other) × (code.expression_seen x ≡ c)
 is_if (action.If x k j) c list other e = (x, cc, cc)
 is_if a c list other e = absurd (cc)
 
@@ -238,7 +238,7 @@ block_step g p l s m q at token line ts mid es xs ys k =
 -- ---- `if`: what its test gives is looked at, and one branch is done or none
 
 -- the test of the item gives the same on names and on slots
-abbrev pub TestAgrees : Layouts → Program → State → Machine → ℕ → Expression → code.Expression → Type 0
+abbrev pub TestAgrees : Layouts → Program → State → Machine → ℕ → Expression → code.OrdinalExpression → Type 0
 TestAgrees l p s m q e c = (t : Ty) × (is_boolean t ≡ true) × OrdinalAgrees (value (view_of p s q) e) t (plain_value (memory_at m q) (thread_at m.threads q).frame c)
 
 pub if_step : (g : Ground) (p : Program) (l : Layouts) (s : State) (m : Machine) (q at token : ℕ) (e : Expression) (u : Statement) (mid : Option ℕ) (es : List Entry) (xs ys : List Item) → (k : Taken g p l s m q at (statement_item (if_then token e u)) mid es xs ys) →

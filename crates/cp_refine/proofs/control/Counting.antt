@@ -8,7 +8,7 @@ use Rattle.cp_tree.specs.declared.statement.Direction.TheVariants.{To, Downto}
 use Rattle.cp_tree.specs.Syntax.{Program, Expression, Statement, for_do}
 use Rattle.cp_slots.specs.declared.item.Action.{Action}
 use Rattle.cp_slots.specs.declared.item.Action.TheVariants as action
-use Rattle.cp_slots.specs.declared.place.Expression as code_expression
+use Rattle.cp_slots.specs.declared.place.OrdinalExpression as code_expression
 use Rattle.cp_slots.specs.declared.place.PlaceOrigin.{PlaceOrigin}
 use Rattle.cp_slots.specs.Code as code
 use Rattle.cp_slots.specs.Tables.{item_at}
@@ -55,8 +55,8 @@ use Rattle.cp_refine.proofs.control.Lists.{statement_items, stack_rest, frames_r
 use Rattle.cp_refine.proofs.control.Running.{Executes, frames_below, sees_now}
 use Rattle.cp_refine.proofs.expressions.Views.{views_agree}
 
-is_for : (a : Action) (o : PlaceOrigin) (low high : ℤ) (c d : code.Expression) (down : Bool) (list : Option ℕ) → code.action_seen a ≡ code.for_do o low high c d down list →
-    (x : code_expression.Expression) × (y : code_expression.Expression) × (a ≡ action.For o low high x y down list) × (code.expression_seen x ≡ c) × (code.expression_seen y ≡ d)
+is_for : (a : Action) (o : PlaceOrigin) (low high : ℤ) (c d : code.OrdinalExpression) (down : Bool) (list : Option ℕ) → code.action_seen a ≡ code.for_do o low high c d down list →
+    (x : code_expression.OrdinalExpression) × (y : code_expression.OrdinalExpression) × (a ≡ action.For o low high x y down list) × (code.expression_seen x ≡ c) × (code.expression_seen y ≡ d)
 is_for (action.For o low high x y down list) p l h c d b k e = (x, y, cc, cc, cc)
 is_for a o low high c d down list e = absurd (cc)
 

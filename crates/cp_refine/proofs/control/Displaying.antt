@@ -7,7 +7,7 @@ use Rattle.cp_tree.specs.Syntax.{Program, Expression, Expressions, more_expressi
 use Rattle.cp_slots.specs.declared.item.Action.{Action}
 use Rattle.cp_slots.specs.declared.item.Action.TheVariants as action
 use Rattle.cp_slots.specs.declared.item.ShownKind.{ShownKind}
-use Rattle.cp_slots.specs.declared.place.Expression as code_expression
+use Rattle.cp_slots.specs.declared.place.OrdinalExpression as code_expression
 use Rattle.cp_slots.specs.declared.tables.ComponentKind.{ComponentKind}
 use Rattle.cp_slots.specs.declared.tables.ComponentKind.TheVariants as kind
 use Rattle.cp_slots.specs.Code as code
@@ -52,7 +52,7 @@ use Rattle.cp_refine.proofs.expressions.Numbers.{is_true_same}
 use Rattle.cp_refine.proofs.control.Running.{Executes, frames_below, sees_now}
 use Rattle.cp_refine.proofs.expressions.Views.{views_agree}
 
-is_display : (a : Action) (c : code.Expression) (k : ShownKind) → code.action_seen a ≡ code.display c k → (x : code_expression.Expression) × (a ≡ action.Display x k) × (code.expression_seen x ≡ c)
+is_display : (a : Action) (c : code.OrdinalExpression) (k : ShownKind) → code.action_seen a ≡ code.display c k → (x : code_expression.OrdinalExpression) × (a ≡ action.Display x k) × (code.expression_seen x ≡ c)
 is_display (action.Display x k) c j e = (x, cc, cc)
 is_display a c k e = absurd (cc)
 

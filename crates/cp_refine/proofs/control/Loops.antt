@@ -4,7 +4,7 @@ use Rattle.std.specs.Prelude.{ℤ, Result, Ok, Err, int_lt, pos, slice_index}
 use Rattle.cp_tree.specs.Syntax.{Program, Expression, Statement, Statements, if_else, while_do, repeat_until, cycle}
 use Rattle.cp_slots.specs.declared.item.Action.{Action}
 use Rattle.cp_slots.specs.declared.item.Action.TheVariants as action
-use Rattle.cp_slots.specs.declared.place.Expression as code_expression
+use Rattle.cp_slots.specs.declared.place.OrdinalExpression as code_expression
 use Rattle.cp_slots.specs.Code as code
 use Rattle.cp_slots.specs.Tables.{item_at}
 use Rattle.cp_store.specs.declared.error.ErrorName as slots
@@ -40,11 +40,11 @@ use Rattle.cp_refine.proofs.expressions.Views.{views_agree}
 
 -- ---- what an action is by its view
 
-is_while : (a : Action) (c : code.Expression) (list : Option ℕ) (again : ℕ) → code.action_seen a ≡ code.while_do c list again → (x : code_expression.Expression) × (a ≡ action.While x list again) × (code.expression_seen x ≡ c)
+is_while : (a : Action) (c : code.OrdinalExpression) (list : Option ℕ) (again : ℕ) → code.action_seen a ≡ code.while_do c list again → (x : code_expression.OrdinalExpression) × (a ≡ action.While x list again) × (code.expression_seen x ≡ c)
 is_while (action.While x k j) c list again e = (x, cc, cc)
 is_while a c list again e = absurd (cc)
 
-is_until : (a : Action) (c : code.Expression) (list : Option ℕ) (again : ℕ) → code.action_seen a ≡ code.until c list again → (x : code_expression.Expression) × (a ≡ action.Until x list again) × (code.expression_seen x ≡ c)
+is_until : (a : Action) (c : code.OrdinalExpression) (list : Option ℕ) (again : ℕ) → code.action_seen a ≡ code.until c list again → (x : code_expression.OrdinalExpression) × (a ≡ action.Until x list again) × (code.expression_seen x ≡ c)
 is_until (action.Until x k j) c list again e = (x, cc, cc)
 is_until a c list again e = absurd (cc)
 
@@ -67,7 +67,7 @@ module _ (g : Ground) (p : Program) (l : Layouts) (s : State) (m : Machine) (q a
   SameFrames fs = frames_of (thread_at m.threads q).frame fs ≡ frames_of (thread_at m.threads q).frame es
 
   -- by the truth value that a test gives
-  chooses : (line : ℕ) (e : Expression) (a : code_expression.Expression) (c : code.Expression) → code.expression_seen a ≡ c → TestAgrees l p s m q e c →
+  chooses : (line : ℕ) (e : Expression) (a : code_expression.OrdinalExpression) (c : code.OrdinalExpression) → code.expression_seen a ≡ c → TestAgrees l p s m q e c →
       (zs ws : List Item) (fs gs : List Entry) → StackOf zs fs → SameFrames fs → StackOf ws gs → SameFrames gs →
       StepIs g p l q line (settled p s q (value (view_of p s q) e >>= λ x. becomes (view_of p s q) (if is_true x then zs else ws)))
       (statements.with_value (value_of m q a) (statements.fault m q line) (λ v. statements.local (with_stack m q (if cells.is_true v then fs else gs))))

@@ -92,7 +92,7 @@ module _ (g : Ground) (p : Program) (l : Layouts) (s : State) (m : Machine) (q a
       by_calls (named.process_at s.processes q).calls frames_below
       (all_lie g p l s m q ((thread_at m.threads q).frame ∷ frames_below) k.rep (subst (λ fs. CallsHold g.tables l (own_memory (thread_at m.threads q)) (named.process_at s.processes q).calls fs) (top_frame (thread_at m.threads q).frame es).1 k.calls))
 
-  pub test_agrees : (e : Expression) (c : code.Expression) → AreKept (here p l (thread_at m.threads q).frame.routine) (expression_calls (l.meanings (thread_at m.threads q).frame.routine).scope e) → IsTest (here p l (thread_at m.threads q).frame.routine) e c → TestAgrees l p s m q e c
+  pub test_agrees : (e : Expression) (c : code.OrdinalExpression) → AreKept (here p l (thread_at m.threads q).frame.routine) (expression_calls (l.meanings (thread_at m.threads q).frame.routine).scope e) → IsTest (here p l (thread_at m.threads q).frame.routine) e c → TestAgrees l p s m q e c
   test_agrees e c kept test = (test.ty, test.truth, expression_ok g.tables l ((thread_at m.threads q).frame ∷ frames_below) (view_of p s q) (memory_at m q) (thread_at m.threads q).frame (here p l (thread_at m.threads q).frame.routine) sees_now e (record { ty = test.ty; form = as_ordinal c }) kept test.cell)
 
 -- the whole step of an `if`

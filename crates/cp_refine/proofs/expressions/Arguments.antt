@@ -55,7 +55,7 @@ use Rattle.cp_refine.proofs.expressions.Views.{views_agree}
 
 -- ---- what an argument gives by its view
 
-pub scalar_bound : (m : Memory) (bindings : List ℕ) (f : Frame) (a : ArgumentValue) (c : code.Expression) (low high : ℤ) → code.value_seen a ≡ code.scalar c low high → bound_at m bindings f a ≡ then_with (plain_value m f c) (λ z. then_with (ranged low high z) (λ v. Ok (Scalar v)))
+pub scalar_bound : (m : Memory) (bindings : List ℕ) (f : Frame) (a : ArgumentValue) (c : code.OrdinalExpression) (low high : ℤ) → code.value_seen a ≡ code.scalar c low high → bound_at m bindings f a ≡ then_with (plain_value m f c) (λ z. then_with (ranged low high z) (λ v. Ok (Scalar v)))
 scalar_bound m bindings f (value_of.Scalar e l h) c low high k =
     let same : code.expression_seen e ≡ c = cc in
     let below : l ≡ low = cc in

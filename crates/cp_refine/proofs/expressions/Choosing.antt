@@ -65,14 +65,14 @@ module _ (m : Memory) (f : Frame) where
       by_value rest (Err e) = refl
 
   -- what the last index does
-  abbrev last_index : code.Expression → Range → ℕ → Address → Result Address slots.ErrorName
+  abbrev last_index : code.OrdinalExpression → Range → ℕ → Address → Result Address slots.ErrorName
   last_index c r size b = then_with (plain_value m f c) (λ v. then_with (element_offset r.low r.high size v) (λ far. Ok (moved b far)))
 
   then_ok : (r : Result Address slots.ErrorName) → then_with r (λ inner. Ok inner) ≡ r
   then_ok (Ok a) = refl
   then_ok (Err e) = refl
 
-  indexed_last : (is : code.Indices) (c : code.Expression) (r : Range) (size : ℕ) (a : Address) → plain_indexed m f (compiled.with_index is c r size) a ≡ then_with (plain_indexed m f is a) (last_index c r size)
+  indexed_last : (is : code.Indices) (c : code.OrdinalExpression) (r : Range) (size : ℕ) (a : Address) → plain_indexed m f (compiled.with_index is c r size) a ≡ then_with (plain_indexed m f is a) (last_index c r size)
   indexed_last code.no_indices c r size a = then_ok (last_index c r size a)
   indexed_last (code.more_indices (code.index d low high n) is) c r size a = go (λ b. indexed_last is c r size b) (then_with (plain_value m f d) (λ v. then_with (element_offset low high n v) (λ far. Ok (moved a far))))
     where
@@ -205,7 +205,7 @@ module _ (r : Tables) (l : Layouts) (fs : List Frame) (v : View) (m : Memory) (f
   )
   element_target q u y a z e i false w = refl
 
-  indexed_target : (q : Range) (u t : Ty) (c : code.Expression) (o : Outcome Target) (a : Result Address slots.ErrorName) (i : Outcome Typed) (x : Result ℤ slots.ErrorName) → TargetAgrees r l fs o (array_over q u) a → OrdinalAgrees i t x →
+  indexed_target : (q : Range) (u t : Ty) (c : code.OrdinalExpression) (o : Outcome Target) (a : Result Address slots.ErrorName) (i : Outcome Typed) (x : Result ℤ slots.ErrorName) → TargetAgrees r l fs o (array_over q u) a → OrdinalAgrees i t x →
       TargetAgrees r l fs (o >>= λ t. i >>= λ a. with_index t a) u (then_with a (λ b. then_with x (λ v. then_with (element_offset q.low q.high (cells_of u) v) (λ far. Ok (moved b far)))))
   indexed_target q u t c (Err e) (Err d) i x j k = j
   indexed_target q u t c (Ok y) (Ok a) (Err e) (Err d) j k = k
@@ -217,7 +217,7 @@ module _ (r : Tables) (l : Layouts) (fs : List Frame) (v : View) (m : Memory) (f
       (element_target q u y a z j.0 j.1 (is_within q z) refl))
   indexed_target q u t c _ _ i x j k = absurd j
 
-  element_ok : (d e : Designated) (o : Outcome Target) (t : Ty) (c : code.Expression) (i : Outcome Typed) → DesignatedAgrees r l fs m f o d → OrdinalAgrees i t (plain_value m f c) → with_element_form h d c ≡ Some e → DesignatedAgrees r l fs m f (o >>= λ t. i >>= λ a. with_index t a) e
+  element_ok : (d e : Designated) (o : Outcome Target) (t : Ty) (c : code.OrdinalExpression) (i : Outcome Typed) → DesignatedAgrees r l fs m f o d → OrdinalAgrees i t (plain_value m f c) → with_element_form h d c ≡ Some e → DesignatedAgrees r l fs m f (o >>= λ t. i >>= λ a. with_index t a) e
   element_ok (some_components first q k) e o t c i j n w = subst (DesignatedAgrees r l fs m f (o >>= λ t. i >>= λ a. with_index t a)) (some_designated (a_component (code.element first q.low q.high (h.layouts.systems k).count c) k) e w) tt
   element_ok (a_variable (code.place b offset is) (array_over q u)) e o t c i j n w =
       subst (DesignatedAgrees r l fs m f (o >>= λ t. i >>= λ a. with_index t a)) (some_designated (a_variable (code.place b offset (compiled.with_index is c q (cells_of u))) u) e w)

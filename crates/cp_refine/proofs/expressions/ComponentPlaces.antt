@@ -99,7 +99,7 @@ field_variable : (t : Ty) (p : code.Place) (x : Name) (w : Designated) → field
 field_variable (record_with ts) (code.place o offset is) x w e = then_some (IsVariable w) (field_chosen ts x) (λ c. Some (part_of_form (code.place o offset is) c)) w e (λ c k j. subst IsVariable (designated_is _ w j) tt)
 field_variable y p x w e = absurd (cc)
 
-element_variable : (t : Ty) (p : code.Place) (c : code.Expression) (w : Designated) → element_of_form t p c ≡ Some w → IsVariable w
+element_variable : (t : Ty) (p : code.Place) (c : code.OrdinalExpression) (w : Designated) → element_of_form t p c ≡ Some w → IsVariable w
 element_variable (array_over r t) (code.place o offset is) c w e = subst IsVariable (designated_is _ w e) tt
 element_variable y p x w e = absurd (cc)
 
@@ -214,7 +214,7 @@ module _ (r : Tables) (l : Layouts) (fs : List Frame) (v : View) (m : Memory) (f
       (subst (λ (y : Ty). NumberAgrees (with_element_of y u z) (then_with (element_offset q.low q.high (h.layouts.systems n).count z) (λ far. Ok (onward (onward f.component first) far)))) (sym k.0) (element_number first n q u z k (is_within q z) refl))
   index_number first n q t (Ok u) _ _ k j = absurd j
 
-  element_agrees : (d w : Designated) (o : Outcome Target) (t : Ty) (c : code.Expression) (i : Outcome Typed) → NamedAgrees o d → OrdinalAgrees i t (plain_value m f c) → with_element_form h d c ≡ Some w → NamedAgrees (o >>= λ u. i >>= λ x. with_index u x) w
+  element_agrees : (d w : Designated) (o : Outcome Target) (t : Ty) (c : code.OrdinalExpression) (i : Outcome Typed) → NamedAgrees o d → OrdinalAgrees i t (plain_value m f c) → with_element_form h d c ≡ Some w → NamedAgrees (o >>= λ u. i >>= λ x. with_index u x) w
   element_agrees (a_variable p u) w o t c i k j e = of_variable _ w (element_variable u p c w e)
   element_agrees (a_component p n) w o t c i k j e = absurd (cc)
   element_agrees (some_components first q n) w o t c i k j e =

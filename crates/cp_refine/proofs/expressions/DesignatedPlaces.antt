@@ -103,7 +103,7 @@ module _ (w : Option Meaning) where
   field_so (record_with ts) (code.place o n is) x = some_so (field_chosen ts x) (λ c. Some (part_of_form (code.place o n is) c)) (λ c. tt)
   field_so _ p x = tt
 
-  element_so : (t : Ty) (p : code.Place) (c : code.Expression) → FormSo (element_of_form t p c)
+  element_so : (t : Ty) (p : code.Place) (c : code.OrdinalExpression) → FormSo (element_of_form t p c)
   element_so (array_over r t) (code.place o n is) c = tt
   element_so _ p c = tt
 
@@ -112,7 +112,7 @@ module _ (w : Option Meaning) where
   with_field_so (a_component c k) x g = g
   with_field_so (some_components first r k) x g = tt
 
-  with_element_so : (h : Here) (d : Designated) (c : code.Expression) → IsSo d → FormSo (with_element_form h d c)
+  with_element_so : (h : Here) (d : Designated) (c : code.OrdinalExpression) → IsSo d → FormSo (with_element_form h d c)
   with_element_so h (a_variable p t) c g = element_so t p c
   with_element_so h (some_components first r k) c g = g
   with_element_so h (a_component b k) c g = tt

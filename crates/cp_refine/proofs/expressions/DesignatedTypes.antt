@@ -94,7 +94,7 @@ with_field_good (a_variable (code.place o n is) (record_with ts)) x g = some_goo
 with_field_good (a_variable p (ordinal r)) x g = tt
 with_field_good _ x g = tt
 
-with_element_good : (h : Here) (d : Designated) (c : code.Expression) → DesignatedGood d → FormGood (with_element_form h d c)
+with_element_good : (h : Here) (d : Designated) (c : code.OrdinalExpression) → DesignatedGood d → FormGood (with_element_form h d c)
 with_element_good h (a_variable (code.place o n is) (array_over r t)) c g = element_standing t (second_true (is_indexed r t) (is_element t) g)
 with_element_good h (a_variable p (ordinal r)) c g = tt
 with_element_good h _ c g = tt

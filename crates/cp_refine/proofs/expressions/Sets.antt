@@ -144,7 +144,7 @@ module _ (m : Memory) (f : Frame) where
       (λ x y i j e d c g. test_step NotEqual x.value y.value i j (not (bits_of i == bits_of j)) e d (ap not (equal_bits i j c g))) h k
   sets_related _ t u a b o p h k = tt
 
-  pub member : (q : Relation) (t u : Ty) (a : code.Expression) (b : code.SetExpression) (o p : Outcome Typed) → OrdinalAgrees o t (plain_value m f a) → SetAgrees p u (plain_set m f b) → FormOk m f (o >>= λ x. p >>= λ y. Ok (truth (related_values q x.value y.value))) (compared_forms q (as_ordinal a) (as_set b))
+  pub member : (q : Relation) (t u : Ty) (a : code.OrdinalExpression) (b : code.SetExpression) (o p : Outcome Typed) → OrdinalAgrees o t (plain_value m f a) → SetAgrees p u (plain_set m f b) → FormOk m f (o >>= λ x. p >>= λ y. Ok (truth (related_values q x.value y.value))) (compared_forms q (as_ordinal a) (as_set b))
   member In t u a b o p h k = member_step t u o p (plain_value m f a) (plain_set m f b) h k
   member _ t u a b o p h k = tt
 

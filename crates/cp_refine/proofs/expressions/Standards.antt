@@ -105,7 +105,7 @@ empty_same m _ _ h = absurd h
 -- ---- signs and functions as they stand in expressions
 
 module _ (m : Memory) (f : Frame) where
-  pub signed_plus : (x : Formed) (c : code.Expression) (o : Outcome Typed) → is_integer x.ty ≡ true → OrdinalAgrees o x.ty (plain_value m f c) → OrdinalAgrees (o >>= signed_value (Some sign.Plus)) (ordinal all_integers) (plain_value m f c)
+  pub signed_plus : (x : Formed) (c : code.OrdinalExpression) (o : Outcome Typed) → is_integer x.ty ≡ true → OrdinalAgrees o x.ty (plain_value m f c) → OrdinalAgrees (o >>= signed_value (Some sign.Plus)) (ordinal all_integers) (plain_value m f c)
   signed_plus x c o e i = go o (plain_value m f c) i
     where
       go : (o : Outcome Typed) (r : Result ℤ slots.ErrorName) → OrdinalAgrees o x.ty r → OrdinalAgrees (o >>= signed_value (Some sign.Plus)) (ordinal all_integers) r
@@ -114,7 +114,7 @@ module _ (m : Memory) (f : Frame) where
       go (Ok y) (Err b) h = absurd h
       go (Err a) (Ok z) h = absurd h
 
-  ord_ok : (r : Range) (c : code.Expression) (o : Outcome Typed) → OrdinalAgrees o (ordinal r) (plain_value m f c) → (b : Bool) → is_within all_integers (range_of_base r.base).high ≡ b → FormOk m f (o >>= standard_value ord_function) (if b then integer_form c else None)
+  ord_ok : (r : Range) (c : code.OrdinalExpression) (o : Outcome Typed) → OrdinalAgrees o (ordinal r) (plain_value m f c) → (b : Bool) → is_within all_integers (range_of_base r.base).high ≡ b → FormOk m f (o >>= standard_value ord_function) (if b then integer_form c else None)
   ord_ok r c o i false e = tt
   ord_ok r c o i true e = go o (plain_value m f c) i
     where
@@ -124,7 +124,7 @@ module _ (m : Memory) (f : Frame) where
       go (Ok y) (Err b) h = absurd h
       go (Err a) (Ok z) h = absurd h
 
-  applied_number : (s : Standard) (t : Ty) (b : Bool) (c : code.Expression) (o : Outcome Typed) → is_integer t ≡ b → OrdinalAgrees o t (plain_value m f c) → FormOk m f (o >>= standard_value s) (applied_ordinal s t b c)
+  applied_number : (s : Standard) (t : Ty) (b : Bool) (c : code.OrdinalExpression) (o : Outcome Typed) → is_integer t ≡ b → OrdinalAgrees o t (plain_value m f c) → FormOk m f (o >>= standard_value s) (applied_ordinal s t b c)
   applied_number succ_function (ordinal r) b c o e i = typed_agrees (ordinal r) (ordinal (range_of_base r.base)) (standard_value succ_function) (cells.successor (range_of_base r.base).high) o (plain_value m f c) (λ z h. successor_same r.base z h) i
   applied_number pred_function (ordinal r) b c o e i = typed_agrees (ordinal r) (ordinal (range_of_base r.base)) (standard_value pred_function) (cells.predecessor (range_of_base r.base).low) o (plain_value m f c) (λ z h. predecessor_same r.base z h) i
   applied_number chr_function (ordinal r) true c o e i = typed_agrees (ordinal r) (ordinal all_characters) (standard_value chr_function) (cells.ranged (pos 0) (pos 127)) o (plain_value m f c) (λ z h. based characters z (is_within all_characters z) refl) i

@@ -91,7 +91,7 @@ values_step F t x y a b C e d h =
     subst (λ (w : Value). OrdinalAgrees (F w y) t C) (sym e) (subst (λ (w : Value). OrdinalAgrees (F (number_value a) w) t C) (sym d) h)
 
 module _ (m : Memory) (f : Frame) where
-  pub related_cells : (r : Relation) (t u : Ty) (a b : code.Expression) (o p : Outcome Typed) → OrdinalAgrees o t (plain_value m f a) → OrdinalAgrees p u (plain_value m f b) → FormOk m f (o >>= λ x. p >>= λ y. Ok (truth (related_values r x.value y.value))) (compared_forms r (as_ordinal a) (as_ordinal b))
+  pub related_cells : (r : Relation) (t u : Ty) (a b : code.OrdinalExpression) (o p : Outcome Typed) → OrdinalAgrees o t (plain_value m f a) → OrdinalAgrees p u (plain_value m f b) → FormOk m f (o >>= λ x. p >>= λ y. Ok (truth (related_values r x.value y.value))) (compared_forms r (as_ordinal a) (as_ordinal b))
   related_cells Equal t u a b o p h k = two_agree t u (ordinal all_booleans) _ _ o (plain_value m f a) p (plain_value m f b) (λ x y i j e d _ _. relation_step Equal x.value y.value i j _ e d (by_truth (same_integer i j) (int_eq i j) (same_is_equal i j))) h k
   related_cells NotEqual t u a b o p h k = two_agree t u (ordinal all_booleans) _ _ o (plain_value m f a) p (plain_value m f b) (λ x y i j e d _ _. relation_step NotEqual x.value y.value i j _ e d (by_truth (not (same_integer i j)) (not (int_eq i j)) (ap not (same_is_equal i j)))) h k
   related_cells Less t u a b o p h k = two_agree t u (ordinal all_booleans) _ _ o (plain_value m f a) p (plain_value m f b) (λ x y i j e d _ _. relation_step Less x.value y.value i j _ e d (truth_agrees (int_lt i j))) h k
@@ -100,14 +100,14 @@ module _ (m : Memory) (f : Frame) where
   related_cells AtLeast t u a b o p h k = two_agree t u (ordinal all_booleans) _ _ o (plain_value m f a) p (plain_value m f b) (λ x y i j e d _ _. relation_step AtLeast x.value y.value i j _ e d (truth_agrees (int_le j i))) h k
   related_cells In t u a b o p h k = tt
 
-  pub added_agree : (op : Addition) (t u : Ty) (x y : Bool) (a b : code.Expression) (o p : Outcome Typed) → (x ≡ true → (is_integer t ≡ true) × (is_integer u ≡ true)) → (y ≡ true → (is_boolean t ≡ true) × (is_boolean u ≡ true)) →
+  pub added_agree : (op : Addition) (t u : Ty) (x y : Bool) (a b : code.OrdinalExpression) (o p : Outcome Typed) → (x ≡ true → (is_integer t ≡ true) × (is_integer u ≡ true)) → (y ≡ true → (is_boolean t ≡ true) × (is_boolean u ≡ true)) →
       OrdinalAgrees o t (plain_value m f a) → OrdinalAgrees p u (plain_value m f b) → FormOk m f (o >>= λ x. p >>= λ y. added_values op x.value y.value) (added_ordinals op x y a b)
   added_agree Plus t u true y a b o p ints truths h k = two_agree t u (ordinal all_integers) _ _ o (plain_value m f a) p (plain_value m f b) (λ v w i j e d _ _. values_step (added_values Plus) (ordinal all_integers) v.value w.value i j _ e d (fits_narrowed (i +ℤ j))) h k
   added_agree Minus t u true y a b o p ints truths h k = two_agree t u (ordinal all_integers) _ _ o (plain_value m f a) p (plain_value m f b) (λ v w i j e d _ _. values_step (added_values Minus) (ordinal all_integers) v.value w.value i j _ e d (fits_narrowed (i -ℤ j))) h k
   added_agree Or t u x true a b o p ints truths h k = two_agree t u (ordinal all_booleans) _ _ o (plain_value m f a) p (plain_value m f b) (λ v w i j e d q r. values_step (added_values Or) (ordinal all_booleans) v.value w.value i j _ e d (or_same i j (truth_range t i (truths refl).0 q) (truth_range u j (truths refl).1 r))) h k
   added_agree _ t u _ _ a b o p ints truths h k = tt
 
-  pub multiplied_agree : (op : Multiplication) (t u : Ty) (x y : Bool) (a b : code.Expression) (o p : Outcome Typed) → (x ≡ true → (is_integer t ≡ true) × (is_integer u ≡ true)) → (y ≡ true → (is_boolean t ≡ true) × (is_boolean u ≡ true)) →
+  pub multiplied_agree : (op : Multiplication) (t u : Ty) (x y : Bool) (a b : code.OrdinalExpression) (o p : Outcome Typed) → (x ≡ true → (is_integer t ≡ true) × (is_integer u ≡ true)) → (y ≡ true → (is_boolean t ≡ true) × (is_boolean u ≡ true)) →
       OrdinalAgrees o t (plain_value m f a) → OrdinalAgrees p u (plain_value m f b) → FormOk m f (o >>= λ x. p >>= λ y. multiplied_values op x.value y.value) (multiplied_ordinals op x y a b)
   multiplied_agree Times t u true y a b o p ints truths h k = two_agree t u (ordinal all_integers) _ _ o (plain_value m f a) p (plain_value m f b) (λ v w i j e d _ _. values_step (multiplied_values Times) (ordinal all_integers) v.value w.value i j _ e d (fits_narrowed (i *ℤ j))) h k
   multiplied_agree Div t u true y a b o p ints truths h k = two_agree t u (ordinal all_integers) _ _ o (plain_value m f a) p (plain_value m f b) (λ v w i j e d _ _. values_step (multiplied_values Div) (ordinal all_integers) v.value w.value i j _ e d (quotient_same i j)) h k

@@ -229,7 +229,7 @@ module _ (v : View) (h : Here) where
 
 -- ---- where it is found
 
-applied_ordinal_not : (s : Standard) (t : Ty) (b : Bool) (c : code.Expression) → NotPlace (applied_ordinal s t b c)
+applied_ordinal_not : (s : Standard) (t : Ty) (b : Bool) (c : code.OrdinalExpression) → NotPlace (applied_ordinal s t b c)
 applied_ordinal_not succ_function (ordinal r) b c = λ i. i
 applied_ordinal_not pred_function (ordinal r) b c = λ i. i
 applied_ordinal_not chr_function (ordinal r) true c = λ i. i

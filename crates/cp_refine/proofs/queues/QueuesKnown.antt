@@ -45,7 +45,7 @@ with_field_free (a_variable (code.place o n is) (record_with ts)) x g = some_fre
 with_field_free (a_variable p (ordinal r)) x g = tt
 with_field_free _ x g = tt
 
-with_element_free : (h : Here) (d : Designated) (c : code.Expression) → DesignatedFree d → FormFree (with_element_form h d c)
+with_element_free : (h : Here) (d : Designated) (c : code.OrdinalExpression) → DesignatedFree d → FormFree (with_element_form h d c)
 with_element_free h (a_variable (code.place o n is) (array_over r t)) c g = second_true (is_indexed r t) (is_free t) g
 with_element_free h (a_variable p (ordinal r)) c g = tt
 with_element_free h _ c g = tt

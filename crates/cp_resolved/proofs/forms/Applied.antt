@@ -16,22 +16,22 @@ use Rattle.cp_resolved.proofs.names.Alike.{same_inside}
 use Rattle.cp_resolved.proofs.forms.Operations.{as_integer}
 
 module _ (k : Numbering) (ts : Compounds) where
-  next_same : (b : Base) (c : code.Expression) → ordinal_value (code.successor c (whole (base_of k b)).high) (base_of k b) ≡ ordinal_value (code.successor c (range_of_base b).high) (base_of k (range_of_base b).base)
+  next_same : (b : Base) (c : code.OrdinalExpression) → ordinal_value (code.successor c (whole (base_of k b)).high) (base_of k b) ≡ ordinal_value (code.successor c (range_of_base b).high) (base_of k (range_of_base b).base)
   next_same named.integers c = refl
   next_same _ c = refl
 
-  previous_same : (b : Base) (c : code.Expression) → ordinal_value (code.predecessor c (whole (base_of k b)).low) (base_of k b) ≡ ordinal_value (code.predecessor c (range_of_base b).low) (base_of k (range_of_base b).base)
+  previous_same : (b : Base) (c : code.OrdinalExpression) → ordinal_value (code.predecessor c (whole (base_of k b)).low) (base_of k b) ≡ ordinal_value (code.predecessor c (range_of_base b).low) (base_of k (range_of_base b).base)
   previous_same named.integers c = refl
   previous_same _ c = refl
 
   with_form : (x z : Formed) (v : Value) → Some x ≡ Some z → ValueIs k ts x v → ValueIs k ts z v
   with_form x z v e h = subst (λ f. ValueIs k ts f v) (same_inside x z e) h
 
-  number_of_ordinal : (b : Bool) (c : code.Expression) (z : Formed) (v : Value) → v ≡ ordinal_value c base.Integer → (if b then integer_form c else None) ≡ Some z → ValueIs k ts z v
+  number_of_ordinal : (b : Bool) (c : code.OrdinalExpression) (z : Formed) (v : Value) → v ≡ ordinal_value c base.Integer → (if b then integer_form c else None) ≡ Some z → ValueIs k ts z v
   number_of_ordinal true c z v h e = as_integer k ts c z v e h
   number_of_ordinal false c z v h e = absurd (cc)
 
-  ordinal_applied : (s : Standard) (r : Range) (b : Bool) (c : code.Expression) (v : Value) (z : Formed) → v ≡ ordinal_value c (base_of k r.base) → applied_ordinal s (ordinal r) b c ≡ Some z → ValueIs k ts z (applied (predeclared_as s) v)
+  ordinal_applied : (s : Standard) (r : Range) (b : Bool) (c : code.OrdinalExpression) (v : Value) (z : Formed) → v ≡ ordinal_value c (base_of k r.base) → applied_ordinal s (ordinal r) b c ≡ Some z → ValueIs k ts z (applied (predeclared_as s) v)
   ordinal_applied scopes.succ_function r b c v z h e = with_form _ z _ e (range_of_base r.base, refl, ap (applied (predeclared_as scopes.succ_function)) h ∙ next_same r.base c)
   ordinal_applied scopes.pred_function r b c v z h e = with_form _ z _ e (range_of_base r.base, refl, ap (applied (predeclared_as scopes.pred_function)) h ∙ previous_same r.base c)
   ordinal_applied scopes.chr_function r true c v z h e = with_form _ z _ e (all_characters, refl, ap (applied (predeclared_as scopes.chr_function)) h)

@@ -107,14 +107,14 @@ module _ (k : Numbering) (h : Here) (l : Layer) (g : Knows k h l) where
 
   -- ---- selectors
 
-  component_same : (first : ℕ) (r : named.Range) (n : ℕ) (w : CellType) (c : code.Expression) → TypeIs k l.types (named.array_over r (named.component_of n)) w → component_found l first (array_of l.types w) c ≡ values.a_component (code.element first r.low r.high (h.layouts.systems n).count c) n
+  component_same : (first : ℕ) (r : named.Range) (n : ℕ) (w : CellType) (c : code.OrdinalExpression) → TypeIs k l.types (named.array_over r (named.component_of n)) w → component_found l first (array_of l.types w) c ≡ values.a_component (code.element first r.low r.high (h.layouts.systems n).count c) n
   component_same first r n w c v =
       let there : array_of l.types w ≡ Some (kinds.array_type l.types (range_on k r) v.element) = ap (array_of l.types) v.is ∙ ap as_array v.there in
       ap (λ a. component_found l first a c) there
       ∙ ap (λ u. component_of_array l first (kinds.array_type l.types (range_on k r) v.element) u c) v.belongs
       ∙ ap (λ q. values.a_component (code.element first r.low r.high q c) n) (g.count v.number n (kinds.array_type l.types (range_on k r) v.element) v.there v.belongs)
 
-  pub element_same : (d q : Designated) (x : values.Designated) (c : code.Expression) → DesignatedIs k l.types d x → with_element_form h d c ≡ Some q → DesignatedIs k l.types q (element_selected l x c)
+  pub element_same : (d q : Designated) (x : values.Designated) (c : code.OrdinalExpression) → DesignatedIs k l.types d x → with_element_form h d c ≡ Some q → DesignatedIs k l.types q (element_selected l x c)
   element_same (a_variable p t) q x c v e = subst (λ y. DesignatedIs k l.types q (element_selected l y c)) (sym v.is) (element_selected_same k l.types p t v.value_type c q v.belongs v.ends v.full e)
   element_same (some_components first r n) q x c v e =
       subst (λ y. DesignatedIs k l.types y (element_selected l x c)) (same_inside (a_component (code.element first r.low r.high (h.layouts.systems n).count c) n) q e)

@@ -99,7 +99,7 @@ module _ (w : Written) where
 
   pub record OrdinalFits (f : Option Formed) : Type 0 where
     pub ty : Ty
-    pub code : code.Expression
+    pub code : code.OrdinalExpression
     pub is : f ≡ Some (formed ty (as_ordinal code))
 
   abbrev pub Fits : Ty → Option Formed → Type 0

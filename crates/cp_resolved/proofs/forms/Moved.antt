@@ -25,7 +25,7 @@ byte_same : (n : ℕ) (z : ℤ) → IsByte z → byte_or n z ≡ natural_of z
 byte_same n (pos m) h = ap (λ b. if b && nat_le m 255 then m else n) (le-leb 0 m (omega arith)) ∙ ap (λ b. if b then m else n) (le-leb m 255 h)
 byte_same n (negsuc m) h = absurd h
 
-loaded_place : (e : code.Expression) (p : code.Place) → place_form (as_ordinal e) ≡ Some p → load_place e ≡ p
+loaded_place : (e : code.OrdinalExpression) (p : code.Place) → place_form (as_ordinal e) ≡ Some p → load_place e ≡ p
 loaded_place (code.load q) p h = same_inside q p h
 loaded_place e p h = absurd (cc)
 

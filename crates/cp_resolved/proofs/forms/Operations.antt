@@ -24,10 +24,10 @@ use Rattle.cp_resolved.specs.Valued.{FormIs, ValueIs}
 use Rattle.cp_resolved.proofs.names.Alike.{same_inside}
 
 module _ (k : Numbering) (ts : Compounds) where
-  pub as_integer : (e : code.Expression) (z : Formed) (v : Value) → integer_form e ≡ Some z → v ≡ ordinal_value e base.Integer → ValueIs k ts z v
+  pub as_integer : (e : code.OrdinalExpression) (z : Formed) (v : Value) → integer_form e ≡ Some z → v ≡ ordinal_value e base.Integer → ValueIs k ts z v
   as_integer e z v h i = subst (λ f. ValueIs k ts f v) (same_inside _ z h) (all_integers, refl, i)
 
-  pub as_truth : (e : code.Expression) (z : Formed) (v : Value) → truth_form e ≡ Some z → v ≡ ordinal_value e base.Boolean → ValueIs k ts z v
+  pub as_truth : (e : code.OrdinalExpression) (z : Formed) (v : Value) → truth_form e ≡ Some z → v ≡ ordinal_value e base.Boolean → ValueIs k ts z v
   as_truth e z v h i = subst (λ f. ValueIs k ts f v) (same_inside _ z h) (all_booleans, refl, i)
 
   as_members : (e : code.SetExpression) (z : Formed) (v : Value) → set_form e ≡ Some z → v ≡ set_value e → ValueIs k ts z v
@@ -58,7 +58,7 @@ module _ (k : Numbering) (ts : Compounds) where
 
   -- ---- sums and products
 
-  added_numbers : (o : Addition) (n t : Bool) (a b : code.Expression) (p q : code_base.CellBase) (v w : Value) (z : Formed) → v ≡ ordinal_value a p → w ≡ ordinal_value b q → added_ordinals o n t a b ≡ Some z → ValueIs k ts z (values.added o v w)
+  added_numbers : (o : Addition) (n t : Bool) (a b : code.OrdinalExpression) (p q : code_base.CellBase) (v w : Value) (z : Formed) → v ≡ ordinal_value a p → w ≡ ordinal_value b q → added_ordinals o n t a b ≡ Some z → ValueIs k ts z (values.added o v w)
   added_numbers addition.Plus true t a b p q v w z h i e = as_integer _ z _ e (both (values.added addition.Plus) v _ w _ h i)
   added_numbers addition.Minus true t a b p q v w z h i e = as_integer _ z _ e (both (values.added addition.Minus) v _ w _ h i)
   added_numbers addition.Or n true a b p q v w z h i e = as_truth _ z _ e (both (values.added addition.Or) v _ w _ h i)
@@ -71,7 +71,7 @@ module _ (k : Numbering) (ts : Compounds) where
   added o x y (as_set a) (as_ordinal b) t u v w z h i e = absurd (cc)
   added a x y b c t u v w z h i e = absurd (cc)
 
-  multiplied_numbers : (o : Multiplication) (n t : Bool) (a b : code.Expression) (p q : code_base.CellBase) (v w : Value) (z : Formed) → v ≡ ordinal_value a p → w ≡ ordinal_value b q → multiplied_ordinals o n t a b ≡ Some z → ValueIs k ts z (values.multiplied o v w)
+  multiplied_numbers : (o : Multiplication) (n t : Bool) (a b : code.OrdinalExpression) (p q : code_base.CellBase) (v w : Value) (z : Formed) → v ≡ ordinal_value a p → w ≡ ordinal_value b q → multiplied_ordinals o n t a b ≡ Some z → ValueIs k ts z (values.multiplied o v w)
   multiplied_numbers multiplication.Times true t a b p q v w z h i e = as_integer _ z _ e (both (values.multiplied multiplication.Times) v _ w _ h i)
   multiplied_numbers multiplication.Div true t a b p q v w z h i e = as_integer _ z _ e (both (values.multiplied multiplication.Div) v _ w _ h i)
   multiplied_numbers multiplication.Mod true t a b p q v w z h i e = as_integer _ z _ e (both (values.multiplied multiplication.Mod) v _ w _ h i)
@@ -86,7 +86,7 @@ module _ (k : Numbering) (ts : Compounds) where
 
   -- ---- signs, `not`, standard functions and members of sets
 
-  integer_value : (t : Ty) (a : code.Expression) (v : Value) → is_integer t ≡ true → FormIs k ts t (as_ordinal a) v → v ≡ ordinal_value a base.Integer
+  integer_value : (t : Ty) (a : code.OrdinalExpression) (v : Value) → is_integer t ≡ true → FormIs k ts t (as_ordinal a) v → v ≡ ordinal_value a base.Integer
   integer_value t a v h i =
       let b : is_integer_base i.0.base ≡ true = ap is_integer (sym i.1) ∙ h in
       i.2 ∙ ap (λ c. ordinal_value a (base_of k c)) (integer_only i.0.base b)

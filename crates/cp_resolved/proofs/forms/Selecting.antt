@@ -75,7 +75,7 @@ module _ (k : Numbering) (ts : Compounds) where
 
   -- ---- elements
 
-  last_same : (is : code.Indices) (c : code.Expression) (r : named.Range) (n : ℕ) → with_last is (code.index c r.low r.high n) ≡ with_index is c r n
+  last_same : (is : code.Indices) (c : code.OrdinalExpression) (r : named.Range) (n : ℕ) → with_last is (code.index c r.low r.high n) ≡ with_index is c r n
   last_same code.no_indices c r n = refl
   last_same (code.more_indices (code.index d low high m) is) c r n = ap (code.more_indices (code.index d low high m)) (last_same is c r n)
 
@@ -84,7 +84,7 @@ module _ (k : Numbering) (ts : Compounds) where
   element_inside zero x h = absurd (omega (arith, h))
   element_inside (suc n) x h = omega (arith, one_more n x)
 
-  pub element_selected_same : (p : code.Place) (t : Ty) (w : CellType) (c : code.Expression) (d : Designated) → TypeIs k ts t w → Ends p t → IsFull t → element_of_form t p c ≡ Some d → DesignatedIs k ts d (element_found p (array_of ts w) c)
+  pub element_selected_same : (p : code.Place) (t : Ty) (w : CellType) (c : code.OrdinalExpression) (d : Designated) → TypeIs k ts t w → Ends p t → IsFull t → element_of_form t p c ≡ Some d → DesignatedIs k ts d (element_found p (array_of ts w) c)
   element_selected_same (code.place o n is) (named.array_over r t) w c d h i f e =
       let less : cells_of t ≤ length_of_range r * cells_of t = element_inside (length_of_range r) (cells_of t) f.0 in
       let few : cells_of t ≤ most = omega (arith, i, less) in

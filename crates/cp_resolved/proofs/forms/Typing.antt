@@ -36,7 +36,7 @@ boolean_base k (named.enumerated at xs) b h e = absurd (let bad : same_base (bas
 
 pub record OrdinalForm (k : Tokens) (r : Range) (o : Option Formed) : Type 0 where
   pub range : named.Range
-  pub code : code.Expression
+  pub code : code.OrdinalExpression
   pub is : o ≡ Some (formed (named.ordinal range) (as_ordinal code))
   pub belongs : RangeIs k range r
 
@@ -93,13 +93,13 @@ module _ (w : Written) where
 
   -- ---- values that are made
 
-  pub an_integer : (c : code.Expression) → Expressed w (values_of base.Integer) (integer_form c)
+  pub an_integer : (c : code.OrdinalExpression) → Expressed w (values_of base.Integer) (integer_form c)
   an_integer c = (c, refl, record { range = whole base.Integer; is = refl; belongs = record { base = refl; low = refl; high = refl } })
 
-  pub a_truth : (c : code.Expression) → Expressed w (values_of base.Boolean) (truth_form c)
+  pub a_truth : (c : code.OrdinalExpression) → Expressed w (values_of base.Boolean) (truth_form c)
   a_truth c = (c, refl, record { range = whole base.Boolean; is = refl; belongs = record { base = refl; low = refl; high = refl } })
 
-  pub a_character : (c : code.Expression) → Expressed w (values_of base.Char) (Some (formed (named.ordinal all_characters) (as_ordinal c)))
+  pub a_character : (c : code.OrdinalExpression) → Expressed w (values_of base.Char) (Some (formed (named.ordinal all_characters) (as_ordinal c)))
   a_character c = (c, refl, record { range = whole base.Char; is = refl; belongs = record { base = refl; low = refl; high = refl } })
 
   pub a_set : (s : Option Range) (c : code.SetExpression) → Expressed w (types.Set s) (set_form c)

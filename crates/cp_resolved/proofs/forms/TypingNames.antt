@@ -213,7 +213,7 @@ module _ (tokens : Tokens) (s : Scopes) (h : Here) where
 
   -- ---- elements
 
-  array_element : (token : ℕ) (t : Ty) (a : ArrayShape) (m : Option scopes.Meaning) (p : code.Place) (c : code.Expression) → TypeIs written t (types.Array token) → is_plain t ≡ true → IsPlainMeaning m → array_at token s ≡ Some a → Holds written m None a.element (element_of_form t p c)
+  array_element : (token : ℕ) (t : Ty) (a : ArrayShape) (m : Option scopes.Meaning) (p : code.Place) (c : code.OrdinalExpression) → TypeIs written t (types.Array token) → is_plain t ≡ true → IsPlainMeaning m → array_at token s ≡ Some a → Holds written m None a.element (element_of_form t p c)
   array_element token (named.array_over q t) a m (code.place o n is) c i plain k e =
       let same : token ≡ i.token = array_token token i.token i.is in
       let shape : i.shape ≡ a = one_shape i.shape a (sym i.there ∙ (ap (λ n. array_at n s) (sym same) ∙ e)) in
@@ -242,7 +242,7 @@ module _ (tokens : Tokens) (s : Scopes) (h : Here) where
       one_shape : (a b : ArrayShape) → Some a ≡ Some b → a ≡ b
       one_shape a b h = cc
 
-  element_held : (token : ℕ) (a : ArrayShape) (m : Option scopes.Meaning) (x : Option Name) (o : Option Designated) (q : named.Range) (c : code.Expression) → Holds written m x (types.Array token) o → array_at token s ≡ Some a → Holds written m None a.element (then_form o (λ d. with_index_form h d (formed (named.ordinal q) (as_ordinal c))))
+  element_held : (token : ℕ) (a : ArrayShape) (m : Option scopes.Meaning) (x : Option Name) (o : Option Designated) (q : named.Range) (c : code.OrdinalExpression) → Holds written m x (types.Array token) o → array_at token s ≡ Some a → Holds written m None a.element (then_form o (λ d. with_index_form h d (formed (named.ordinal q) (as_ordinal c))))
   element_held token a m x (Some (a_variable p t)) q c i e = array_element token t a m p c i.0 i.1 i.2 e
   element_held token a m x (Some (some_components first r k)) q c i e = (component_element token k r a i.0 e, i.1, refl)
   element_held token a m x (Some (a_component d k)) q c i e = absurd (let bad : types.Array token ≡ types.Component i.0.kind (tokens.systems k) = i.0.is in cc)
@@ -280,7 +280,7 @@ module _ (tokens : Tokens) (s : Scopes) (h : Here) where
 
     -- ---- an index
 
-    pub index_ordinal : (r : Range) (v : ValueType) (f : Option Formed) → agree (types.Ordinal r) v ≡ true → Expressed written v f → (q : named.Range) × (c : code.Expression) × (f ≡ Some (formed (named.ordinal q) (as_ordinal c)))
+    pub index_ordinal : (r : Range) (v : ValueType) (f : Option Formed) → agree (types.Ordinal r) v ≡ true → Expressed written v f → (q : named.Range) × (c : code.OrdinalExpression) × (f ≡ Some (formed (named.ordinal q) (as_ordinal c)))
     index_ordinal r (types.Ordinal y) f e d = (let g : OrdinalForm tokens y f = ordinal_found written y f d in (g.range, g.code, g.is))
     index_ordinal r x f e d = absurd (cc)
 

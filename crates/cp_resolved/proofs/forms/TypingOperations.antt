@@ -44,7 +44,7 @@ HasPartForm w (Err fs) f = Unit {0}
 -- an ordinal form with its base
 pub record BaseForm (Is : named.Base → Type 0) (o : Option Formed) : Type 0 where
   pub range : named.Range
-  pub code : code.Expression
+  pub code : code.OrdinalExpression
   pub is : o ≡ Some (formed (named.ordinal range) (as_ordinal code))
   pub belongs : Is range.base
 
@@ -82,7 +82,7 @@ module _ (w : Written) where
     Both f g = then_form f (λ x. then_form g (λ y. go x y))
 
     numbers : (at : ℕ) (l r : Operand) (f g : Option Formed) → Expressed w l.value_type f → Expressed w r.value_type g →
-        ((p q : named.Range) (c d : code.Expression) → is_integer_base p.base ≡ true → is_integer_base q.base ≡ true →
+        ((p q : named.Range) (c d : code.OrdinalExpression) → is_integer_base p.base ≡ true → is_integer_base q.base ≡ true →
         Expressed w (values_of base.Integer) (go (formed (named.ordinal p) (as_ordinal c)) (formed (named.ordinal q) (as_ordinal d)))) →
         PartForm w (operations.number at l r) (Both f g)
     numbers at l r f g h i k =
@@ -106,7 +106,7 @@ module _ (w : Written) where
     sets_of at _ _ n f g h i k = tt
 
     truths_or_sets : (at : ℕ) (l r : Operand) (f g : Option Formed) → Expressed w l.value_type f → Expressed w r.value_type g →
-        ((p q : named.Range) (c d : code.Expression) → is_boolean_base p.base ≡ true → is_boolean_base q.base ≡ true →
+        ((p q : named.Range) (c d : code.OrdinalExpression) → is_boolean_base p.base ≡ true → is_boolean_base q.base ≡ true →
         Expressed w (values_of base.Boolean) (go (formed (named.ordinal p) (as_ordinal c)) (formed (named.ordinal q) (as_ordinal d)))) →
         ((t y : Ty) (c d : code.SetExpression) (s : Option Range) → Expressed w (types.Set s) (go (formed t (as_set c)) (formed y (as_set d)))) →
         PartForm w (operations.truth_or_set at l r) (Both f g)
@@ -128,7 +128,7 @@ module _ (w : Written) where
   abbrev product_of : Multiplication → Formed → Formed → Option Formed
   product_of m x y = multiplied_forms m x y x.form y.form
 
-  number_added : (a : Addition) (p q : named.Range) (c d : code.Expression) → is_integer_base p.base ≡ true → is_integer_base q.base ≡ true → (t : Bool) →
+  number_added : (a : Addition) (p q : named.Range) (c d : code.OrdinalExpression) → is_integer_base p.base ≡ true → is_integer_base q.base ≡ true → (t : Bool) →
       ((t : Bool) → Expressed w (values_of base.Integer) (added_ordinals a true t c d)) → Expressed w (values_of base.Integer) (added_ordinals a (is_integer_base p.base && is_integer_base q.base) t c d)
   number_added a p q c d h i t k = both_true (λ n. Expressed w (values_of base.Integer) (added_ordinals a n t c d)) (is_integer_base p.base) (is_integer_base q.base) h i (k t)
 
@@ -144,7 +144,7 @@ module _ (w : Written) where
       (λ p q c d m n. both_true (λ b. Expressed w (values_of base.Boolean) (added_ordinals addition.Or (is_integer_base p.base && is_integer_base q.base) b c d)) (is_boolean_base p.base) (is_boolean_base q.base) m n (a_truth w _))
       (λ t y c d s. a_set w s _)
 
-  number_multiplied : (o : Multiplication) (p q : named.Range) (c d : code.Expression) → is_integer_base p.base ≡ true → is_integer_base q.base ≡ true → (t : Bool) →
+  number_multiplied : (o : Multiplication) (p q : named.Range) (c d : code.OrdinalExpression) → is_integer_base p.base ≡ true → is_integer_base q.base ≡ true → (t : Bool) →
       ((t : Bool) → Expressed w (values_of base.Integer) (multiplied_ordinals o true t c d)) → Expressed w (values_of base.Integer) (multiplied_ordinals o (is_integer_base p.base && is_integer_base q.base) t c d)
   number_multiplied o p q c d h i t k = both_true (λ n. Expressed w (values_of base.Integer) (multiplied_ordinals o n t c d)) (is_integer_base p.base) (is_integer_base q.base) h i (k t)
 
@@ -174,7 +174,7 @@ module _ (w : Written) where
       then_one (Expressed w (values_of base.Integer)) (signed_form (Some s)) f (formed (named.ordinal a.range) (as_ordinal a.code)) a.is
       (subst (λ b. Expressed w (values_of base.Integer) (signed_ordinal (Some s) (formed (named.ordinal a.range) (as_ordinal a.code)) b (as_ordinal a.code))) (sym a.belongs) (with_sign s a.range a.code)))
     where
-      with_sign : (s : Sign) (q : named.Range) (c : code.Expression) → Expressed w (values_of base.Integer) (signed_ordinal (Some s) (formed (named.ordinal q) (as_ordinal c)) true (as_ordinal c))
+      with_sign : (s : Sign) (q : named.Range) (c : code.OrdinalExpression) → Expressed w (values_of base.Integer) (signed_ordinal (Some s) (formed (named.ordinal q) (as_ordinal c)) true (as_ordinal c))
       with_sign sign.Plus q c = an_integer w _
       with_sign sign.Minus q c = an_integer w _
 
@@ -188,11 +188,11 @@ module _ (w : Written) where
   abbrev compared_of : Relation → Formed → Formed → Option Formed
   compared_of r x y = compared_forms r x.form y.form
 
-  ordinals_compared : (r : Relation) (a b : Range) (c d : code.Expression) → operations.relates r (types.Ordinal a) (types.Ordinal b) ≡ true → Expressed w (values_of base.Boolean) (compared_forms r (as_ordinal c) (as_ordinal d))
+  ordinals_compared : (r : Relation) (a b : Range) (c d : code.OrdinalExpression) → operations.relates r (types.Ordinal a) (types.Ordinal b) ≡ true → Expressed w (values_of base.Boolean) (compared_forms r (as_ordinal c) (as_ordinal d))
   ordinals_compared relation.In a b c d e = absurd (cc)
   ordinals_compared _ a b c d e = a_truth w _
 
-  member_compared : (r : Relation) (a : Range) (s : Option Range) (c : code.Expression) (d : code.SetExpression) → operations.relates r (types.Ordinal a) (types.Set s) ≡ true → Expressed w (values_of base.Boolean) (compared_forms r (as_ordinal c) (as_set d))
+  member_compared : (r : Relation) (a : Range) (s : Option Range) (c : code.OrdinalExpression) (d : code.SetExpression) → operations.relates r (types.Ordinal a) (types.Set s) ≡ true → Expressed w (values_of base.Boolean) (compared_forms r (as_ordinal c) (as_set d))
   member_compared relation.In a s c d e = a_truth w _
   member_compared x a s c d e = absurd (cc)
 

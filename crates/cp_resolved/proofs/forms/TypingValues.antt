@@ -58,7 +58,7 @@ last_number k (named.enumerated at xs) b h = few (length xs - 1) (omega (arith, 
 last_number k _ b h = refl
 
 module _ (tokens : Tokens) (s : Scopes) (h : Here) (w : Context) where
-  base_value : (c : named.Base) (b : check_base.Base) (e : code.Expression) → BaseIs tokens c b → Expressed (written tokens s h) (values_of b) (Some (formed (named.ordinal (range_of_base c)) (as_ordinal e)))
+  base_value : (c : named.Base) (b : check_base.Base) (e : code.OrdinalExpression) → BaseIs tokens c b → Expressed (written tokens s h) (values_of b) (Some (formed (named.ordinal (range_of_base c)) (as_ordinal e)))
   base_value c b e i = (e, refl, record { range = whole b; is = refl; belongs = whole_is tokens c b i })
 
   -- ---- constants
@@ -155,7 +155,7 @@ module _ (tokens : Tokens) (s : Scopes) (h : Here) (w : Context) where
 
   -- a function of integers
   of_integer : (q : Standard) (v : ValueType) (b : check_base.Base) (f : Option Formed) → Expressed W v f → is_of base.Integer v ≡ true →
-      ((t : named.Range) (c : code.Expression) → Expressed W (values_of b) (applied_ordinal q (named.ordinal t) true c)) → Expressed W (values_of b) (then_form f (applied_form q))
+      ((t : named.Range) (c : code.OrdinalExpression) → Expressed W (values_of b) (applied_ordinal q (named.ordinal t) true c)) → Expressed W (values_of b) (then_form f (applied_form q))
   of_integer q v b f e i k =
       let g = integer_found W v f e i in
       then_one (Expressed W (values_of b)) (applied_form q) f (formed (named.ordinal g.range) (as_ordinal g.code)) g.is

@@ -77,7 +77,7 @@ module _ (t : Tables) (h : Here) (r : RoutineView) (P : ℕ → Type 0) where
   both : (a b : Bool) → a ≡ true → b ≡ true → (a && b) ≡ true
   both a b e i = ap (λ x. x && b) e ∙ i
 
-  scalar_gives : (callee : RoutineView) (extent slot : ℕ) (q : named.Range) (c : code.Expression) (low high : ℤ) → expression_in r c ≡ true → slot + 1 ≤ extent → Gives callee extent slot false (named.ordinal q) (code.scalar c low high)
+  scalar_gives : (callee : RoutineView) (extent slot : ℕ) (q : named.Range) (c : code.OrdinalExpression) (low high : ℤ) → expression_in r c ≡ true → slot + 1 ≤ extent → Gives callee extent slot false (named.ordinal q) (code.scalar c low high)
   scalar_gives callee extent slot q c low high i le =
       record { inside = both (expression_in r c) (is_within slot 1 extent) i (inside_extent slot 1 extent le); follows = λ count next e. refl; plain = λ e. tt; handed = λ system next A B e f x. f next x }
 

@@ -91,12 +91,12 @@ module _ (C : code.ComponentPlace → ℕ → Type 0) (h : Here) (r : RoutineVie
   field_of_fits (a_component c k) q x f e = designates_as (a_component c k) q e f
   field_of_fits (some_components first s k) q x f e = absurd (cc)
 
-  element_of_fits : (d q : Designated) (c : code.Expression) → Designates d → expression_in r c ≡ true → with_element_form h d c ≡ Some q → Designates q
+  element_of_fits : (d q : Designated) (c : code.OrdinalExpression) → Designates d → expression_in r c ≡ true → with_element_form h d c ≡ Some q → Designates q
   element_of_fits (a_variable p t) q c f i e = variable_designates q (element_fits r p t c q f i e)
   element_of_fits (some_components first s k) q c f i e = designates_as _ q e (f c i)
   element_of_fits (a_component o k) q c f i e = absurd (cc)
 
-  ordinal_inside : (t : Ty) (f : Form) (c : code.Expression) → FormFits C h r t f → ordinal_form f ≡ Some c → expression_in r c ≡ true
+  ordinal_inside : (t : Ty) (f : Form) (c : code.OrdinalExpression) → FormFits C h r t f → ordinal_form f ≡ Some c → expression_in r c ≡ true
   ordinal_inside t (as_ordinal a) c i e = subst (λ x. expression_in r x ≡ true) (same_inside a c e) i.0
   ordinal_inside t x c i e = absurd (cc)
 

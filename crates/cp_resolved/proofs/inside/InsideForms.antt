@@ -39,7 +39,7 @@ module _ (C : code.ComponentPlace → ℕ → Type 0) (here : Here) (r : Routine
 
   abbrev pub DesignatedFits : Designated → Type 0
   DesignatedFits (a_variable p t) = PlaceFits r p t
-  DesignatedFits (some_components first q k) = (c : code.Expression) → expression_in r c ≡ true → C (code.element first q.low q.high (here.layouts.systems k).count c) k
+  DesignatedFits (some_components first q k) = (c : code.OrdinalExpression) → expression_in r c ≡ true → C (code.element first q.low q.high (here.layouts.systems k).count c) k
   DesignatedFits (a_component c k) = C c k
 
   pub fits_as : (x z : Formed) → Some x ≡ Some z → ValueFits x → ValueFits z
@@ -85,7 +85,7 @@ module _ (C : code.ComponentPlace → ℕ → Type 0) (here : Here) (r : Routine
 
   -- ---- sums and products
 
-  added_numbers : (o : Addition) (n t : Bool) (a b : code.Expression) (z : Formed) → expression_in r a ≡ true → expression_in r b ≡ true → added_ordinals o n t a b ≡ Some z → ValueFits z
+  added_numbers : (o : Addition) (n t : Bool) (a b : code.OrdinalExpression) (z : Formed) → expression_in r a ≡ true → expression_in r b ≡ true → added_ordinals o n t a b ≡ Some z → ValueFits z
   added_numbers addition.Plus false t a b z h i e = absurd (cc)
   added_numbers addition.Minus false t a b z h i e = absurd (cc)
   added_numbers addition.Or n false a b z h i e = absurd (cc)
@@ -98,7 +98,7 @@ module _ (C : code.ComponentPlace → ℕ → Type 0) (here : Here) (r : Routine
   added_fits o x y (as_set a) (as_ordinal b) t u z h i e = absurd (cc)
   added_fits v x y w a t u z h i e = absurd (cc)
 
-  multiplied_numbers : (o : Multiplication) (n t : Bool) (a b : code.Expression) (z : Formed) → expression_in r a ≡ true → expression_in r b ≡ true → multiplied_ordinals o n t a b ≡ Some z → ValueFits z
+  multiplied_numbers : (o : Multiplication) (n t : Bool) (a b : code.OrdinalExpression) (z : Formed) → expression_in r a ≡ true → expression_in r b ≡ true → multiplied_ordinals o n t a b ≡ Some z → ValueFits z
   multiplied_numbers multiplication.Times false t a b z h i e = absurd (cc)
   multiplied_numbers multiplication.Div false t a b z h i e = absurd (cc)
   multiplied_numbers multiplication.Mod false t a b z h i e = absurd (cc)
@@ -133,11 +133,11 @@ module _ (C : code.ComponentPlace → ℕ → Type 0) (here : Here) (r : Routine
   member_fits b c t (as_ordinal a) h i e = subst (λ s. set_in r s ≡ true) (same_inside (code.with_element b a) c e) (both_in (set_in r b) (expression_in r a) h i.0)
   member_fits b c t x h i e = absurd (cc)
 
-  number_fits : (b : Bool) (c : code.Expression) (z : Formed) → expression_in r c ≡ true → (if b then integer_form c else None) ≡ Some z → ValueFits z
+  number_fits : (b : Bool) (c : code.OrdinalExpression) (z : Formed) → expression_in r c ≡ true → (if b then integer_form c else None) ≡ Some z → ValueFits z
   number_fits true c z h e = fits_as _ z e (h, refl)
   number_fits false c z h e = absurd (cc)
 
-  ordinal_applied : (s : Standard) (t : Ty) (b : Bool) (c : code.Expression) (z : Formed) → expression_in r c ≡ true → applied_ordinal s t b c ≡ Some z → ValueFits z
+  ordinal_applied : (s : Standard) (t : Ty) (b : Bool) (c : code.OrdinalExpression) (z : Formed) → expression_in r c ≡ true → applied_ordinal s t b c ≡ Some z → ValueFits z
   ordinal_applied scopes.succ_function (named.ordinal q) b c z h e = fits_as _ z e (h, refl)
   ordinal_applied scopes.pred_function (named.ordinal q) b c z h e = fits_as _ z e (h, refl)
   ordinal_applied scopes.chr_function (named.ordinal q) true c z h e = fits_as _ z e (h, refl)

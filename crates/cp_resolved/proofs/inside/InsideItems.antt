@@ -58,7 +58,7 @@ module _ (t : Tables) (h : Here) (r : RoutineView) (P : ℕ → Type 0) (v : Var
   both : (a b : Bool) → a ≡ true → b ≡ true → (a && b) ≡ true
   both a b e i = ap (λ x. x && b) e ∙ i
 
-  cell_inside : (c : code.Expression) → IsCell h c → expression_in r c ≡ true
+  cell_inside : (c : code.OrdinalExpression) → IsCell h c → expression_in r c ≡ true
   cell_inside c m = (expression_fits (Leads t h r P) h r v m.expression _ m.held m.formed).0
 
   queue_inside : (p : code.Place) → IsQueue h p → has 1 (place_in r p) ≡ true

@@ -193,7 +193,7 @@ module _ (t : Tree) (r : Tables) (same : plain r ≡ laid t) (few : length r.ite
     one_leads x k true e i = (refl, (c.components n lt).bound x k e i, (c.components n lt).one x k e)
     one_leads x k false e i = (refl, (c.components n lt).contained x k e i, (c.components n lt).one x k e)
 
-    each_leads : (x : Name) (q : named.Range) (k : ℕ) → scopes.find x h.scope ≡ Some (scopes.permanent_variable (named.array_over q (named.component_of k))) → (e : code.Expression) → expression_in rv e ≡ true → C (code.element ((system_here h).firsts x) q.low q.high (h.layouts.systems k).count e) k
+    each_leads : (x : Name) (q : named.Range) (k : ℕ) → scopes.find x h.scope ≡ Some (scopes.permanent_variable (named.array_over q (named.component_of k))) → (e : code.OrdinalExpression) → expression_in rv e ≡ true → C (code.element ((system_here h).firsts x) q.low q.high (h.layouts.systems k).count e) k
     each_leads x q k f e i = (i, λ o j there le. (c.components n lt).elements x q k f o j there (below j le), (c.components n lt).each x q k f)
       where
         below : (j : ℕ) → j ≤ unsigned_abs (q.high -ℤ q.low) → j < length_of_range q

@@ -78,11 +78,11 @@ field_fits r p y x d h e = absurd (cc)
 
 -- ---- elements
 
-span_with : (is : code.Indices) (c : code.Expression) (q : Range) (n : ℕ) → span (with_index is c q n) ≡ span is + unsigned_abs (q.high -ℤ q.low) * n
+span_with : (is : code.Indices) (c : code.OrdinalExpression) (q : Range) (n : ℕ) → span (with_index is c q n) ≡ span is + unsigned_abs (q.high -ℤ q.low) * n
 span_with code.no_indices c q n = omega arith
 span_with (code.more_indices (code.index d low high m) is) c q n = (let e : span (with_index is c q n) ≡ span is + unsigned_abs (q.high -ℤ q.low) * n = span_with is c q n in ap (λ k. unsigned_abs (high -ℤ low) * m + k) e ∙ omega arith)
 
-read_with : (r : RoutineView) (is : code.Indices) (c : code.Expression) (q : Range) (n : ℕ) → AreIn r is → expression_in r c ≡ true → AreIn r (with_index is c q n)
+read_with : (r : RoutineView) (is : code.Indices) (c : code.OrdinalExpression) (q : Range) (n : ℕ) → AreIn r is → expression_in r c ≡ true → AreIn r (with_index is c q n)
 read_with r code.no_indices c q n h e = (e, tt)
 read_with r (code.more_indices (code.index d low high m) is) c q n h e = (h.0, read_with r is c q n h.1 e)
 
@@ -98,7 +98,7 @@ elements_inside q n h =
     let e : length_of_range q ≡ suc k = one_longer (q.high -ℤ q.low) h in
     subst (λ m. k * n + n ≤ m * n) (sym e) (omega arith)
 
-pub element_fits : (r : RoutineView) (p : code.Place) (t : Ty) (c : code.Expression) (d : Designated) → PlaceFits r p t → expression_in r c ≡ true → element_of_form t p c ≡ Some d → VariableFits r d
+pub element_fits : (r : RoutineView) (p : code.Place) (t : Ty) (c : code.OrdinalExpression) (d : Designated) → PlaceFits r p t → expression_in r c ≡ true → element_of_form t p c ≡ Some d → VariableFits r d
 element_fits r (code.place o n is) (named.array_over q t) c d h i e =
     let k : ℕ = unsigned_abs (q.high -ℤ q.low) * cells_of t in
     let le : k + cells_of t ≤ length_of_range q * cells_of t = elements_inside q (cells_of t) h.full.0 in

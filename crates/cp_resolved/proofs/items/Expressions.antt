@@ -123,7 +123,7 @@ module _ (k : Numbering) (h : Here) (b : Layer) (g : Knows k h b) (calls : Knows
   pub same_begun : (l : Layer) (x : Name) → Kept b l → begun l x ≡ begun b x
   same_begun l x e = ap (λ m. begun m x) e
 
-  pub same_element : (l : Layer) (d : values.Designated) (c : code.Expression) → Kept b l → element_selected l d c ≡ element_selected b d c
+  pub same_element : (l : Layer) (d : values.Designated) (c : code.OrdinalExpression) → Kept b l → element_selected l d c ≡ element_selected b d c
   same_element l d c e = ap (λ m. element_selected m d c) e
 
   same_field : (l : Layer) (d : values.Designated) (x : Name) → Kept b l → field_selected l d x ≡ field_selected b d x
@@ -213,22 +213,22 @@ module _ (k : Numbering) (h : Here) (b : Layer) (g : Knows k h b) (calls : Knows
 
   -- ---- selectors
 
-  pub ordinal_is : (t : Ty) (f : Form) (v : Value) (c : code.Expression) → FormIs k b.types t f v → ordinal_form f ≡ Some c → ordinal_of v ≡ c
+  pub ordinal_is : (t : Ty) (f : Form) (v : Value) (c : code.OrdinalExpression) → FormIs k b.types t f v → ordinal_form f ≡ Some c → ordinal_of v ≡ c
   ordinal_is t (as_ordinal e) v c i f = ap ordinal_of i.2 ∙ same_inside e c f
   ordinal_is t x v c i f = absurd (cc)
 
   pub index_is : (d q : Designated) (x : values.Designated) (a : Formed) (v : Value) → DesignatedIs k b.types d x → ValueIs k b.types a v → with_index_form h d a ≡ Some q → DesignatedIs k b.types q (element_selected b x (ordinal_of v))
   index_is d q x a v i j f =
-      let p : (c : code.Expression) × (ordinal_form a.form ≡ Some c) × (with_element_form h d c ≡ Some q) = inside (ordinal_form a.form) (with_element_form h d) q f in
+      let p : (c : code.OrdinalExpression) × (ordinal_form a.form ≡ Some c) × (with_element_form h d c ≡ Some q) = inside (ordinal_form a.form) (with_element_form h d) q f in
       subst (λ o. DesignatedIs k b.types q (element_selected b x o)) (sym (ordinal_is a.ty a.form v p.0 j p.1)) (element_same k h b g d q x p.0 i p.2)
 
-  element_stays : (t : Ty) (w : code.Place) (c : code.Expression) (q : Designated) (ss : syntax.Selectors) → element_of_form t w c ≡ Some q → NoEntry q ss
+  element_stays : (t : Ty) (w : code.Place) (c : code.OrdinalExpression) (q : Designated) (ss : syntax.Selectors) → element_of_form t w c ≡ Some q → NoEntry q ss
   element_stays (named.array_over r u) (code.place o n is) c q ss e = subst (λ y. NoEntry y ss) (same_inside _ q e) tt
   element_stays x w c q ss e = absurd (cc)
 
   pub goes_on : (d : Designated) (a : Formed) (q : Designated) (o : syntax.Expression) (ss : syntax.Selectors) → NoEntry d (syntax.more_selectors (syntax.index o) ss) → with_index_form h d a ≡ Some q → NoEntry q ss
   goes_on (a_variable w t) a q o ss e f =
-      let p : (c : code.Expression) × (ordinal_form a.form ≡ Some c) × (with_element_form h (a_variable w t) c ≡ Some q) = inside (ordinal_form a.form) (with_element_form h (a_variable w t)) q f in
+      let p : (c : code.OrdinalExpression) × (ordinal_form a.form ≡ Some c) × (with_element_form h (a_variable w t) c ≡ Some q) = inside (ordinal_form a.form) (with_element_form h (a_variable w t)) q f in
       element_stays t w p.0 q ss p.2
   goes_on _ a q o ss e f = no_entry q ss (last_after o ss e)
 
@@ -244,10 +244,10 @@ module _ (k : Numbering) (h : Here) (b : Layer) (g : Knows k h b) (calls : Knows
   part_of : (c : ℕ) (d : Designated) (a : Formed) (q : Designated) → Parts c d → with_index_form h d a ≡ Some q → Parts c q
   part_of c (a_variable w t) a q e f = absurd e
   part_of c (some_components o r n) a q e f =
-      let p : (x : code.Expression) × (ordinal_form a.form ≡ Some x) × (with_element_form h (some_components o r n) x ≡ Some q) = inside (ordinal_form a.form) (with_element_form h (some_components o r n)) q f in
+      let p : (x : code.OrdinalExpression) × (ordinal_form a.form ≡ Some x) × (with_element_form h (some_components o r n) x ≡ Some q) = inside (ordinal_form a.form) (with_element_form h (some_components o r n)) q f in
       subst (λ y. Parts c y) (same_inside _ q p.2) e
   part_of c (a_component o n) a q e f =
-      let p : (x : code.Expression) × (ordinal_form a.form ≡ Some x) × (with_element_form h (a_component o n) x ≡ Some q) = inside (ordinal_form a.form) (with_element_form h (a_component o n)) q f in
+      let p : (x : code.OrdinalExpression) × (ordinal_form a.form ≡ Some x) × (with_element_form h (a_component o n) x ≡ Some q) = inside (ordinal_form a.form) (with_element_form h (a_component o n)) q f in
       absurd (let w : with_element_form h (a_component o n) p.0 ≡ Some q = p.2 in cc)
 
   stuck : (a : code.ComponentPlace) (c : ℕ) (y : Identifier) (ss : syntax.Selectors) (q : Designated) → last_field (syntax.more_selectors (syntax.field y) ss) ≡ None → selected_form h ss (a_component a c) ≡ Some q → ⊥
@@ -257,7 +257,7 @@ module _ (k : Numbering) (h : Here) (b : Layer) (g : Knows k h b) (calls : Knows
       let d : Designated = a_component a c in
       let p : (v : Designated) × (then_form (expression_form h o) (with_index_form h d) ≡ Some v) × (selected_form h ss v ≡ Some q) = inside (then_form (expression_form h o) (with_index_form h d)) _ q f in
       let r : (v : Formed) × (expression_form h o ≡ Some v) × (with_index_form h d v ≡ Some p.0) = inside (expression_form h o) _ p.0 p.1 in
-      let t : (v : code.Expression) × (ordinal_form r.0.form ≡ Some v) × (with_element_form h d v ≡ Some p.0) = inside (ordinal_form r.0.form) (with_element_form h d) p.0 r.2 in
+      let t : (v : code.OrdinalExpression) × (ordinal_form r.0.form ≡ Some v) × (with_element_form h d v ≡ Some p.0) = inside (ordinal_form r.0.form) (with_element_form h d) p.0 r.2 in
       let w : with_element_form h d t.0 ≡ Some p.0 = t.2 in cc
 
   pub parts_begun : (x : Name) (t : Ty) → has_components t ≡ true → Parts (system_type t) (permanent_begun h x t)

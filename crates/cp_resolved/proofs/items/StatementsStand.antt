@@ -161,15 +161,15 @@ module _ (k : Numbering) (h : Here) (g : Ground) (few : length g.tables.items �
 
   -- ---- expressions
 
-  goes : (l : Layer) (e : syntax.Expression) (t : Ty) (c : code.Expression) → World l → IsOrdinal h e t c → IsUsed h e → AreReady h (cells l) (expression_calls h.scope e) → Goes g.lines h l (expression l e).1 (expression_calls h.scope e)
+  goes : (l : Layer) (e : syntax.Expression) (t : Ty) (c : code.OrdinalExpression) → World l → IsOrdinal h e t c → IsUsed h e → AreReady h (cells l) (expression_calls h.scope e) → Goes g.lines h l (expression l e).1 (expression_calls h.scope e)
   goes l e t c w f u r = expression_goes k h l w.names w.calls w.headings g.lines w.lines l e _ refl u r f
 
-  cell_is : (l : Layer) (e : syntax.Expression) (t : Ty) (c : code.Expression) → World l → IsOrdinal h e t c → IsUsed h e → AreReady h (cells l) (expression_calls h.scope e) → ordinal_of (expression l e).0 ≡ c
+  cell_is : (l : Layer) (e : syntax.Expression) (t : Ty) (c : code.OrdinalExpression) → World l → IsOrdinal h e t c → IsUsed h e → AreReady h (cells l) (expression_calls h.scope e) → ordinal_of (expression l e).0 ≡ c
   cell_is l e t c w f u r =
       let i = known.expression_is k h l w.names w.calls l e _ refl u (ready_next h (cells l) (expression_calls h.scope e) r) f in
       known.ordinal_is k h l w.names w.calls t (as_ordinal c) (expression l e).0 c i.value refl
 
-  expression_does : (l : Layer) (e : syntax.Expression) (t : Ty) (c : code.Expression) (at : ℕ) (a : code.Expression → code.Action) (need : ℕ) (next : Option ℕ) → (IsCell h c → Means h (a c)) → World l → l.pending ≡ [] → IsOrdinal h e t c → IsUsed h e → AreReady h (cells l) (expression_calls h.scope e) →
+  expression_does : (l : Layer) (e : syntax.Expression) (t : Ty) (c : code.OrdinalExpression) (at : ℕ) (a : code.OrdinalExpression → code.Action) (need : ℕ) (next : Option ℕ) → (IsCell h c → Means h (a c)) → World l → l.pending ≡ [] → IsOrdinal h e t c → IsUsed h e → AreReady h (cells l) (expression_calls h.scope e) →
       Does l (ended g h (expression l e).1 at (a (ordinal_of (expression l e).0)) need next).1 (expression_calls h.scope e) (Led g h (ended g h (expression l e).1 at (a (ordinal_of (expression l e).0)) need next).0 (expression_calls h.scope e) at (a c) next)
   expression_does l e t c at a need next means w none f u r =
       let m : Layer = (expression l e).1 in
@@ -185,7 +185,7 @@ module _ (k : Numbering) (h : Here) (g : Ground) (few : length g.tables.items �
   After l x s next = Does l x.1 (calls_laid h.scope s) (StatementIs g h x.0 s next)
 
   -- a test before or after a list
-  test_does : (l : Layer) (e : syntax.Expression) (f : TestFormed h e) (at : ℕ) (a : code.Expression → code.Action) (need : ℕ) (next : Option ℕ) → (IsCell h f.cell → Means h (a f.cell)) → World l → l.pending ≡ [] → AreReady h (cells l) (expression_calls h.scope e) →
+  test_does : (l : Layer) (e : syntax.Expression) (f : TestFormed h e) (at : ℕ) (a : code.OrdinalExpression → code.Action) (need : ℕ) (next : Option ℕ) → (IsCell h f.cell → Means h (a f.cell)) → World l → l.pending ≡ [] → AreReady h (cells l) (expression_calls h.scope e) →
       Does l (ended g h (expression l e).1 at (a (ordinal_of (expression l e).0)) need next).1 (expression_calls h.scope e) (Led g h (ended g h (expression l e).1 at (a (ordinal_of (expression l e).0)) need next).0 (expression_calls h.scope e) at (a f.cell) next)
   test_does l e f at a need next means w none r = expression_does l e f.test.ty f.cell at a need next means w none f.test.cell f.used r
 
@@ -304,7 +304,7 @@ module _ (k : Numbering) (h : Here) (g : Ground) (few : length g.tables.items �
 
   -- ---- the standard procedures
 
-  shown_same : (c : code.Expression) (b : named.Base) → laid.shown_kind (values.ordinal_value c (base_of k b)) ≡ kind_of g.firsts b
+  shown_same : (c : code.OrdinalExpression) (b : named.Base) → laid.shown_kind (values.ordinal_value c (base_of k b)) ≡ kind_of g.firsts b
   shown_same c (named.enumerated at xs) = ap shown.Constant (sym (numbered at))
   shown_same c _ = refl
 
@@ -555,7 +555,7 @@ module _ (k : Numbering) (h : Here) (g : Ground) (few : length g.tables.items �
       let is : List Item = expression_calls h.scope e in
       let o : Layer = (expression m e).1 in
       let need : ℕ = max (need_inside o.items body) (pending_need o) in
-      let act : code.Expression → code.Action = λ c. code.until c body (again o) in
+      let act : code.OrdinalExpression → code.Action = λ c. code.until c body (again o) in
       let y : Option ℕ × Layer = ended g h o (token_of e) (act (ordinal_of (expression m e).0)) need next in
       let first : Does m y.1 is (Led g h y.0 is (token_of e) (act f.cell) next) = test_does m e f (token_of e) act need next (λ c. c) w before.pending n in
       let looped : Does m y.1 is (Led g h y.0 is (token_of e) (act f.cell) next × (y.0 ≡ Some (again o))) = record {
@@ -591,7 +591,7 @@ module _ (k : Numbering) (h : Here) (g : Ground) (few : length g.tables.items �
       let is : List Item = expression_calls h.scope e in
       let o : Layer = (expression l e).1 in
       let need : ℕ = max (need_inside o.items body) (pending_need o) in
-      let act : code.Expression → code.Action = λ c. code.while_do c body (again o) in
+      let act : code.OrdinalExpression → code.Action = λ c. code.while_do c body (again o) in
       let first : Does l (ended g h o at (act (ordinal_of (expression l e).0)) need next).1 is (Led g h (ended g h o at (act (ordinal_of (expression l e).0)) need next).0 is at (act f.cell) next) = test_does l e f at act need next (λ c. c) w none n in
       record {
         taken = first.taken;

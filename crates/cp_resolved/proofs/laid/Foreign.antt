@@ -11,7 +11,7 @@ use Rattle.cp_layout.specs.declared.names.LayoutMeaning.TheVariants as meaning
 use Rattle.cp_layout.specs.declared.names.PredeclaredRoutine.{PredeclaredRoutine}
 use Rattle.cp_layout.specs.declared.names.PredeclaredRoutine.TheVariants as predeclared
 use Rattle.cp_slots.specs.Code as code
-use Rattle.cp_slots.specs.Code.{Place, Expression, SetExpression, ComponentPlace, Argument, Arm, Action, Item}
+use Rattle.cp_slots.specs.Code.{Place, OrdinalExpression, SetExpression, ComponentPlace, Argument, Arm, Action, Item}
 use Rattle.cp_layout.specs.Kinds.{Field, field_of, array_of}
 use Rattle.cp_layout.specs.Values.{Value, Designated, a_variable, a_contained, a_component, a_routine, an_entry, a_standard, added as values_added, multiplied as values_multiplied, ordinal_of}
 use Rattle.cp_layout.specs.Layers.{Layer, Frame, Pending, again, find, with_cell, with_room, settled_all, settled, without_pending, added, call_need, result_of}
@@ -68,19 +68,19 @@ field_selected_is l (a_variable p t) x = field_is p (field_of l.types t x)
 field_selected_is l (a_component c k) x = entry_is c (entry_of l k x)
 field_selected_is l _ x = tt
 
-element_is : (p : Place) (o : Option ArrayType) (e : Expression) → IsSelected (element_found p o e)
+element_is : (p : Place) (o : Option ArrayType) (e : OrdinalExpression) → IsSelected (element_found p o e)
 element_is p None e = tt
 element_is p (Some a) e = tt
 
-component_is : (l : Layer) (n : ℕ) (a : ArrayType) (t : CellType) (e : Expression) → IsSelected (component_of_array l n a t e)
+component_is : (l : Layer) (n : ℕ) (a : ArrayType) (t : CellType) (e : OrdinalExpression) → IsSelected (component_of_array l n a t e)
 component_is l n a (types.System k) e = tt
 component_is l n a _ e = tt
 
-component_found_is : (l : Layer) (n : ℕ) (o : Option ArrayType) (e : Expression) → IsSelected (component_found l n o e)
+component_found_is : (l : Layer) (n : ℕ) (o : Option ArrayType) (e : OrdinalExpression) → IsSelected (component_found l n o e)
 component_found_is l n None e = tt
 component_found_is l n (Some a) e = component_is l n a a.element e
 
-element_selected_is : (l : Layer) (d : Designated) (e : Expression) → IsSelected (element_selected l d e)
+element_selected_is : (l : Layer) (d : Designated) (e : OrdinalExpression) → IsSelected (element_selected l d e)
 element_selected_is l (a_variable p t) e = element_is p (array_of l.types t) e
 element_selected_is l (a_contained n t) e = component_found_is l n (array_of l.types t) e
 element_selected_is l _ e = tt

@@ -6,7 +6,7 @@ use Rattle.cp_layout.specs.declared.kinds.CellType.TheVariants as types
 use Rattle.cp_layout.specs.declared.kinds.ArrayType.{ArrayType}
 use Rattle.cp_layout.specs.declared.names.LayoutMeaning.{LayoutMeaning}
 use Rattle.cp_layout.specs.declared.names.LayoutMeaning.TheVariants as meaning
-use Rattle.cp_slots.specs.Code.{ComponentPlace, Expression, Place}
+use Rattle.cp_slots.specs.Code.{ComponentPlace, OrdinalExpression, Place}
 use Rattle.cp_layout.specs.Kinds.{Compound, array, record_with, Compounds, array_of, as_array, field_of, Field}
 use Rattle.cp_layout.specs.Values.{Designated, a_variable, a_contained, a_component, a_routine, an_entry}
 use Rattle.cp_layout.specs.Layers.{Names, find, seen_inside, with_open, is_open, Layer, Heading, System}
@@ -183,20 +183,20 @@ unfolding IsElement
 array_there s ts (types.Array n) h = as_array_there s (slice_get ts n) (h n)
 array_there s ts _ h = tt
 
-component_there : (l : Layer) (n : ℕ) (a : ArrayType) (t : CellType) (e : Expression) → IsType (length l.systems) t → DesignatedIn l (component_of_array l n a t e)
+component_there : (l : Layer) (n : ℕ) (a : ArrayType) (t : CellType) (e : OrdinalExpression) → IsType (length l.systems) t → DesignatedIn l (component_of_array l n a t e)
 component_there l n a (types.System k) e h = h
 component_there l n a _ e h = tt
 
-component_found_there : (l : Layer) (n : ℕ) (o : Option ArrayType) (e : Expression) → IsElement (length l.systems) o → DesignatedIn l (component_found l n o e)
+component_found_there : (l : Layer) (n : ℕ) (o : Option ArrayType) (e : OrdinalExpression) → IsElement (length l.systems) o → DesignatedIn l (component_found l n o e)
 unfolding IsElement
 component_found_there l n None e h = tt
 component_found_there l n (Some a) e h = component_there l n a a.element e h
 
-element_designated : (s r : ℕ) (p : Place) (o : Option ArrayType) (e : Expression) → IsDesignated s r (element_found p o e)
+element_designated : (s r : ℕ) (p : Place) (o : Option ArrayType) (e : OrdinalExpression) → IsDesignated s r (element_found p o e)
 element_designated s r p None e = tt
 element_designated s r p (Some a) e = tt
 
-pub element_there : (l : Layer) (d : Designated) (e : Expression) → Named l → DesignatedIn l (element_selected l d e)
+pub element_there : (l : Layer) (d : Designated) (e : OrdinalExpression) → Named l → DesignatedIn l (element_selected l d e)
 element_there l (a_variable p t) e h = element_designated (length l.systems) (length l.routines) p (array_of l.types t) e
 element_there l (a_contained n t) e h = component_found_there l n (array_of l.types t) e (array_there (length l.systems) l.types t h.types)
 element_there l _ e h = tt

@@ -285,11 +285,11 @@ module _ (t : syntax.Tree) (place : IsPlaced t) (distinct : IsDistinct t.program
     named_low (a_component c j) x d low f = chosen_same (a_component c j) d f low
     named_low (some_components first r j) x d low f = absurd (none-some d f)
 
-    element_low : (u : Ty) (q : code.Place) (i : code.Expression) (d : Designated) → element_of_form u q i ≡ Some d → IsLow d
+    element_low : (u : Ty) (q : code.Place) (i : code.OrdinalExpression) (d : Designated) → element_of_form u q i ≡ Some d → IsLow d
     element_low (named.array_over r u) (code.place o offset is) i d f = chosen_same _ d f tt
     element_low _ q i d f = absurd (none-some d f)
 
-    index_low : (c : Designated) (i : code.Expression) (d : Designated) → IsLow c → with_element_form h c i ≡ Some d → IsLow d
+    index_low : (c : Designated) (i : code.OrdinalExpression) (d : Designated) → IsLow c → with_element_form h c i ≡ Some d → IsLow d
     index_low (a_variable q u) i d low f = element_low u q i d f
     index_low (some_components first r j) i d low f = chosen_same _ d f low
     index_low (a_component c j) i d low f = absurd (none-some d f)

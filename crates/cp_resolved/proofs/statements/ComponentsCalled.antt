@@ -80,16 +80,16 @@ module _ (h : Here) where
     with_field_of (some_components first r k) x i = tt
     with_field_of (a_component part k) x i = i
 
-    element_of : (t : Ty) (p : code.Place) (c : code.Expression) → IsFormOf m (element_of_form t p c)
+    element_of : (t : Ty) (p : code.Place) (c : code.OrdinalExpression) → IsFormOf m (element_of_form t p c)
     element_of (named.array_over r t) (code.place z n is) c = tt
     element_of _ p c = tt
 
-    with_element_of : (d : Designated) (c : code.Expression) → IsOf m d → IsFormOf m (with_element_form h d c)
+    with_element_of : (d : Designated) (c : code.OrdinalExpression) → IsOf m d → IsFormOf m (with_element_form h d c)
     with_element_of (a_variable p t) c i = element_of t p c
     with_element_of (some_components first r k) c i = i
     with_element_of (a_component part k) c i = tt
 
-    index_of : (d : Designated) (o : Option code.Expression) → IsOf m d → IsFormOf m (then_form o (with_element_form h d))
+    index_of : (d : Designated) (o : Option code.OrdinalExpression) → IsOf m d → IsFormOf m (then_form o (with_element_form h d))
     index_of d None i = tt
     index_of d (Some c) i = with_element_of d c i
 

@@ -85,7 +85,7 @@ IsListed k b = Unit {0}
 
 abbrev pub ShownKnown : Tokens → Here → Expressions → Type 0
 ShownKnown k h no_expressions = Unit {0}
-ShownKnown k h (more_expressions e es) = (r : Range) (c : code.Expression) → IsOrdinal h e (ordinal r) c → IsListed k r.base
+ShownKnown k h (more_expressions e es) = (r : Range) (c : code.OrdinalExpression) → IsOrdinal h e (ordinal r) c → IsListed k r.base
 
 -- `delay` and `continue` stand in a routine of a monitor
 abbrev pub IsInMonitor : Context → Type 0
@@ -386,7 +386,7 @@ module _ (tokens : Tokens) (s : Scopes) (h : Here) (w : Context) (agrees : Scope
         queue = queues_given at es os m a (none_left (statements.queue_faults at os) (statements.wait_faults s w at predeclared.Continue) none) (queue_performed q es (inr e) (performed_formed tokens s h w agrees heard at q es os u m a (ap faults is)));
       }
 
-  based : (v : ValueType) (r : Range) (c : code.Expression) (o : Option Formed) → Expressed W v o → o ≡ Some (record { ty = ordinal r; form = as_ordinal c }) → IsListed tokens r.base
+  based : (v : ValueType) (r : Range) (c : code.OrdinalExpression) (o : Option Formed) → Expressed W v o → o ≡ Some (record { ty = ordinal r; form = as_ordinal c }) → IsListed tokens r.base
   based v r c o x e = listed r.base _ (subst (Expressed W v) e x).2.belongs.base
     where
       listed : (b : Base) (z : _) → BaseIs tokens b z → IsListed tokens b

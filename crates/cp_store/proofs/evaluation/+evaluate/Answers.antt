@@ -1,5 +1,5 @@
 use Rattle.std.proofs.Common.{◌≡◌, ◌∙◌, ◌+◌, ℕ, ap, drop, Err, Ok, Result, rules, of_z, subst, sym, to_z, w16}
-use Rattle.cp_slots.specs.declared.place.Expression.TheViews.{the_lemmas}
+use Rattle.cp_slots.specs.declared.place.OrdinalExpression.TheViews.{the_lemmas}
 use Rattle.cp_store.specs.declared.error.ErrorName.{ErrorName}
 use Rattle.cp_store.specs.Inside.{CanGoThrough}
 use Rattle.cp_store.specs.Memory.{memory_of}
