@@ -7,7 +7,7 @@ ghost use Rattle.cp_check.specs.Calls as spec;
 
 use crate::operand::{Context, DesignatedName, Named, Operand, OperandUse, value};
 use crate::operation::{is_function, standard_value};
-use cp_scope::{CheckFault, Parameter, Rule, ScopeTable, Use, ValueType, broken, values_of};
+use cp_scope::{CheckFault, Parameter, Rule, ScopeTable, Use, ValueType, broken_rule, values_of};
 use cp_tree::SystemKind;
 
 /// Whether an argument fits a parameter.
@@ -47,11 +47,11 @@ pub fn check_arguments(
     ensures as_many { IfOk result (λ u. length parameters.now ≡ length operands.now) }
 {
     if parameters.len() != operands.len() {
-        broken(at, Rule::C7)
+        broken_rule(at, Rule::C7)
     } else if all_fit(parameters, operands) {
         Ok(())
     } else {
-        broken(at, Rule::C5)
+        broken_rule(at, Rule::C5)
     }
 }
 
@@ -60,7 +60,7 @@ fn check_variable(parameter: Parameter, operand: Operand) -> Result<(), CheckFau
     ensures { Finds (spec.variable_faults parameter operand) result }
 {
     if parameter.is_var && !operand.place.is_assignable() {
-        broken(operand.at, Rule::C6)
+        broken_rule(operand.at, Rule::C6)
     } else {
         Ok(())
     }
@@ -95,7 +95,7 @@ fn check_entry(at: usize, is_local: bool, is_entry: bool) -> Result<(), CheckFau
     ensures { Finds (spec.entry_faults at is_local is_entry) result }
 {
     if is_local == is_entry {
-        broken(at, Rule::C9)
+        broken_rule(at, Rule::C9)
     } else {
         Ok(())
     }
@@ -108,7 +108,7 @@ fn check_recursion(at: usize, context: Context, routine: usize) -> Result<(), Ch
     match context.routine {
         Some(own) => {
             if own == routine {
-                broken(at, Rule::C10)
+                broken_rule(at, Rule::C10)
             } else {
                 Ok(())
             }
@@ -132,7 +132,7 @@ fn check_delay(at: usize, context: Context, is_local: bool, body: Use) -> Result
     ensures { Finds (spec.delay_faults at context is_local body) result }
 {
     if is_initial_of_monitor(context) && is_local && body.delays {
-        broken(at, Rule::C12)
+        broken_rule(at, Rule::C12)
     } else {
         Ok(())
     }
@@ -182,7 +182,7 @@ fn function_value(
     ensures { Judges (λ o. o) (spec.function_value (scopes_of table.now) context at name_at is_local routine operands.now uses) result }
 {
     match table.shapes().result(routine) {
-        None => broken(at, Rule::C5),
+        None => broken_rule(at, Rule::C5),
         Some(result) => {
             let uses = check_routine_call(
                 table, context, at, name_at, is_local, routine, operands, uses,
@@ -236,7 +236,7 @@ fn check_alone(operand: Operand, operands: &[Operand]) -> Result<Operand, CheckF
 {
     match operands {
         [] => Ok(operand),
-        [_, ..] => broken(operand.at, Rule::C5),
+        [_, ..] => broken_rule(operand.at, Rule::C5),
     }
 }
 
@@ -298,7 +298,7 @@ pub fn value_of(
             operands,
             uses,
         ),
-        Named::Kind | Named::Nothing => broken(at, Rule::C5),
+        Named::Kind | Named::Nothing => broken_rule(at, Rule::C5),
     }
 }
 

@@ -7,7 +7,7 @@ ghost use Rattle.cp_check.specs.Cases as spec;
 
 use crate::constant::{ConstantNumber, constant};
 use crate::operand::Operand;
-use cp_scope::{Base, CheckFault, Rule, ScopeTable, Use, ValueType, broken};
+use cp_scope::{Base, CheckFault, Rule, ScopeTable, Use, ValueType, broken_rule};
 use cp_tree::Constant;
 use indexmap::IndexSet;
 use std::alloc::Global;
@@ -70,10 +70,10 @@ fn check_labels(at: usize, selector: ValueType, labels: &[Label]) -> Result<(), 
             if are_labels(range.base, labels) {
                 Ok(())
             } else {
-                broken(at, Rule::C5)
+                broken_rule(at, Rule::C5)
             }
         }
-        _ => broken(at, Rule::C5),
+        _ => broken_rule(at, Rule::C5),
     }
 }
 
@@ -86,7 +86,7 @@ fn check_once(alloc: Global, labels: &[Label]) -> Result<(), CheckFault>
     let mut numbers = IndexSet::new(alloc);
     for label in labels {
         if !numbers.insert(label.number.value)? {
-            return broken(label.at, Rule::C19);
+            return broken_rule(label.at, Rule::C19);
         }
     }
     Ok(())

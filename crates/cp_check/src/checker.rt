@@ -13,7 +13,7 @@ use crate::routine::{need_of, routines};
 use crate::statement::statements;
 use crate::system::program_parts;
 use crate::types::MOST_CELLS;
-use cp_scope::{Census, CheckFault, Rule, ScopeTable, Use, broken};
+use cp_scope::{Census, CheckFault, Rule, ScopeTable, Use, broken_rule};
 use cp_tree::{Program, Tree};
 use std::alloc::Global;
 
@@ -87,7 +87,7 @@ fn within_limits(alloc: Global, table: &mut ScopeTable, node: &Program) -> Resul
 {
     let uses = declarations_and_body(alloc, table, node)?;
     if is_too_large(table.census(), uses) {
-        return broken(node.period, Rule::C20);
+        return broken_rule(node.period, Rule::C20);
     }
     Ok(())
 }

@@ -6,7 +6,7 @@ ghost use Rattle.cp_scope.specs.View.{scopes_of};
 ghost use Rattle.cp_check.specs.Constants as spec;
 
 use crate::name::meaning_of;
-use cp_scope::{Base, CheckFault, Meaning, Rule, ScopeTable, broken};
+use cp_scope::{Base, CheckFault, Meaning, Rule, ScopeTable, broken_rule};
 use cp_tree::{Constant, ConstantKind, Identifier, Sign};
 
 /// A constant's base and number.
@@ -45,7 +45,7 @@ fn number_with_sign(
                     },
                 })
             } else {
-                broken(at, Rule::C5)
+                broken_rule(at, Rule::C5)
             }
         }
     }
@@ -58,7 +58,7 @@ fn constant_named(table: &ScopeTable, name: &Identifier) -> Result<ConstantNumbe
 {
     match meaning_of(table, name.at, &name.name)? {
         Meaning::Constant(base, value) => Ok(ConstantNumber { base, value }),
-        _ => broken(name.at, Rule::C3),
+        _ => broken_rule(name.at, Rule::C3),
     }
 }
 

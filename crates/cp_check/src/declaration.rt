@@ -9,7 +9,7 @@ ghost use Rattle.cp_check.specs.Declarations as spec;
 
 use crate::constant::constant;
 use crate::types::{Spot, type_of};
-use cp_scope::{CheckFault, Meaning, Rule, ScopeTable, broken};
+use cp_scope::{CheckFault, Meaning, Rule, ScopeTable, broken_rule};
 use cp_tree::{ConstantDefinition, Identifier, Part, PartKind, TypeDefinition, VariableGroup};
 use std::alloc::Global;
 
@@ -24,7 +24,7 @@ pub fn reserve_name(
     ensures scopes { OnOk result (scopes_of table.new ≡ (spec.reserve_name (scopes_of table.old) name.now).scopes) }
 {
     if table.is_declared(&name.name) {
-        return broken(name.at, Rule::C2);
+        return broken_rule(name.at, Rule::C2);
     }
     table.reserve(alloc, &name.name)
 }

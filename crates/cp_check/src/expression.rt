@@ -13,7 +13,7 @@ use crate::operand::{Context, DesignatedName, Operand, base_value, value};
 use crate::operation::{
     check_agreement, negation_of, product_of, relation_value, sum_of, with_sign,
 };
-use cp_scope::{Base, CheckFault, Parameter, Rule, ScopeTable, Use, ValueType, broken};
+use cp_scope::{Base, CheckFault, Parameter, Rule, ScopeTable, Use, ValueType, broken_rule};
 use cp_tree::{
     Addition, Designator, Expression, Factor, FactorKind, Identifier, Multiplication, Selector,
     Sign, Sum, Term,
@@ -102,10 +102,10 @@ fn set_value(at: usize, operands: &[Operand]) -> Result<Operand, CheckFault>
                     let uses = total_use(Use::nothing(), operands);
                     Ok(value(at, ValueType::Set(Some(range.base.whole())), uses))
                 } else {
-                    broken(at, Rule::C5)
+                    broken_rule(at, Rule::C5)
                 }
             }
-            _ => broken(at, Rule::C5),
+            _ => broken_rule(at, Rule::C5),
         },
     }
 }

@@ -10,7 +10,9 @@ ghost use Rattle.cp_check.specs.Headings as spec;
 
 use crate::declaration::{add_all, reserve_name, reserve_names};
 use crate::types::{Holding, held_by, type_named};
-use cp_scope::{CheckFault, Heading, Meaning, Rule, ScopeTable, TokenShape, ValueType, broken};
+use cp_scope::{
+    CheckFault, Heading, Meaning, Rule, ScopeTable, TokenShape, ValueType, broken_rule,
+};
 use cp_tree::{Group, Identifier, ParameterGroup, Routine, RoutineKind, SystemKind};
 use std::alloc::Global;
 
@@ -24,11 +26,11 @@ fn check_parameter_type(
 {
     match held {
         Holding::Plain => Ok(value_type),
-        Holding::Queue => broken(at, Rule::C15),
-        Holding::Queues => broken(at, Rule::C11),
-        Holding::Component(SystemKind::Process) => broken(at, Rule::C15),
-        Holding::Component(_) => broken(at, Rule::C13),
-        Holding::Components(_) => broken(at, Rule::C13),
+        Holding::Queue => broken_rule(at, Rule::C15),
+        Holding::Queues => broken_rule(at, Rule::C11),
+        Holding::Component(SystemKind::Process) => broken_rule(at, Rule::C15),
+        Holding::Component(_) => broken_rule(at, Rule::C13),
+        Holding::Components(_) => broken_rule(at, Rule::C13),
     }
 }
 
@@ -99,10 +101,10 @@ fn check_result_type(
 {
     match held {
         Holding::Plain => Ok(value_type),
-        Holding::Queue => broken(at, Rule::C11),
-        Holding::Queues => broken(at, Rule::C11),
-        Holding::Component(_) => broken(at, Rule::C13),
-        Holding::Components(_) => broken(at, Rule::C13),
+        Holding::Queue => broken_rule(at, Rule::C11),
+        Holding::Queues => broken_rule(at, Rule::C11),
+        Holding::Component(_) => broken_rule(at, Rule::C13),
+        Holding::Components(_) => broken_rule(at, Rule::C13),
     }
 }
 
@@ -147,7 +149,7 @@ fn check_ordinal_result(at: usize, value_type: Option<ValueType>) -> Result<(), 
             if value_type.is_ordinal() {
                 Ok(())
             } else {
-                broken(at, Rule::C5)
+                broken_rule(at, Rule::C5)
             }
         }
     }
@@ -169,7 +171,7 @@ fn check_entry_place(at: usize, owner: Option<SystemKind>, is_entry: bool) -> Re
     ensures { Finds (spec.entry_faults at owner is_entry) result }
 {
     if is_entry && !may_enter(owner) {
-        broken(at, Rule::C9)
+        broken_rule(at, Rule::C9)
     } else {
         Ok(())
     }

@@ -6,7 +6,7 @@ ghost use Rattle.cp_scope.specs.View.{scopes_of};
 ghost use Rattle.cp_check.specs.Names as spec;
 
 use crate::operand::{DesignatedName, Named, Operand};
-use cp_scope::{CheckFault, Meaning, Rule, ScopeTable, Use, ValueType, broken};
+use cp_scope::{CheckFault, Meaning, Rule, ScopeTable, Use, ValueType, broken_rule};
 use cp_text::Name;
 use cp_tree::Identifier;
 
@@ -17,7 +17,7 @@ pub fn meaning_of(table: &ScopeTable, at: usize, name: &Name) -> Result<Meaning,
 {
     match table.look(name) {
         Some(meaning) => Ok(meaning),
-        None => broken(at, Rule::C1),
+        None => broken_rule(at, Rule::C1),
     }
 }
 
@@ -88,7 +88,7 @@ fn field(
             name_at: name.at,
             uses: whole.uses,
         }),
-        _ => broken(name.at, Rule::C1),
+        _ => broken_rule(name.at, Rule::C1),
     }
 }
 
@@ -107,7 +107,7 @@ fn entry(
             name_at: name.at,
             uses: whole.uses,
         }),
-        _ => broken(name.at, Rule::C8),
+        _ => broken_rule(name.at, Rule::C8),
     }
 }
 
@@ -172,7 +172,7 @@ pub fn check_selectors(at: usize, designated: DesignatedName) -> Result<Designat
     ensures { Judges (λ d. d) (spec.known at designated) result }
 {
     match designated.named {
-        Named::Nothing => broken(at, Rule::C5),
+        Named::Nothing => broken_rule(at, Rule::C5),
         _ => Ok(designated),
     }
 }

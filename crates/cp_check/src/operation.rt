@@ -5,7 +5,7 @@ ghost use Rattle.cp_scope.specs.Judged.{Judges};
 ghost use Rattle.cp_check.specs.Operations as spec;
 
 use crate::operand::{Operand, base_value, value};
-use cp_scope::{Base, CheckFault, Predeclared, Range, Rule, Use, ValueType, broken};
+use cp_scope::{Base, CheckFault, Predeclared, Range, Rule, Use, ValueType, broken_rule};
 use cp_tree::{Addition, Multiplication, Relation, Sign};
 
 /// A number where both are numbers.
@@ -111,7 +111,7 @@ pub fn check_agreement(at: usize, operand: Option<Operand>) -> Result<Operand, C
 {
     match operand {
         Some(operand) => Ok(operand),
-        None => broken(at, Rule::C5),
+        None => broken_rule(at, Rule::C5),
     }
 }
 
@@ -149,7 +149,7 @@ pub fn relation_value(
     if relates(relation, left.value_type, right.value_type) {
         Ok(base_value(at, Base::Boolean, left.uses.and(right.uses)))
     } else {
-        broken(at, Rule::C5)
+        broken_rule(at, Rule::C5)
     }
 }
 
@@ -160,7 +160,7 @@ pub fn negation_of(at: usize, operand: Operand) -> Result<Operand, CheckFault>
     if operand.value_type.is_of(Base::Boolean) {
         Ok(base_value(at, Base::Boolean, operand.uses))
     } else {
-        broken(at, Rule::C5)
+        broken_rule(at, Rule::C5)
     }
 }
 
@@ -176,34 +176,34 @@ fn standard_value_of(
     match function {
         Predeclared::Succ | Predeclared::Pred => match operand.value_type {
             ValueType::Ordinal(range) => Ok(base_value(at, range.base, uses)),
-            _ => broken(at, Rule::C5),
+            _ => broken_rule(at, Rule::C5),
         },
         Predeclared::Ord => match operand.value_type {
             ValueType::Ordinal(_) => Ok(base_value(at, Base::Integer, uses)),
-            _ => broken(at, Rule::C5),
+            _ => broken_rule(at, Rule::C5),
         },
         Predeclared::Chr => {
             if operand.value_type.is_of(Base::Integer) {
                 Ok(base_value(at, Base::Char, uses))
             } else {
-                broken(at, Rule::C5)
+                broken_rule(at, Rule::C5)
             }
         }
         Predeclared::Abs => {
             if operand.value_type.is_of(Base::Integer) {
                 Ok(base_value(at, Base::Integer, uses))
             } else {
-                broken(at, Rule::C5)
+                broken_rule(at, Rule::C5)
             }
         }
         Predeclared::Empty => {
             if operand.is_queue() {
                 Ok(base_value(at, Base::Boolean, uses))
             } else {
-                broken(at, Rule::C5)
+                broken_rule(at, Rule::C5)
             }
         }
-        _ => broken(at, Rule::C5),
+        _ => broken_rule(at, Rule::C5),
     }
 }
 
@@ -227,10 +227,10 @@ pub fn standard_value(
     ensures { Judges (λ o. o) (spec.applied at function operands.now uses) result }
 {
     if !is_function(function) {
-        return broken(at, Rule::C5);
+        return broken_rule(at, Rule::C5);
     }
     match operands {
         [operand] => standard_value_of(at, function, *operand, uses),
-        _ => broken(at, Rule::C7),
+        _ => broken_rule(at, Rule::C7),
     }
 }

@@ -6,7 +6,7 @@ ghost use Rattle.cp_scope.specs.View.{scope_of};
 ghost use Rattle.cp_scope.specs.declared.fault.CheckFault.TheVariants as check_fault;
 ghost use Rattle.cp_check.specs.Records as spec;
 
-use cp_scope::{CheckFault, Meaning, Rule, Scope, broken};
+use cp_scope::{CheckFault, Meaning, Rule, Scope, broken_rule};
 use cp_tree::Identifier;
 use std::alloc::Global;
 
@@ -17,7 +17,7 @@ fn reserve_field(alloc: Global, fields: &mut Scope, name: &Identifier) -> Result
     ensures fields { OnOk result (scope_of fields.new ≡ (spec.reserve_field (scope_of fields.old) name.now).fields) }
 {
     if fields.is_declared(name.name.as_str()) {
-        return broken(name.at, Rule::C2);
+        return broken_rule(name.at, Rule::C2);
     }
     fields.reserve(alloc, name.name.as_str())
 }

@@ -14,7 +14,8 @@ use crate::name::name_meaning;
 use crate::operand::{Context, DesignatedName, Named, Operand};
 use crate::operation::is_function;
 use cp_scope::{
-    Base, CheckFault, Parameter, Predeclared, Rule, ScopeTable, Use, ValueType, broken, values_of,
+    Base, CheckFault, Parameter, Predeclared, Rule, ScopeTable, Use, ValueType, broken_rule,
+    values_of,
 };
 use cp_tree::{
     Arm, Designator, Expression, Identifier, Start, Statement, StatementKind, SystemKind,
@@ -80,7 +81,7 @@ fn check_target(at: usize, target: Target) -> Result<Target, CheckFault>
     ensures { Judges (λ t. t) (spec.aimed at target) result }
 {
     match target {
-        Target::Kind => broken(at, Rule::C5),
+        Target::Kind => broken_rule(at, Rule::C5),
         _ => Ok(target),
     }
 }
@@ -94,18 +95,18 @@ fn check_assignment(at: usize, target: Target, value: Operand, uses: Use) -> Res
             if value_type.agrees(value.value_type) {
                 Ok(uses)
             } else {
-                broken(at, Rule::C5)
+                broken_rule(at, Rule::C5)
             }
         }
         Target::Fixed(Some(value_type)) => {
             if value_type.agrees(value.value_type) {
-                broken(at, Rule::C6)
+                broken_rule(at, Rule::C6)
             } else {
-                broken(at, Rule::C5)
+                broken_rule(at, Rule::C5)
             }
         }
-        Target::Fixed(None) => broken(at, Rule::C6),
-        Target::Kind => broken(at, Rule::C5),
+        Target::Fixed(None) => broken_rule(at, Rule::C6),
+        Target::Kind => broken_rule(at, Rule::C5),
     }
 }
 
@@ -148,10 +149,10 @@ fn check_queue(at: usize, operands: &[Operand]) -> Result<(), CheckFault>
             if operand.is_queue() {
                 Ok(())
             } else {
-                broken(at, Rule::C5)
+                broken_rule(at, Rule::C5)
             }
         }
-        _ => broken(at, Rule::C7),
+        _ => broken_rule(at, Rule::C7),
     }
 }
 
@@ -167,7 +168,7 @@ fn check_wait_place(
     if may_wait(table, context, routine) {
         Ok(())
     } else {
-        broken(at, Rule::C12)
+        broken_rule(at, Rule::C12)
     }
 }
 
@@ -180,10 +181,10 @@ fn check_display(at: usize, operands: &[Operand]) -> Result<(), CheckFault>
             if operand.value_type.is_ordinal() {
                 Ok(())
             } else {
-                broken(operand.at, Rule::C21)
+                broken_rule(operand.at, Rule::C21)
             }
         }
-        _ => broken(at, Rule::C7),
+        _ => broken_rule(at, Rule::C7),
     }
 }
 
@@ -230,7 +231,7 @@ fn check_standard_call(
             check_wait(table, context, at, routine, operands)?;
             Ok(uses)
         }
-        _ => broken(at, Rule::C5),
+        _ => broken_rule(at, Rule::C5),
     }
 }
 
@@ -249,7 +250,7 @@ fn check_procedure_call(
     ensures { Judges (λ u. u) (spec.procedure_called (scopes_of table.now) context at name_at is_local routine operands.now uses) result }
 {
     match table.shapes().result(routine) {
-        Some(_) => broken(at, Rule::C5),
+        Some(_) => broken_rule(at, Rule::C5),
         None => check_routine_call(
             table, context, at, name_at, is_local, routine, operands, uses,
         ),
@@ -293,7 +294,7 @@ fn check_call(
             operands,
             uses,
         ),
-        _ => broken(at, Rule::C5),
+        _ => broken_rule(at, Rule::C5),
     }
 }
 
@@ -349,7 +350,7 @@ fn check_test(at: usize, test: Operand, uses: Use) -> Result<Use, CheckFault>
     if test.value_type.is_of(Base::Boolean) {
         Ok(uses)
     } else {
-        broken(at, Rule::C5)
+        broken_rule(at, Rule::C5)
     }
 }
 
@@ -372,26 +373,26 @@ fn check_for(
     ensures { Judges (λ u. u) (spec.counted at name_at target from to uses) result }
 {
     match target {
-        Target::Kind => broken(at, Rule::C5),
+        Target::Kind => broken_rule(at, Rule::C5),
         Target::Assignable(value_type) => {
             if counts(value_type, from, to) {
                 Ok(uses)
             } else {
-                broken(at, Rule::C5)
+                broken_rule(at, Rule::C5)
             }
         }
         Target::Fixed(Some(value_type)) => {
             if counts(value_type, from, to) {
-                broken(name_at, Rule::C6)
+                broken_rule(name_at, Rule::C6)
             } else {
-                broken(at, Rule::C5)
+                broken_rule(at, Rule::C5)
             }
         }
         Target::Fixed(None) => {
             if counts(from.value_type, from, to) {
-                broken(name_at, Rule::C6)
+                broken_rule(name_at, Rule::C6)
             } else {
-                broken(at, Rule::C5)
+                broken_rule(at, Rule::C5)
             }
         }
     }
@@ -421,7 +422,7 @@ fn check_start(
                 delays: false,
             }))
         }
-        _ => broken(at, Rule::C17),
+        _ => broken_rule(at, Rule::C17),
     }
 }
 
@@ -461,7 +462,7 @@ fn check_init(at: usize, context: Context, uses: Use) -> Result<Use, CheckFault>
 {
     match context.routine {
         None => Ok(uses),
-        Some(_) => broken(at, Rule::C16),
+        Some(_) => broken_rule(at, Rule::C16),
     }
 }
 

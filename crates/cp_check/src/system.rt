@@ -15,7 +15,7 @@ use crate::routine::{need_of, routines};
 use crate::statement::statements;
 use crate::types::{Holding, Spot, held_by, type_named, type_of};
 use cp_scope::{
-    CheckFault, Heading, Meaning, Rule, ScopeTable, TokenShape, Use, ValueType, broken,
+    CheckFault, Heading, Meaning, Rule, ScopeTable, TokenShape, Use, ValueType, broken_rule,
 };
 use cp_tree::{
     Definition, Group, ProgramPart, ProgramPartKind, System, SystemDefinition, SystemKind,
@@ -33,17 +33,17 @@ fn check_parameter_type(
 {
     match held {
         Holding::Plain => Ok(value_type),
-        Holding::Queue => broken(at, Rule::C15),
-        Holding::Queues => broken(at, Rule::C11),
+        Holding::Queue => broken_rule(at, Rule::C15),
+        Holding::Queues => broken_rule(at, Rule::C11),
         Holding::Component(kind) => match kind {
-            SystemKind::Process => broken(at, Rule::C15),
+            SystemKind::Process => broken_rule(at, Rule::C15),
             SystemKind::Monitor => Ok(value_type),
             SystemKind::Class => match owner {
                 SystemKind::Class => Ok(value_type),
-                _ => broken(at, Rule::C14),
+                _ => broken_rule(at, Rule::C14),
             },
         },
-        Holding::Components(_) => broken(at, Rule::C13),
+        Holding::Components(_) => broken_rule(at, Rule::C13),
     }
 }
 

@@ -12,7 +12,7 @@ use crate::name::meaning_of;
 use crate::record::{add_fields, reserve_fields};
 use cp_scope::{
     ArrayShape, Base, CheckFault, Meaning, Range, Rule, Scope, ScopeTable, TokenShape, ValueType,
-    broken, times,
+    broken_rule, times,
 };
 use cp_text::Name;
 use cp_tree::{FieldGroup, Identifier, Simple, SimpleKind, SystemKind, Type, TypeKind};
@@ -141,28 +141,28 @@ fn check_spot(
             if may_queue(spot) {
                 Ok(value_type)
             } else {
-                broken(at, Rule::C11)
+                broken_rule(at, Rule::C11)
             }
         }
         Holding::Queues => {
             if may_queues(spot) {
                 Ok(value_type)
             } else {
-                broken(at, Rule::C11)
+                broken_rule(at, Rule::C11)
             }
         }
         Holding::Component(kind) => {
             if may_component(spot, kind) {
                 Ok(value_type)
             } else {
-                broken(at, Rule::C13)
+                broken_rule(at, Rule::C13)
             }
         }
         Holding::Components(kind) => {
             if may_components(spot, kind) {
                 Ok(value_type)
             } else {
-                broken(at, Rule::C13)
+                broken_rule(at, Rule::C13)
             }
         }
     }
@@ -175,7 +175,7 @@ pub fn type_named(table: &ScopeTable, at: usize, name: &Name) -> Result<ValueTyp
 {
     match meaning_of(table, at, name)? {
         Meaning::Kind(value_type) => Ok(value_type),
-        _ => broken(at, Rule::C4),
+        _ => broken_rule(at, Rule::C4),
     }
 }
 
@@ -202,9 +202,9 @@ fn subrange_type(
     ensures { Judges (λ t. t) (spec.ranged at (low, high)) result }
 {
     if !low.base.is_same(high.base) {
-        broken(at, Rule::C5)
+        broken_rule(at, Rule::C5)
     } else if high.value < low.value {
-        broken(at, Rule::C18)
+        broken_rule(at, Rule::C18)
     } else {
         Ok(ValueType::Ordinal(Range {
             base: low.base,
@@ -228,7 +228,7 @@ fn member(
     ensures scopes { OnOk result (scopes_of table.new ≡ (spec.member (scopes_of table.old) base number node.now).scopes) }
 {
     if table.is_declared(&node.name) {
-        return broken(node.at, Rule::C2);
+        return broken_rule(node.at, Rule::C2);
     }
     table.add(
         alloc,
@@ -301,7 +301,7 @@ fn check_cells(at: usize, cells: u32) -> Result<(), CheckFault>
     ensures { Judges (λ u. u) (spec.limited at cells) result }
 {
     if cells > MOST_CELLS {
-        broken(at, Rule::C20)
+        broken_rule(at, Rule::C20)
     } else {
         Ok(())
     }
@@ -329,7 +329,7 @@ fn array_type(
                 cells,
             })
         }
-        _ => broken(at, Rule::C5),
+        _ => broken_rule(at, Rule::C5),
     }
 }
 
@@ -340,12 +340,12 @@ fn set_of(at: usize, base_at: usize, base: ValueType) -> Result<ValueType, Check
     match base {
         ValueType::Ordinal(range) => {
             if range.low < 0 || 127 < range.high {
-                broken(at, Rule::C20)
+                broken_rule(at, Rule::C20)
             } else {
                 Ok(ValueType::Set(Some(range)))
             }
         }
-        _ => broken(base_at, Rule::C5),
+        _ => broken_rule(base_at, Rule::C5),
     }
 }
 

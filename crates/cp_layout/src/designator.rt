@@ -11,7 +11,7 @@ use crate::layer::{HeadingLayout, SystemCells};
 use crate::names::{LayoutMeaning, Names};
 use crate::surroundings::Surroundings;
 use crate::value::{Designated, number, place_at};
-use cp_slots::{ComponentPlace, OrdinalExpression, Index, Place};
+use cp_slots::{ComponentPlace, Index, OrdinalExpression, Place};
 use cp_tree::Identifier;
 use std::alloc::{AllocError, Global};
 

@@ -8,8 +8,8 @@ ghost use Rattle.cp_layout.specs.Values.{value_seen};
 use crate::kinds::{CellBase, CellType};
 use crate::names::PredeclaredRoutine;
 use cp_slots::{
-    Arithmetic, Comparison, ComponentPlace, OrdinalExpression, Logic, Place, PlaceOrigin, SetExpression,
-    SetOperation,
+    Arithmetic, Comparison, ComponentPlace, Logic, OrdinalExpression, Place, PlaceOrigin,
+    SetExpression, SetOperation,
 };
 use cp_tree::{Addition, Multiplication, Relation};
 use std::alloc::{AllocError, Global};
@@ -155,7 +155,10 @@ fn logic(alloc: Global, operation: Logic, left: Value, right: Value) -> Result<V
     ensures { IfOk result (λ v. value_seen v ≡ spec.logic_of operation (value_seen left) (value_seen right)) }
 {
     let (left, right) = in_two_boxes(alloc, ordinal(left), ordinal(right))?;
-    Ok(Value::Ordinal(OrdinalExpression::Logic(operation, left, right), CellBase::Boolean))
+    Ok(Value::Ordinal(
+        OrdinalExpression::Logic(operation, left, right),
+        CellBase::Boolean,
+    ))
 }
 
 fn combined_sets(
@@ -224,7 +227,10 @@ fn same_set(alloc: Global, is_same: bool, left: Value, right: Value) -> Result<V
     ensures { IfOk result (λ v. value_seen v ≡ spec.same_sets is_same (value_seen left) (value_seen right)) }
 {
     let (left, right) = in_two_boxes(alloc, set_expression(left), set_expression(right))?;
-    Ok(Value::Ordinal(OrdinalExpression::SameSet(is_same, left, right), CellBase::Boolean))
+    Ok(Value::Ordinal(
+        OrdinalExpression::SameSet(is_same, left, right),
+        CellBase::Boolean,
+    ))
 }
 
 fn comparison(

@@ -14,7 +14,7 @@ use crate::memory::{origin_of, put_number, value_of};
 use crate::process::Entry;
 use crate::stack::{replace, replace_by};
 use crate::state::State;
-use cp_slots::{OrdinalExpression, Item, PlaceOrigin};
+use cp_slots::{Item, OrdinalExpression, PlaceOrigin};
 use cp_store::arithmetic::{self, check_range, is_true};
 
 /// `while`: true: becomes its list and itself; false: removed.

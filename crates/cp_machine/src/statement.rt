@@ -14,7 +14,7 @@ use crate::memory::{address_of, put_cells, put_number, put_set, set_of, value_he
 use crate::shown::Shown;
 use crate::stack::replace;
 use crate::state::{MOST_SHOWN, State};
-use cp_slots::{OrdinalExpression, Item, Place, ResolvedArm, SetExpression, ShownKind};
+use cp_slots::{Item, OrdinalExpression, Place, ResolvedArm, SetExpression, ShownKind};
 use cp_store::arithmetic::{check_range, is_true};
 use cp_store::set;
 

@@ -102,13 +102,13 @@ fn body_of(system: &System, number: usize, routine: &Routine) -> Extent {
 
 /// What is found out of routines, and whether memory was refused for some of it.
 #[derive(Drop)]
-struct Findings<'a> {
+struct WaitFindings<'a> {
     known: Vec<RoutineWaits<'a>>,
     inner: Vec<Inner<'a>>,
     is_refused: bool,
 }
 
-impl<'a> Findings<'a> {
+impl<'a> WaitFindings<'a> {
     fn add_known(&mut self, known: RoutineWaits<'a>) {
         if self.known.push(known).is_err() {
             self.is_refused = true;
@@ -173,7 +173,7 @@ pub fn inner_waits<'a>(
     program: &'a Program,
 ) -> Result<Vec<Inner<'a>>, AllocError> {
     let types = system_types(alloc, program)?;
-    let mut findings = Findings {
+    let mut findings = WaitFindings {
         known: Vec::new(alloc),
         inner: Vec::new(alloc),
         is_refused: false,

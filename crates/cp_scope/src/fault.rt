@@ -79,7 +79,7 @@ impl<T: Drop> From<AllocFailed<T>> for CheckFault {
 }
 
 /// A rule is broken at a token.
-pub fn broken<T>(at: usize, rule: Rule) -> Result<T, CheckFault>
+pub fn broken_rule<T>(at: usize, rule: Rule) -> Result<T, CheckFault>
     ensures { result ≡ Err (check_fault.Rule at rule) }
 {
     Err(CheckFault::Rule { at, rule })

@@ -10,7 +10,7 @@ pub mod table;
 pub mod types;
 
 pub use count::{TOO_MANY, Use, plus, times};
-pub use fault::{CheckFault, Rule, broken};
+pub use fault::{CheckFault, Rule, broken_rule};
 pub use scope::Scope;
 pub use shape::{ArrayShape, Census, Heading, TokenShape, plain};
 pub use shapes::Shapes;

@@ -1,6 +1,8 @@
 //! The items of the lists of statements.
 
-use crate::place::{Argument, ComponentPlace, OrdinalExpression, Place, PlaceOrigin, SetExpression};
+use crate::place::{
+    Argument, ComponentPlace, OrdinalExpression, Place, PlaceOrigin, SetExpression,
+};
 
 /// How a value is shown.
 #[derive(Clone, Copy, Drop)]

@@ -8,8 +8,8 @@ pub mod tables;
 
 pub use item::{Action, Item, ResolvedArm, ShownKind};
 pub use place::{
-    Argument, ArgumentValue, Arithmetic, Comparison, ComponentPlace, OrdinalExpression, Index, Logic,
-    Place, PlaceOrigin, SetExpression, SetOperation,
+    Argument, ArgumentValue, Arithmetic, Comparison, ComponentPlace, Index, Logic,
+    OrdinalExpression, Place, PlaceOrigin, SetExpression, SetOperation,
 };
 pub use resolved::Resolved;
 pub use tables::{

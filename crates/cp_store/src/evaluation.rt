@@ -14,7 +14,7 @@ use crate::arithmetic::{
 use crate::error::ErrorName;
 use crate::memory::{Address, Frame, Room, cell};
 use crate::set::{self, SetValue};
-use cp_slots::{OrdinalExpression, Index, Place, PlaceOrigin, SetExpression};
+use cp_slots::{Index, OrdinalExpression, Place, PlaceOrigin, SetExpression};
 
 /// Where a variable begins.
 #[inline(always)]
@@ -225,12 +225,12 @@ fn compute_value(expression: &OrdinalExpression, view: &EvaluationView) -> Resul
             let value = operand_value(operand, view)?;
             Ok(truth(!is_true(value)))
         }
-        OrdinalExpression::Negate(_) | OrdinalExpression::Absolute(_) | OrdinalExpression::Successor(_, _) => {
-            rare(expression, view).result()
-        }
-        OrdinalExpression::Predecessor(_, _) | OrdinalExpression::Character(_) | OrdinalExpression::IsEmpty(_) => {
-            rare(expression, view).result()
-        }
+        OrdinalExpression::Negate(_)
+        | OrdinalExpression::Absolute(_)
+        | OrdinalExpression::Successor(_, _) => { rare(expression, view).result() }
+        OrdinalExpression::Predecessor(_, _)
+        | OrdinalExpression::Character(_)
+        | OrdinalExpression::IsEmpty(_) => { rare(expression, view).result() }
         OrdinalExpression::SameSet(_, _, _) | OrdinalExpression::Member(_, _) => {
             set_test(expression, view).result()
         }
@@ -257,7 +257,10 @@ fn rare_value(expression: &OrdinalExpression, view: &EvaluationView) -> Result<i
     match expression {
         OrdinalExpression::Negate(operand) => negate(operand_value(operand, view)?),
         OrdinalExpression::Absolute(operand) => absolute(operand_value(operand, view)?),
-        OrdinalExpression::Successor(operand, last) => successor(operand_value(operand, view)?, *last),
+        OrdinalExpression::Successor(operand, last) => successor(
+            operand_value(operand, view)?,
+            *last,
+        ),
         OrdinalExpression::Predecessor(operand, first) => predecessor(
             operand_value(operand, view)?,
             *first,

@@ -5,8 +5,8 @@ ghost use Rattle.cp_slots.specs.Inside.{expression_inside, has, place_room};
 ghost use Rattle.cp_slots.specs.Tables.{RoutineView};
 
 use cp_slots::{
-    Argument, ArgumentValue, Arithmetic, ComponentPlace, OrdinalExpression, Index, Place, PlaceOrigin,
-    SetOperation,
+    Argument, ArgumentValue, Arithmetic, ComponentPlace, Index, OrdinalExpression, Place,
+    PlaceOrigin, SetOperation,
 };
 use cp_store::arithmetic::calculate;
 use cp_store::component::component_of;

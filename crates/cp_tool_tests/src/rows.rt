@@ -1,6 +1,6 @@
 //! The worked rows.
 use crate::fakes::FakeRefusal;
-use crate::streams::{Answer, NEVER, Refusals, answer_to, answer_to_endless};
+use crate::streams::{NEVER, Refusals, ToolAnswer, answer_to, answer_to_endless};
 use cp_tool::read_options;
 use std::alloc::Global;
 use std::test::Fail;
@@ -170,7 +170,7 @@ fn answer_despite<X: Threads + Sync>(
     rt: &X,
     alloc: Global,
     refusals: Refusals,
-) -> Result<Answer, Fail> {
+) -> Result<ToolAnswer, Fail> {
     let words = ["cpx", "--choices", "5"];
     answer_to(rt, alloc, &words, TWO_DISPLAYS.as_bytes(), refusals)
 }

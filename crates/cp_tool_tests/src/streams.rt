@@ -28,12 +28,12 @@ pub const NEVER: Refusals = Refusals {
 
 /// What was written, and with which status.
 #[derive(Drop)]
-pub struct Answer {
+pub struct ToolAnswer {
     pub status: ExitStatus,
     pub text: Vec<u8>,
 }
 
-impl Answer {
+impl ToolAnswer {
     /// Whether this was written, with this status.
     pub fn is(&self, code: u8, text: &[u8]) -> bool {
         self.status.code == code && self.text.as_slice() == text
@@ -47,7 +47,7 @@ pub fn answer_to<'a, X: Threads + Sync>(
     words: &'a [&'a str],
     source: &[u8],
     refusals: Refusals,
-) -> Result<Answer, Fail> {
+) -> Result<ToolAnswer, Fail> {
     let Ok(options) = read_options(alloc, words) else {
         return Err(Fail::from("refused words"));
     };
@@ -61,7 +61,7 @@ pub fn answer_by<X: Threads + Sync>(
     options: &Options,
     source: &[u8],
     refusals: Refusals,
-) -> Answer {
+) -> ToolAnswer {
     let reader = OneByteReader::new(source, refusals.read);
     let writer = OneByteWriter::new(alloc, refusals.write, refusals.refusal);
     let (reads, writes) = (Blank::new(3), Blank::new(3));
@@ -71,7 +71,11 @@ pub fn answer_by<X: Threads + Sync>(
 }
 
 /// What the program answers to a source that never ends.
-pub fn answer_to_endless<X: Threads + Sync>(rt: &X, alloc: Global, options: &Options) -> Answer {
+pub fn answer_to_endless<X: Threads + Sync>(
+    rt: &X,
+    alloc: Global,
+    options: &Options,
+) -> ToolAnswer {
     let writer = OneByteWriter::new(alloc, NEVER.write, NEVER.refusal);
     let (reads, writes) = (Blank::new(3), Blank::new(3));
     answer_of::<X, EndlessReader, Brand, Brand>(
@@ -93,7 +97,7 @@ fn answer_of<X: Threads + Sync, R: Read + Drop, A: Ledger, B: Ledger>(
     writer: OneByteWriter,
     reads: Blank,
     writes: Blank,
-) -> Answer
+) -> ToolAnswer
     requires read_name { reads.name ≡ A.name }
     requires read_parts { (reads.parts ≡ A.parts) × (A.parts ≡ 3) }
     requires write_name { writes.name ≡ B.name }
@@ -102,7 +106,7 @@ fn answer_of<X: Threads + Sync, R: Read + Drop, A: Ledger, B: Ledger>(
     let mut source: Wrapped<R, A> = Wrapped::new(reader, reads);
     let mut sink: Wrapped<OneByteWriter, B> = Wrapped::new(writer, writes);
     let status = explore_stream(rt, alloc, options, &mut Unobserved, &mut source, &mut sink);
-    Answer {
+    ToolAnswer {
         status,
         text: sink.into_inner().taken,
     }

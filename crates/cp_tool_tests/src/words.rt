@@ -238,7 +238,7 @@ fn has_values_of_spellings(options: &Options) -> bool {
 
 /// Which values options have.
 #[derive(Clone, Copy)]
-enum Values {
+enum WantedValues {
     /// Each option has its default.
     Defaults,
     /// Each option has the value of its words.
@@ -253,14 +253,14 @@ enum Values {
     Longest,
 }
 
-fn have_values(options: &Options, values: Values) -> bool {
+fn have_values(options: &Options, values: WantedValues) -> bool {
     match values {
-        Values::Defaults => has_defaults(options),
-        Values::All => has_values_of_all(options),
-        Values::Merged => has_values_of_merged(options),
-        Values::Ends => has_values_of_ends(options),
-        Values::Spellings => has_values_of_spellings(options),
-        Values::Longest => has_word(options, &LONGEST_NUMBERS),
+        WantedValues::Defaults => has_defaults(options),
+        WantedValues::All => has_values_of_all(options),
+        WantedValues::Merged => has_values_of_merged(options),
+        WantedValues::Ends => has_values_of_ends(options),
+        WantedValues::Spellings => has_values_of_spellings(options),
+        WantedValues::Longest => has_word(options, &LONGEST_NUMBERS),
     }
 }
 
@@ -268,13 +268,13 @@ static LONGEST_NUMBERS: [u8; 20] = [
     15, 0, 1, 2, 3, 4, 5, 6, 7, 8, 9, 10, 11, 12, 13, 14, 15, 0, 1, 2,
 ];
 
-static ACCEPTED: [(&[&str], Values); 6] = [
-    (&["cpx"], Values::Defaults),
-    (&ALL, Values::All),
-    (&MERGED, Values::Merged),
-    (&ENDS, Values::Ends),
-    (&SPELLINGS, Values::Spellings),
-    (&LONGEST, Values::Longest),
+static ACCEPTED: [(&[&str], WantedValues); 6] = [
+    (&["cpx"], WantedValues::Defaults),
+    (&ALL, WantedValues::All),
+    (&MERGED, WantedValues::Merged),
+    (&ENDS, WantedValues::Ends),
+    (&SPELLINGS, WantedValues::Spellings),
+    (&LONGEST, WantedValues::Longest),
 ];
 
 #[test]

@@ -15,7 +15,7 @@ returns-then-not-branch c =
     let i = c.loop-label.label-index in
     let value = (get_or labels i none).number.value in
     let fits : SFits w64 value = search rules in
-    rw (c.broken.ensures, c.loop-label.invariant.left)
+    rw (c.broken_rule.ensures, c.loop-label.invariant.left)
     (once_refused labels i none c.loop-label-test.true c.requires.agree c.loop-label.numbers.keys c.loop-label.invariant.seen (to_z w64 (of_z w64 value)) (to_z-of_z w64 value fits) c.in_ok-insert.field-0 c.in_ok-insert.ensures.added c.if-not-branch.true)
 
 pub loop-label-preserved : goal.loop-label-preserved
