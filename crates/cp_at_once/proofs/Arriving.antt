@@ -1,18 +1,10 @@
 -- A word arrives: its values and its end are noted.
-use Rattle.std.proofs.Common.{◌≡◌, ◌∙◌, ℕ, List, [], Bool, true, None, refl, sym, subst, arith}
+use Rattle.cp_at_once.proofs.Words.{◌≡◌, ◌∙◌, ℕ, List, [], Bool, true, None, refl, sym, subst, arith, Tables, Shown, Machine, Goal, Place, ArrivesAt}
+use Rattle.cp_at_once.proofs.Words.{LeadsToEnd, ShowsLast, SlotArrival, End, Holds, IsWordOf, FoundAtOnce, OriginAtOnce}
 use Rattle.std.specs.Prelude.{All, Contains}
 use Rattle.std.proofs.lemmas.List.Elements.{All-contains, All-contains_itself, All-weaker}
-use Rattle.cp_slots.specs.Tables.{Tables}
-use Rattle.cp_machine.specs.declared.shown.Shown.{Shown}
-use Rattle.cp_machine.specs.System.{Machine}
-use Rattle.cp_ends.specs.Graph.{Goal, Place, ArrivesAt, LeadsToEnd, ShowsLast}
 use Rattle.cp_ends.specs.Graph as graph
-use Rattle.cp_ends.specs.Holds.{SlotArrival}
-use Rattle.cp_ends.specs.declared.end.End.{End}
 use Rattle.cp_at_once.specs.Following.{GoesOn, IsGoneThrough, NotesArrival, NotesEnd, NotesValues, SlotGraph, knows_end, knows_value}
-use Rattle.cp_at_once.specs.Holds.{Holds, IsWordOf}
-use Rattle.cp_at_once.specs.declared.found.FoundAtOnce.{FoundAtOnce}
-use Rattle.cp_at_once.specs.declared.origin.OriginAtOnce.{OriginAtOnce}
 use Rattle.cp_at_once.proofs.Following.{States}
 use Rattle.cp_at_once.proofs.Keeping.{word_start}
 use Rattle.cp_at_once.proofs.Noting.{grows_on}

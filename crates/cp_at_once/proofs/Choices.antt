@@ -1,23 +1,11 @@
 -- A choice more and a kept state more was gone on from.
 use Rattle.std.proofs.Common.{◌≡◌, ◌∙◌, ◌⊎◌, inl, inr, ◌+◌, ◌<◌, ◌≤◌, ◌==◌, ℕ, List, [], ◌∷◌, ◌++◌, Bool, true, false, length, take, get_or, None, Some, sym, ap, subst, arith}
-use Rattle.std.specs.Prelude.{slice_get}
-use Rattle.std.specs.List.{list_any}
+use Rattle.cp_at_once.proofs.Words.{slice_get, list_any, same_Some, slice_get_cases, slice_get_within, Tables, Machine, may, Shown, Goal, ArrivesAt}
+use Rattle.cp_at_once.proofs.Words.{LeadsToPlace, SlotArrival, End, all_at, Holds, IsWordOf, FoundAtOnce, OriginAtOnce}
 use Rattle.std.proofs.lemmas.Bool.{cases_order}
 use Rattle.std.proofs.lemmas.List.Folds.{list_any_more}
-use Rattle.std.proofs.lemmas.Option.{same_Some, slice_get_cases, slice_get_within}
-use Rattle.cp_slots.specs.Tables.{Tables}
-use Rattle.cp_machine.specs.System.{Machine}
-use Rattle.cp_run.specs.Run.{may}
-use Rattle.cp_machine.specs.declared.shown.Shown.{Shown}
-use Rattle.cp_ends.specs.Graph.{Goal, ArrivesAt, LeadsToPlace}
-use Rattle.cp_ends.specs.Holds.{SlotArrival}
-use Rattle.cp_ends.specs.declared.end.End.{End}
-use Rattle.cp_ends.proofs.Searching.Lists.{all_at}
 use Rattle.cp_ends.proofs.words.Translated.{arrival_on}
 use Rattle.cp_at_once.specs.Following.{AllGoOn, Answers, Follows, GoesOn, Grows, IsDone, IsGone, IsGoneThrough, SlotGraph}
-use Rattle.cp_at_once.specs.Holds.{Holds, IsWordOf}
-use Rattle.cp_at_once.specs.declared.found.FoundAtOnce.{FoundAtOnce}
-use Rattle.cp_at_once.specs.declared.origin.OriginAtOnce.{OriginAtOnce}
 use Rattle.cp_at_once.proofs.Following.{States, done_still, gone_still}
 use Rattle.cp_at_once.proofs.Keeping.{word_choice}
 use Rattle.cp_at_once.proofs.Noting.{grows_on, grows_same}

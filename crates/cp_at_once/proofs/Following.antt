@@ -1,23 +1,14 @@
 -- What is followed is followed still when more is found; one stretch more, one state more, one choice more.
 use Rattle.std.proofs.Common.{◌≡◌, ◌∙◌, inl, inr, ◌+◌, ◌<◌, ◌≤◌, ℕ, zero, suc, List, [], ◌∷◌, ◌++◌, Bool, true, false, if◌then◌else◌, length, Some, refl, sym, ap, subst, arith}
-use Rattle.std.specs.Prelude.{slice_get}
+use Rattle.cp_at_once.proofs.Words.{slice_get, Tables, Shown, Machine, Goal, Place, ArrivesAt, LeadsToPlace, LeadsToEnd, ShowsLast, same_key, SlotArrival}
+use Rattle.cp_at_once.proofs.Words.{has, End, AreStates, HasWord, Holds, IsWordOf, FoundAtOnce, OriginAtOnce}
 use Rattle.std.proofs.lemmas.List.{length-append}
 use Rattle.std.proofs.lemmas.List.Elements.{All-push, All-weaker}
-use Rattle.cp_slots.specs.Tables.{Tables}
-use Rattle.cp_machine.specs.declared.shown.Shown.{Shown}
-use Rattle.cp_machine.specs.System.{Machine}
-use Rattle.cp_ends.specs.Graph.{Goal, Place, ArrivesAt, LeadsToPlace, LeadsToEnd, ShowsLast}
 use Rattle.cp_ends.specs.Graph as graph
-use Rattle.cp_ends.specs.Holds.{same_key, SlotArrival}
-use Rattle.cp_ends.specs.Searched.{has}
-use Rattle.cp_ends.specs.declared.end.End.{End}
 use Rattle.cp_ends.proofs.Keeping.{get_more}
 use Rattle.cp_ends.proofs.words.Translated.{arrival_on}
 use Rattle.cp_at_once.specs.Following.{Follows, GoesOn, Grows, IsDone, IsGone, IsKept, IsKnownGoal, NotesArrival, SlotGraph}
-use Rattle.cp_at_once.specs.Holds.{AreStates, HasWord, Holds, IsWordOf}
-use Rattle.cp_at_once.specs.declared.found.FoundAtOnce.{FoundAtOnce}
 use Rattle.cp_at_once.specs.declared.kept.Kept.{Kept}
-use Rattle.cp_at_once.specs.declared.origin.OriginAtOnce.{OriginAtOnce}
 use Rattle.cp_at_once.proofs.Keeping.{word_grows}
 use Rattle.cp_at_once.proofs.Noting.{grows_on, grows_same}
 

@@ -8,17 +8,12 @@ use Rattle.std.proofs.lemmas.List.Elements.{All-push}
 use Rattle.std.proofs.lemmas.Option.{same_Some, slice_get_cases, slice_get_past, slice_get_within}
 use Rattle.indexmap.specs.IndexMap.{insert_entry}
 use lib.Pointwise.{pointwise}
-use Rattle.cp_slots.specs.Tables.{Tables}
+use Rattle.cp_at_once.proofs.Words.{Tables, Machine, same_key, has, all_at, OriginAtOnce}
 use Rattle.cp_key.specs.Key.{key_of}
 use Rattle.cp_key.specs.Room.{IsMachineOf}
-use Rattle.cp_machine.specs.System.{Machine}
-use Rattle.cp_ends.specs.Holds.{same_key}
-use Rattle.cp_ends.specs.Searched.{has}
 use Rattle.cp_ends.specs.declared.state_key.ReachedKey.{ReachedKey}
 use Rattle.cp_ends.proofs.Keeping.{get_more}
-use Rattle.cp_ends.proofs.Searching.Lists.{all_at}
 use Rattle.cp_at_once.specs.Holds.{AreStates, IsBefore, IsWordBy, IsWordOf}
-use Rattle.cp_at_once.specs.declared.origin.OriginAtOnce.{OriginAtOnce}
 use Rattle.cp_resolved.proofs.names.Entries.{last_or_before as get_cases}
 
 abbrev pub Keys : Type 0

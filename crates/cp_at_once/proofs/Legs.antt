@@ -1,16 +1,12 @@
 -- A leg, step by step.
-use Rattle.std.proofs.Common.{◌≡◌, ◌∙◌, ℕ, Bool, [], true, false, refl, sym, ap, subst}
-use Rattle.cp_slots.specs.Tables.{Tables}
+use Rattle.cp_at_once.proofs.Words.{◌≡◌, ◌∙◌, ℕ, Bool, [], true, false, refl, sym, ap, subst, Tables, Gates, KeepBodies, silent_slots, without_output}
 use Rattle.cp_machine.specs.declared.event.Event.{Event}
 use Rattle.cp_machine.specs.declared.event.Event.TheVariants.{Local, Kernel, Ended}
-use Rattle.cp_machine.specs.declared.gates.Gates.{Gates}
 use Rattle.cp_machine.specs.Statements.{Stepped, local}
-use Rattle.cp_machine.specs.Bodies.{KeepBodies}
 use Rattle.cp_machine.specs.System.{Machine, IsStateOf, machine_of, step_at}
 use Rattle.cp_machine.specs.declared.state.State.{State}
 use Rattle.cp_machine.proofs.CallerLemmas.{threads_count}
 use Rattle.cp_machine.proofs.Unmoved.{keep_step}
-use Rattle.cp_endless.specs.Silent.{silent_slots, without_output}
 use Rattle.cp_ends.proofs.Arriving.{silent_already}
 use Rattle.cp_ends.proofs.LocalOutput.{local_output}
 use Rattle.cp_at_once_laws.specs.AtOnce.{QuietLeg, calls_quietly, after_quiet, is_call}

@@ -10,3 +10,4 @@ pub mod Pending
 pub mod Tied
 pub mod Saying
 pub mod Unwinding
+mod Words

@@ -1,12 +1,7 @@
 -- Before the search nothing is found.
-use Rattle.std.proofs.Common.{◌≡◌, ℕ, List, [], sym, subst, arith}
-use Rattle.std.specs.Prelude.{All}
+use Rattle.cp_at_once.proofs.Words.{◌≡◌, ℕ, List, [], sym, subst, arith, All, Tables, LeadsToPlace, LeadsToEnd, ShowsLast, SlotGraph, AreStates, HasWord}
+use Rattle.cp_at_once.proofs.Words.{Holds, FoundAtOnce}
 use Rattle.std.proofs.lemmas.List.Elements.{All-nil}
-use Rattle.cp_slots.specs.Tables.{Tables}
-use Rattle.cp_ends.specs.Graph.{LeadsToPlace, LeadsToEnd, ShowsLast}
-use Rattle.cp_at_once.specs.Following.{SlotGraph}
-use Rattle.cp_at_once.specs.Holds.{AreStates, HasWord, Holds}
-use Rattle.cp_at_once.specs.declared.found.FoundAtOnce.{FoundAtOnce}
 
 no_states : (r : Tables) → AreStates r [] []
 no_states r = record { keys = refl_nil; own = All-nil _; quiet = All-nil _; words = λ i e x at to. cc; before = λ i e at. absurd (cc) }

@@ -1,23 +1,15 @@
 -- An end or a value more is found.
 use Rattle.std.proofs.Common.{◌≡◌, ◌∙◌, ◌⊎◌, inl, inr, ⊎_elim, ◌+◌, ◌<◌, ◌≤◌, ◌||◌, ℕ, List, [], ◌∷◌, ◌++◌, Bool, true, length, take, drop, sym, ap, subst, arith}
 use Rattle.std.specs.Prelude.{All, insert, nat_lt}
-use Rattle.std.specs.List.{list_any}
+use Rattle.cp_at_once.proofs.Words.{list_any, Tables, Shown, Machine, ends_tests, LeadsToEnd, ShowsLast, End, HasWord, Holds, IsWordOf, FoundAtOnce}
+use Rattle.cp_at_once.proofs.Words.{OriginAtOnce}
 use Rattle.std.proofs.lemmas.Bool.{cases_lt, lt-ltb, ltb-true}
 use Rattle.std.proofs.lemmas.List.{length-append, length-take-le, take_all, take-append-drop}
 use Rattle.std.proofs.lemmas.List.Elements.{All-append, All-cons, All-drop, All-nil, All-take, All-weaker}
 use Rattle.std.proofs.lemmas.List.Folds.{list_any-append}
-use Rattle.cp_slots.specs.Tables.{Tables}
-use Rattle.cp_machine.specs.declared.shown.Shown.{Shown}
-use Rattle.cp_machine.specs.System.{Machine}
-use Rattle.cp_ends.specs.Answer.{ends_tests}
-use Rattle.cp_ends.specs.Graph.{LeadsToEnd, ShowsLast}
-use Rattle.cp_ends.specs.declared.end.End.{End}
 use Rattle.cp_at_once.specs.Following.{Grows, NotesEnd, NotesValues, SlotGraph, knows_value}
-use Rattle.cp_at_once.specs.Holds.{HasWord, Holds, IsWordOf}
-use Rattle.cp_at_once.specs.declared.found.FoundAtOnce.{FoundAtOnce}
 use Rattle.cp_at_once.specs.declared.found.EndAtOnce.{EndAtOnce}
 use Rattle.cp_at_once.specs.declared.found.ValueAtOnce.{ValueAtOnce}
-use Rattle.cp_at_once.specs.declared.origin.OriginAtOnce.{OriginAtOnce}
 use Rattle.std.specs.declared.alloc.Global.{Global}
 use Rattle.std.specs.declared.vec.Vec.{Vec}
 use Rattle.cp_resolved.proofs.names.PermanentNames.{left_true as or_true}

@@ -16,7 +16,7 @@ use Rattle.cp_store.specs.declared.memory.Address.TheVariants as address
 use Rattle.cp_store.specs.declared.memory.Frame.{Frame}
 use Rattle.cp_store.specs.Sets as sets
 use Rattle.cp_store.specs.Values.{is_true, ranged}
-use Rattle.cp_machine.specs.declared.gates.Gates.TheVariants.{First}
+use Rattle.cp_at_once.proofs.Words.{First, same_Some, silent_slots}
 use Rattle.cp_machine.specs.declared.process.Entry.{Entry}
 use Rattle.cp_machine.specs.declared.process.Entry.TheVariants.{Rest, Successor, Return, InitEnd}
 use Rattle.cp_machine.specs.declared.process.Status.{Status}
@@ -29,13 +29,11 @@ use Rattle.cp_machine.specs.Memory.{value_of, set_of, address_of, component_of, 
 use Rattle.cp_machine.specs.Stack.{from_end}
 use Rattle.cp_machine.specs.Statements.{Stepped, with_value, arm_for, is_beyond, next_value, succeeded}
 use Rattle.cp_machine.specs.Step.{act, take_top, step_at}
-use Rattle.std.proofs.lemmas.Option.{same_Some}
 use Rattle.cp_run.specs.declared.outcome.Turn.{Turn}
 use Rattle.cp_run.specs.declared.outcome.Turn.TheVariants as turn
 use Rattle.cp_run.specs.System.{System}
 use Rattle.cp_run.specs.Run.{Node, Halted, Choosing, node_at, turn_after, turn_at, settled_turn, stretch, opened, chosen}
 use Rattle.cp_endless.specs.Reachable.{LeadsTo, node_after}
-use Rattle.cp_endless.specs.Silent.{silent_slots}
 use Rattle.cp_endless.proofs.possible.Words.{after_first}
 
 choosing : (s t : Machine) → (◌≡◌ {A = Node Machine}) (Choosing s) (Choosing t) → s ≡ t

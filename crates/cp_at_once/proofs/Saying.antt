@@ -1,30 +1,17 @@
 -- What the search of the code answers.
-use Rattle.std.proofs.Common.{◌≡◌, ◌∙◌, ℕ, List, Bool, true, false, length, refl, sym, arith}
+use Rattle.cp_at_once.proofs.Words.{◌≡◌, ◌∙◌, ℕ, List, Bool, true, false, length, refl, sym, arith, All-weaker, Tables, Gates, Machine, slots, silent_slots}
+use Rattle.cp_at_once.proofs.Words.{without_output, slot_graph, LeadsToPlace, LeadsToEnd, ShowsLast, same_key, has, ok_to, all_at, HasWord, Holds, HasLeg}
+use Rattle.cp_at_once.proofs.Words.{FoundAtOnce}
 use Rattle.std.specs.Prelude.{All, IfOk, Result}
-use Rattle.std.proofs.lemmas.List.Elements.{All-weaker}
-use Rattle.cp_slots.specs.Tables.{Tables}
-use Rattle.cp_machine.specs.declared.gates.Gates.{Gates}
 use Rattle.cp_machine.specs.declared.gates.Gates.TheVariants.{First, Any}
-use Rattle.cp_machine.specs.System.{Machine}
 use Rattle.cp_run.specs.declared.outcome.OutcomeKind.TheVariants.{StepLimit}
-use Rattle.cp_run.specs.Slots.{slots}
-use Rattle.cp_endless.specs.Silent.{silent_slots, without_output}
-use Rattle.cp_ends.specs.Answer.{slot_graph}
 use Rattle.cp_ends.specs.Ends.{EndsSo, ShowsSo}
-use Rattle.cp_ends.specs.Graph.{LeadsToPlace, LeadsToEnd, ShowsLast}
-use Rattle.cp_ends.specs.Holds.{same_key}
-use Rattle.cp_ends.specs.Searched.{has}
 use Rattle.cp_ends.specs.Whole.{LeadsToState}
 use Rattle.cp_ends.specs.declared.end.End.TheVariants.{Over, Alone, Spins}
-use Rattle.cp_ends.proofs.GoingOn.{ok_to}
-use Rattle.cp_ends.proofs.Searching.Lists.{all_at}
 use Rattle.cp_ends.proofs.words.Translated.{end_there, place_there, shows_there}
 use Rattle.cp_at_once_laws.specs.OnSlots.{LeavesNothingOut}
 use Rattle.cp_at_once.specs.Following.{Answers, IsGoneThrough, IsOneTooMany, knows_end, knows_value}
-use Rattle.cp_at_once.specs.Holds.{HasWord, Holds}
-use Rattle.cp_at_once.specs.Legs.{HasLeg}
 use Rattle.cp_at_once.specs.Whole.{HasTooMany, IsAnswer, IsComplete}
-use Rattle.cp_at_once.specs.declared.found.FoundAtOnce.{FoundAtOnce}
 use Rattle.cp_at_once.proofs.Following.{States}
 use Rattle.cp_at_once.proofs.Pending.{never_pending}
 use Rattle.cp_at_once.proofs.Tied.{searches}

@@ -2,33 +2,23 @@
 use Rattle.std.proofs.Common.{◌≡◌, ◌∙◌, ◌⊎◌, inl, inr, ⊎_elim, ◌+◌, ◌<◌, ◌≤◌, ℕ, zero, suc, List, [], ◌∷◌, ◌++◌, Bool, true, false, if◌then◌else◌, length, Option, None, Some, refl, sym, ap, subst, arith}
 use Rattle.std.specs.Prelude.{Contains, slice_get}
 use Rattle.std.proofs.lemmas.Bool.{cases_lt}
-use Rattle.std.proofs.lemmas.Option.{slice_get_within}
-use Rattle.cp_slots.specs.Tables.{Tables}
-use Rattle.cp_machine.specs.declared.gates.Gates.TheVariants.{First}
-use Rattle.cp_machine.specs.declared.shown.Shown.{Shown}
-use Rattle.cp_machine.specs.System.{Machine, is_pending}
+use Rattle.cp_at_once.proofs.Words.{slice_get_within, Tables, First, Shown, Machine, is_pending, slots, silent_slots, without_output, slot_graph, Goal, Place}
+use Rattle.cp_at_once.proofs.Words.{same_key, SlotArrival, has, End, HasLeg, FoundAtOnce}
 use Rattle.cp_run.specs.declared.outcome.OutcomeKind.{OutcomeKind}
 use Rattle.cp_run.specs.declared.outcome.OutcomeKind.TheVariants.{StepLimit}
 use Rattle.cp_run.specs.declared.outcome.Turn.{Turn}
 use Rattle.cp_run.specs.declared.outcome.Turn.TheVariants as turn
 use Rattle.cp_run.specs.System.{System}
 use Rattle.cp_run.specs.Run.{Node, Halted, Choosing, may, turn_at, turn_after, stretch}
-use Rattle.cp_run.specs.Slots.{slots}
 use Rattle.cp_run.specs.Table.{each}
 use Rattle.cp_endless.specs.Moments.{Moment, AnyOf, moments_by, stretch_moments}
 use Rattle.cp_endless.specs.Repeats.{CallsAt, repeated_part}
 use Rattle.cp_endless.specs.Rounds.{IsCut, IsRound, spot_after, spot_by}
 use Rattle.cp_endless.specs.Settled.{IsIn}
 use Rattle.cp_endless.specs.Shown.{shown_at}
-use Rattle.cp_endless.specs.Silent.{silent_slots, without_output}
 use Rattle.cp_endless.proofs.steps.Rounds.{happens_early, some_none}
-use Rattle.cp_ends.specs.Answer.{slot_graph}
 use Rattle.cp_ends.specs.Arrivals.{arrival_by, first_arrival, goal_of, has_call, stretch_arrival}
-use Rattle.cp_ends.specs.Graph.{Goal, Place}
 use Rattle.cp_ends.specs.Graph as graph
-use Rattle.cp_ends.specs.Holds.{same_key, SlotArrival}
-use Rattle.cp_ends.specs.Searched.{has}
-use Rattle.cp_ends.specs.declared.end.End.{End}
 use Rattle.cp_ends.specs.declared.end.End.TheVariants.{Over, Alone, Spins}
 use Rattle.cp_ends.proofs.Arriving.{next_free}
 use Rattle.cp_ends.proofs.Stretches.{moments_there}
@@ -39,8 +29,6 @@ use Rattle.cp_at_once_laws.specs.OnSlots.{IsQuietOnSlots, Tells}
 use Rattle.cp_at_once_laws.specs.Search.{IsFollowed, IsTaken, SearchesAtOnce}
 use Rattle.cp_at_once_laws.specs.Through.{IsOpeningKnown}
 use Rattle.cp_at_once.specs.Following.{Follows, IsDone, IsGone, IsGoneThrough, IsKnownGoal, knows_end, knows_value}
-use Rattle.cp_at_once.specs.Legs.{HasLeg}
-use Rattle.cp_at_once.specs.declared.found.FoundAtOnce.{FoundAtOnce}
 use Rattle.cp_at_once.proofs.Following.{States}
 use Rattle.cp_endless.proofs.steps.Repeating.{none_of as each_none}
 use Rattle.cp_endless.proofs.possible.Walks.{each_append}

@@ -1,11 +1,8 @@
 -- The numbers of a word, from its last one back.
 use Rattle.std.proofs.Common.{◌≡◌, ◌∙◌, ◌⊎◌, inl, inr, ◌+◌, ◌-◌, ◌<◌, ◌≤◌, ℕ, suc, List, [], ◌∷◌, ◌++◌, length, reverse, take, get_or, Option, None, Some, refl, sym, ap, subst, arith}
-use Rattle.std.specs.Prelude.{slice_get}
+use Rattle.cp_at_once.proofs.Words.{slice_get, slice_get_cases, slice_get_within, Tables, OriginAtOnce}
 use Rattle.std.proofs.lemmas.List.{append-nil, append_assoc, get_or-reverse, length-reverse, reverse-append, reverse-reverse, take_all, take_more}
-use Rattle.std.proofs.lemmas.Option.{slice_get_cases, slice_get_within}
-use Rattle.cp_slots.specs.Tables.{Tables}
 use Rattle.cp_at_once.specs.Holds.{AreStates, IsBefore, IsWordBy, IsWordOf, numbers_at, numbers_of, state_at, state_of}
-use Rattle.cp_at_once.specs.declared.origin.OriginAtOnce.{OriginAtOnce}
 use Rattle.cp_at_once.proofs.Keeping.{Keys, Stated, states_length}
 
 -- how far there is to go at most

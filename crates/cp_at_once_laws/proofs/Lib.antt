@@ -1,3 +1,4 @@
+mod Words
 pub mod reading
 pub mod pairs
 pub mod search

@@ -1,14 +1,8 @@
 -- Arguments and parameters side by side.
 use Rattle.std.proofs.Common.{◌≡◌, ℕ, ◌+◌, ◌<◌, ◌≤◌, true, ◌&&◌, List, [], ◌++◌, length, get_or, drop, refl, sym, ap, subst, ◌∙◌, add-one, arith}
-use Rattle.std.proofs.Math.Seq.{drop-cons}
-use Rattle.std.proofs.lemmas.List.{drop_all}
-use Rattle.cp_scope.specs.declared.fault.CheckFault.{CheckFault}
+use Rattle.cp_check.proofs.Words.{drop-cons, drop_all, CheckFault, RefusesList, Operand, Use, both_uses}
 use Rattle.cp_scope.specs.declared.types.Parameter.{Parameter}
-use Rattle.cp_scope.specs.Judged.{RefusesList}
-use Rattle.cp_check.specs.declared.operand.Operand.{Operand}
 use Rattle.cp_check.specs.Calls.{fits, all_fit, variable_faults, all_variable_faults, total_use}
-use Rattle.cp_scope.specs.declared.count.Use.{Use}
-use Rattle.cp_scope.specs.Counts.{both_uses}
 use Rattle.cp_check.proofs.Judging.{first_append}
 
 module _ (ps : List Parameter) (os : List Operand) (i : ℕ) (p : Parameter) (o : Operand) (within : i < length ps) (same : length ps ≡ length os) (here : p ≡ get_or ps i p) (there : o ≡ get_or os i o) where

@@ -1,17 +1,9 @@
 -- Arms of a `case`: what is left leads where all lead.
 use Rattle.std.proofs.Common.{◌≡◌, ℕ, suc, ◌+◌, ◌<◌, ◌≤◌, List, ◌++◌, length, get_or, drop, Ok, Err, refl, sym, ap, subst, ◌∙◌, add-one}
-use Rattle.std.proofs.Math.Seq.{drop-cons}
-use Rattle.std.proofs.lemmas.List.{drop_all}
-use Rattle.cp_scope.specs.declared.fault.CheckFault.{CheckFault}
-use Rattle.cp_scope.specs.declared.count.Use.{Use}
+use Rattle.cp_check.proofs.Words.{drop-cons, drop_all, CheckFault, Use, both_uses, Scopes, Judged, both, ◌>>=◌, Refuses, Label, Context}
 use Rattle.cp_tree.specs.declared.statement.Arm as tree_arm
 use Rattle.cp_tree.specs.Syntax.{Arms, no_arms, more_arms}
 use Rattle.cp_tree.specs.View.{arm_view, arms_view, arms_of}
-use Rattle.cp_scope.specs.Counts.{both_uses}
-use Rattle.cp_scope.specs.Scopes.{Scopes}
-use Rattle.cp_scope.specs.Judged.{Judged, both, ◌>>=◌, Refuses}
-use Rattle.cp_check.specs.declared.case.Label.{Label}
-use Rattle.cp_check.specs.declared.operand.Context.{Context}
 use Rattle.cp_check.specs.Cases.{joined}
 use Rattle.cp_check.specs.Statements.{labelled, arms}
 use Rattle.cp_check.proofs.Judging.{refuses_both, refuses_bind}

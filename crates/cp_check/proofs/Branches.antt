@@ -7,12 +7,7 @@ use Rattle.cp_tree.specs.declared.statement.StatementKind.{the_lemmas}
 use Rattle.cp_tree.specs.declared.statement.StatementKind.TheVariants as kinds
 use Rattle.cp_tree.specs.Syntax.{if_else}
 use Rattle.cp_tree.specs.View.{expression_view, statement_view}
-use Rattle.cp_scope.specs.declared.fault.CheckFault.{CheckFault}
-use Rattle.cp_scope.specs.declared.fault.CheckFault.TheVariants.{Rule, Memory}
-use Rattle.cp_scope.specs.Scopes.{Scopes}
-use Rattle.cp_scope.specs.Judged.{Judged, both, ◌>>=◌, Refuses}
-use Rattle.cp_check.specs.declared.operand.Context.{Context}
-use Rattle.cp_check.specs.declared.operand.Operand.{Operand}
+use Rattle.cp_check.proofs.Words.{CheckFault, Rule, Memory, Scopes, Judged, both, ◌>>=◌, Refuses, Context, Operand}
 use Rattle.cp_check.specs.Expressions.{expression}
 use Rattle.cp_check.specs.Statements.{statement, together, test_then}
 use Rattle.cp_check.proofs.Judging.{refuses_both}

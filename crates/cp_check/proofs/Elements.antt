@@ -1,10 +1,7 @@
 -- Elements of a set constructor.
 use Rattle.std.proofs.Common.{◌≡◌, ℕ, ◌+◌, ◌<◌, ◌≤◌, true, ◌&&◌, List, length, get_or, drop, refl, add-one}
-use Rattle.std.proofs.Math.Seq.{drop-cons}
-use Rattle.std.proofs.lemmas.List.{drop_all}
-use Rattle.cp_scope.specs.declared.types.Base.{Base}
+use Rattle.cp_check.proofs.Words.{drop-cons, drop_all, Base, Operand}
 use Rattle.cp_scope.specs.Types.{is_of}
-use Rattle.cp_check.specs.declared.operand.Operand.{Operand}
 use Rattle.cp_check.specs.Expressions.{are_elements}
 
 pub elements_split : (b : Base) (os : List Operand) (i : ℕ) (o : Operand) → i < length os → o ≡ get_or os i o → are_elements b (drop i os) ≡ is_of b o.value_type && are_elements b (drop (i + 1) os)

@@ -1,8 +1,7 @@
 -- Loops over the parts of expressions: what is left leads where all lead.
 use Rattle.std.proofs.Common.{◌≡◌, ℕ, suc, ◌+◌, ◌<◌, ◌≤◌, List, [], ◌∷◌, ◌++◌, length, get_or, drop, Bool, false, ◌&&◌, Option, Some, Ok, Err, refl, sym, ap, subst, ◌∙◌, add-one, append_assoc}
-use Rattle.std.proofs.Math.Seq.{drop-cons}
+use Rattle.cp_check.proofs.Words.{drop-cons, CheckFault, Scopes, Judged, both, ◌>>=◌, Refuses, Context, Operand}
 use Rattle.std.proofs.lemmas.List.{drop_all, append-nil}
-use Rattle.cp_scope.specs.declared.fault.CheckFault.{CheckFault}
 use Rattle.cp_scope.specs.declared.types.Parameter.{Parameter}
 use Rattle.cp_tree.specs.declared.expression.Addition.{Addition}
 use Rattle.cp_tree.specs.declared.expression.Multiplication.{Multiplication}
@@ -14,10 +13,6 @@ use Rattle.cp_check.proofs.Folded.{sum_shown, term_shown}
 use Rattle.cp_tree.specs.declared.expression.Selector as tree_selector
 use Rattle.cp_tree.specs.Syntax.{Terms, no_terms, more_terms as terms_more, Factors, no_factors, more_factors as factors_more, Selectors, no_selectors, more_selectors, Selector, field, index}
 use Rattle.cp_tree.specs.View.{expression_view, expressions_view, expressions_of, sum_view, term_view, terms_view, terms_of, factor_view, factors_view, factors_of, selector_view, selectors_view, selectors_of}
-use Rattle.cp_scope.specs.Scopes.{Scopes}
-use Rattle.cp_scope.specs.Judged.{Judged, both, ◌>>=◌, Refuses}
-use Rattle.cp_check.specs.declared.operand.Context.{Context}
-use Rattle.cp_check.specs.declared.operand.Operand.{Operand}
 use Rattle.cp_check.specs.declared.operand.DesignatedName.{DesignatedName}
 use Rattle.cp_check.specs.Operations as operations
 use Rattle.cp_check.specs.Names.{selected}

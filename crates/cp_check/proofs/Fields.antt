@@ -1,15 +1,10 @@
 -- Fields of records: what is left leads where all lead.
 use Rattle.std.proofs.Common.{◌≡◌, ℕ, ◌+◌, ◌<◌, ◌≤◌, List, [], ◌∷◌, length, get_or, drop, Option, refl, sym, subst, ◌∙◌, add-one}
-use Rattle.std.proofs.Math.Seq.{drop-cons}
-use Rattle.std.proofs.lemmas.List.{drop_all}
-use Rattle.cp_scope.specs.declared.fault.CheckFault.{CheckFault}
-use Rattle.cp_scope.specs.declared.fault.CheckFault.TheVariants.{Rule, Memory}
+use Rattle.cp_check.proofs.Words.{drop-cons, drop_all, CheckFault, Rule, Memory, Identifier, Judged, ◌>>=◌, Refuses, RefusesList}
 use Rattle.cp_scope.specs.declared.types.Meaning.{Meaning}
-use Rattle.cp_tree.specs.declared.constant.Identifier.{Identifier}
 use Rattle.cp_tree.specs.declared.types.FieldGroup as tree_group
 use Rattle.cp_tree.specs.View.{field_group_view, field_groups_view, field_groups_of}
 use Rattle.cp_scope.specs.Scopes.{Scope, Scopes, with_name}
-use Rattle.cp_scope.specs.Judged.{Judged, ◌>>=◌, Refuses, RefusesList}
 use Rattle.cp_check.specs.Records.{Reserved, then_reserve, reserve_field, reserve_fields, with_fields, Fields, declared, then_fields, sound_of}
 use Rattle.cp_check.specs.Types.{group_typed, groups_typed}
 use Rattle.cp_check.proofs.Judging.{first_append}

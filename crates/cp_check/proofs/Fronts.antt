@@ -1,8 +1,5 @@
 -- What is known already, before what is still to come.
-use Rattle.std.proofs.Common.{List, [], ◌∷◌, ◌++◌, Ok, Err}
-use Rattle.cp_scope.specs.declared.fault.CheckFault.{CheckFault}
-use Rattle.cp_scope.specs.declared.fault.CheckFault.TheVariants.{Rule, Memory}
-use Rattle.cp_scope.specs.Judged.{Judged, Refuses}
+use Rattle.cp_check.proofs.Words.{List, [], ◌∷◌, ◌++◌, Ok, Err, CheckFault, Rule, Memory, Judged, Refuses}
 
 abbrev pub with_front : {A : Type 0} → List A → Judged (List A) → Judged (List A)
 with_front front (Ok ts) = Ok (front ++ ts)

@@ -1,7 +1,5 @@
 -- The first fault of a node is that of its first part with one.
-use Rattle.std.proofs.Common.{List, [], ◌∷◌, ◌++◌, Ok, Err}
-use Rattle.cp_scope.specs.declared.fault.CheckFault.{CheckFault}
-use Rattle.cp_scope.specs.declared.fault.CheckFault.TheVariants.{Rule, Memory}
+use Rattle.cp_check.proofs.Words.{List, [], ◌∷◌, ◌++◌, Ok, Err, CheckFault, Rule, Memory}
 use Rattle.cp_scope.specs.Judged.{Judged, both, ◌>>=◌, IsFirst, Refuses, IsFirstOf, RefusesList}
 
 first_both : {A B C : Type 0} (f : CheckFault) (a : Judged A) (b : Judged B) (k : A × B → Judged C) → IsFirst f a → IsFirst f (both a b >>= k)

@@ -1,14 +1,9 @@
 -- Labels of a `case`: what is left leads where all lead.
 use Rattle.std.proofs.Common.{◌≡◌, ℕ, ◌+◌, ◌<◌, ◌≤◌, true, ◌&&◌, List, [], ◌∷◌, ◌++◌, length, get_or, drop, Ok, Err, refl, sym, ap, subst, ◌∙◌, add-one, append_assoc}
-use Rattle.std.proofs.Math.Seq.{drop-cons}
+use Rattle.cp_check.proofs.Words.{drop-cons, CheckFault, Base, Scopes, Judged, both, ◌>>=◌, Refuses, Label}
 use Rattle.std.proofs.lemmas.List.{drop_all, append-nil}
-use Rattle.cp_scope.specs.declared.fault.CheckFault.{CheckFault}
-use Rattle.cp_scope.specs.declared.types.Base.{Base}
 use Rattle.cp_tree.specs.declared.constant.Constant.{Constant}
 use Rattle.cp_scope.specs.Types.{same_base}
-use Rattle.cp_scope.specs.Scopes.{Scopes}
-use Rattle.cp_scope.specs.Judged.{Judged, both, ◌>>=◌, Refuses}
-use Rattle.cp_check.specs.declared.case.Label.{Label}
 use Rattle.cp_check.specs.Cases.{one_label, labels, before, are_labels, twice_faults}
 use Rattle.cp_check.proofs.Judging.{refuses_both}
 use Rattle.cp_check.proofs.Fronts.{with_front, front_refuses}

@@ -15,3 +15,4 @@ pub mod Routines
 pub mod Statements
 pub mod Steps
 pub mod Systems
+mod Words

@@ -1,12 +1,6 @@
 -- Constants of an enumeration: what is left leads where all lead.
 use Rattle.std.proofs.Common.{◌≡◌, ℕ, ◌+◌, ◌<◌, ◌≤◌, List, [], ◌∷◌, length, get_or, drop, refl, sym, subst, ◌∙◌, add-one}
-use Rattle.std.proofs.Math.Seq.{drop-cons}
-use Rattle.std.proofs.lemmas.List.{drop_all}
-use Rattle.cp_tree.specs.declared.constant.Identifier.{Identifier}
-use Rattle.cp_scope.specs.declared.fault.CheckFault.{CheckFault}
-use Rattle.cp_scope.specs.declared.types.Base.{Base}
-use Rattle.cp_scope.specs.Scopes.{Scopes}
-use Rattle.cp_scope.specs.Judged.{RefusesList}
+use Rattle.cp_check.proofs.Words.{drop-cons, drop_all, Identifier, CheckFault, Base, Scopes, RefusesList}
 use Rattle.cp_check.specs.Types.{Step, then_step, nothing, member, members}
 use Rattle.cp_check.proofs.Judging.{first_append}
 

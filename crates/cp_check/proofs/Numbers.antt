@@ -8,11 +8,9 @@ use Rattle.std.proofs.lemmas.List.{map-append, take-append-drop}
 use Rattle.indexmap.specs.IndexSet.{insert_key}
 use Rattle.cp_scope.specs.declared.fault.CheckFault.TheVariants as check_fault
 use Rattle.cp_scope.specs.declared.fault.Rule.TheVariants.{C19}
-use Rattle.cp_scope.specs.declared.types.Base.{Base}
+use Rattle.cp_check.proofs.Words.{Base, RefusesList, Label}
 use Rattle.cp_scope.specs.declared.types.Base.TheVariants.{Integer, Boolean, Char, Enumeration}
 use Rattle.cp_scope.specs.Types.{same_base}
-use Rattle.cp_scope.specs.Judged.{RefusesList}
-use Rattle.cp_check.specs.declared.case.Label.{Label}
 use Rattle.cp_check.specs.Cases.{are_labels, AreOfOneBase, is_label, again_faults, twice_faults}
 
 -- ---- one base

@@ -1,15 +1,12 @@
 -- Lists of routines and of their parameters: what is left leads where all lead.
 use Rattle.std.proofs.Common.{◌≡◌, ℕ, ◌+◌, ◌<◌, ◌≤◌, false, List, [], ◌∷◌, length, get_or, drop, map, Option, refl}
-use Rattle.cp_scope.specs.declared.fault.CheckFault.{CheckFault}
+use Rattle.cp_check.proofs.Words.{CheckFault, Scopes, RefusesList, then_step, nothing}
 use Rattle.cp_tree.specs.declared.declaration.SystemKind.{SystemKind}
 use Rattle.cp_tree.specs.declared.declaration.Group as tree_group
 use Rattle.cp_tree.specs.declared.declaration.ParameterGroup as tree_parameter
 use Rattle.cp_tree.specs.declared.declaration.Routine as tree_routine
 use Rattle.cp_tree.specs.Syntax.{Group, ParameterGroup, Routine}
 use Rattle.cp_tree.specs.View.{group_view, parameter_group_view, routine_view}
-use Rattle.cp_scope.specs.Scopes.{Scopes}
-use Rattle.cp_scope.specs.Judged.{RefusesList}
-use Rattle.cp_check.specs.Types.{then_step, nothing}
 use Rattle.cp_check.specs.Headings.{group_step, group_steps, parameter_step, parameter_steps}
 use Rattle.cp_check.specs.Routines.{routine_step, routine_steps}
 use Rattle.cp_check.proofs.Steps.{passed, refused, none}

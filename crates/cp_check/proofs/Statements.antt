@@ -1,18 +1,11 @@
 -- Loops over statements and starts: what is left leads where all lead.
 use Rattle.std.proofs.Common.{◌≡◌, ℕ, suc, ◌+◌, ◌<◌, ◌≤◌, List, [], ◌∷◌, length, get_or, drop, map, Ok, Err, refl, sym, ap, subst, ◌∙◌, add-one, arith}
-use Rattle.std.proofs.Math.Seq.{drop-cons}
-use Rattle.std.proofs.lemmas.List.{drop_all}
-use Rattle.cp_scope.specs.declared.fault.CheckFault.{CheckFault}
-use Rattle.cp_scope.specs.declared.count.Use.{Use}
+use Rattle.cp_check.proofs.Words.{drop-cons, drop_all, CheckFault, Use, both_uses, Scopes, Judged, both, ◌>>=◌, Refuses, Context}
 use Rattle.cp_tree.specs.declared.expression.Expression as tree_expression
 use Rattle.cp_tree.specs.declared.statement.Statement as tree_statement
 use Rattle.cp_tree.specs.declared.statement.Start as tree_start
 use Rattle.cp_tree.specs.Syntax.{Start, Statements, no_statements, more_statements}
 use Rattle.cp_tree.specs.View.{expressions_view, expressions_of, statement_view, statements_view, statements_of, start_view}
-use Rattle.cp_scope.specs.Counts.{both_uses}
-use Rattle.cp_scope.specs.Scopes.{Scopes}
-use Rattle.cp_scope.specs.Judged.{Judged, both, ◌>>=◌, Refuses}
-use Rattle.cp_check.specs.declared.operand.Context.{Context}
 use Rattle.cp_check.specs.Statements.{statement, statements, start, starts, together, number_of}
 use Rattle.cp_check.proofs.Judging.{refuses_both, refuses_bind}
 

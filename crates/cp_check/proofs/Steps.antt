@@ -1,10 +1,7 @@
 -- Lists of declarations: what is left leads where all lead.
 use Rattle.std.proofs.Common.{◌≡◌, ℕ, ◌+◌, ◌<◌, ◌≤◌, List, [], ◌∷◌, length, get_or, drop, map, Option, refl, sym, ap, subst, ◌∙◌, add-one}
-use Rattle.std.proofs.Math.Seq.{drop-cons}
-use Rattle.std.proofs.lemmas.List.{drop_all}
-use Rattle.cp_scope.specs.declared.fault.CheckFault.{CheckFault}
+use Rattle.cp_check.proofs.Words.{drop-cons, drop_all, CheckFault, Identifier, RefusesList}
 use Rattle.cp_scope.specs.declared.types.Meaning.{Meaning}
-use Rattle.cp_tree.specs.declared.constant.Identifier.{Identifier}
 use Rattle.cp_tree.specs.declared.declaration.ConstantDefinition as tree_constant
 use Rattle.cp_tree.specs.declared.declaration.TypeDefinition as tree_type
 use Rattle.cp_tree.specs.declared.declaration.VariableGroup as tree_variable
@@ -12,7 +9,6 @@ use Rattle.cp_tree.specs.declared.declaration.Part as tree_part
 use Rattle.cp_tree.specs.Syntax.{ConstantDefinition, TypeDefinition, VariableGroup, Part}
 use Rattle.cp_tree.specs.View.{constant_definition_view, type_definition_view, variable_group_view, part_view}
 use Rattle.cp_scope.specs.Scopes.{Scopes, add}
-use Rattle.cp_scope.specs.Judged.{RefusesList}
 use Rattle.cp_check.specs.declared.types.Spot.{Spot}
 use Rattle.cp_check.specs.Types.{Step, then_step, nothing}
 use Rattle.cp_check.specs.Declarations.{reserve_name, reserve_names, add_names, constant_step, constant_steps, type_step, type_steps, variable_step, variable_steps, part_step, part_steps}

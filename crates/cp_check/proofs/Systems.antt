@@ -1,15 +1,11 @@
 -- Lists of system types' declarations: what is left leads where all lead.
-use Rattle.std.proofs.Common.{◌≡◌, ℕ, ◌+◌, ◌<◌, ◌≤◌, List, [], ◌∷◌, length, get_or, drop, map, refl}
-use Rattle.cp_scope.specs.declared.fault.CheckFault.{CheckFault}
+use Rattle.cp_check.proofs.Words.{◌≡◌, ℕ, ◌+◌, ◌<◌, ◌≤◌, List, [], ◌∷◌, length, get_or, drop, map, refl, CheckFault, Scopes, RefusesList, then_step, nothing}
 use Rattle.cp_tree.specs.declared.declaration.SystemKind.{SystemKind}
 use Rattle.cp_tree.specs.declared.declaration.Group as tree_group
 use Rattle.cp_tree.specs.declared.declaration.SystemDefinition as tree_definition
 use Rattle.cp_tree.specs.declared.declaration.ProgramPart as tree_part
 use Rattle.cp_tree.specs.Syntax.{Group, SystemDefinition, ProgramPart}
 use Rattle.cp_tree.specs.View.{group_view, system_definition_view, program_part_view}
-use Rattle.cp_scope.specs.Scopes.{Scopes}
-use Rattle.cp_scope.specs.Judged.{RefusesList}
-use Rattle.cp_check.specs.Types.{then_step, nothing}
 use Rattle.cp_check.specs.Systems.{group_step, group_steps, definition_step, definition_steps, program_part_step, program_part_steps}
 use Rattle.cp_check.proofs.Steps.{passed, refused, none}
 

@@ -1,14 +1,12 @@
 -- Marks that are added to others.
 use Rattle.std.proofs.Common.{◌≡◌, inl, inr, ⊎_elim, Bool, true, false, ◌&&◌, if◌then◌else◌, List, [], ◌∷◌, ◌++◌, refl, sym, ap, subst, ◌∙◌, arith}
-use Rattle.std.specs.Prelude.{Contains}
+use Rattle.cp_cover.proofs.Words.{Contains, Adds, CoverMark}
 use Rattle.std.specs.List.{list_any}
 use Rattle.std.proofs.lemmas.List.Elements.{Contains-append_left, Contains-append_right, Contains-append_cases, Contains-push_cases}
 use Rattle.std.proofs.lemmas.Map.Views.{exact_unsigned_eq}
 use Rattle.indexmap.specs.IndexSet.{insert_key}
 use Rattle.indexmap.proofs.CallerLemmas.{Contains-list_any}
-use Rattle.cp_cover.specs.Marks.{Adds}
 use Rattle.cp_cover.specs.contracts.mark.CoverMarkPartialEq.TheImpl as mark_eq
-use Rattle.cp_cover.specs.declared.mark.CoverMark.{CoverMark}
 use Rattle.cp_cover.specs.declared.mark.CoverMark.TheVariants.{Statement, Queue, Gate}
 
 both : (a b : Bool) → (a && b) ≡ true → (a ≡ true) × (b ≡ true)

@@ -4,15 +4,10 @@ use Rattle.std.specs.Prelude.{Contains, slice_get}
 use Rattle.std.proofs.lemmas.Bool.{ltb-true, cases_order}
 use Rattle.std.proofs.lemmas.List.Elements.{Contains-append_left, Contains-append_right, Contains-append_cases, Contains-push, Contains-push_cases}
 use Rattle.std.proofs.lemmas.Option.{same_Some, slice_get_read, slice_get_within, get_or_from_slice_get}
-use Rattle.cp_slots.specs.Tables.{Tables}
+use Rattle.cp_cover.proofs.Words.{Tables, Machine, System, CoverStateKey, CoverMark, Adds}
 use Rattle.cp_key.proofs.Keys.{key_tells}
-use Rattle.cp_machine.specs.Machine.{Machine}
-use Rattle.cp_run.specs.System.{System}
 use Rattle.cp_run.specs.Run.{Node, may, those_below, chosen, opened}
-use Rattle.cp_cover.specs.declared.keys.CoverStateKey.{CoverStateKey}
-use Rattle.cp_cover.specs.declared.mark.CoverMark.{CoverMark}
 use Rattle.cp_cover.specs.Reached.{IsDue, IsReached, chosen_marks, opened_marks}
-use Rattle.cp_cover.specs.Marks.{Adds}
 use Rattle.cp_cover.specs.Layers.{AddsNode, AreOwn, IsKeyOf, HasKey, IsLayer, AreReached, FromState, FromLayer, IsAfter}
 
 pub contains_at : {X : Type 0} (xs : List X) (i : ℕ) (x : X) → slice_get xs i ≡ Some x → Contains xs x

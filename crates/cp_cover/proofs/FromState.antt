@@ -1,22 +1,15 @@
 -- What comes of going on from one state.
 use Rattle.std.proofs.Common.{◌≡◌, ◌⊎◌, inl, inr, ⊎_elim, ℕ, Bool, true, false, if◌then◌else◌, List, [], ◌∷◌, ◌++◌, refl, sym, ap, subst, ◌∙◌, arith}
-use Rattle.std.specs.Prelude.{Contains}
+use Rattle.cp_cover.proofs.Words.{Contains, Tables, Machine, System, CoverStateKey, CoverMark, Adds, chosen_marks}
 use Rattle.std.specs.List.{list_any}
 use Rattle.std.specs.Cmp.Lexicographic.{bytes_decides}
 use Rattle.std.specs.Prelude.{◌||◌}
 use Rattle.std.proofs.lemmas.List.Elements.{Contains-append_left, Contains-append_right, Contains-push, Contains-push_cases}
 use Rattle.indexmap.specs.IndexSet.{insert_key}
-use Rattle.cp_slots.specs.Tables.{Tables}
 use Rattle.cp_key.specs.Room.{IsMachineOf}
-use Rattle.cp_machine.specs.Machine.{Machine}
 use Rattle.cp_run.specs.declared.outcome.OutcomeKind.{OutcomeKind}
-use Rattle.cp_run.specs.System.{System}
 use Rattle.cp_run.specs.Run.{Node, Halted, Choosing, chosen}
 use Rattle.cp_cover.specs.contracts.keys.CoverStateKeyPartialEq.TheImpl as key_eq
-use Rattle.cp_cover.specs.declared.keys.CoverStateKey.{CoverStateKey}
-use Rattle.cp_cover.specs.declared.mark.CoverMark.{CoverMark}
-use Rattle.cp_cover.specs.Marks.{Adds}
-use Rattle.cp_cover.specs.Reached.{chosen_marks}
 use Rattle.cp_cover.specs.Layers.{IsKeyOf, HasKey, AddsState, AddsNode, FromState}
 
 abbrev pub same_key : CoverStateKey → CoverStateKey → Bool

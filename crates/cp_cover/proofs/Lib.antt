@@ -4,3 +4,4 @@ pub mod FromState
 pub mod Processes
 pub mod Stretches
 pub mod Wanted
+mod Words

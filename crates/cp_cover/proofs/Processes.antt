@@ -1,10 +1,8 @@
 -- Processes of states of one program.
-use Rattle.std.proofs.Common.{◌<◌, ℕ, length, arith}
+use Rattle.cp_cover.proofs.Words.{◌<◌, ℕ, length, arith, Tables, IsStateOf}
 use Rattle.std.proofs.lemmas.List.{length-map}
-use Rattle.cp_slots.specs.Tables.{Tables}
 use Rattle.cp_machine.specs.declared.state.State.{State}
 use Rattle.cp_machine.specs.Machine.{thread_of}
-use Rattle.cp_machine.specs.System.{IsStateOf}
 
 -- a process of one state is one of each state of the program
 pub still_within : (r : Tables) (s t : State) (p : ℕ) → IsStateOf r s → IsStateOf r t → p < length s.processes.items → p < length t.processes.items

@@ -2,11 +2,9 @@
 use Rattle.std.proofs.Common.{◌≡◌, ℕ, suc, ◌-◌, ◌+◌, ◌<◌, true, false, List, ◌++◌, ap, refl, sym, subst, ◌∙◌, arith}
 use Rattle.cp_machine.specs.Machine.{Machine, thread_at}
 use Rattle.cp_run.specs.declared.outcome.Turn.{Turn}
-use Rattle.cp_run.specs.System.{System}
+use Rattle.cp_cover.proofs.Words.{System, Adds, CoverMark}
 use Rattle.cp_run.specs.Run.{turn_after, turn_at, settled_turn}
-use Rattle.cp_cover.specs.Marks.{Adds}
 use Rattle.cp_cover.specs.Reached.{item_marks, wait_marks, step_marks, marks_on, stretch_marks, opened_marks, chosen_marks}
-use Rattle.cp_cover.specs.declared.mark.CoverMark.{CoverMark}
 use Rattle.cp_cover.proofs.Adding.{adds_none, adds_then}
 
 one_step : (sys : System Machine) (left : ℕ) (m : Machine) (p : ℕ) → stretch_marks sys (suc left) m p ≡ step_marks m (sys.step m p) p ++ marks_on (stretch_marks sys left (sys.step m p)) (turn_after sys (sys.step m p) p (sys.event m p))

@@ -1,4 +1,5 @@
 pub mod Basics
+mod Words
 pub mod possible
 pub mod steps
 pub mod waiting

@@ -1,23 +1,16 @@
 -- What the search through the graph found is what the words of the machine that shows nothing lead to.
 use Rattle.std.proofs.Common.{◌≡◌, ◌+◌, ◌<◌, ◌≤◌, ℕ, suc, Bool, true, false, if◌then◌else◌, List, [], ◌∷◌, ◌++◌, Some, length, map, refl, length-append, arith}
 use Rattle.std.specs.Prelude.{◌≢◌, All, AllPairs, Decides, filter, not, nat_lt, slice_get}
-use Rattle.std.specs.List.{AllByRecursion as Each}
+use Rattle.cp_ends.proofs.Words.{Each, Shown, System, may, forgetting_system, EndsSo, ShowsSo, Place, Graph, LeadsToPlace, LeadsToEnd, ShowsLast, Findings}
+use Rattle.cp_ends.proofs.Words.{Tests, has, gone_on, searched, MOST_VALUES}
 use Rattle.std.proofs.lemmas.Bool.{ltb-true}
 use Rattle.std.proofs.lemmas.List.{get_or-map, length-map}
 use Rattle.std.proofs.lemmas.List.Elements.{All-map, All-weaker, All-from_recursion, recursion_from_All}
 use Rattle.std.proofs.lemmas.List.Filters.{length-filter_both}
-use Rattle.cp_machine.specs.declared.shown.Shown.{Shown}
-use Rattle.cp_run.specs.System.{System}
-use Rattle.cp_run.specs.Run.{may}
-use Rattle.cp_endless.specs.Forgetting.{forgetting_system}
 use Rattle.cp_ends.specs.Whole.{LeadsToState, IsWhole, HasTooMany, IsCutShort}
 use Rattle.cp_ends.specs.Arrivals.{ends_graph}
-use Rattle.cp_ends.specs.Ends.{EndsSo, ShowsSo}
 use Rattle.cp_ends.specs.Firsts.{Within, is_within, those_within}
-use Rattle.cp_ends.specs.Graph.{Place, Graph, LeadsToPlace, LeadsToEnd, ShowsLast}
-use Rattle.cp_ends.specs.Searched.{Findings, Tests, has, gone_on, searched}
 use Rattle.cp_ends.specs.declared.end.End.{End}
-use Rattle.cp_ends.specs.declared.found.TheConstants.{MOST_VALUES}
 use Rattle.cp_ends.proofs.Searching.Arrivals.{IsBounded}
 use Rattle.cp_ends.proofs.Searching.Complete.{complete_states, complete_ends, complete_values}
 use Rattle.cp_ends.proofs.Searching.Going.{AreExact, exact_tests}

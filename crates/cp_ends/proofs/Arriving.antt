@@ -1,21 +1,10 @@
 -- Where a choice leads, by what is pending and by the turn that follows.
 use Rattle.std.proofs.Common.{◌≡◌, ◌∙◌, ℕ, List, [], ◌∷◌, ◌++◌, Bool, true, false, if◌then◌else◌, refl, sym, ap}
-use Rattle.std.proofs.lemmas.List.{append-nil}
-use Rattle.cp_slots.specs.Tables.{Tables}
-use Rattle.cp_machine.specs.declared.event.Event.{Event}
+use Rattle.cp_ends.proofs.Words.{append-nil, Tables, Event, Gates, Shown, Machine, is_pending, is_ready, Turn, Due, System, slots, forgetting_system}
+use Rattle.cp_ends.proofs.Words.{silent_slots, without_output, Arrival}
 use Rattle.cp_machine.specs.declared.event.Event.TheVariants.{Local, Fault, OutputFull}
-use Rattle.cp_machine.specs.declared.gates.Gates.{Gates}
-use Rattle.cp_machine.specs.declared.shown.Shown.{Shown}
-use Rattle.cp_machine.specs.System.{Machine, is_pending, is_ready}
-use Rattle.cp_run.specs.declared.outcome.Turn.{Turn}
-use Rattle.cp_run.specs.declared.outcome.Turn.TheVariants.{Due}
-use Rattle.cp_run.specs.System.{System}
 use Rattle.cp_run.specs.Run.{settled_turn, those_below, turn_after, turn_among, turn_at}
-use Rattle.cp_run.specs.Slots.{slots}
-use Rattle.cp_endless.specs.Forgetting.{forgetting_system}
-use Rattle.cp_endless.specs.Silent.{silent_slots, without_output}
 use Rattle.cp_ends.specs.Arrivals.{arrival_by, first_arrival, next_arrival, stretch_arrival}
-use Rattle.cp_ends.specs.Graph.{Arrival}
 use Rattle.cp_ends.specs.declared.end.End as code
 
 module _ {S : Type 0} (sys : System S) (forget : S → S) where

@@ -1,21 +1,11 @@
 -- Ends and values of the code, with their origins, are those of the search, with their words.
 use Rattle.std.proofs.Common.{◌≡◌, ◌∙◌, ◌<◌, ◌≤◌, ℕ, suc, Bool, true, false, if◌then◌else◌, List, [], ◌∷◌, ◌++◌, length, map, refl, sym, ap, subst, arith}
-use Rattle.std.specs.Prelude.{nat_lt, ◌||◌}
-use Rattle.std.specs.List.{list_any}
+use Rattle.cp_ends.proofs.Words.{nat_lt, ◌||◌, list_any, lt-ltb, le-ltb, Tables, Shown, ends_tests, AreFound, Holds, IsWordOf, SlotFindings, end_origin}
+use Rattle.cp_ends.proofs.Words.{value_origin, has, with_first, with_values, Found, FoundEnd, FoundValue, Origin}
 use Rattle.std.specs.declared.vec.Vec.{Vec}
 use Rattle.std.specs.declared.alloc.Global.{Global}
-use Rattle.std.proofs.lemmas.Bool.{lt-ltb, le-ltb}
 use Rattle.std.proofs.lemmas.List.{length-map, map-append}
-use Rattle.cp_slots.specs.Tables.{Tables}
-use Rattle.cp_machine.specs.declared.shown.Shown.{Shown}
-use Rattle.cp_ends.specs.Answer.{ends_tests}
-use Rattle.cp_ends.specs.Holds.{AreFound, Holds, IsWordOf, SlotFindings, end_origin, value_origin}
-use Rattle.cp_ends.specs.Searched.{has, with_first, with_values}
 use Rattle.cp_ends.specs.declared.end.End.{End}
-use Rattle.cp_ends.specs.declared.found.Found.{Found}
-use Rattle.cp_ends.specs.declared.found.FoundEnd.{FoundEnd}
-use Rattle.cp_ends.specs.declared.found.FoundValue.{FoundValue}
-use Rattle.cp_ends.specs.declared.origin.Origin.{Origin}
 use Rattle.cp_ends.proofs.Keeping.{Stated, word_more}
 use Rattle.cp_machine.proofs.ListLemmas.{list_any_map as any_map}
 

@@ -1,23 +1,14 @@
 -- What the code finds when words arrive, and when a state is gone on from.
 use Rattle.std.proofs.Common.{◌≡◌, ◌∙◌, ⊎_elim, ◌<◌, ◌≤◌, ℕ, zero, suc, Bool, true, false, if◌then◌else◌, List, [], ◌∷◌, ◌++◌, length, take, get_or, Some, ◌+◌, refl, sym, ap, subst, arith}
 use Rattle.std.specs.Prelude.{Result, Ok, Err, IfOk, slice_get}
-use Rattle.std.proofs.lemmas.Bool.{cases_lt}
+use Rattle.cp_ends.proofs.Words.{cases_lt, slice_get_within, Tables, Machine, those_below, Goal, Place, End, Graph, has, with_first, arrived, gone_on}
+use Rattle.cp_ends.proofs.Words.{searched, Found, Choice, States, Shown}
 use Rattle.std.proofs.Math.ListN.{get_or-append}
 use Rattle.std.proofs.Math.Seq.{get_or-append_seam, take-append_seam}
 use Rattle.std.proofs.lemmas.List.{append-nil, length-append, take-append-le, take_more}
-use Rattle.std.proofs.lemmas.Option.{slice_get_within}
-use Rattle.cp_slots.specs.Tables.{Tables}
-use Rattle.cp_machine.specs.System.{Machine}
-use Rattle.cp_run.specs.Run.{those_below}
 use Rattle.cp_ends.specs.Answer.{ends_tests, Arrives, Comes, HoldsFew, IsDone, IsTooMany, Stops, with_shown}
-use Rattle.cp_ends.specs.Graph.{Goal, Place, End, Graph}
 use Rattle.cp_ends.specs.Holds.{same_key, AreStates, Holds, IsBefore, IsWordOf, SlotArrival, SlotFindings}
-use Rattle.cp_ends.specs.Searched.{has, with_first, arrived, gone_on, searched}
 use Rattle.cp_ends.specs.declared.end.End as code
-use Rattle.cp_ends.specs.declared.found.Found.{Found}
-use Rattle.cp_ends.specs.declared.origin.Origin.TheVariants.{Choice}
-use Rattle.cp_ends.specs.declared.states.States.{States}
-use Rattle.cp_machine.specs.declared.shown.Shown.{Shown}
 use Rattle.cp_ends.proofs.Finding.{found_later}
 use Rattle.cp_ends.proofs.Searching.Growing.{going_at, searched_done, searched_length}
 

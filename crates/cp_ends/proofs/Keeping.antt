@@ -1,26 +1,19 @@
 -- The states of the code are those of the search.
 use Rattle.std.proofs.Common.{◌≡◌, ◌∙◌, ◌⊎◌, inl, inr, ◌<◌, ◌≤◌, ℕ, zero, suc, Bool, true, false, cond, if◌then◌else◌, List, [], ◌∷◌, ◌++◌, length, None, Some, is_some, get_or, refl, sym, ap, subst, arith}
-use Rattle.std.specs.Prelude.{nat_eq, slice_get}
+use Rattle.cp_ends.proofs.Words.{nat_eq, slice_get, bytes_decides, pointwise, Tables, Machine, has, Origin, States}
 use Rattle.std.specs.Map.{lookup}
-use Rattle.std.specs.Cmp.Lexicographic.{bytes_decides}
 use Rattle.std.proofs.lemmas.Cmp.{nat_list_eq_equiv}
 use Rattle.std.proofs.lemmas.List.Elements.{All-push}
 use Rattle.std.proofs.lemmas.Option.{same_Some, slice_get_cases, slice_get_past, slice_get_within}
 use Rattle.indexmap.specs.IndexMap.{insert_entry}
-use lib.Pointwise.{pointwise}
-use Rattle.cp_slots.specs.Tables.{Tables}
 use Rattle.cp_key.specs.Room.{IsMachineOf}
-use Rattle.cp_machine.specs.System.{Machine}
 use Rattle.cp_states.specs.Rows.{IsRowOf, KeepParts}
 use Rattle.cp_states.specs.declared.row.StateRow.{StateRow}
 use Rattle.cp_states.specs.declared.store.Store.{Store}
 use Rattle.cp_states.proofs.Alone.{one_machine, one_row}
 use Rattle.cp_states.proofs.Following.{row_on}
 use Rattle.cp_ends.specs.Holds.{same_key, AreRows, AreStates, IsBefore, IsWordOf}
-use Rattle.cp_ends.specs.Searched.{has}
-use Rattle.cp_ends.specs.declared.origin.Origin.{Origin}
 use Rattle.cp_ends.specs.declared.origin.Origin.TheVariants.{Start, Choice}
-use Rattle.cp_ends.specs.declared.states.States.{States}
 use Rattle.cp_ends.proofs.Searching.Lists.{all_at}
 use Rattle.cp_ends.proofs.named.Keys.{key_same, key_self}
 use Rattle.cp_refine.proofs.expressions.SetRanges.{same_truth as both_true}

@@ -1,24 +1,14 @@
 -- Lines for what was found, one after another.
 use Rattle.std.proofs.Common.{◌≡◌, ◌∙◌, ◌⊎◌, inl, inr, ◌+◌, ◌<◌, ◌≤◌, ℕ, zero, suc, Bool, true, false, if◌then◌else◌, List, [], ◌∷◌, ◌++◌, Option, None, Some, length, map, get_or, take, refl, sym, ap, subst, arith, add-one, nat_lt, codes, min}
-use Rattle.std.specs.Prelude.{slice_get}
-use Rattle.std.proofs.lemmas.Bool.{cases_lt, lt-ltb, le-ltb}
+use Rattle.cp_ends.proofs.Words.{slice_get, cases_lt, lt-ltb, le-ltb, slice_get_cases, slice_get_within, Tables, each, is_within, FoundEnd, FoundValue}
+use Rattle.cp_ends.proofs.Words.{MOST_VALUES, Origin, States, each_append}
 use Rattle.std.proofs.lemmas.List.{append-nil, append_assoc, length-append, length-map, length-take, take_all, take-append-le}
 use Rattle.std.proofs.lemmas.List.Elements.{filter-append}
-use Rattle.std.proofs.lemmas.Option.{slice_get_cases, slice_get_within}
-use Rattle.cp_slots.specs.Tables.{Tables}
-use Rattle.cp_run.specs.Table.{each}
 use Rattle.cp_walk.specs.Text.{Spellings}
-use Rattle.cp_ends.specs.Firsts.{is_within}
 use Rattle.cp_ends.specs.Holds.{AreFound, AreStates, IsWordOf, SlotFindings, end_origin, origin_at, origin_or, value_origin}
 use Rattle.cp_ends.specs.Told.{EndsWithWords, ValuesWithWords, count_line, end_line, ends_text, head_text, is_told, listed, told, value_line, values_text}
-use Rattle.cp_ends.specs.declared.found.FoundEnd.{FoundEnd}
-use Rattle.cp_ends.specs.declared.found.FoundValue.{FoundValue}
-use Rattle.cp_ends.specs.declared.found.TheConstants.{MOST_VALUES}
-use Rattle.cp_ends.specs.declared.origin.Origin.{Origin}
-use Rattle.cp_ends.specs.declared.states.States.{States}
 use Rattle.cp_ends.proofs.Finding.{found_length}
 use Rattle.cp_ends.proofs.Keeping.{Entry, Stated, states_length}
-use Rattle.cp_endless.proofs.possible.Walks.{each_append}
 
 pub each_push : {A B : Type 0} (f : A → List B) (xs : List A) (x : A) → each f (xs ++ x ∷ []) ≡ each f xs ++ f x
 each_push f [] x = append-nil (f x)

@@ -2,20 +2,14 @@
 use Rattle.std.proofs.Common.{◌≡◌, ◌⊎◌, inl, inr, ◌<◌, ◌≤◌, ◌∙◌, ℕ, zero, suc, Bool, true, false, if◌then◌else◌, List, [], ◌∷◌, Option, None, Some, is_some, length, get_or, refl, sym, ap, subst, arith}
 use Rattle.std.specs.Prelude.{nat_eq, position, slice_get}
 use Rattle.std.specs.Map.{keys_of, lookup}
-use Rattle.std.specs.Cmp.Lexicographic.{bytes_decides}
+use Rattle.cp_ends.proofs.Words.{bytes_decides, same_Some, slice_get_cases, pointwise, Tables, Machine, has, States}
 use Rattle.std.proofs.lemmas.List.Quantifiers.{position-Some}
-use Rattle.std.proofs.lemmas.Option.{same_Some, slice_get_cases}
-use lib.Pointwise.{pointwise}
-use Rattle.cp_slots.specs.Tables.{Tables}
 use Rattle.cp_key.specs.Room.{IsMachineOf}
-use Rattle.cp_machine.specs.System.{Machine}
 use Rattle.cp_states.specs.Rows.{IsRowOf}
 use Rattle.cp_states.specs.declared.row.StateRow.{StateRow}
 use Rattle.cp_states.specs.declared.store.Store.{Store}
 use Rattle.cp_states.proofs.Alone.{one_machine}
 use Rattle.cp_ends.specs.Holds.{same_key, AreRows, AreStates, IsNumberOf}
-use Rattle.cp_ends.specs.Searched.{has}
-use Rattle.cp_ends.specs.declared.states.States.{States}
 use Rattle.cp_ends.proofs.Keeping.{Entry, Stated, found_same, owned, state_of}
 use Rattle.cp_ends.proofs.named.Keys.{key_same}
 

@@ -1,21 +1,10 @@
 -- Whether a stretch that was cut comes back to where it is, by what is seen of it in so many steps.
 use Rattle.std.proofs.Common.{◌≡◌, ◌∙◌, ◌+◌, ◌<◌, ℕ, zero, suc, List, [], ◌∷◌, ◌++◌, Bool, true, false, if◌then◌else◌, Option, None, Some, refl, sym, ap, arith}
-use Rattle.std.specs.Prelude.{◌==◌, ◌&&◌, ◌||◌}
-use Rattle.cp_machine.specs.declared.shown.Shown.{Shown}
-use Rattle.cp_run.specs.declared.outcome.Turn.{Turn}
-use Rattle.cp_run.specs.declared.outcome.Turn.TheVariants.{Goes}
-use Rattle.cp_run.specs.System.{System}
-use Rattle.cp_run.specs.Run.{turn_after}
-use Rattle.cp_run.specs.Table.{each}
-use Rattle.cp_endless.specs.Moments.{Moment, stretch_moments}
-use Rattle.cp_endless.specs.Rounds.{spot_after, spot_by}
-use Rattle.cp_endless.specs.Shown.{shown_at}
+use Rattle.cp_ends.proofs.Words.{◌==◌, ◌&&◌, ◌||◌, Shown, Turn, Goes, System, turn_after, each, Moment, stretch_moments, spot_after, spot_by, shown_at, End}
+use Rattle.cp_ends.proofs.Words.{Arrival, Alone, Spins, distance}
 use Rattle.cp_ends.specs.Arrivals.{cut_arrival, first_return, has_call, is_call, return_at, return_within}
-use Rattle.cp_ends.specs.Graph.{End, Arrival}
 use Rattle.cp_ends.specs.declared.end.End as code
-use Rattle.cp_ends.specs.declared.end.End.TheVariants.{Alone, Spins}
 use Rattle.cp_ends.proofs.Stretches.{moments_next}
-use Rattle.cp_endless.proofs.Basics.{distance}
 
 -- a stretch that stands nowhere stands nowhere later
 gone_on : {S : Type 0} (sys : System S) (n m : ℕ) (s : S) (p : ℕ) → spot_after sys n s p ≡ None → spot_after sys (n + m) s p ≡ None

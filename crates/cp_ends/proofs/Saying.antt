@@ -1,32 +1,18 @@
 -- What the code's search answers is what the words of the machine that shows nothing lead to.
 use Rattle.std.proofs.Common.{◌≡◌, ℕ, [], ◌∷◌, ◌++◌, Option, None, Some, suc, length, ap, refl, subst, arith}
 use Rattle.std.specs.Prelude.{Decides, IfOk, Result}
-use Rattle.std.specs.Cmp.Lexicographic.{bytes_decides}
-use Rattle.cp_tree.specs.Read.{IsRead}
-use Rattle.cp_tree.specs.Syntax.{Tree}
-use Rattle.cp_layout.specs.Laid.{plain, laid}
-use Rattle.cp_slots.specs.Tables.{Tables}
-use Rattle.cp_lawful.specs.Accepted.{IsAccepted}
+use Rattle.cp_ends.proofs.Words.{bytes_decides, IsRead, Tree, plain, laid, Tables, IsAccepted, key_of, Machine, Gates, Shown, slots, without_output, Graph}
+use Rattle.cp_ends.proofs.Words.{Findings, gone_on, searched, Found, MOST_VALUES}
 use Rattle.cp_meaning.specs.State.{first_gates, any_gates}
 use Rattle.cp_refine.specs.Named.{named_gates}
-use Rattle.cp_key.specs.Key.{key_of}
 use Rattle.cp_key.proofs.Keys.{key_tells}
-use Rattle.cp_machine.specs.System.{Machine}
-use Rattle.cp_machine.specs.declared.gates.Gates.{Gates}
 use Rattle.cp_machine.specs.declared.gates.Gates.TheVariants.{First, Any}
-use Rattle.cp_machine.specs.declared.shown.Shown.{Shown}
-use Rattle.cp_run.specs.Slots.{slots}
-use Rattle.cp_endless.specs.Silent.{without_output}
 use Rattle.cp_ends.specs.Answer.{ends_tests, slot_graph, with_shown, IsDone, IsStopped, IsSearch}
-use Rattle.cp_ends.specs.Graph.{Graph}
 use Rattle.cp_ends.specs.Holds.{same_key, SlotFindings, Holds, HasFindings}
-use Rattle.cp_ends.specs.Searched.{Findings, gone_on, searched}
 use Rattle.cp_ends.specs.Firsts.{those_within}
 use Rattle.cp_ends.specs.Named.{IsAnswerOnNames, IsAnswerToOnNames}
 use Rattle.cp_ends.specs.Whole.{IsWhole, IsCutShort, IsAnswer, IsAnswerBy, IsMeantBy}
 use Rattle.cp_ends.specs.declared.end.End.{End}
-use Rattle.cp_ends.specs.declared.found.Found.{Found}
-use Rattle.cp_ends.specs.declared.found.TheConstants.{MOST_VALUES}
 use Rattle.cp_ends.proofs.Answering.{answers_whole, answers_cut}
 use Rattle.cp_ends.proofs.GoingOn.{ok_to}
 use Rattle.cp_ends.proofs.Searching.Growing.{going_at}

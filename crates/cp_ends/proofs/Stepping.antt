@@ -1,20 +1,10 @@
 -- A step of the slot machine, after which what it displayed is taken away.
-use Rattle.std.proofs.Common.{◌≡◌, ◌∙◌, ℕ, List, ◌++◌, Bool, true, false, refl, sym, ap, subst}
-use Rattle.cp_slots.specs.Tables.{Tables}
-use Rattle.cp_machine.specs.declared.event.Event.{Event}
+use Rattle.cp_ends.proofs.Words.{◌≡◌, ◌∙◌, ℕ, List, ◌++◌, Bool, true, false, refl, sym, ap, subst, Tables, Event, Gates, Shown, Stepped, Turn, Goes}
+use Rattle.cp_ends.proofs.Words.{turn_after, slots, silent_slots, without_output, is_call}
 use Rattle.cp_machine.specs.declared.event.Event.TheVariants.{Kernel}
 use Rattle.cp_machine.specs.declared.event.Kernel as kernel
-use Rattle.cp_machine.specs.declared.gates.Gates.{Gates}
-use Rattle.cp_machine.specs.declared.shown.Shown.{Shown}
-use Rattle.cp_machine.specs.Statements.{Stepped}
 use Rattle.cp_machine.specs.System.{Machine, is_pending, is_ready, step_at}
-use Rattle.cp_run.specs.declared.outcome.Turn.{Turn}
-use Rattle.cp_run.specs.declared.outcome.Turn.TheVariants.{Goes}
 use Rattle.cp_run.specs.Code.{IfGoes}
-use Rattle.cp_run.specs.Run.{turn_after}
-use Rattle.cp_run.specs.Slots.{slots}
-use Rattle.cp_endless.specs.Silent.{silent_slots, without_output}
-use Rattle.cp_ends.specs.Arrivals.{is_call}
 use Rattle.cp_ends.proofs.Arriving.{after_silent}
 
 -- what is so if somebody goes on, where somebody does

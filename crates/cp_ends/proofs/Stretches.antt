@@ -1,20 +1,9 @@
 -- Where a stretch of a machine that shows nothing comes to, by where it stands after so many steps.
 use Rattle.std.proofs.Common.{◌≡◌, ◌∙◌, ◌+◌, ◌<◌, ℕ, zero, suc, List, [], ◌∷◌, ◌++◌, Bool, Option, None, Some, refl, sym, ap, arith}
-use Rattle.std.proofs.lemmas.List.{append-nil, append_assoc}
-use Rattle.cp_machine.specs.declared.shown.Shown.{Shown}
-use Rattle.cp_run.specs.declared.outcome.OutcomeKind.{OutcomeKind}
-use Rattle.cp_run.specs.declared.outcome.Turn.{Turn}
+use Rattle.cp_ends.proofs.Words.{append-nil, append_assoc, Shown, OutcomeKind, Turn, System, Node, Halted, Choosing, node_at, turn_after, stretch, each}
+use Rattle.cp_ends.proofs.Words.{forgetting_system, Moment, moments_by, stretch_moments, spot_after, spot_by, shown_at, from_there, Goal, Place, End, Arrival}
 use Rattle.cp_run.specs.declared.outcome.Turn.TheVariants.{Over, Due, Goes}
-use Rattle.cp_run.specs.System.{System}
-use Rattle.cp_run.specs.Run.{Node, Halted, Choosing, node_at, turn_after, stretch}
-use Rattle.cp_run.specs.Table.{each}
-use Rattle.cp_endless.specs.Forgetting.{forgetting_system}
-use Rattle.cp_endless.specs.Moments.{Moment, moments_by, stretch_moments}
-use Rattle.cp_endless.specs.Rounds.{spot_after, spot_by}
-use Rattle.cp_endless.specs.Shown.{shown_at}
-use Rattle.cp_endless.proofs.steps.Rounds.{from_there}
 use Rattle.cp_ends.specs.Arrivals.{cut_arrival, goal_of, return_within, stretch_arrival, stretch_by}
-use Rattle.cp_ends.specs.Graph.{Goal, Place, End, Arrival}
 use Rattle.cp_ends.specs.declared.end.End as code
 use Rattle.cp_ends.specs.declared.end.End.TheVariants as end
 use Rattle.cp_resolved.proofs.names.Alike.{same_inside as some_same}

@@ -1,18 +1,14 @@
 -- When two ends are one, and two values: what the comparison of the code answers.
 use Rattle.std.proofs.Common.{◌≡◌, ◌==◌, ℕ, Bool, true, false, ap, refl}
-use Rattle.std.specs.Prelude.{◌&&◌, Decides}
+use Rattle.cp_ends.proofs.Words.{◌&&◌, Decides, Shown, OutcomeKind, ends_tests, Over, Alone, Spins}
 use Rattle.std.proofs.lemmas.Bool.Decides.{Decides-eqb, Decides-int_eq}
 use Rattle.cp_store.specs.contracts.error.ErrorNamePartialEq.TheImpl as name_eq
 use Rattle.cp_store.specs.declared.error.ErrorName.{ErrorName}
 use Rattle.cp_store.specs.declared.error.ErrorName.TheVariants.{Overflow, ZeroDivisor, Range, NoCase, QueueInUse, NotInit, InitTwice}
-use Rattle.cp_machine.specs.declared.shown.Shown.{Shown}
 use Rattle.cp_machine.specs.declared.shown.Shown.TheVariants.{Integer, Char, Truth, Constant}
 use Rattle.cp_run.specs.contracts.outcome.OutcomeKindPartialEq.TheImpl as kind_eq
-use Rattle.cp_run.specs.declared.outcome.OutcomeKind.{OutcomeKind}
 use Rattle.cp_run.specs.declared.outcome.OutcomeKind.TheVariants.{Finished, AllWaiting, RunError, ChoiceLimit, StepLimit, OutputLimit}
-use Rattle.cp_ends.specs.Answer.{ends_tests}
 use Rattle.cp_ends.specs.declared.end.End.{End}
-use Rattle.cp_ends.specs.declared.end.End.TheVariants.{Over, Alone, Spins}
 use Rattle.cp_resolved.proofs.components.ComponentImages.{both}
 
 names_told : (a b : ErrorName) → Decides ((name_eq.ghosts).eq a b) (a ≡ b)

@@ -1,12 +1,8 @@
 -- The numbers of a word, from its last one back.
 use Rattle.std.proofs.Common.{◌≡◌, ◌∙◌, ◌⊎◌, inl, inr, ◌+◌, ◌<◌, ◌≤◌, ℕ, suc, List, [], ◌∷◌, ◌++◌, length, reverse, None, Some, get_or, sym, ap, subst, arith}
-use Rattle.std.specs.Prelude.{slice_get}
+use Rattle.cp_ends.proofs.Words.{slice_get, slice_get_cases, slice_get_within, Tables, Origin, States}
 use Rattle.std.proofs.lemmas.List.{append-nil, append_assoc, reverse-append}
-use Rattle.std.proofs.lemmas.Option.{slice_get_cases, slice_get_within}
-use Rattle.cp_slots.specs.Tables.{Tables}
 use Rattle.cp_ends.specs.Holds.{AreStates, IsBefore, IsWordOf, origin_at, origin_or}
-use Rattle.cp_ends.specs.declared.origin.Origin.{Origin}
-use Rattle.cp_ends.specs.declared.states.States.{States}
 use Rattle.cp_ends.specs.declared.origin.Origin.TheVariants.{Start, Choice}
 use Rattle.cp_ends.proofs.Keeping.{Entry, Stated, states_length}
 

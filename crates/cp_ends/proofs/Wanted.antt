@@ -1,11 +1,9 @@
 -- The numbers that a due choice may take.
 use Rattle.std.proofs.Common.{◌≡◌, ◌∙◌, ⊎_elim, ◌<◌, ◌≤◌, get_or, ℕ, zero, suc, Bool, true, false, if◌then◌else◌, List, [], ◌∷◌, ◌++◌, length, refl, ap, arith}
-use Rattle.std.proofs.lemmas.Bool.{cases_lt}
+use Rattle.cp_ends.proofs.Words.{cases_lt, System, may, those_below}
 use Rattle.std.proofs.Math.ListN.{get_or-append}
 use Rattle.std.proofs.Math.Seq.{get_or-append_seam}
 use Rattle.std.proofs.lemmas.List.{append-nil, length-append}
-use Rattle.cp_run.specs.System.{System}
-use Rattle.cp_run.specs.Run.{may, those_below}
 
 -- each of the numbers that pass a test passes it
 those_pass : (f : ℕ → Bool) (n i : ℕ) → i < length (those_below n f) → f (get_or (those_below n f) i 0) ≡ true

@@ -1,40 +1,21 @@
 -- What is known of an expectation, by what the code finds.
 use Rattle.std.proofs.Common.{◌≡◌, inl, inr, ◌∙◌, ℕ, suc, Bool, true, false, not, ◌&&◌, List, [], ◌∷◌, map, length, cond, refl, sym, ap, subst, arith, vec_len}
 use Rattle.std.specs.Prelude.{find, Option, None, Some, option_map, nat_le, is_none, is_some}
-use Rattle.std.specs.List.{list_all}
-use Rattle.std.specs.declared.vec.Vec.{Vec}
+use Rattle.cp_ends_verdict.proofs.Words.{list_all, Vec, Global, length-map, Tables, Gates, Shown, StepLimit, slots, without_output, Spellings, End, Over}
+use Rattle.cp_ends_verdict.proofs.Words.{MOST_VALUES, Waiting, EndPattern, EndsExpectation, Never, Sometimes, Only, EndsJudgement, KnownEnds, KnownEnd}
+use Rattle.cp_ends_verdict.proofs.Words.{Witness}
 use Rattle.std.specs.declared.string.String.{String}
-use Rattle.std.specs.declared.alloc.Global.{Global}
 use Rattle.std.proofs.lemmas.Bool.{leb-true}
-use Rattle.std.proofs.lemmas.List.{length-map}
-use Rattle.cp_slots.specs.Tables.{Tables}
-use Rattle.cp_machine.specs.declared.gates.Gates.{Gates}
-use Rattle.cp_machine.specs.declared.shown.Shown.{Shown}
-use Rattle.cp_run.specs.declared.outcome.OutcomeKind.TheVariants.{StepLimit}
-use Rattle.cp_run.specs.Slots.{slots}
-use Rattle.cp_endless.specs.Silent.{without_output}
-use Rattle.cp_walk.specs.Text.{Spellings}
 use Rattle.cp_ends.specs.Firsts.{is_up_to, AreFirsts, AreFirstOnes}
 use Rattle.cp_ends.specs.Whole.{LeadsToState}
-use Rattle.cp_ends.specs.declared.end.End.{End}
-use Rattle.cp_ends.specs.declared.end.End.TheVariants.{Over}
-use Rattle.cp_ends.specs.declared.found.TheConstants.{MOST_VALUES}
 use Rattle.cp_ends.proofs.Searching.Lists.{place_of, contains_at}
 use Rattle.cp_ends.proofs.Searching.Words.{up_to_empty}
-use Rattle.cp_waits.specs.declared.waiting.Waiting.{Waiting}
 use Rattle.cp_ends_verdict.specs.Behaviour.{Behaviour, Finding, Ends, Shows, Waits, IsSo, word_of, on_slots}
 use Rattle.cp_ends_verdict.specs.Expectations.{IsTrue, asks_some, is_about, is_cut, is_meant, is_named, is_other, settles}
 use Rattle.cp_ends_verdict.specs.Judged.{IsFirstOf, IsJudged, judgement_of}
 use Rattle.cp_ends_verdict.specs.Knowledge.{HasNoCut, IsKnown, KnowsWaits, Looked, ended, end_pair, finding_of, is_kept, is_settled, is_whole, shown, speaks_of, those_waiting, told_of, value_pair, waiting_for_ever}
-use Rattle.cp_ends_verdict.specs.declared.expectation.EndPattern.{EndPattern}
 use Rattle.cp_ends_verdict.specs.declared.expectation.Topic.{Topic}
 use Rattle.cp_ends_verdict.specs.declared.expectation.Topic.TheVariants as topic
-use Rattle.cp_ends_verdict.specs.declared.expectation.EndsExpectation.{EndsExpectation}
-use Rattle.cp_ends_verdict.specs.declared.expectation.EndsExpectation.TheVariants.{Never, Sometimes, Only}
-use Rattle.cp_ends_verdict.specs.declared.judging.EndsJudgement.{EndsJudgement}
-use Rattle.cp_ends_verdict.specs.declared.known.KnownEnds.{KnownEnds}
-use Rattle.cp_ends_verdict.specs.declared.known.KnownEnd.{KnownEnd}
-use Rattle.cp_ends_verdict.specs.declared.known.Witness.{Witness}
 use Rattle.cp_ends_verdict.proofs.Finding.{all_pass, at_map, find_same, found_at, found_none, map_at}
 use Rattle.cp_ends_verdict.proofs.Firsts.{IsFirstSo, first_so, none_so, ones_of}
 

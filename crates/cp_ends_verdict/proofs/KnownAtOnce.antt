@@ -4,35 +4,20 @@ use Rattle.std.specs.Prelude.{All, None, Some, Option, is_none, nat_lt, string_b
 use Rattle.std.specs.List.{list_all, list_any}
 use Rattle.std.proofs.lemmas.List.{length-map, map-append, take_all, take_more}
 use Rattle.std.proofs.lemmas.List.Elements.{All-append, All-cons, All-get_or, All-nil}
-use Rattle.cp_tree.specs.Syntax.{Tree}
-use Rattle.cp_slots.specs.Tables.{Tables}
-use Rattle.cp_machine.specs.System.{Machine}
-use Rattle.cp_machine.specs.declared.gates.Gates.TheVariants.{First}
-use Rattle.cp_machine.specs.declared.shown.Shown.{Shown}
+use Rattle.cp_ends_verdict.proofs.Words.{Tree, Tables, Machine, First, Shown, StepLimit, silent_slots, without_output, EndsSo, ShowsSo, slots, End, Over}
+use Rattle.cp_ends_verdict.proofs.Words.{Alone, Spins, MOST_VALUES, HasWord, IsWordOf, is_cut, HasTexts, end_pair, is_whole, value_pair, KnownEnds, KnownEnd}
+use Rattle.cp_ends_verdict.proofs.Words.{KnownValue}
 use Rattle.cp_run.specs.declared.outcome.OutcomeKind.{OutcomeKind}
-use Rattle.cp_run.specs.declared.outcome.OutcomeKind.TheVariants.{StepLimit}
 use Rattle.cp_walk.specs.Text.{Spellings, output_text}
 use Rattle.cp_ends.specs.Answer.{ends_tests}
-use Rattle.cp_endless.specs.Silent.{silent_slots, without_output}
-use Rattle.cp_ends.specs.Ends.{EndsSo, ShowsSo}
-use Rattle.cp_run.specs.Slots.{slots}
-use Rattle.cp_ends.specs.declared.end.End.{End}
-use Rattle.cp_ends.specs.declared.end.End.TheVariants.{Over, Alone, Spins}
-use Rattle.cp_ends.specs.declared.found.TheConstants.{MOST_VALUES}
 use Rattle.cp_ends.proofs.Telling.{ends_told}
 use Rattle.cp_at_once_laws.specs.OnSlots.{LeavesNone}
 use Rattle.cp_at_once.specs.Following as found_spec
-use Rattle.cp_at_once.specs.Holds.{HasWord, IsWordOf}
 use Rattle.cp_at_once.specs.Whole.{IsAnswer}
 use Rattle.cp_at_once.specs.declared.found.FoundAtOnce.{FoundAtOnce}
 use Rattle.cp_at_once.specs.declared.found.EndAtOnce.{EndAtOnce}
 use Rattle.cp_at_once.specs.declared.found.ValueAtOnce.{ValueAtOnce}
 use Rattle.cp_ends_verdict.specs.AtOnce.{IsKnownAtOnce, knows_end, knows_value}
-use Rattle.cp_ends_verdict.specs.Expectations.{is_cut}
-use Rattle.cp_ends_verdict.specs.Knowledge.{HasTexts, end_pair, is_whole, value_pair}
-use Rattle.cp_ends_verdict.specs.declared.known.KnownEnds.{KnownEnds}
-use Rattle.cp_ends_verdict.specs.declared.known.KnownEnd.{KnownEnd}
-use Rattle.cp_ends_verdict.specs.declared.known.KnownValue.{KnownValue}
 use Rattle.cp_ends_verdict.proofs.Judgements.{both}
 
 -- ---- one more

@@ -1,30 +1,20 @@
 -- Who is told to wait for ever is exactly who may.
 use Rattle.std.proofs.Common.{◌≡◌, ◌⊎◌, inl, inr, ◌<◌, ◌^◌, ℕ, List, map, subst}
-use Rattle.std.specs.Prelude.{Contains, None, Option, Some}
-use Rattle.std.specs.declared.alloc.Global.{Global}
-use Rattle.std.specs.declared.vec.Vec.{Vec}
-use Rattle.cp_slots.specs.Tables.{Tables}
-use Rattle.cp_machine.specs.System.{Machine}
-use Rattle.cp_machine.specs.declared.gates.Gates.{Gates}
-use Rattle.cp_run.specs.Slots.{slots}
+use Rattle.cp_ends_verdict.proofs.Words.{Contains, None, Option, Some, Global, Vec, Tables, Machine, Gates, slots, StepLimit, Over, Waiting, on_slots}
 use Rattle.cp_run.specs.System.{System}
-use Rattle.cp_run.specs.declared.outcome.OutcomeKind.TheVariants.{StepLimit}
 use Rattle.cp_endless.specs.Silent.{in_call_on_slots, silent_slots, waits_on_slots, without_output}
 use Rattle.cp_endless.specs.Standstill.{MayStandStill}
 use Rattle.cp_endless.specs.WaitsForEver.{MayLinger, MayWaitForEver}
 use Rattle.cp_ends.specs.Holds.{SlotFindings, same_key}
 use Rattle.cp_ends.specs.Whole.{IsAnswer, IsAnswerBy, IsWhole}
-use Rattle.cp_ends.specs.declared.end.End.TheVariants.{Over}
 use Rattle.cp_ends.specs.declared.found.Found.{Found}
 use Rattle.cp_ends.proofs.named.Keys.{key_same, key_self}
 use Rattle.cp_ends.proofs.named.Kinds.{contains_map, contains_unmap}
 use Rattle.cp_waits.specs.MayWait.{AreWaits, MayWait, TellWaits}
 use Rattle.cp_waits.specs.Named.{TellOfAll}
-use Rattle.cp_waits.specs.declared.waiting.Waiting.{Waiting}
 use Rattle.cp_waits.specs.declared.waiting.Waits.{Waits}
 use Rattle.cp_waits.specs.declared.waiting.Waits.TheVariants.{Known}
 use Rattle.cp_waits.proofs.Uncut.{may_stand, stands_after}
-use Rattle.cp_ends_verdict.specs.Behaviour.{on_slots}
 use Rattle.cp_ends_verdict.specs.Knowledge.{AreWaiting, HasNoCut, KnowsWaits}
 
 module _ (r : Tables) (gates : Gates) (steps most : ℕ) (f : SlotFindings) (whole : IsWhole (slots r gates) without_output steps most f) (lines : List Waiting)

@@ -1,30 +1,21 @@
 -- What a search found is what is known of the schedules.
 use Rattle.std.proofs.Common.{◌≡◌, ◌∙◌, ◌+◌, ◌<◌, ◌≤◌, ℕ, zero, suc, Bool, true, false, List, [], ◌∷◌, ◌++◌, length, map, take, get_or, cond, refl, sym, ap, subst, arith}
-use Rattle.std.specs.Prelude.{Option, None, Some, slice_get}
+use Rattle.cp_ends_verdict.proofs.Words.{Option, None, Some, slice_get, Tables, Machine, Gates, Shown, slots, without_output, End, MOST_VALUES, on_slots}
+use Rattle.cp_ends_verdict.proofs.Words.{KnownEnds}
 use Rattle.std.proofs.lemmas.List.{append-nil, length-map, map-append, take_all, take_more}
 use Rattle.std.proofs.lemmas.List.Elements.{filter-append}
 use Rattle.std.proofs.lemmas.Option.{slice_get_within, get_or_from_slice_get}
-use Rattle.cp_slots.specs.Tables.{Tables}
-use Rattle.cp_machine.specs.System.{Machine}
-use Rattle.cp_machine.specs.declared.gates.Gates.{Gates}
-use Rattle.cp_machine.specs.declared.shown.Shown.{Shown}
-use Rattle.cp_run.specs.Slots.{slots}
-use Rattle.cp_endless.specs.Silent.{without_output}
 use Rattle.cp_ends.specs.Holds.{AreFound, AreStates, Holds, IsWordOf, SlotFindings, end_origin, origin_at, origin_or, value_origin}
 use Rattle.cp_ends.specs.Firsts.{AreFirsts, AreFirstOnes, Within, those_within}
 use Rattle.cp_ends.specs.Whole.{IsAnswer, IsAnswerBy, IsCutShort, IsWhole, LeadsToState}
-use Rattle.cp_ends.specs.declared.end.End.{End}
 use Rattle.cp_ends.specs.declared.found.Found.{Found}
 use Rattle.cp_ends.specs.declared.found.FoundEnd.{FoundEnd}
 use Rattle.cp_ends.specs.declared.found.FoundValue.{FoundValue}
-use Rattle.cp_ends.specs.declared.found.TheConstants.{MOST_VALUES}
 use Rattle.cp_ends.specs.declared.origin.Origin.{Origin}
 use Rattle.cp_ends.specs.declared.states.States.{States}
 use Rattle.cp_states.specs.declared.row.StateRow.{StateRow}
 use Rattle.cp_ends.proofs.Keeping.{no_state}
-use Rattle.cp_ends_verdict.specs.Behaviour.{on_slots}
 use Rattle.cp_ends_verdict.specs.Knowledge.{HasMore, HasTexts, IsKnown, IsLookedAt, KnowsWaits, Looked, end_pair, is_looked_at, those_looked_at, value_pair}
-use Rattle.cp_ends_verdict.specs.declared.known.KnownEnds.{KnownEnds}
 use Rattle.cp_ends_verdict.proofs.Finding.{at_map}
 
 -- ---- the word of a state

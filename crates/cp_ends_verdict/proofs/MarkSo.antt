@@ -1,16 +1,9 @@
 -- A verdict by what is known is the mark.
-use Rattle.std.proofs.Common.{◌≡◌, ℕ, List}
+use Rattle.cp_ends_verdict.proofs.Words.{◌≡◌, ℕ, List, Tables, Gates, on_slots, IsKnown, EndsExpectation, KnownEnds, EndsVerdict}
 use Rattle.std.specs.Prelude.{IfOk, Result}
 use Rattle.std.proofs.lemmas.Result.{IfOk-weaker}
-use Rattle.cp_slots.specs.Tables.{Tables}
-use Rattle.cp_machine.specs.declared.gates.Gates.{Gates}
-use Rattle.cp_ends_verdict.specs.Behaviour.{on_slots}
-use Rattle.cp_ends_verdict.specs.Knowledge.{IsKnown}
 use Rattle.cp_ends_verdict.specs.Marked.{IsMarked, IsMarkOf, IsMeantMark, mark_of}
-use Rattle.cp_ends_verdict.specs.declared.expectation.EndsExpectation.{EndsExpectation}
-use Rattle.cp_ends_verdict.specs.declared.known.KnownEnds.{KnownEnds}
 use Rattle.cp_ends_verdict.specs.declared.saying.MarkedEnds.{MarkedEnds}
-use Rattle.cp_ends_verdict.specs.declared.verdict.EndsVerdict.{EndsVerdict}
 use Rattle.cp_ends_verdict.proofs.MeantMarks.{meant}
 
 module _ {E : Type 0} (r : Tables) (gates : Gates) (steps most : ℕ) (es : List EndsExpectation) (k : KnownEnds) (is_known : IsKnown r gates steps most k) (v : EndsVerdict) (marked : IsMarked r.names (on_slots r gates steps) k es v) where

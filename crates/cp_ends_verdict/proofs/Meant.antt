@@ -1,17 +1,11 @@
 -- What is so of the slot machine is so of the program on its own names; and where no stretch is cut, nothing else is.
 use Rattle.std.proofs.Common.{◌≡◌, ◌⊎◌, inl, inr, ◌∙◌, ◌+◌, ◌<◌, ℕ, Bool, true, false, not, ◌&&◌, ◌||◌, List, [], ◌∷◌, map, refl, sym, ap, subst}
-use Rattle.cp_tree.specs.Syntax.{Tree}
-use Rattle.cp_tree.specs.Read.{IsRead}
-use Rattle.cp_layout.specs.Laid.{plain, laid}
-use Rattle.cp_slots.specs.Tables.{Tables}
-use Rattle.cp_lawful.specs.Accepted.{IsAccepted}
-use Rattle.cp_machine.specs.System.{Machine}
-use Rattle.cp_machine.specs.declared.shown.Shown.{Shown}
+use Rattle.cp_ends_verdict.proofs.Words.{Tree, IsRead, plain, laid, Tables, IsAccepted, Machine, Shown, slots, Spellings, EndsSo, ShowsSo, End, Over, Alone}
+use Rattle.cp_ends_verdict.proofs.Words.{Spins, IsKnown, end_pair, is_whole, EndPattern, EndsExpectation, Never, Sometimes, Only, KnownEnds}
 use Rattle.cp_meaning.specs.State.{Gates, State}
 use Rattle.cp_run.specs.declared.outcome.OutcomeKind.{OutcomeKind}
 use Rattle.cp_run.specs.declared.outcome.OutcomeKind.TheVariants.{Finished, AllWaiting, RunError, ChoiceLimit, StepLimit, OutputLimit}
 use Rattle.cp_run.specs.Run.{opened}
-use Rattle.cp_run.specs.Slots.{slots}
 use Rattle.cp_run.specs.System.{System}
 use Rattle.cp_refine.specs.Named.{gates_of}
 use Rattle.cp_refine.proofs.Meaning.{goes_in_step}
@@ -24,13 +18,9 @@ use Rattle.cp_endless.specs.Standstill.{MayStandStill}
 use Rattle.cp_endless.specs.WaitsForEver.{MayLinger, MayWaitForEver}
 use Rattle.cp_endless.proofs.names.Meant.{endless_meaning}
 use Rattle.cp_endless.proofs.steps.Repeating.{repeating}
-use Rattle.cp_walk.specs.Text.{Spellings}
-use Rattle.cp_ends.specs.Ends.{EndsSo, ShowsSo}
 use Rattle.cp_ends.specs.ForEver.{IsAloneForEver, SpinsForEver}
 use Rattle.cp_ends.specs.Holds.{same_key}
 use Rattle.cp_ends.specs.Named.{EndsOnNames, ShowsOnNames, kind_of}
-use Rattle.cp_ends.specs.declared.end.End.{End}
-use Rattle.cp_ends.specs.declared.end.End.TheVariants.{Over, Alone, Spins}
 use Rattle.cp_ends.proofs.named.EachLimit.{shows_early}
 use Rattle.cp_ends.proofs.named.ForEver.{alone_for_ever, spins_for_ever}
 use Rattle.cp_ends.proofs.named.ForEverOnNames.{alone_named, spins_named}
@@ -40,13 +30,8 @@ use Rattle.cp_ends.proofs.named.Later.{again_shown, again_ends}
 use Rattle.cp_ends.proofs.words.Edges.{last_same, not_empty, some_same, choosing_same}
 use Rattle.cp_ends_verdict.specs.Behaviour.{Finding, Ends, Shows, Waits, IsSo, on_slots, on_names}
 use Rattle.cp_ends_verdict.specs.Expectations.{is_cut, is_named, is_of, settles}
-use Rattle.cp_ends_verdict.specs.Knowledge.{IsKnown, end_pair, is_whole}
-use Rattle.cp_ends_verdict.specs.declared.expectation.EndPattern.{EndPattern}
 use Rattle.cp_ends_verdict.specs.declared.expectation.EndPattern.TheVariants as pattern
 use Rattle.cp_ends_verdict.specs.declared.expectation.Topic.TheVariants as topic
-use Rattle.cp_ends_verdict.specs.declared.expectation.EndsExpectation.{EndsExpectation}
-use Rattle.cp_ends_verdict.specs.declared.expectation.EndsExpectation.TheVariants.{Never, Sometimes, Only}
-use Rattle.cp_ends_verdict.specs.declared.known.KnownEnds.{KnownEnds}
 use Rattle.cp_ends_verdict.proofs.Judgements.{all_ends, no_cut, states_all}
 
 -- ---- a stretch does not call the kernel again and again, and from some step on never

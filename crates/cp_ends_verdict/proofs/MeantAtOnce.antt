@@ -4,24 +4,13 @@ use Rattle.std.specs.Prelude.{Contains, IfOk, None, Option, Result, Some, find, 
 use Rattle.std.specs.List.{list_any}
 use Rattle.std.proofs.lemmas.Bool.{leb-true, ltb-true}
 use Rattle.std.proofs.lemmas.Result.{IfOk-weaker}
-use Rattle.cp_tree.specs.Syntax.{Tree}
-use Rattle.cp_tree.specs.Read.{IsRead}
-use Rattle.cp_layout.specs.Laid.{plain, laid}
-use Rattle.cp_slots.specs.Tables.{Tables}
-use Rattle.cp_lawful.specs.Accepted.{IsAccepted}
-use Rattle.cp_machine.specs.declared.gates.Gates.{Gates}
+use Rattle.cp_ends_verdict.proofs.Words.{Tree, IsRead, plain, laid, Tables, IsAccepted, Gates, Shown, slots, silent_slots, without_output, Spellings, EndsSo}
+use Rattle.cp_ends_verdict.proofs.Words.{ShowsSo, End, Over, Alone, Spins, MOST_VALUES, IsJudgedBy, judgement_of, EndsExpectation, Never, Sometimes, Only}
+use Rattle.cp_ends_verdict.proofs.Words.{EndsJudgement, KnownEnds, KnownEnd, KnownValue, Witness, EndsVerdict}
 use Rattle.cp_machine.specs.declared.gates.Gates.TheVariants.{First, Any}
-use Rattle.cp_machine.specs.declared.shown.Shown.{Shown}
 use Rattle.cp_meaning.specs.State.{first_gates}
-use Rattle.cp_run.specs.Slots.{slots}
-use Rattle.cp_endless.specs.Silent.{silent_slots, without_output}
-use Rattle.cp_walk.specs.Text.{Spellings}
 use Rattle.cp_ends.specs.Answer.{ends_tests}
 use Rattle.cp_ends.specs.Named.{ShowsOnNames}
-use Rattle.cp_ends.specs.Ends.{EndsSo, ShowsSo}
-use Rattle.cp_ends.specs.declared.end.End.{End}
-use Rattle.cp_ends.specs.declared.end.End.TheVariants.{Over, Alone, Spins}
-use Rattle.cp_ends.specs.declared.found.TheConstants.{MOST_VALUES}
 use Rattle.cp_ends.proofs.Searching.Lists.{all_at, place_of}
 use Rattle.cp_ends.proofs.Telling.{ends_told, values_told}
 use Rattle.cp_at_once_laws.specs.OnSlots.{LeavesNone}
@@ -29,22 +18,13 @@ use Rattle.cp_at_once_laws.proofs.names.Repeating.{repeats_by_one}
 use Rattle.cp_ends_verdict.specs.AtOnce.{IsAgain, IsKnownAtOnce, IsMarkAtOnce, IsMarkInTurn, at_any_limit, can_be_at_once, knows_end, knows_value}
 use Rattle.cp_ends_verdict.specs.Behaviour.{Behaviour, Finding, Ends, Shows, Waits, IsSo}
 use Rattle.cp_ends_verdict.specs.Expectations.{HasSettling, IsTrue, asks_some, settles}
-use Rattle.cp_ends_verdict.specs.Judged.{IsJudgedBy, judgement_of}
 use Rattle.cp_ends_verdict.specs.Knowledge.{end_pair, ended, finding_of, is_kept, is_settled, is_whole, shown, speaks_of, value_pair}
 use Rattle.cp_ends_verdict.specs.Marked.{AreJudged, IsJudgedToFail, IsMarkOf, IsMeantMark, IsTrueMark, ask_waits, asks_waits, is_any, mark_of, open_mark}
 use Rattle.cp_ends_verdict.specs.declared.expectation.Topic.TheVariants as topic
-use Rattle.cp_ends_verdict.specs.declared.expectation.EndsExpectation.{EndsExpectation}
-use Rattle.cp_ends_verdict.specs.declared.expectation.EndsExpectation.TheVariants.{Never, Sometimes, Only}
-use Rattle.cp_ends_verdict.specs.declared.judging.EndsJudgement.{EndsJudgement}
 use Rattle.cp_ends_verdict.specs.declared.judging.EndsJudgement.TheVariants as judgement
-use Rattle.cp_ends_verdict.specs.declared.known.KnownEnds.{KnownEnds}
-use Rattle.cp_ends_verdict.specs.declared.known.KnownEnd.{KnownEnd}
-use Rattle.cp_ends_verdict.specs.declared.known.KnownValue.{KnownValue}
-use Rattle.cp_ends_verdict.specs.declared.known.Witness.{Witness}
 use Rattle.cp_ends_verdict.specs.declared.saying.MarkedEnds.{MarkedEnds}
 use Rattle.cp_ends_verdict.specs.declared.verdict.EndsMark.{EndsMark}
 use Rattle.cp_ends_verdict.specs.declared.verdict.EndsMark.TheVariants.{TooMany}
-use Rattle.cp_ends_verdict.specs.declared.verdict.EndsVerdict.{EndsVerdict}
 use Rattle.cp_ends_verdict.specs.declared.verdict.EndsVerdict.TheVariants as verdict
 use Rattle.cp_ends_verdict.proofs.Finding.{at_map, found_at, found_none, map_at}
 use Rattle.cp_ends_verdict.proofs.Judgements.{both}

@@ -1,11 +1,6 @@
 -- A mark by what is known of the slot machine is true of the program on its own names.
-use Rattle.std.proofs.Common.{◌≡◌, inl, inr, ℕ, true, List, sym, subst}
-use Rattle.std.specs.Prelude.{Option, None, Some}
-use Rattle.cp_tree.specs.Syntax.{Tree}
-use Rattle.cp_tree.specs.Read.{IsRead}
-use Rattle.cp_layout.specs.Laid.{plain, laid}
-use Rattle.cp_slots.specs.Tables.{Tables}
-use Rattle.cp_lawful.specs.Accepted.{IsAccepted}
+use Rattle.cp_ends_verdict.proofs.Words.{◌≡◌, inl, inr, ℕ, true, List, sym, subst, Option, None, Some, Tree, IsRead, plain, laid, Tables, IsAccepted, IsKnown}
+use Rattle.cp_ends_verdict.proofs.Words.{finding_of, is_kept, is_settled, is_whole, EndsExpectation, Never, Sometimes, Only, KnownEnds, Witness, EndsVerdict}
 use Rattle.cp_machine.specs.declared.gates.Gates as slot_gates
 use Rattle.cp_machine.specs.declared.gates.Gates.TheVariants.{First, Any}
 use Rattle.cp_meaning.specs.State.{Gates, first_gates, any_gates}
@@ -13,14 +8,8 @@ use Rattle.cp_refine.specs.Named.{gates_of}
 use Rattle.cp_ends_verdict.specs.Behaviour.{on_slots, on_names}
 use Rattle.cp_ends_verdict.specs.Expectations.{HasSettling, IsTrue}
 use Rattle.cp_ends_verdict.specs.Judged.{HoldsOf, IsJudged}
-use Rattle.cp_ends_verdict.specs.Knowledge.{IsKnown, finding_of, is_kept, is_settled, is_whole}
 use Rattle.cp_ends_verdict.specs.Marked.{IsJudgedToFail, IsMarked, IsMarkOf, IsMeantMark, IsTrueMark, mark_of, open_mark}
-use Rattle.cp_ends_verdict.specs.declared.expectation.EndsExpectation.{EndsExpectation}
-use Rattle.cp_ends_verdict.specs.declared.expectation.EndsExpectation.TheVariants.{Never, Sometimes, Only}
-use Rattle.cp_ends_verdict.specs.declared.known.KnownEnds.{KnownEnds}
-use Rattle.cp_ends_verdict.specs.declared.known.Witness.{Witness}
 use Rattle.cp_ends_verdict.specs.declared.verdict.EndsMark.{EndsMark}
-use Rattle.cp_ends_verdict.specs.declared.verdict.EndsVerdict.{EndsVerdict}
 use Rattle.cp_ends_verdict.specs.declared.verdict.EndsVerdict.TheVariants as verdict
 use Rattle.cp_ends_verdict.proofs.Judgements.{both}
 use Rattle.cp_ends_verdict.proofs.Meant.{back, there}

@@ -1,24 +1,11 @@
 -- What the code finds first is what settles a topic first.
-use Rattle.std.proofs.Common.{◌≡◌, ◌∙◌, ℕ, Bool, List, map, nat_eq, sym, ap, subst}
-use Rattle.std.specs.Prelude.{find, Option, Some, option_map, string_bytes}
-use Rattle.std.specs.Borrow.{Bor}
-use Rattle.std.specs.declared.vec.Vec.{Vec}
+use Rattle.cp_ends_verdict.proofs.Words.{◌≡◌, ◌∙◌, ℕ, Bool, List, map, nat_eq, sym, ap, subst, find, Option, Some, option_map, string_bytes, Bor, Vec, Global}
+use Rattle.cp_ends_verdict.proofs.Words.{pointwise, Spellings, Waiting, EndPattern, EndsExpectation, Only, KnownEnds, KnownEnd, KnownValue, Witness}
 use Rattle.std.specs.declared.string.String.{String}
-use Rattle.std.specs.declared.alloc.Global.{Global}
-use lib.Pointwise.{pointwise}
-use Rattle.cp_walk.specs.Text.{Spellings}
-use Rattle.cp_waits.specs.declared.waiting.Waiting.{Waiting}
 use Rattle.cp_ends_verdict.specs.Expectations.{is_about, is_meant, is_named, is_other, settles}
 use Rattle.cp_ends_verdict.specs.Knowledge.{HasTexts, ended, end_pair, finding_of, shown, speaks_of, those_waiting, told_of, value_pair, waiting_for_ever}
-use Rattle.cp_ends_verdict.specs.declared.expectation.EndPattern.{EndPattern}
 use Rattle.cp_ends_verdict.specs.declared.expectation.Topic.{Topic}
 use Rattle.cp_ends_verdict.specs.declared.expectation.Topic.TheVariants as topic
-use Rattle.cp_ends_verdict.specs.declared.expectation.EndsExpectation.{EndsExpectation}
-use Rattle.cp_ends_verdict.specs.declared.expectation.EndsExpectation.TheVariants.{Only}
-use Rattle.cp_ends_verdict.specs.declared.known.KnownEnds.{KnownEnds}
-use Rattle.cp_ends_verdict.specs.declared.known.KnownEnd.{KnownEnd}
-use Rattle.cp_ends_verdict.specs.declared.known.KnownValue.{KnownValue}
-use Rattle.cp_ends_verdict.specs.declared.known.Witness.{Witness}
 use Rattle.cp_ends_verdict.proofs.Finding.{map_map, text_found, told}
 
 module _ (names : Spellings) (k : KnownEnds) (result : Option Witness) where

@@ -1,14 +1,9 @@
 -- Verdicts on some expectations and one more.
 use Rattle.std.proofs.Common.{◌≡◌, ◌⊎◌, inl, inr, ⊎_elim, ◌∙◌, ◌+◌, ◌<◌, ◌≤◌, ℕ, List, [], ◌∷◌, ◌++◌, length, get_or, take, sym, ap, subst, arith}
-use Rattle.std.specs.Prelude.{Contains}
-use Rattle.std.specs.Borrow.{Bor}
-use Rattle.std.proofs.lemmas.List.{take_all, take_more}
+use Rattle.cp_ends_verdict.proofs.Words.{Contains, Bor, take_all, take_more, EndsExpectation, EndsJudgement, EndsVerdict}
 use Rattle.std.proofs.lemmas.List.Elements.{Contains-append_left, Contains-push, Contains-push_cases}
 use Rattle.cp_ends_verdict.specs.Marked.{AreJudged, joined}
-use Rattle.cp_ends_verdict.specs.declared.expectation.EndsExpectation.{EndsExpectation}
-use Rattle.cp_ends_verdict.specs.declared.judging.EndsJudgement.{EndsJudgement}
 use Rattle.cp_ends_verdict.specs.declared.judging.EndsJudgement.TheVariants as judgement
-use Rattle.cp_ends_verdict.specs.declared.verdict.EndsVerdict.{EndsVerdict}
 use Rattle.cp_ends_verdict.specs.declared.verdict.EndsVerdict.TheVariants as verdict
 
 module _ (J : EndsExpectation → EndsJudgement → Type 0) (es : List EndsExpectation) (e : Bor EndsExpectation) where

@@ -1,6 +1,6 @@
 -- The key of a state can be read back.
 use Rattle.std.proofs.Common.{reverse, ◌≡◌, ◌∙◌, ℕ, zero, suc, true, false, List, [], ◌∷◌, ◌++◌, Option, None, Some, ℤ, length, map, cond, eqb, refl, sym, ap}
-use Rattle.std.specs.List.{flat_map}
+use Rattle.cp_key.proofs.Words.{flat_map, Machine, Monitor, Thread, byte_key, integer_key, number_key, list_key}
 use Rattle.std.proofs.lemmas.List.{append_assoc, append-nil, length-map, reverse-reverse}
 use Rattle.std.proofs.lemmas.List.Folds.{flat_map-map}
 use Rattle.cp_store.specs.declared.memory.Address.{Address}
@@ -17,10 +17,8 @@ use Rattle.cp_machine.specs.declared.shown.Shown.TheVariants.{Integer, Char, Tru
 use Rattle.cp_machine.specs.declared.state.Phase.{Phase}
 use Rattle.cp_machine.specs.declared.state.Phase.TheVariants.{Uninitialised, Initialising, Initialised}
 use Rattle.cp_machine.specs.Bodies.{Body, body_of}
-use Rattle.cp_machine.specs.Machine.{Machine, Monitor, Thread}
 use Rattle.cp_key.specs.Key.{option_key, address_key, frame_key, entry_key, status_key, phase_key, gates_key, shown_key, body_key, threads_key, monitor_key, rest_key, key_of, core_key}
 use Rattle.cp_key.specs.Known.{TellsItsEnd}
-use Rattle.cp_key.specs.Numbers.{byte_key, integer_key, number_key, list_key}
 use Rattle.cp_key.proofs.NumberKeys.{Code, byte, short, number, integer}
 
 -- ---- one value after another

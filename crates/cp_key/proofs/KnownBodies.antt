@@ -1,20 +1,15 @@
 -- Bodies that are known, one after another.
 use Rattle.std.proofs.Common.{◌≡◌, ◌∙◌, ◌⊎◌, inl, inr, ℕ, zero, suc, ◌+◌, ◌-◌, ◌<◌, ◌≤◌, List, [], ◌∷◌, ◌++◌, false, length, map, take, drop, ap, refl, sym, subst, arith}
-use Rattle.std.specs.Prelude.{slice_index_or, vec_capacity}
-use Rattle.std.specs.List.{flat_map}
+use Rattle.cp_key.proofs.Words.{slice_index_or, vec_capacity, flat_map, Thread, no_thread, thread_at, thread_of, ProcessState, body_key, HaveThreadRoom}
 use Rattle.std.proofs.Math.Seq.{drop-append_seam, get_or-append_seam, take-append_seam}
 use Rattle.std.proofs.lemmas.Grind.{flat_map-append}
 use Rattle.std.proofs.lemmas.Bool.{cases_eq, cases_lt}
 use Rattle.std.proofs.lemmas.List.{append_assoc, append-nil, get_or_append_left, get_or-map, length-append, length-drop, length-map, take_more, take-append-drop}
 use Rattle.cp_machine.specs.Bodies.{Body, body_of, has_moved}
-use Rattle.cp_machine.specs.Machine.{Thread, no_thread, thread_at, thread_of}
 use Rattle.cp_machine.specs.declared.moved.Moved.{Moved}
-use Rattle.cp_machine.specs.declared.process.ProcessState.{ProcessState}
 use Rattle.cp_machine.specs.declared.process.Status.{Status}
 use Rattle.cp_store.specs.declared.memory.Room.{Room}
 use Rattle.cp_key.specs.declared.bodies.Bodies.{Bodies}
-use Rattle.cp_key.specs.Key.{body_key}
-use Rattle.cp_key.specs.Room.{HaveThreadRoom}
 use Rattle.cp_key.specs.Known.{AreBodies, AreBodiesIn, AreSameInside, IsRun, KnowUnmoved, inside, rest_at}
 
 -- what comes later in a key leaves no more of it

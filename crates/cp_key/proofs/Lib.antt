@@ -5,3 +5,4 @@ pub mod Machines
 pub mod NumberKeys
 pub mod Owned
 pub mod Places
+mod Words

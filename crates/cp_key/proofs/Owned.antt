@@ -1,12 +1,10 @@
 -- The machines of a program's states.
-use Rattle.std.proofs.Common.{◌≡◌, ◌∙◌, ℕ, ◌<◌, ◌≤◌, length, sym, arith}
+use Rattle.cp_key.proofs.Words.{◌≡◌, ◌∙◌, ℕ, ◌<◌, ◌≤◌, length, sym, arith, length-map, ProcessState}
 use Rattle.std.specs.Prelude.{slice_index_or, vec_capacity, vec_len}
 use Rattle.std.specs.declared.vec.Vec.{Vec}
 use Rattle.std.specs.declared.alloc.Global.{Global}
-use Rattle.std.proofs.lemmas.List.{length-map}
 use Rattle.std.proofs.lemmas.Map.Steps.{length-le_from_distinct_below}
 use Rattle.cp_slots.specs.Tables.{Tables}
-use Rattle.cp_machine.specs.declared.process.ProcessState.{ProcessState}
 use Rattle.cp_machine.specs.declared.state.State.{State}
 use Rattle.cp_machine.specs.Fits.{IsStateOf, LinesFit}
 use Rattle.cp_machine.specs.Machine.{Machine, machine_of, monitor_at, monitor_of, no_thread, thread_of}

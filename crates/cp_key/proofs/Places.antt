@@ -1,9 +1,7 @@
 -- Processes and monitors that are read one by one.
-use Rattle.std.proofs.Common.{◌≡◌, ◌∙◌, ℕ, suc, ◌<◌, List, [], ◌∷◌, length, map, ap, refl, arith}
-use Rattle.std.specs.Prelude.{slice_index_or}
-use Rattle.cp_machine.specs.declared.process.ProcessState.{ProcessState}
+use Rattle.cp_key.proofs.Words.{◌≡◌, ◌∙◌, ℕ, suc, ◌<◌, List, [], ◌∷◌, length, map, ap, refl, arith, slice_index_or, ProcessState, Monitor, Thread, monitor_of}
+use Rattle.cp_key.proofs.Words.{no_monitor, no_thread, thread_of}
 use Rattle.cp_machine.specs.declared.state.Gate.{Gate}
-use Rattle.cp_machine.specs.Machine.{Monitor, Thread, monitor_of, no_monitor, no_thread, thread_of}
 
 -- elements that are seen one by one as those of another list
 seen_as : {X Y : Type 0} (see : X → Y) (y : Y) (xs : List X) (ys : List Y) → length ys ≡ length xs → ((k : ℕ) (d : X) → k < length xs → see (slice_index_or xs k d) ≡ slice_index_or ys k y) → map see xs ≡ ys

@@ -1,7 +1,5 @@
 -- A program that breaks no rule has what the laws need.
-use Rattle.std.proofs.Common.{◌≡◌, []}
-use Rattle.cp_tree.specs.Syntax.{Tree}
-use Rattle.cp_check.specs.Faults.{faults_of}
+use Rattle.cp_lawful.proofs.Words.{◌≡◌, [], Tree, faults_of}
 use Rattle.cp_meaning.specs.WellFormed.{IsWellFormed}
 use Rattle.cp_lawful.proofs.Earlier.{parameters_earlier}
 use Rattle.cp_lawful.proofs.Paths.{distinct_paths, contained_earlier}

@@ -1,29 +1,21 @@
 -- What breaks no rule gives no class to a monitor or process.
 use Rattle.std.proofs.Common.{◌≡◌, ℕ, zero, suc, ◌∙◌, Bool, true, false, if◌then◌else◌, List, [], ◌∷◌, ◌++◌, length, slice_get, Option, Some, None, Ok, Err, is_some, ap, sym, refl, subst, inl, inr}
 use Rattle.std.specs.Prelude.{◌⊎◌}
-use Rattle.std.specs.Str.{bytes_eq}
+use Rattle.cp_lawful.proofs.Words.{bytes_eq, Identifier, SystemKind, Meaning, ValueType, Use, Judged, ◌>>=◌, faults, Step, nothing, typed, faults_of}
 use Rattle.std.proofs.lemmas.Slice.Eq.{bytes_eq-Decides}
-use Rattle.cp_tree.specs.declared.constant.Identifier.{Identifier}
-use Rattle.cp_tree.specs.declared.declaration.SystemKind.{SystemKind}
 use Rattle.cp_tree.specs.declared.declaration.SystemKind.TheVariants as system_kind
 use Rattle.cp_tree.specs.Syntax.{Simple, type_name, enumeration, TypeTerm, simple, array_of, set_type, record_of, FieldGroups, no_fields, more_fields, FieldGroup, fields, ConstantDefinition, VariableGroup, Group, System, Definition, type_definition, system_definition, SystemDefinition, ProgramPart, program_constants, program_types, program_variables, Program, Tree}
-use Rattle.cp_scope.specs.declared.types.Meaning.{Meaning}
 use Rattle.cp_scope.specs.declared.types.Meaning.TheVariants.{Kind}
 use Rattle.cp_scope.specs.declared.types.Meaning.TheVariants as stands
-use Rattle.cp_scope.specs.declared.types.ValueType.{ValueType}
 use Rattle.cp_scope.specs.declared.types.ValueType.TheVariants.{Component}
-use Rattle.cp_scope.specs.declared.count.Use.{Use}
 use Rattle.cp_scope.specs.declared.fault.CheckFault.TheVariants as check_fault
 use Rattle.cp_scope.specs.declared.fault.Rule.TheVariants.{C1, C2, C4, C13, C14}
-use Rattle.cp_scope.specs.Judged.{Judged, ◌>>=◌, faults}
 use Rattle.cp_scope.specs.Scopes.{Names, Scope, Scopes, find, is_among, is_declared, through_seal, look_in, or_else, look_outer, look, with_name, with_pending, sealed, add, reserve, settle, enter, start}
 use Rattle.cp_check.specs.declared.types.Spot.TheVariants as spot
 use Rattle.cp_check.specs.Names as names
 use Rattle.cp_check.specs.Types as typing
-use Rattle.cp_check.specs.Types.{Step, nothing, typed}
 use Rattle.cp_check.specs.Declarations.{as_declared, to_kind, reserve_name, reserve_names, add_names, add_all, add_one, constant_steps, variable_steps}
 use Rattle.cp_check.specs.Systems as systems
-use Rattle.cp_check.specs.Faults.{faults_of}
 use Rattle.cp_meaning.specs.Names.{Name, same_name}
 use Rattle.cp_meaning.specs.Types.{Base, Range, Ty, ordinal, queue_type, component_of, all_integers}
 use Rattle.cp_meaning.specs.Scopes as meant

@@ -6,3 +6,4 @@ pub mod Loud
 pub mod Once
 pub mod Paths
 pub mod Told
+mod Words

@@ -1,21 +1,17 @@
 -- Where every name stands for something, what has no fault stands for something.
 use Rattle.std.proofs.Common.{ℕ, ◌+◌, Bool, true, false, if◌then◌else◌, List, [], ◌∷◌, Option, Some, None, Ok, Err}
-use Rattle.cp_tree.specs.declared.constant.Identifier.{Identifier}
+use Rattle.cp_lawful.proofs.Words.{Identifier, CheckFault, ValueType, Meaning, Use}
 use Rattle.cp_tree.specs.declared.constant.Sign.{Sign}
 use Rattle.cp_tree.specs.declared.constant.Constant.{Constant}
 use Rattle.cp_tree.specs.declared.constant.ConstantKind.{ConstantKind}
 use Rattle.cp_tree.specs.declared.constant.ConstantKind.TheVariants as kinds
 use Rattle.cp_tree.specs.declared.expression.Relation.{Relation}
 use Rattle.cp_tree.specs.Syntax.{Expression, alone, related, Sum, sum, Terms, no_terms, more_terms as terms_more, Term, term, Factors, no_factors, more_factors as factors_more, Factor, named, group, negated, set_of, Expressions, no_expressions, more_expressions, Designator, designator as name_with, Selectors, no_selectors, more_selectors, Selector, field, index, Start, Statement, empty, assign, invoke, block, if_then, if_else, case_of, while_do, repeat_until, for_do, cycle, init, Statements, no_statements, more_statements, Arms, no_arms, more_arms, Arm, arm}
-use Rattle.cp_scope.specs.declared.fault.CheckFault.{CheckFault}
-use Rattle.cp_scope.specs.declared.types.ValueType.{ValueType}
 use Rattle.cp_scope.specs.declared.types.ValueType.TheVariants as value_type
-use Rattle.cp_scope.specs.declared.types.Meaning.{Meaning}
 use Rattle.cp_scope.specs.declared.types.Meaning.TheVariants as meaning
 use Rattle.cp_scope.specs.declared.types.Parameter.{Parameter}
 use Rattle.cp_scope.specs.declared.types.Predeclared.{Predeclared}
 use Rattle.cp_scope.specs.declared.types.Predeclared.TheVariants as predeclared
-use Rattle.cp_scope.specs.declared.count.Use.{Use}
 use Rattle.cp_scope.specs.Counts.{both_uses}
 use Rattle.cp_scope.specs.Scopes.{Scopes, field_at, member_at, heading_at}
 use Rattle.cp_scope.specs.Judged.{Judged, both, ◌>>=◌}

@@ -1,9 +1,7 @@
 -- No two components have one path, and what a component contains is of an earlier type.
 use Rattle.std.proofs.Common.{◌≡◌, ℕ, zero, suc, ◌<◌, ◌≤◌, ◌∙◌, ◌⊎◌, inl, inr, List, [], ◌∷◌, ◌++◌, map, length, Option, Some, None, ap, sym, refl, subst, arith}
-use Rattle.cp_tree.specs.Syntax.{Program}
-use Rattle.cp_meaning.specs.Names.{Name}
+use Rattle.cp_lawful.proofs.Words.{Program, Name, Variable}
 use Rattle.cp_meaning.specs.Types.{Ty, array_over, component_of, length_of_range}
-use Rattle.cp_meaning.specs.Declarations.{Variable}
 use Rattle.cp_meaning.specs.Systems.{system_of, program_system}
 use Rattle.cp_meaning.specs.Components.{PathStep, Path, Listed, step_down, listed_elements, listed_variable, listed_variables, listed, components_of}
 use Rattle.cp_meaning.specs.State.{Component, component_at}

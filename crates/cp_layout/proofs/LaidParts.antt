@@ -1,7 +1,6 @@
 -- Loops over types and declarations: what is left leads where all lead.
 use Rattle.std.proofs.Common.{◌≡◌, ℕ, suc, ◌+◌, ◌<◌, ◌≤◌, List, length, get_or, drop, map, refl, ap, add-one}
-use Rattle.std.proofs.Math.Seq.{drop-cons}
-use Rattle.std.proofs.lemmas.List.{drop_all}
+use Rattle.cp_layout.proofs.Words.{drop-cons, drop_all, Layer}
 use Rattle.cp_tree.specs.declared.constant.Identifier.{Identifier}
 use Rattle.cp_tree.specs.declared.types.FieldGroup as tree_field_group
 use Rattle.cp_tree.specs.declared.declaration.ConstantDefinition as tree_constant_definition
@@ -18,7 +17,6 @@ use Rattle.cp_layout.specs.declared.kinds.CellBase.{CellBase}
 use Rattle.cp_layout.specs.declared.kinds.CellType.{CellType}
 use Rattle.cp_layout.specs.declared.names.LayoutMeaning.TheVariants as meaning
 use Rattle.cp_layout.specs.Kinds.{Fields, with_field}
-use Rattle.cp_layout.specs.Layers.{Layer}
 use Rattle.cp_layout.specs.LaidExpressions.{as_integer}
 use Rattle.cp_layout.specs.LaidTypes.{with_constant, enumerated, fields_of_type, field_group, field_groups}
 use Rattle.cp_layout.specs.LaidDeclarations as spec

@@ -8,3 +8,4 @@ pub mod Least
 pub mod Listed
 pub mod SymbolLists
 pub mod Systems
+mod Words

@@ -1,11 +1,9 @@
 -- The system types of a program, and what its processes need: loops over both.
 use Rattle.std.proofs.Common.{◌≡◌, ℕ, suc, ◌+◌, ◌<◌, ◌≤◌, List, [], ◌∷◌, ◌++◌, length, get_or, take, drop, map, slice_get, refl, sym, ap, ◌∙◌, add-one}
-use Rattle.std.proofs.Math.Seq.{drop-cons, take-suc}
-use Rattle.std.proofs.lemmas.List.{drop_all, take_all, map-append}
+use Rattle.cp_layout.proofs.Words.{drop-cons, take-suc, drop_all, take_all, map-append, Layer, system_seen}
 use Rattle.cp_slots.specs.declared.tables.Process.{Process}
 use Rattle.cp_layout.specs.declared.tables.RoomNeed.{RoomNeed}
 use Rattle.cp_layout.specs.declared.layer.SystemCells as code_system
-use Rattle.cp_layout.specs.Layers.{Layer, system_seen}
 use Rattle.cp_layout.specs.Laid.{room_for, room_from, system_type, types_of}
 
 module _ (l : Layer) (r : RoomNeed) (xs : List Process) (i : ℕ) where

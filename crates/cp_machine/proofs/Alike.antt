@@ -1,42 +1,22 @@
 -- Two machines that differ in what they displayed before some moment alone, and that is as much, take the same steps:
 -- a step, or an admission, leaves them so, and the events are the same. Only `display` looks at the output, at how long it is.
 use Rattle.std.proofs.Common.{◌≡◌, ℕ, ◌+◌, ◌∙◌, List, [], ◌∷◌, ◌++◌, length, Option, Some, None, Result, Ok, Err, if◌then◌else◌, Bool, true, false}
-use Rattle.std.proofs.Common.{refl, sym, subst, ap}
-use Rattle.std.specs.Prelude.{ℤ, pos, slice_set, slice_index_or, ◌==◌}
-use Rattle.std.specs.Ordering.{int_eq}
+use Rattle.cp_machine.proofs.Words.{refl, sym, subst, ap, ℤ, pos, slice_set, slice_index_or, ◌==◌, int_eq, Tables, item_at, component_at, Action, Item}
+use Rattle.cp_machine.proofs.Words.{Argument, ComponentKind, Bound, ErrorName, Address, Frame, is_true, ranged, Event, Gates, First, Any, Entry, Rest}
+use Rattle.cp_machine.proofs.Words.{Successor, Return, InitEnd, Delayed, MOST_SHOWN, value_of, set_of, address_of, component_of, arguments_of, admitted}
+use Rattle.cp_machine.proofs.Words.{admitted_at, from_end, rest_of, act, take_top, step_at}
 use Rattle.std.proofs.lemmas.List.{append_assoc, length-append}
-use Rattle.cp_slots.specs.Tables.{Tables, item_at, component_at}
-use Rattle.cp_slots.specs.declared.item.Action.{Action}
 use Rattle.cp_slots.specs.declared.item.Action.TheVariants.{Empty, Assign, AssignSet, Copy, Block, If, Case, While, Until, For, Cycle, Call, Start, Delay, Continue, Display}
-use Rattle.cp_slots.specs.declared.item.Item.{Item}
-use Rattle.cp_slots.specs.declared.place.Argument.{Argument}
-use Rattle.cp_slots.specs.declared.tables.ComponentKind.{ComponentKind}
 use Rattle.cp_slots.specs.declared.tables.ComponentKind.TheVariants as kind
-use Rattle.cp_store.specs.declared.argument.Bound.{Bound}
-use Rattle.cp_store.specs.declared.error.ErrorName.{ErrorName}
-use Rattle.cp_store.specs.declared.memory.Address.{Address}
 use Rattle.cp_store.specs.declared.memory.Address.TheVariants as address
-use Rattle.cp_store.specs.declared.memory.Frame.{Frame}
 use Rattle.cp_store.specs.Sets as sets
-use Rattle.cp_store.specs.Values.{is_true, ranged}
 use Rattle.cp_machine.specs.Alike.{AreAlike}
-use Rattle.cp_machine.specs.declared.event.Event.{Event}
-use Rattle.cp_machine.specs.declared.gates.Gates.{Gates}
-use Rattle.cp_machine.specs.declared.gates.Gates.TheVariants.{First, Any}
-use Rattle.cp_machine.specs.declared.process.Entry.{Entry}
-use Rattle.cp_machine.specs.declared.process.Entry.TheVariants.{Rest, Successor, Return, InitEnd}
-use Rattle.cp_machine.specs.declared.process.Status.TheVariants.{Delayed}
 use Rattle.cp_machine.specs.declared.shown.Shown.{Shown}
-use Rattle.cp_machine.specs.declared.state.TheConstants.{MOST_SHOWN}
 use Rattle.cp_machine.specs.Calls.{left, called, called_in, called_by, start_process, start_inside, started, returned, delayed_in, delay_at, continued_from, continue_at}
 use Rattle.cp_machine.specs.Kernel.{first_in, one_in, let_in, let_in_by, entered, entered_by, delayed, resumed, continued, waits_in}
 use Rattle.cp_machine.specs.Machine.{Machine, thread_at, monitor_at, phase_at, is_initialised, is_uninitialised, is_unstarted, is_ready, is_pending, in_line, waits}
 use Rattle.cp_machine.specs.Machine.{with_stack, with_status, with_permanents, with_output}
-use Rattle.cp_machine.specs.Memory.{value_of, set_of, address_of, component_of, arguments_of}
-use Rattle.cp_machine.specs.Opening.{admitted, admitted_at}
-use Rattle.cp_machine.specs.Stack.{from_end, rest_of}
 use Rattle.cp_machine.specs.Statements.{Stepped, fault, with_value, arm_for, is_beyond, next_value, succeeded, show, shown_as}
-use Rattle.cp_machine.specs.Step.{act, take_top, step_at}
 
 -- ---- two machines, of which the other is the one with another output, `o`
 

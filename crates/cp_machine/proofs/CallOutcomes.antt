@@ -1,34 +1,16 @@
 -- What calls, starts, tests and waits come to, by what their parts answer.
 use Rattle.std.proofs.Common.{◌≡◌, ◌∙◌, ℕ, ◌<◌, ◌∷◌, Bool, true, false, not, if◌then◌else◌, List, length, Option, None, Result, Ok, Err, IfOk, refl, ap, sym, arith}
-use Rattle.std.specs.Prelude.{ℤ, pos, slice_set, slice_index_or}
+use Rattle.cp_machine.proofs.Words.{ℤ, pos, slice_set, slice_index_or, length-map, length-set, Tables, component_at, ResolvedArm, Argument, ComponentPlace}
+use Rattle.cp_machine.proofs.Words.{OrdinalExpression, Place, Bound, ErrorName, Address, is_true, Entry, Kernel, InitEnd, Rest, Phase, Initialised}
+use Rattle.cp_machine.proofs.Words.{Initialising, Uninitialised, State, delayed, address_of, arguments_of, component_of, parameters_bound, value_of, rest_of}
 use Rattle.std.specs.Result.{IsErrAnd}
 use denote.Enum.Bare.{sameb}
-use Rattle.std.proofs.lemmas.List.{length-map, length-set}
-use Rattle.cp_slots.specs.Tables.{Tables, component_at}
-use Rattle.cp_slots.specs.declared.item.ResolvedArm.{ResolvedArm}
-use Rattle.cp_slots.specs.declared.place.Argument.{Argument}
-use Rattle.cp_slots.specs.declared.place.ComponentPlace.{ComponentPlace}
-use Rattle.cp_slots.specs.declared.place.OrdinalExpression.{OrdinalExpression}
-use Rattle.cp_slots.specs.declared.place.Place.{Place}
-use Rattle.cp_store.specs.declared.argument.Bound.{Bound}
-use Rattle.cp_store.specs.declared.error.ErrorName.{ErrorName}
 use Rattle.cp_slots.specs.declared.tables.ComponentKind.TheVariants as kind
 use Rattle.cp_store.specs.declared.error.ErrorName.TheVariants.{InitTwice, NotInit, QueueInUse}
-use Rattle.cp_store.specs.declared.memory.Address.{Address}
-use Rattle.cp_store.specs.Values.{is_true}
-use Rattle.cp_machine.specs.declared.process.Entry.{Entry}
-use Rattle.cp_machine.specs.declared.event.Event.TheVariants.{Kernel}
 use Rattle.cp_machine.specs.declared.event.Kernel.TheVariants.{Delay}
-use Rattle.cp_machine.specs.declared.process.Entry.TheVariants.{InitEnd, Rest}
 use Rattle.cp_machine.specs.contracts.state.Phase.{the_type as phase_type}
-use Rattle.cp_machine.specs.declared.state.Phase.{Phase}
-use Rattle.cp_machine.specs.declared.state.Phase.TheVariants.{Initialised, Initialising, Uninitialised}
-use Rattle.cp_machine.specs.declared.state.State.{State}
 use Rattle.cp_machine.specs.Calls.{call, called, called_by, called_in, continue, continue_at, delay, delay_at, delayed_in, opened, start, start_inside, started}
-use Rattle.cp_machine.specs.Kernel.{delayed}
 use Rattle.cp_machine.specs.Machine.{Machine, Thread, is_initialised, is_uninitialised, machine_of, monitor_of, phase_at, thread_at, thread_of, with_phase, with_stack}
-use Rattle.cp_machine.specs.Memory.{address_of, arguments_of, component_of, parameters_bound, value_of}
-use Rattle.cp_machine.specs.Stack.{rest_of}
 use Rattle.cp_machine.specs.Statements.{Stepped, arm_for, branch, case_of, fault, local, until, while_do, with_value}
 
 -- ---- a value, or its run error

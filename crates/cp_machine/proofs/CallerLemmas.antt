@@ -1,14 +1,8 @@
 -- What the crates above need of the machine.
 use Rattle.std.proofs.Common.{◌≡◌, ◌∙◌, ℕ, zero, suc, ◌<◌, ◌≤◌, Bool, true, false, List, [], ◌∷◌, length, is_some as std_is_some, Option, None, Some, refl, sym, ap, arith, filter}
-use Rattle.std.specs.List.{range_with_len}
+use Rattle.cp_machine.proofs.Words.{range_with_len, Tables, Gates, State, Status, Ready, admitted_at, still, unstarted_thread}
 use Rattle.std.proofs.lemmas.List.{length-map, get_or-set_same}
-use Rattle.cp_slots.specs.Tables.{Tables}
-use Rattle.cp_machine.specs.declared.gates.Gates.{Gates}
-use Rattle.cp_machine.specs.declared.state.State.{State}
-use Rattle.cp_machine.specs.declared.process.Status.{Status}
-use Rattle.cp_machine.specs.declared.process.Status.TheVariants.{Ready}
 use Rattle.cp_machine.specs.Machine.{thread_of, Thread, thread_at, no_thread, is_at_gate, is_ready_status, in_line_of, is_some}
-use Rattle.cp_machine.specs.Opening.{admitted_at, still, unstarted_thread}
 use Rattle.cp_machine.specs.System.{Machine, machine_of, opening, is_ready, in_line, waiting_of, is_pending, admitted, IsStateOf}
 use Rattle.cp_machine.proofs.KernelLines.{pending_at_gate}
 pub use Rattle.cp_machine.proofs.LocalReady.{local_ready}

@@ -1,18 +1,9 @@
 -- Processes and monitors that are copied one by one.
 use Rattle.std.proofs.Common.{◌≡◌, ℕ, ◌+◌, ◌<◌, ◌≤◌, ◌∙◌, ◌⊎◌, inl, inr, suc, subst, get_or-set_same, get_or-set_other, List, [], ◌∷◌, length, map, ap, sym, refl, arith}
-use Rattle.std.specs.Prelude.{slice_index_or, slice_set, vec_capacity, vec_len}
-use Rattle.std.proofs.lemmas.Bool.{cases_eq}
+use Rattle.cp_machine.proofs.Words.{slice_index_or, slice_set, vec_capacity, vec_len, cases_eq, Tables, IsSound, Frame, Entry, Rest, Successor, Return}
+use Rattle.cp_machine.proofs.Words.{InitEnd, top_first, Gate, ProcessState, Machine, Thread, monitor_of, no_thread, thread_at, thread_of}
 use Rattle.std.proofs.lemmas.List.{get_or-map, get_or_read, length-map, length-reverse, length-set}
-use Rattle.cp_slots.specs.Tables.{Tables}
-use Rattle.cp_slots.specs.Fits.{IsSound}
-use Rattle.cp_store.specs.declared.memory.Frame.{Frame}
-use Rattle.cp_machine.specs.declared.process.Entry.{Entry}
-use Rattle.cp_machine.specs.declared.process.Entry.TheVariants.{Rest, Successor, Return, InitEnd}
-use Rattle.cp_machine.specs.Stack.{top_first}
-use Rattle.cp_machine.specs.declared.state.Gate.{Gate}
-use Rattle.cp_machine.specs.declared.process.ProcessState.{ProcessState}
 use Rattle.cp_machine.specs.Bodies.{Body, body_of}
-use Rattle.cp_machine.specs.Machine.{Machine, Thread, monitor_of, no_thread, thread_at, thread_of}
 use Rattle.cp_machine.specs.Fits.{FrameFits, HaveCells, HaveReferences, HaveRoom, HaveStacks, MachineFits, StackFits, ThreadFits}
 
 -- processes that are alike one by one

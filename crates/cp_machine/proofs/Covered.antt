@@ -1,21 +1,10 @@
 -- What the frame of a process may name is there.
-use Rattle.std.proofs.Common.{◌≡◌, ℕ, ◌+◌, ◌<◌, ◌≤◌, List, [], ◌∷◌, length, ap, arith}
-use Rattle.std.specs.Prelude.{slice_index_or}
-use Rattle.cp_slots.specs.Fits.{IsSound}
-use Rattle.cp_slots.specs.Systems.{IsOf, IsTyped, own_of}
-use Rattle.cp_slots.specs.Tables.{Tables, component_at, routine_at, system_at}
-use Rattle.cp_store.specs.declared.memory.Address.{Address}
-use Rattle.cp_store.specs.declared.memory.Address.TheVariants.{Permanent, Local}
-use Rattle.cp_store.specs.declared.memory.Frame.{Frame}
+use Rattle.cp_machine.proofs.Words.{◌≡◌, ℕ, ◌+◌, ◌<◌, ◌≤◌, List, [], ◌∷◌, length, ap, arith, slice_index_or, IsSound, IsOf, IsTyped, own_of, Tables}
+use Rattle.cp_machine.proofs.Words.{component_at, routine_at, system_at, Address, Permanent, Local, Frame, Memory, Entry, Rest, Successor, Return, InitEnd}
+use Rattle.cp_machine.proofs.Words.{FrameFits, ThreadFits, MachineFits, size_of, Machine, thread_at, memory_at, IsBehind, FrameReaches, StackReaches}
+use Rattle.cp_machine.proofs.Words.{ThreadReaches}
 use Rattle.cp_store.specs.Inside.{HasCells, Covers}
-use Rattle.cp_store.specs.Memory.{Memory}
 use Rattle.cp_store.specs.Places.{referred}
-use Rattle.cp_machine.specs.declared.process.Entry.{Entry}
-use Rattle.cp_machine.specs.declared.process.Entry.TheVariants.{Rest, Successor, Return, InitEnd}
-use Rattle.cp_machine.specs.Fits.{FrameFits, ThreadFits, MachineFits, size_of}
-use Rattle.cp_machine.specs.Machine.{Machine, thread_at}
-use Rattle.cp_machine.specs.Memory.{memory_at}
-use Rattle.cp_machine.specs.Reach.{IsBehind, FrameReaches, StackReaches, ThreadReaches}
 use Rattle.cp_machine.proofs.Keeping.{frame_fits}
 
 pub frame_reaches : (r : Tables) (references : List Address) (f : Frame) (es : List Entry) → StackReaches r references f es → FrameReaches r references f

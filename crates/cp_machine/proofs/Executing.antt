@@ -1,29 +1,13 @@
 -- What the kernel does keeps what is known of components.
 use Rattle.std.proofs.Common.{◌≡◌, ◌∙◌, ℕ, zero, suc, ◌+◌, ◌<◌, ◌⊎◌, inl, inr, List, [], ◌∷◌, length, Option, Some, None, true, false, ap, sym, refl, subst, arith, get_or-set_same, get_or-set_other}
-use Rattle.std.specs.Prelude.{pos, slice_index_or, slice_set}
-use Rattle.std.proofs.lemmas.Bool.{cases_eq}
-use Rattle.std.proofs.lemmas.List.{length-set}
+use Rattle.cp_machine.proofs.Words.{pos, slice_index_or, slice_set, cases_eq, length-set, IsOf, Tables, component_at, parameter_at, ComponentKind, Memory}
+use Rattle.cp_machine.proofs.Words.{Frame, Gates, First, Any, Entry, Rest, Successor, Return, InitEnd, Status, Unstarted, Ready, AtGate, Delayed, Ended}
+use Rattle.cp_machine.proofs.Words.{Phase, Uninitialised, LinesFit, with_memory, admitted, admitted_at, AreBound, EndsBegun, ExecutesAs, HasBegunAs}
+use Rattle.cp_machine.proofs.Words.{StackExecutes}
 use Rattle.std.proofs.lemmas.List.Quantifiers.{position-Some}
-use Rattle.cp_slots.specs.Systems.{IsOf}
-use Rattle.cp_slots.specs.Tables.{Tables, component_at, parameter_at}
-use Rattle.cp_slots.specs.declared.tables.ComponentKind.{ComponentKind}
 use Rattle.cp_slots.specs.declared.tables.ComponentKind.TheVariants as kind
-use Rattle.cp_store.specs.Memory.{Memory}
-use Rattle.cp_store.specs.declared.memory.Frame.{Frame}
-use Rattle.cp_machine.specs.declared.gates.Gates.{Gates}
-use Rattle.cp_machine.specs.declared.gates.Gates.TheVariants.{First, Any}
-use Rattle.cp_machine.specs.declared.process.Entry.{Entry}
-use Rattle.cp_machine.specs.declared.process.Entry.TheVariants.{Rest, Successor, Return, InitEnd}
-use Rattle.cp_machine.specs.declared.process.Status.{Status}
-use Rattle.cp_machine.specs.declared.process.Status.TheVariants.{Unstarted, Ready, AtGate, Delayed, Ended}
-use Rattle.cp_machine.specs.declared.state.Phase.{Phase}
-use Rattle.cp_machine.specs.declared.state.Phase.TheVariants.{Uninitialised}
-use Rattle.cp_machine.specs.Fits.{LinesFit}
 use Rattle.cp_machine.specs.Kernel.{let_in, let_in_by, first_in, one_in, goes_in, entered, entered_by, delayed, continued, resumed, waits_in}
 use Rattle.cp_machine.specs.Machine.{Machine, Thread, in_line, in_line_of, is_at_gate, is_delayed_at, is_uninitialised, is_unstarted, monitor_at, no_thread, phase_at, thread_at, with_permanents, with_phase, with_stack, with_status, with_thread}
-use Rattle.cp_machine.specs.Memory.{with_memory}
-use Rattle.cp_machine.specs.Opening.{admitted, admitted_at}
-use Rattle.cp_machine.specs.Reach.{AreBound, EndsBegun, ExecutesAs, HasBegunAs, StackExecutes}
 use Rattle.cp_machine.proofs.ExecutingLemmas.{Executing}
 use Rattle.cp_machine.proofs.KernelLines.{read_set}
 use Rattle.cp_machine.proofs.LineLists.{has, has_first}

@@ -1,32 +1,13 @@
 -- A step keeps what is known of components.
 use Rattle.std.proofs.Common.{◌≡◌, ℕ, ◌<◌, List, [], ◌∷◌, length, Option, Some, None, Ok, IsTrue, true, sym, refl, subst, if◌then◌else◌}
-use Rattle.std.specs.Prelude.{ℤ, ◌==◌}
-use Rattle.std.specs.Ordering.{int_eq}
-use Rattle.cp_slots.specs.Inside.{component_inside}
-use Rattle.cp_slots.specs.Systems.{ActionNames, IsOf, IsTyped, Names}
-use Rattle.cp_slots.specs.Tables.{Tables, RoutineView, component_at, item_at, routine_at}
-use Rattle.cp_slots.specs.declared.item.Action.{Action}
+use Rattle.cp_machine.proofs.Words.{ℤ, ◌==◌, int_eq, component_inside, ActionNames, IsOf, IsTyped, Names, Tables, RoutineView, component_at, item_at}
+use Rattle.cp_machine.proofs.Words.{routine_at, Action, Item, ComponentPlace, FindsComponent, Memory, put_copy, put_number, is_true, ranged, Frame, Entry}
+use Rattle.cp_machine.proofs.Words.{Rest, Successor, Return, InitEnd, Ended, Initialised, MOST_SHOWN, left, EntryFits, LinesFit, MachineFits, StackFits}
+use Rattle.cp_machine.proofs.Words.{Machine, is_ready, thread_at, with_stack, Executes, FrameReaches, ThreadReaches, rest_of, arm_for, is_beyond, next_value}
+use Rattle.cp_machine.proofs.Words.{succeeded, act, step_at, take_top}
 use Rattle.cp_slots.specs.declared.item.Action.TheVariants.{Empty, Assign, AssignSet, Copy, Block, If, Case, While, Until, For, Cycle, Call, Start, Delay, Continue, Display}
-use Rattle.cp_slots.specs.declared.item.Item.{Item}
-use Rattle.cp_slots.specs.declared.place.ComponentPlace.{ComponentPlace}
-use Rattle.cp_store.specs.Inside.{FindsComponent}
-use Rattle.cp_store.specs.Memory.{Memory, put_copy, put_number}
 use Rattle.cp_store.specs.Sets as sets
-use Rattle.cp_store.specs.Values.{is_true, ranged}
-use Rattle.cp_store.specs.declared.memory.Frame.{Frame}
-use Rattle.cp_machine.specs.declared.process.Entry.{Entry}
-use Rattle.cp_machine.specs.declared.process.Entry.TheVariants.{Rest, Successor, Return, InitEnd}
-use Rattle.cp_machine.specs.declared.process.Status.TheVariants.{Ended}
-use Rattle.cp_machine.specs.declared.state.Phase.TheVariants.{Initialised}
-use Rattle.cp_machine.specs.declared.state.TheConstants.{MOST_SHOWN}
-use Rattle.cp_machine.specs.Calls.{left}
-use Rattle.cp_machine.specs.Fits.{EntryFits, LinesFit, MachineFits, StackFits}
-use Rattle.cp_machine.specs.Machine.{Machine, is_ready, thread_at, with_stack}
 use Rattle.cp_machine.specs.Memory.{address_of, arguments_of, component_of, memory_at, set_of, set_written, value_of, with_memory}
-use Rattle.cp_machine.specs.Reach.{Executes, FrameReaches, ThreadReaches}
-use Rattle.cp_machine.specs.Stack.{rest_of}
-use Rattle.cp_machine.specs.Statements.{arm_for, is_beyond, next_value, succeeded}
-use Rattle.cp_machine.specs.Step.{act, step_at, take_top}
 use Rattle.cp_machine.proofs.Covered.{frame_reaches}
 use Rattle.cp_machine.proofs.Executing.{let_in_executes, phase_executes, same_executes, status_executes}
 use Rattle.cp_machine.proofs.ExecutingLemmas.{Executing, finds_component, named_component}

@@ -2,26 +2,17 @@
 use Rattle.std.proofs.Common.{◌≡◌, ◌∙◌, ℕ, ◌+◌, ◌*◌, ◌<◌, ◌≤◌, length, Result, Ok, Err, Bool, true, false, IsTrue, ap, sym, refl, subst, arith, if◌then◌else◌}
 use Rattle.std.specs.Prelude.{ℤ, ◌-ℤ◌, ◌&&◌, int_le, slice_index_or, unsigned_abs}
 use Rattle.std.proofs.lemmas.Int.{ints}
-use Rattle.cp_slots.specs.Inside.{component_inside}
-use Rattle.cp_slots.specs.Systems.{IsOf, IsTyped, Names, parameter_count}
-use Rattle.cp_slots.specs.Tables.{Tables, RoutineView, component_at, parameter_at, system_at}
-use Rattle.cp_slots.specs.declared.place.ComponentPlace.{ComponentPlace}
+use Rattle.cp_machine.proofs.Words.{component_inside, IsOf, IsTyped, Names, parameter_count, Tables, RoutineView, component_at, parameter_at, system_at}
+use Rattle.cp_machine.proofs.Words.{ComponentPlace, ComponentKind, FindsComponent, ErrorName, Frame, Status, Unstarted, Ready, AtGate, Delayed, Ended}
+use Rattle.cp_machine.proofs.Words.{MachineFits, Machine, is_ready, is_ready_status, is_unstarted, thread_at, AreBound, EndsBegun, Executes, ExecutesAs}
+use Rattle.cp_machine.proofs.Words.{HasBegunAs, StackExecutes}
 use Rattle.cp_slots.specs.declared.place.ComponentPlace.TheVariants.{Own, Contained, Element, Parameter}
-use Rattle.cp_slots.specs.declared.tables.ComponentKind.{ComponentKind}
 use Rattle.cp_slots.specs.declared.tables.ComponentKind.TheVariants as kind
 use Rattle.cp_store.specs.Components as components
-use Rattle.cp_store.specs.Inside.{FindsComponent}
 use Rattle.cp_store.specs.Memory.{Memory, onward, stretch}
 use Rattle.cp_store.specs.Places.{element_offset, value_at}
 use Rattle.cp_store.specs.Values.{is_within, then_with}
-use Rattle.cp_store.specs.declared.error.ErrorName.{ErrorName}
 use Rattle.cp_store.specs.declared.error.ErrorName.TheVariants.{Range}
-use Rattle.cp_store.specs.declared.memory.Frame.{Frame}
-use Rattle.cp_machine.specs.declared.process.Status.{Status}
-use Rattle.cp_machine.specs.declared.process.Status.TheVariants.{Unstarted, Ready, AtGate, Delayed, Ended}
-use Rattle.cp_machine.specs.Fits.{MachineFits}
-use Rattle.cp_machine.specs.Machine.{Machine, is_ready, is_ready_status, is_unstarted, thread_at}
-use Rattle.cp_machine.specs.Reach.{AreBound, EndsBegun, Executes, ExecutesAs, HasBegunAs, StackExecutes}
 
 -- what is known of the components of a machine
 pub record Executing (r : Tables) (m : Machine) : Type 0 where

@@ -1,20 +1,11 @@
 -- In the opening state only the program has begun, which has no parameters.
 use Rattle.std.proofs.Common.{◌≡◌, ◌∙◌, ℕ, zero, suc, ◌<◌, ◌⊎◌, inl, inr, [], length, Option, Some, None, true, false, ap, sym, refl, subst, arith}
-use Rattle.std.specs.Prelude.{replicate, slice_index_or}
-use Rattle.std.proofs.lemmas.Bool.{cases_eq}
+use Rattle.cp_machine.proofs.Words.{replicate, slice_index_or, cases_eq, IsSound, KindFits, Tables, component_at, no_process, process_at, routine_at}
+use Rattle.cp_machine.proofs.Words.{ComponentKind, Gates, Ready, Uninitialised, Thread, is_uninitialised, is_unstarted, no_thread, thread_at, opening, still}
+use Rattle.cp_machine.proofs.Words.{unstarted_thread, AreBound, EndsBegun, ExecutesAs, HasBegunAs, StackExecutes, rest_of}
 use Rattle.std.proofs.lemmas.List.{get_or-map, get_or-set_other, length-map}
-use Rattle.cp_slots.specs.Fits.{IsSound, KindFits}
 use Rattle.cp_slots.specs.Systems.{IsItself, IsTyped, parameter_count}
-use Rattle.cp_slots.specs.Tables.{Tables, component_at, no_process, process_at, routine_at}
-use Rattle.cp_slots.specs.declared.tables.ComponentKind.{ComponentKind}
 use Rattle.cp_slots.specs.declared.tables.ComponentKind.TheVariants as kind
-use Rattle.cp_machine.specs.declared.gates.Gates.{Gates}
-use Rattle.cp_machine.specs.declared.process.Status.TheVariants.{Ready}
-use Rattle.cp_machine.specs.declared.state.Phase.TheVariants.{Uninitialised}
-use Rattle.cp_machine.specs.Machine.{Thread, is_uninitialised, is_unstarted, no_thread, thread_at}
-use Rattle.cp_machine.specs.Opening.{opening, still, unstarted_thread}
-use Rattle.cp_machine.specs.Reach.{AreBound, EndsBegun, ExecutesAs, HasBegunAs, StackExecutes}
-use Rattle.cp_machine.specs.Stack.{rest_of}
 use Rattle.cp_machine.proofs.Executing.{AllExecute, ThreadExecutes, executing, thread_all}
 use Rattle.cp_machine.proofs.ExecutingLemmas.{Executing}
 

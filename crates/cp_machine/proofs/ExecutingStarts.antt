@@ -1,15 +1,10 @@
 -- A component begins: a process becomes ready, or a class or monitor is being initialised.
 use Rattle.std.proofs.Common.{◌≡◌, ◌∙◌, ℕ, zero, suc, ◌+◌, ◌<◌, ◌≤◌, ◌⊎◌, List, [], ◌∷◌, length, false, ap, sym, refl, subst, get_or-set_same, get_or-set_other}
-use Rattle.std.specs.Prelude.{slice_index_or, slice_set}
+use Rattle.cp_machine.proofs.Words.{slice_index_or, slice_set, Tables, component_at, parameter_at, process_at, ComponentKind, Ready, Phase, Initialising}
+use Rattle.cp_machine.proofs.Words.{Uninitialised, HasBegunAs}
 use Rattle.cp_slots.specs.Systems.{IsItself, IsOf, IsTyped, own_of, parameter_count}
-use Rattle.cp_slots.specs.Tables.{Tables, component_at, parameter_at, process_at}
-use Rattle.cp_slots.specs.declared.tables.ComponentKind.{ComponentKind}
 use Rattle.cp_slots.specs.declared.tables.ComponentKind.TheVariants as kind
-use Rattle.cp_machine.specs.declared.process.Status.TheVariants.{Ready}
-use Rattle.cp_machine.specs.declared.state.Phase.{Phase}
-use Rattle.cp_machine.specs.declared.state.Phase.TheVariants.{Initialising, Uninitialised}
 use Rattle.cp_machine.specs.Machine.{Machine, is_uninitialised, is_unstarted, no_thread, phase_at, thread_at, with_bindings, with_phase, with_status}
-use Rattle.cp_machine.specs.Reach.{HasBegunAs}
 use Rattle.cp_machine.proofs.Executing.{AllExecute, KeepsPhases, all_later, all_of, executing, thread_all}
 use Rattle.cp_machine.proofs.ExecutingHanded.{begins}
 use Rattle.cp_machine.proofs.ExecutingLemmas.{Executing}

@@ -1,33 +1,16 @@
 -- A step keeps what is known of components: calls, queues and starts.
 use Rattle.std.proofs.Common.{◌≡◌, ◌∙◌, ℕ, ◌+◌, ◌<◌, ◌≤◌, ◌⊎◌, List, [], ◌∷◌, length, Option, Some, None, Result, Ok, Err, Bool, true, false, sym, refl, subst, arith, if◌then◌else◌}
-use Rattle.std.specs.Prelude.{ℤ, pos, slice_index_or}
+use Rattle.cp_machine.proofs.Words.{ℤ, pos, slice_index_or, Tables, component_at, parameter_at, routine_at, Argument, ComponentPlace, PlaceOrigin}
+use Rattle.cp_machine.proofs.Words.{ComponentKind, bindings_after, bound_in_component, bound_in_frame, Memory, put_number, is_true, Bound, ErrorName, Address}
+use Rattle.cp_machine.proofs.Words.{Frame, Entry, Rest, Successor, Return, InitEnd, Phase, Uninitialised, Initialising, Initialised, LinesFit, MachineFits}
+use Rattle.cp_machine.proofs.Words.{arguments_of, component_of, memory_at, origin_of, with_memory, EndsBegun, Executes, ExecutesAs, FrameReaches}
+use Rattle.cp_machine.proofs.Words.{StackExecutes, from_end, rest_of, Stepped, gone_on, with_value}
 use Rattle.cp_slots.specs.Systems.{Hands, IsOf, IsOwn, IsTyped, StaysInside, own_of, parameter_count}
-use Rattle.cp_slots.specs.Tables.{Tables, component_at, parameter_at, routine_at}
-use Rattle.cp_slots.specs.declared.place.Argument.{Argument}
-use Rattle.cp_slots.specs.declared.place.ComponentPlace.{ComponentPlace}
 use Rattle.cp_slots.specs.declared.place.ComponentPlace.TheVariants.{Own, Contained, Element, Parameter}
-use Rattle.cp_slots.specs.declared.place.PlaceOrigin.{PlaceOrigin}
-use Rattle.cp_slots.specs.declared.tables.ComponentKind.{ComponentKind}
 use Rattle.cp_slots.specs.declared.tables.ComponentKind.TheVariants as kind
-use Rattle.cp_store.specs.Arguments.{bindings_after, bound_in_component, bound_in_frame}
-use Rattle.cp_store.specs.Memory.{Memory, put_number}
-use Rattle.cp_store.specs.Values.{is_true}
-use Rattle.cp_store.specs.declared.argument.Bound.{Bound}
-use Rattle.cp_store.specs.declared.error.ErrorName.{ErrorName}
-use Rattle.cp_store.specs.declared.memory.Address.{Address}
 use Rattle.cp_store.specs.declared.memory.Address.TheVariants as address
-use Rattle.cp_store.specs.declared.memory.Frame.{Frame}
-use Rattle.cp_machine.specs.declared.process.Entry.{Entry}
-use Rattle.cp_machine.specs.declared.process.Entry.TheVariants.{Rest, Successor, Return, InitEnd}
-use Rattle.cp_machine.specs.declared.state.Phase.{Phase}
-use Rattle.cp_machine.specs.declared.state.Phase.TheVariants.{Uninitialised, Initialising, Initialised}
 use Rattle.cp_machine.specs.Calls.{called, called_by, called_in, continue_at, continued_from, delay_at, delayed_in, frame_behind, left, opened, start_inside, start_process, started}
-use Rattle.cp_machine.specs.Fits.{LinesFit, MachineFits}
 use Rattle.cp_machine.specs.Machine.{Machine, Thread, is_initialised, is_ready, is_uninitialised, is_unstarted, monitor_at, phase_at, thread_at, with_bindings, with_phase, with_stack, with_thread}
-use Rattle.cp_machine.specs.Memory.{arguments_of, component_of, memory_at, origin_of, with_memory}
-use Rattle.cp_machine.specs.Reach.{EndsBegun, Executes, ExecutesAs, FrameReaches, StackExecutes}
-use Rattle.cp_machine.specs.Stack.{from_end, rest_of}
-use Rattle.cp_machine.specs.Statements.{Stepped, gone_on, with_value}
 use Rattle.cp_machine.proofs.Executing.{HasStarted, KeepsPhases, LineStarted, continued_executes, delayed_executes, ends_later, entered_executes, line_started, memory_executes, stack_executes, stack_later, thread_executes}
 use Rattle.cp_machine.proofs.ExecutingHanded.{handed}
 use Rattle.cp_machine.proofs.ExecutingLemmas.{Executing, named_component, ok_is, ready_started}

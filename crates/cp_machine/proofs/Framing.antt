@@ -1,34 +1,16 @@
 -- What the frames of a process may name stays there.
 use Rattle.std.proofs.Common.{◌≡◌, ℕ, zero, suc, ◌+◌, ◌^◌, ◌<◌, ◌≤◌, ◌∙◌, ◌⊎◌, inl, inr, List, [], ◌∷◌, length, Option, Some, None, ap, sym, refl, subst, arith, get_or-set_same, get_or-set_other}
-use Rattle.std.specs.Prelude.{ℤ, pos, slice_set, slice_index_or}
-use Rattle.std.proofs.lemmas.Bool.{cases_eq}
-use Rattle.std.proofs.lemmas.List.{length-set}
-use Rattle.cp_slots.specs.Tables.{Tables, routine_at}
-use Rattle.cp_slots.specs.Fits.{IsSound}
-use Rattle.cp_slots.specs.declared.place.Argument.{Argument}
-use Rattle.cp_store.specs.declared.argument.Bound.{Bound}
+use Rattle.cp_machine.proofs.Words.{ℤ, pos, slice_set, slice_index_or, cases_eq, length-set, Tables, routine_at, IsSound, Argument, Bound, Address, Permanent}
+use Rattle.cp_machine.proofs.Words.{Local, Frame, SetValue, Entry, Rest, Successor, Return, InitEnd, Status, Ready, AtGate, Delayed, Gates, First, Any}
+use Rattle.cp_machine.proofs.Words.{StackFits, with_memory, set_written, admitted, admitted_at, IsBehind, FrameReaches, StackReaches, ThreadReaches, rest_of}
+use Rattle.cp_machine.proofs.Words.{from_end}
 use Rattle.cp_store.specs.declared.argument.Bound.TheVariants.{Scalar, Set, Copy, Reference, Component}
-use Rattle.cp_store.specs.declared.memory.Address.{Address}
-use Rattle.cp_store.specs.declared.memory.Address.TheVariants.{Permanent, Local}
-use Rattle.cp_store.specs.declared.memory.Frame.{Frame}
-use Rattle.cp_store.specs.declared.set.SetValue.{SetValue}
 use Rattle.cp_store.specs.Arguments.{put_value, put_in_frame, bound_in_frame, bound_in_component}
 use Rattle.cp_store.specs.Memory.{Memory, cell_at, moved, nowhere, onward, put_number, put_copy}
 use Rattle.cp_store.specs.Places.{referred}
 use Rattle.cp_store.specs.Sets.{put_set}
-use Rattle.cp_machine.specs.declared.process.Entry.{Entry}
-use Rattle.cp_machine.specs.declared.process.Entry.TheVariants.{Rest, Successor, Return, InitEnd}
-use Rattle.cp_machine.specs.declared.process.Status.{Status}
-use Rattle.cp_machine.specs.declared.process.Status.TheVariants.{Ready, AtGate, Delayed}
-use Rattle.cp_machine.specs.declared.gates.Gates.{Gates}
-use Rattle.cp_machine.specs.declared.gates.Gates.TheVariants.{First, Any}
-use Rattle.cp_machine.specs.Fits.{StackFits}
 use Rattle.cp_machine.specs.Kernel.{let_in, let_in_by, first_in, one_in, goes_in, entered, entered_by, delayed, continued, resumed, waits_in}
 use Rattle.cp_machine.specs.Machine.{Machine, Thread, thread_at, no_thread, monitor_at, with_permanents, with_thread, with_status, with_stack}
-use Rattle.cp_machine.specs.Memory.{with_memory, set_written}
-use Rattle.cp_machine.specs.Opening.{admitted, admitted_at}
-use Rattle.cp_machine.specs.Reach.{IsBehind, FrameReaches, StackReaches, ThreadReaches}
-use Rattle.cp_machine.specs.Stack.{rest_of, from_end}
 
 abbrev pub Framed : Tables → Machine → Type 0
 Framed r m = (q : ℕ) → q < length m.threads → ThreadReaches r (thread_at m.threads q)

@@ -1,41 +1,20 @@
 -- What the frames of all processes may name stays there in a step.
 use Rattle.std.proofs.Common.{◌≡◌, ℕ, ◌<◌, List, [], ◌∷◌, length, Option, Some, None, Result, Ok, Err, if◌then◌else◌, Bool, true, false, sym, refl, subst, arith, get_or-set_same}
 use Rattle.std.specs.Prelude.{ℤ, ◌==◌, slice_index_or, ◌&&◌, IsTrue, pos}
-use Rattle.std.specs.Ordering.{int_eq}
-use Rattle.std.proofs.lemmas.List.{length-set}
-use Rattle.cp_slots.specs.Tables.{Tables, item_at, routine_at, component_at}
-use Rattle.cp_slots.specs.Fits.{IsSound, ListFits, CallFits, ActionFits}
+use Rattle.cp_machine.proofs.Words.{int_eq, length-set, Tables, item_at, routine_at, component_at, IsSound, ListFits, CallFits, ActionFits, IsOf, IsTyped}
+use Rattle.cp_machine.proofs.Words.{Names, ActionNames, Action, Argument, ComponentPlace, PlaceOrigin, ComponentKind, Bound, ErrorName, Address, SetValue}
+use Rattle.cp_machine.proofs.Words.{bound_in_component, put_number, put_copy, ranged, is_true, and_left, and_right, Entry, Rest, Successor, Return, InitEnd}
+use Rattle.cp_machine.proofs.Words.{Ready, Ended, MOST_SHOWN, EntryFits, StackFits, MachineFits, size_of, StackReaches, rest_of, from_end, act, take_top}
+use Rattle.cp_machine.proofs.Words.{step_at}
 use Rattle.cp_slots.specs.Inside.{action_inside, component_inside, arguments_inside, binds_from, result_inside}
-use Rattle.cp_slots.specs.Systems.{IsOf, IsTyped, Names, ActionNames}
-use Rattle.cp_slots.specs.declared.item.Action.{Action}
 use Rattle.cp_slots.specs.declared.item.Action.TheVariants.{Empty, Assign, AssignSet, Copy, Block, If, Case, While, Until, For, Cycle, Call, Start, Delay, Continue, Display}
-use Rattle.cp_slots.specs.declared.place.Argument.{Argument}
-use Rattle.cp_slots.specs.declared.place.ComponentPlace.{ComponentPlace}
-use Rattle.cp_slots.specs.declared.place.PlaceOrigin.{PlaceOrigin}
-use Rattle.cp_slots.specs.declared.tables.ComponentKind.{ComponentKind}
 use Rattle.cp_slots.specs.declared.tables.ComponentKind.TheVariants as kind
-use Rattle.cp_store.specs.declared.argument.Bound.{Bound}
-use Rattle.cp_store.specs.declared.error.ErrorName.{ErrorName}
-use Rattle.cp_store.specs.declared.memory.Address.{Address}
 use Rattle.cp_store.specs.declared.memory.Address.TheVariants as address
-use Rattle.cp_store.specs.declared.set.SetValue.{SetValue}
-use Rattle.cp_store.specs.Arguments.{bound_in_component}
-use Rattle.cp_store.specs.Memory.{put_number, put_copy}
 use Rattle.cp_store.specs.Sets as sets
-use Rattle.cp_store.specs.Values.{ranged, is_true}
-use Rattle.cp_store.proofs.Reaches.{and_left, and_right}
-use Rattle.cp_machine.specs.declared.process.Entry.{Entry}
-use Rattle.cp_machine.specs.declared.process.Entry.TheVariants.{Rest, Successor, Return, InitEnd}
-use Rattle.cp_machine.specs.declared.process.Status.TheVariants.{Ready, Ended}
-use Rattle.cp_machine.specs.declared.state.TheConstants.{MOST_SHOWN}
 use Rattle.cp_machine.specs.Calls.{called, left, called_in, called_by, start_inside, started, opened, delayed_in, delay_at, continued_from, continue_at}
-use Rattle.cp_machine.specs.Fits.{EntryFits, StackFits, MachineFits, size_of}
 use Rattle.cp_machine.specs.Machine.{Machine, Thread, thread_at, no_thread, phase_at, is_initialised, is_uninitialised, is_unstarted, with_stack}
 use Rattle.cp_machine.specs.Memory.{memory_at, value_of, set_of, address_of, component_of, arguments_of, origin_of, number_put, set_put, set_written, cells_put, parameters_bound}
-use Rattle.cp_machine.specs.Reach.{StackReaches}
-use Rattle.cp_machine.specs.Stack.{rest_of, from_end}
 use Rattle.cp_machine.specs.Statements.{Stepped, arm_for, is_beyond, next_value, succeeded, with_value, gone_on}
-use Rattle.cp_machine.specs.Step.{act, take_top, step_at}
 use Rattle.cp_machine.proofs.Framing.{Framed, rest_reaches, end_reaches, stack_framed, status_framed, memory_framed, let_in_framed, entered_framed, delayed_framed, continued_framed, names_number, names_set, names_copy, names_component}
 use Rattle.cp_machine.proofs.FramingSteps.{left_framed, opened_framed, called_framed}
 use Rattle.cp_machine.proofs.Keeping.{end_fits, rest_fits, stack_fits}

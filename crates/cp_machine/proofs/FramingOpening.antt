@@ -1,14 +1,6 @@
 -- As a run begins, what the frames of all processes may name is there.
-use Rattle.std.proofs.Common.{◌≡◌, ℕ, ◌<◌, [], length, map, sym, refl, subst, arith}
-use Rattle.std.proofs.lemmas.List.{length-map, get_or-map}
-use Rattle.cp_slots.specs.Fits.{IsSound}
-use Rattle.cp_slots.specs.Systems.{IsTyped}
-use Rattle.cp_slots.specs.Tables.{Tables, process_at, no_process, routine_at}
-use Rattle.cp_machine.specs.declared.gates.Gates.{Gates}
-use Rattle.cp_machine.specs.declared.process.Status.TheVariants.{Ready}
-use Rattle.cp_machine.specs.Machine.{thread_at, no_thread}
-use Rattle.cp_machine.specs.Opening.{unstarted_thread, still, opening}
-use Rattle.cp_machine.specs.Reach.{FrameReaches, ThreadReaches}
+use Rattle.cp_machine.proofs.Words.{◌≡◌, ℕ, ◌<◌, [], length, map, sym, refl, subst, arith, length-map, get_or-map, IsSound, IsTyped, Tables, process_at}
+use Rattle.cp_machine.proofs.Words.{no_process, routine_at, Gates, Ready, thread_at, no_thread, unstarted_thread, still, opening, FrameReaches, ThreadReaches}
 use Rattle.cp_machine.proofs.Framing.{Framed, rest_reaches, status_framed}
 
 unstarted_reaches : (r : Tables) (q : ℕ) → q < length r.processes → IsSound r → IsTyped r → ThreadReaches r (unstarted_thread r (process_at r q))

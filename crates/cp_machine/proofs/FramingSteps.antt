@@ -1,31 +1,15 @@
 -- What the frames of a process may name stays there where frames are opened and given up.
 use Rattle.std.proofs.Common.{◌≡◌, ℕ, ◌+◌, ◌^◌, ◌<◌, ◌≤◌, ◌∙◌, List, ◌∷◌, ◌++◌, length, take, Option, Some, None, Ok, true, ap, sym, refl, subst, arith, get_or-set_same, get_or-set_other}
-use Rattle.std.specs.Prelude.{slice_set, replicate, nat_lt}
-use Rattle.std.proofs.lemmas.Bool.{ltb-true}
+use Rattle.cp_machine.proofs.Words.{slice_set, replicate, nat_lt, ltb-true, Tables, routine_at, IsSound, CallFits, arguments_inside, binds_from}
+use Rattle.cp_machine.proofs.Words.{result_inside, IsOf, IsTyped, Argument, Bound, Address, Permanent, Local, Frame, bound_in_frame, Memory, nowhere}
+use Rattle.cp_machine.proofs.Words.{and_left, and_right, Entry, Return, InitEnd, frame_behind, opened, left, called, Machine, Thread, thread_at, no_thread}
+use Rattle.cp_machine.proofs.Words.{with_permanents, memory_at, frame_opened, arguments_of, rest_of}
 use Rattle.std.proofs.lemmas.List.{length-set, get_or-take, get_or_append_left}
-use Rattle.cp_slots.specs.Tables.{Tables, routine_at}
-use Rattle.cp_slots.specs.Fits.{IsSound, CallFits}
-use Rattle.cp_slots.specs.Inside.{arguments_inside, binds_from, result_inside}
-use Rattle.cp_slots.specs.Systems.{IsOf, IsTyped}
-use Rattle.cp_slots.specs.declared.place.Argument.{Argument}
-use Rattle.cp_store.specs.declared.argument.Bound.{Bound}
-use Rattle.cp_store.specs.declared.memory.Address.{Address}
-use Rattle.cp_store.specs.declared.memory.Address.TheVariants.{Permanent, Local}
-use Rattle.cp_store.specs.declared.memory.Frame.{Frame}
-use Rattle.cp_store.specs.Arguments.{bound_in_frame}
 use Rattle.cp_store.specs.Inside.{HasCells}
 use Rattle.cp_store.specs.Memory as store
-use Rattle.cp_store.specs.Memory.{Memory, nowhere}
 use Rattle.cp_store.proofs.Opened.{opened_behind}
-use Rattle.cp_store.proofs.Reaches.{and_left, and_right}
-use Rattle.cp_machine.specs.declared.process.Entry.{Entry}
-use Rattle.cp_machine.specs.declared.process.Entry.TheVariants.{Return, InitEnd}
-use Rattle.cp_machine.specs.Calls.{frame_behind, opened, left, called}
 use Rattle.cp_machine.specs.Fits.{FrameFits, Follows, StackFits, ThreadFits, MachineFits, size_of}
-use Rattle.cp_machine.specs.Machine.{Machine, Thread, thread_at, no_thread, with_permanents}
-use Rattle.cp_machine.specs.Memory.{memory_at, frame_opened, arguments_of}
 use Rattle.cp_machine.specs.Reach.{IsBehind, FrameReaches, ResultReaches, StackReaches, ThreadReaches}
-use Rattle.cp_machine.specs.Stack.{rest_of}
 use Rattle.cp_machine.proofs.Covered.{covered}
 use Rattle.cp_machine.proofs.Framing.{Framed, Agree, rest_reaches, stack_agrees, thread_framed, names_below}
 use Rattle.cp_machine.proofs.Keeping.{behind_follows}

@@ -1,19 +1,13 @@
 -- The components that a start hands over are found, and their parameters have cells.
 use Rattle.std.proofs.Common.{◌≡◌, ℕ, ◌+◌, ◌<◌, ◌≤◌, true, false, List, [], ◌∷◌, length, subst, sym, arith}
-use Rattle.cp_slots.specs.declared.place.Argument.{Argument}
+use Rattle.cp_machine.proofs.Words.{Argument, ComponentPlace, RoutineView, Tables, parameter_at, Bound, Frame, Memory, and_left, and_right}
 use Rattle.cp_slots.specs.declared.place.ArgumentValue.{ArgumentValue}
 use Rattle.cp_slots.specs.declared.place.ArgumentValue.TheVariants as value
-use Rattle.cp_slots.specs.declared.place.ComponentPlace.{ComponentPlace}
 use Rattle.cp_slots.specs.Inside.{argument_inside, arguments_inside, component_inside}
 use Rattle.cp_slots.specs.Systems.{Hands, HandsNone, HandsOne, Names, is_component, parameter_count}
-use Rattle.cp_slots.specs.Tables.{RoutineView, Tables, parameter_at}
-use Rattle.cp_store.specs.declared.argument.Bound.{Bound}
 use Rattle.cp_store.specs.declared.argument.Bound.TheVariants.{Scalar, Set, Copy, Reference, Component}
-use Rattle.cp_store.specs.declared.memory.Frame.{Frame}
 use Rattle.cp_store.specs.Inside.{AllFitComponent, BindsBelow, FindsAll, FindsArgument, FindsComponent, FitsComponent}
-use Rattle.cp_store.specs.Memory.{Memory}
 use Rattle.cp_store.proofs.Alike.{has_more}
-use Rattle.cp_store.proofs.Reaches.{and_left, and_right}
 
 -- a call hands none over
 none_finds : (bindings : List ℕ) (r : RoutineView) (f : Frame) (v : ArgumentValue) → is_component v ≡ false → FindsArgument bindings r f v

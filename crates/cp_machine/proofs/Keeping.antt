@@ -1,26 +1,15 @@
 -- A step keeps each process inside what was reserved for it.
 use Rattle.std.proofs.Common.{◌≡◌, ℕ, ◌+◌, ◌-◌, ◌<◌, ◌≤◌, ◌∙◌, ◌⊎◌, inl, inr, List, [], ◌∷◌, length, take, Option, Some, None, Result, Ok, Err, Bool, true, false, sym, refl, subst, arith, length-append, if◌then◌else◌}
-use Rattle.std.specs.Prelude.{ℤ, pos, slice_index_or, replicate}
-use Rattle.std.proofs.lemmas.Bool.{cases_lt}
+use Rattle.cp_machine.proofs.Words.{ℤ, pos, slice_index_or, replicate, cases_lt, IsSound, ListFits, InnerFits, CallFits, KindFits, Argument, Bound, ErrorName}
+use Rattle.cp_machine.proofs.Words.{Frame, Memory, nowhere, onward, Entry, Rest, Successor, Return, InitEnd, Phase, memory_at, with_memory, frame_opened}
+use Rattle.cp_machine.proofs.Words.{parameters_bound, rest_of, from_end, Stepped, with_value}
 use Rattle.std.proofs.lemmas.List.{get_or_past, length-set, length-take-le, length-replicate}
 use Rattle.cp_slots.specs.Tables.{Tables, item_at, routine_at, component_at, no_component}
-use Rattle.cp_slots.specs.Fits.{IsSound, ListFits, InnerFits, CallFits, KindFits}
-use Rattle.cp_slots.specs.declared.place.Argument.{Argument}
 use Rattle.cp_slots.specs.declared.tables.Component.{Component}
-use Rattle.cp_store.specs.declared.argument.Bound.{Bound}
-use Rattle.cp_store.specs.declared.error.ErrorName.{ErrorName}
-use Rattle.cp_store.specs.declared.memory.Frame.{Frame}
-use Rattle.cp_store.specs.Memory.{Memory, nowhere, onward}
 use Rattle.cp_machine.specs.declared.shown.Shown.{Shown}
-use Rattle.cp_machine.specs.declared.process.Entry.{Entry}
-use Rattle.cp_machine.specs.declared.process.Entry.TheVariants.{Rest, Successor, Return, InitEnd}
-use Rattle.cp_machine.specs.declared.state.Phase.{Phase}
 use Rattle.cp_machine.specs.Calls.{frame_behind, with_result, given_up, left}
 use Rattle.cp_machine.specs.Fits.{FrameFits, Follows, StackFits, ThreadFits, MachineFits}
 use Rattle.cp_machine.specs.Machine.{Machine, Thread, thread_at, with_bindings, with_phase, with_stack, with_output}
-use Rattle.cp_machine.specs.Memory.{memory_at, with_memory, frame_opened, parameters_bound}
-use Rattle.cp_machine.specs.Stack.{rest_of, from_end}
-use Rattle.cp_machine.specs.Statements.{Stepped, with_value}
 use Rattle.cp_machine.proofs.KernelFits.{thread_fits, permanents_fit}
 use Rattle.cp_machine.proofs.StoreLemmas.{Kept, kept_component, length-bindings}
 

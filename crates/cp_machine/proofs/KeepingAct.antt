@@ -1,25 +1,11 @@
 -- A step keeps each process inside what was reserved for it.
 use Rattle.std.proofs.Common.{◌≡◌, ℕ, ◌<◌, ◌≤◌, List, [], ◌∷◌, length, Option, Some, None, Result, Ok, Err, if◌then◌else◌, Bool, true, false, refl, subst, arith}
-use Rattle.std.specs.Prelude.{ℤ, ◌==◌}
-use Rattle.std.specs.Ordering.{int_eq}
-use Rattle.cp_slots.specs.Tables.{Tables, item_at, component_at}
-use Rattle.cp_slots.specs.Fits.{IsSound, ListFits, InnerFits, ActionFits}
-use Rattle.cp_slots.specs.declared.item.Action.{Action}
+use Rattle.cp_machine.proofs.Words.{ℤ, ◌==◌, int_eq, Tables, item_at, component_at, IsSound, ListFits, InnerFits, ActionFits, Action, ErrorName, ranged}
+use Rattle.cp_machine.proofs.Words.{is_true, Entry, Rest, Successor, Return, InitEnd, Ended, Initialised, MOST_SHOWN, StackFits, MachineFits, EntryFits}
+use Rattle.cp_machine.proofs.Words.{Machine, thread_at, with_stack, value_of, set_of, address_of, component_of, arguments_of, rest_of, arm_for, is_beyond}
+use Rattle.cp_machine.proofs.Words.{next_value, succeeded, local, fault, with_value, act, take_top, step_at}
 use Rattle.cp_slots.specs.declared.item.Action.TheVariants.{Empty, Assign, AssignSet, Copy, Block, If, Case, While, Until, For, Cycle, Call, Start, Delay, Continue, Display}
-use Rattle.cp_store.specs.declared.error.ErrorName.{ErrorName}
 use Rattle.cp_store.specs.Sets as sets
-use Rattle.cp_store.specs.Values.{ranged, is_true}
-use Rattle.cp_machine.specs.declared.process.Entry.{Entry}
-use Rattle.cp_machine.specs.declared.process.Entry.TheVariants.{Rest, Successor, Return, InitEnd}
-use Rattle.cp_machine.specs.declared.process.Status.TheVariants.{Ended}
-use Rattle.cp_machine.specs.declared.state.Phase.TheVariants.{Initialised}
-use Rattle.cp_machine.specs.declared.state.TheConstants.{MOST_SHOWN}
-use Rattle.cp_machine.specs.Fits.{StackFits, MachineFits, EntryFits}
-use Rattle.cp_machine.specs.Machine.{Machine, thread_at, with_stack}
-use Rattle.cp_machine.specs.Memory.{value_of, set_of, address_of, component_of, arguments_of}
-use Rattle.cp_machine.specs.Stack.{rest_of}
-use Rattle.cp_machine.specs.Statements.{arm_for, is_beyond, next_value, succeeded, local, fault, with_value}
-use Rattle.cp_machine.specs.Step.{act, take_top, step_at}
 use Rattle.cp_machine.proofs.Keeping.{Fit, value_fits, either_fits, either_stack, stack_fits, phase_fits, output_fits, memory_fits, left_fits}
 use Rattle.cp_machine.proofs.KernelFits.{status_fits, let_in_fits}
 use Rattle.cp_machine.proofs.KeepingSteps.{arm_is, goes_fits, next_fits, next_machine, above_fits, again_fits, called_by_fits, started_fits, delay_at_fits, continue_at_fits}

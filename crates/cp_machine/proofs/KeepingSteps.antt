@@ -1,26 +1,12 @@
 -- A step keeps each process inside what was reserved for it: one case for each item.
 use Rattle.std.proofs.Common.{◌≡◌, ℕ, suc, ◌+◌, ◌<◌, ◌≤◌, List, [], ◌∷◌, length, Option, Some, None, Result, Ok, Bool, true, false, ap, sym, subst, arith, get_or-set_same, if◌then◌else◌}
-use Rattle.std.specs.Prelude.{ℤ, pos, slice_index_or, IfSome}
-use Rattle.cp_slots.specs.Tables.{Tables, item_at, component_at}
-use Rattle.cp_slots.specs.Fits.{IsSound, ListFits, InnerFits, CallFits, KindFits}
-use Rattle.cp_slots.specs.declared.item.ResolvedArm.{ResolvedArm}
-use Rattle.cp_slots.specs.declared.place.Argument.{Argument}
-use Rattle.cp_slots.specs.declared.place.PlaceOrigin.{PlaceOrigin}
-use Rattle.cp_slots.specs.declared.tables.ComponentKind.{ComponentKind}
+use Rattle.cp_machine.proofs.Words.{ℤ, pos, slice_index_or, IfSome, Tables, item_at, component_at, IsSound, ListFits, InnerFits, CallFits, KindFits}
+use Rattle.cp_machine.proofs.Words.{ResolvedArm, Argument, PlaceOrigin, ComponentKind, Bound, ErrorName, Address, is_true, Entry, Rest, Successor, Return}
+use Rattle.cp_machine.proofs.Words.{InitEnd, Ready, Initialising, StackFits, MachineFits, rest_of, from_end}
 use Rattle.cp_slots.specs.declared.tables.ComponentKind.TheVariants as kind
-use Rattle.cp_store.specs.declared.argument.Bound.{Bound}
-use Rattle.cp_store.specs.declared.error.ErrorName.{ErrorName}
-use Rattle.cp_store.specs.declared.memory.Address.{Address}
 use Rattle.cp_store.specs.declared.memory.Address.TheVariants as address
-use Rattle.cp_store.specs.Values.{is_true}
-use Rattle.cp_machine.specs.declared.process.Entry.{Entry}
-use Rattle.cp_machine.specs.declared.process.Entry.TheVariants.{Rest, Successor, Return, InitEnd}
-use Rattle.cp_machine.specs.declared.process.Status.TheVariants.{Ready}
-use Rattle.cp_machine.specs.declared.state.Phase.TheVariants.{Initialising}
 use Rattle.cp_machine.specs.Calls.{called, called_in, called_by, start_inside, started, delayed_in, delay_at, continued_from, continue_at}
-use Rattle.cp_machine.specs.Fits.{StackFits, MachineFits}
 use Rattle.cp_machine.specs.Machine.{Machine, Thread, thread_at, no_thread, phase_at, is_initialised, is_uninitialised, is_unstarted, with_stack}
-use Rattle.cp_machine.specs.Stack.{rest_of, from_end}
 use Rattle.cp_machine.specs.Statements.{arm_for, has_label, gone_on}
 use Rattle.cp_machine.proofs.Keeping.{Fit, either_fits, rest_fits, inner_fits, end_fits, length_rest, stack_fits, phase_fits, memory_fits, parameters_fit, kind_fits, behind_follows, opened_thread, left_fits}
 use Rattle.cp_machine.proofs.KernelFits.{thread_fits, status_fits, entered_fits, delayed_fits, continued_fits}

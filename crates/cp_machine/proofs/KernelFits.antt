@@ -1,17 +1,9 @@
 -- What the kernel does keeps each process inside what was reserved for it.
 use Rattle.std.proofs.Common.{◌≡◌, ℕ, ◌<◌, ◌∙◌, ◌⊎◌, inl, inr, List, [], ◌∷◌, Option, Some, None, length, sym, subst, arith, get_or-set_same, get_or-set_other}
-use Rattle.std.specs.Prelude.{ℤ, IfSome, pos, slice_set}
-use Rattle.std.proofs.lemmas.Bool.{cases_eq}
-use Rattle.std.proofs.lemmas.List.{length-set}
-use Rattle.cp_slots.specs.Tables.{Tables}
-use Rattle.cp_machine.specs.declared.gates.Gates.{Gates}
-use Rattle.cp_machine.specs.declared.gates.Gates.TheVariants.{First, Any}
-use Rattle.cp_machine.specs.declared.process.Status.{Status}
-use Rattle.cp_machine.specs.declared.process.Status.TheVariants.{Ready, AtGate, Delayed}
-use Rattle.cp_machine.specs.Fits.{MachineFits, ThreadFits}
+use Rattle.cp_machine.proofs.Words.{ℤ, IfSome, pos, slice_set, cases_eq, length-set, Tables, Gates, First, Any, Status, Ready, AtGate, Delayed, MachineFits}
+use Rattle.cp_machine.proofs.Words.{ThreadFits, admitted, admitted_at, without}
 use Rattle.cp_machine.specs.Kernel.{let_in, let_in_by, first_in, one_in, freed, goes_in, entered, entered_by, delayed, continued, resumed, waits_in}
 use Rattle.cp_machine.specs.Machine.{Machine, Thread, Monitor, thread_at, no_thread, monitor_at, with_thread, with_status, with_monitor, with_pending, with_permanents}
-use Rattle.cp_machine.specs.Opening.{admitted, admitted_at, without}
 
 -- ---- parts of a machine
 

@@ -2,9 +2,7 @@
 use Rattle.std.proofs.Common.{◌≡◌, ℕ, ◌<◌, ◌≤◌, ◌∙◌, List, [], ◌∷◌, Bool, Some, length, map, ap, sym, refl, arith}
 use Rattle.std.specs.Prelude.{position, slice_index_or}
 use Rattle.std.specs.List.{position_or_len}
-use Rattle.std.proofs.lemmas.List.{get_or-map, length-map}
-use Rattle.cp_machine.specs.declared.state.Gate.{Gate}
-use Rattle.cp_machine.specs.Kernel.{first_in, one_in, freed}
+use Rattle.cp_machine.proofs.Words.{get_or-map, length-map, Gate, first_in, one_in, freed}
 use Rattle.cp_machine.specs.Machine.{Machine, monitor_of, no_monitor, with_pending}
 
 pub guard_read : (gs : List Gate) (monitor : ℕ) (g : Gate) → monitor < length gs → g ≡ slice_index_or gs monitor g → slice_index_or (map monitor_of gs) monitor no_monitor ≡ monitor_of g

@@ -1,20 +1,14 @@
 -- What the kernel does keeps each line the line of those at its gate.
 use Rattle.std.proofs.Common.{◌≡◌, ◌∙◌, ℕ, zero, suc, ◌<◌, ◌≤◌, ◌⊎◌, inl, inr, List, [], ◌∷◌, ◌++◌, length, Option, Some, None, true, false, eqb, ap, sym, refl, subst, arith, length-append}
-use Rattle.std.specs.Prelude.{IfSome, pos, slice_index_or, slice_set}
-use Rattle.std.specs.List.{IsDistinct}
+use Rattle.cp_machine.proofs.Words.{IfSome, pos, slice_index_or, slice_set, IsDistinct, Gates, First, Any, Status, Unstarted, Ready, AtGate, Delayed, Ended}
+use Rattle.cp_machine.proofs.Words.{LinesFit, admitted, admitted_at, without}
 use Rattle.std.proofs.lemmas.Bool.{cases_eq, eq-eqb, eqb-true, ne_eqb}
 use Rattle.std.proofs.lemmas.List.{get_or-set_same, get_or-set_other}
 use Rattle.std.proofs.lemmas.List.Quantifiers.{position-Some}
 use Rattle.std.proofs.lemmas.Map.Keys.{IsDistinct-tail}
 use Rattle.std.proofs.lemmas.Map.Steps.{length-le_from_distinct_below}
-use Rattle.cp_machine.specs.declared.gates.Gates.{Gates}
-use Rattle.cp_machine.specs.declared.gates.Gates.TheVariants.{First, Any}
-use Rattle.cp_machine.specs.declared.process.Status.{Status}
-use Rattle.cp_machine.specs.declared.process.Status.TheVariants.{Unstarted, Ready, AtGate, Delayed, Ended}
-use Rattle.cp_machine.specs.Fits.{LinesFit}
 use Rattle.cp_machine.specs.Kernel.{let_in, let_in_by, first_in, one_in, freed, goes_in, entered, entered_by, delayed, continued, resumed, waits_in}
 use Rattle.cp_machine.specs.Machine.{Machine, Thread, Monitor, thread_at, no_thread, monitor_at, no_monitor, is_at_gate, is_delayed_at, is_ready_status, is_unstarted, in_line, in_line_of, with_status}
-use Rattle.cp_machine.specs.Opening.{admitted, admitted_at, without}
 use Rattle.cp_machine.proofs.LineLists.{has, has_first, has_pushed, pushed_other, pushed_once, first_gone, first_other, without_gone, without_other, without_once}
 
 abbrev pub line_of : List Monitor → ℕ → List ℕ

@@ -42,3 +42,4 @@ pub mod StoreLemmas
 pub mod TakeLemmas
 pub mod ThreadLemmas
 pub mod Unmoved
+mod Words

@@ -1,8 +1,6 @@
 -- Who is first in a line is one of the processes.
-use Rattle.std.proofs.Common.{◌≡◌, ◌∙◌, ℕ, ◌<◌, List, [], ◌∷◌, length, Some, true, sym, subst}
-use Rattle.std.proofs.lemmas.List.{length-set}
+use Rattle.cp_machine.proofs.Words.{◌≡◌, ◌∙◌, ℕ, ◌<◌, List, [], ◌∷◌, length, Some, true, sym, subst, length-set, Machine, Thread, monitor_at, with_thread}
 use Rattle.cp_machine.specs.Fits.{AreFirstKnown, IsFirstKnown, LinesFit}
-use Rattle.cp_machine.specs.Machine.{Machine, Thread, monitor_at, with_thread}
 use Rattle.cp_machine.proofs.CallerLemmas.{in_line_within}
 use Rattle.cp_machine.proofs.LineLists.{has, has_first}
 

@@ -1,31 +1,15 @@
 -- A process whose step is local is ready after it.
 use Rattle.std.proofs.Common.{◌≡◌, ◌∙◌, ℕ, ◌<◌, List, [], ◌∷◌, length, Option, Some, None, Result, Ok, Err, Bool, true, false, ap, subst, arith, get_or-set_same, if◌then◌else◌}
-use Rattle.std.specs.Prelude.{ℤ, pos, ◌==◌, slice_index_or}
-use Rattle.std.specs.Ordering.{int_eq}
-use Rattle.std.proofs.lemmas.List.{length-set}
-use Rattle.cp_slots.specs.Tables.{Tables, item_at, component_at}
-use Rattle.cp_slots.specs.declared.item.Action.{Action}
+use Rattle.cp_machine.proofs.Words.{ℤ, pos, ◌==◌, slice_index_or, int_eq, length-set, Tables, item_at, component_at, Action, Item, Argument, PlaceOrigin}
+use Rattle.cp_machine.proofs.Words.{ComponentKind, Bound, ErrorName, Address, Memory, put_number, put_copy, ranged, is_true, Event, Entry, Rest, Successor}
+use Rattle.cp_machine.proofs.Words.{Return, InitEnd, MOST_SHOWN, rest_of, from_end}
 use Rattle.cp_slots.specs.declared.item.Action.TheVariants.{Empty, Assign, AssignSet, Copy, Block, If, Case, While, Until, For, Cycle, Call, Start, Delay, Continue, Display}
-use Rattle.cp_slots.specs.declared.item.Item.{Item}
-use Rattle.cp_slots.specs.declared.place.Argument.{Argument}
-use Rattle.cp_slots.specs.declared.place.PlaceOrigin.{PlaceOrigin}
-use Rattle.cp_slots.specs.declared.tables.ComponentKind.{ComponentKind}
 use Rattle.cp_slots.specs.declared.tables.ComponentKind.TheVariants as kind
-use Rattle.cp_store.specs.declared.argument.Bound.{Bound}
-use Rattle.cp_store.specs.declared.error.ErrorName.{ErrorName}
-use Rattle.cp_store.specs.declared.memory.Address.{Address}
 use Rattle.cp_store.specs.declared.memory.Address.TheVariants as address
-use Rattle.cp_store.specs.Memory.{Memory, put_number, put_copy}
 use Rattle.cp_store.specs.Sets as sets
-use Rattle.cp_store.specs.Values.{ranged, is_true}
-use Rattle.cp_machine.specs.declared.event.Event.{Event}
-use Rattle.cp_machine.specs.declared.process.Entry.{Entry}
-use Rattle.cp_machine.specs.declared.process.Entry.TheVariants.{Rest, Successor, Return, InitEnd}
-use Rattle.cp_machine.specs.declared.state.TheConstants.{MOST_SHOWN}
 use Rattle.cp_machine.specs.Calls.{opened, called, called_in, called_by, start_inside, started, delayed_in, delay_at, continued_from, continue_at}
 use Rattle.cp_machine.specs.Machine.{Machine, Thread, thread_at, no_thread, is_ready, is_ready_status, is_initialised, is_uninitialised, is_unstarted, phase_at, with_thread, with_stack}
 use Rattle.cp_machine.specs.Memory.{memory_at, with_memory, value_of, set_of, address_of, origin_of, component_of, arguments_of, set_written}
-use Rattle.cp_machine.specs.Stack.{rest_of, from_end}
 use Rattle.cp_machine.specs.Statements.{Stepped, with_value, arm_for, is_beyond, gone_on, next_value, succeeded}
 use Rattle.cp_machine.specs.Step.{act, take_top, step_at, is_local}
 

@@ -1,24 +1,9 @@
 -- A statement of a frequent kind is done by a local step, or leaves the machine as it was.
 use Rattle.std.proofs.Common.{◌≡◌, ◌∙◌, ℕ, ◌<◌, List, length, Option, Result, Ok, Err, Bool, true, false, refl, ap, sym, subst, if◌then◌else◌}
-use Rattle.std.specs.Prelude.{ℤ}
-use Rattle.std.specs.Ordering.{int_eq}
-use Rattle.std.proofs.lemmas.List.{length-map}
-use Rattle.cp_slots.specs.Tables.{Tables}
-use Rattle.cp_slots.specs.declared.item.Action.{Action}
-use Rattle.cp_slots.specs.declared.item.Action.TheVariants.{For}
-use Rattle.cp_slots.specs.declared.item.Item.{Item}
-use Rattle.cp_slots.specs.declared.place.OrdinalExpression.{OrdinalExpression}
-use Rattle.cp_slots.specs.declared.place.Place.{Place}
-use Rattle.cp_store.specs.declared.error.ErrorName.{ErrorName}
-use Rattle.cp_store.specs.Values.{ranged}
-use Rattle.cp_machine.specs.declared.event.Event.{Event}
+use Rattle.cp_machine.proofs.Words.{ℤ, int_eq, length-map, Tables, Action, For, Item, OrdinalExpression, Place, ErrorName, ranged, Event, Entry, State}
+use Rattle.cp_machine.proofs.Words.{Machine, is_pending, is_ready, is_some, machine_of, value_of, address_of, Reaches}
 use Rattle.cp_machine.specs.declared.event.Event.TheVariants.{Local, Kernel, Ended, Fault, OutputFull}
-use Rattle.cp_machine.specs.declared.process.Entry.{Entry}
-use Rattle.cp_machine.specs.declared.state.State.{State}
 use Rattle.cp_machine.specs.Fits.{IsReserved, IsStateOf, LinesFit, MachineFits}
-use Rattle.cp_machine.specs.Machine.{Machine, is_pending, is_ready, is_some, machine_of}
-use Rattle.cp_machine.specs.Memory.{value_of, address_of}
-use Rattle.cp_machine.specs.Reach.{Reaches}
 use Rattle.cp_machine.specs.Statements.{Stepped, with_value, outcome, local, assign, branch, while_do, until, next_value, succeeded}
 use Rattle.cp_machine.specs.Step.{is_local, step_at}
 use Rattle.cp_machine.proofs.KeepingAct.{step_fits}

@@ -1,30 +1,15 @@
 -- What a call or a start names is a component of the routine's system type, and its arguments fit.
 use Rattle.std.proofs.Common.{◌≡◌, ◌∙◌, ℕ, ◌+◌, ◌<◌, ◌≤◌, Bool, List, ◌∷◌, length, Option, true, ap, sym, refl, subst, arith, get_or-set_same}
-use Rattle.std.specs.Prelude.{◌&&◌}
+use Rattle.cp_machine.proofs.Words.{◌&&◌, length-append, ActionNames, IsOf, Names, own_of, Tables, RoutineView, component_at, item_at, routine_at, system_at}
+use Rattle.cp_machine.proofs.Words.{Action, Call, Start, Item, Argument, ComponentPlace, Bound, Covers, and_left, and_right, Entry, State, frame_behind}
+use Rattle.cp_machine.proofs.Words.{opened, Machine, Thread, machine_of, no_thread, thread_at, under, with_stack, frame_opened, memory_at, rest_of}
 use Rattle.std.specs.declared.alloc.Global.{Global}
 use Rattle.std.specs.declared.vec.Vec.{Vec}
-use Rattle.std.proofs.lemmas.List.{length-append}
 use Rattle.cp_slots.specs.Inside.{action_inside, arguments_inside, binds_from, component_inside, result_inside}
-use Rattle.cp_slots.specs.Systems.{ActionNames, IsOf, Names, own_of}
-use Rattle.cp_slots.specs.Tables.{Tables, RoutineView, component_at, item_at, routine_at, system_at}
-use Rattle.cp_slots.specs.declared.item.Action.{Action}
-use Rattle.cp_slots.specs.declared.item.Action.TheVariants.{Call, Start}
-use Rattle.cp_slots.specs.declared.item.Item.{Item}
-use Rattle.cp_slots.specs.declared.place.Argument.{Argument}
-use Rattle.cp_slots.specs.declared.place.ComponentPlace.{ComponentPlace}
-use Rattle.cp_store.specs.declared.argument.Bound.{Bound}
 use Rattle.cp_store.specs.Inside as store
-use Rattle.cp_store.specs.Inside.{Covers}
 use Rattle.cp_store.proofs.Fitting.{arguments_read, calls_fit, starts_fit}
-use Rattle.cp_store.proofs.Reaches.{and_left, and_right}
-use Rattle.cp_machine.specs.declared.process.Entry.{Entry}
-use Rattle.cp_machine.specs.declared.state.State.{State}
-use Rattle.cp_machine.specs.Calls.{frame_behind, opened}
 use Rattle.cp_machine.specs.Fits.{IsTaken}
-use Rattle.cp_machine.specs.Machine.{Machine, Thread, machine_of, no_thread, thread_at, under, with_stack}
-use Rattle.cp_machine.specs.Memory.{frame_opened, memory_at}
 use Rattle.cp_machine.specs.Reach.{CanCall, CanStart, FitsComponent, FitsNew, FitsOwn, NamesOwner, frame_at}
-use Rattle.cp_machine.specs.Stack.{rest_of}
 use Rattle.cp_machine.proofs.Covered.{component_has}
 use Rattle.cp_machine.proofs.ExecutingAct.{process_finds, process_reads}
 use Rattle.cp_machine.proofs.HandingLemmas.{components_grow, hands_below, hands_find, none_find}

@@ -1,19 +1,9 @@
 -- The opening state is the program's.
 use Rattle.std.proofs.Common.{◌≡◌, ℕ, ◌-◌, ◌<◌, ◌≤◌, ◌∙◌, [], Option, None, Some, length, map, sym, refl, subst, arith, ◌⊎◌, inl, inr}
-use Rattle.std.specs.Prelude.{slice_set}
-use Rattle.std.proofs.lemmas.Bool.{cases_eq}
+use Rattle.cp_machine.proofs.Words.{slice_set, cases_eq, Tables, item_at, routine_at, process_at, no_process, IsSound, ListFits, nowhere, Frame, Gates}
+use Rattle.cp_machine.proofs.Words.{Status, Uninitialised, FrameFits, EntryFits, MachineFits, StackFits, ThreadFits, Machine, Thread, thread_at, no_monitor}
+use Rattle.cp_machine.proofs.Words.{no_thread, with_status, unstarted_thread, still, rest_of}
 use Rattle.std.proofs.lemmas.List.{length-map, length-replicate, length-set, get_or-map, get_or-set_same, get_or-set_other}
-use Rattle.cp_slots.specs.Tables.{Tables, item_at, routine_at, process_at, no_process}
-use Rattle.cp_slots.specs.Fits.{IsSound, ListFits}
-use Rattle.cp_store.specs.Memory.{nowhere}
-use Rattle.cp_store.specs.declared.memory.Frame.{Frame}
-use Rattle.cp_machine.specs.declared.gates.Gates.{Gates}
-use Rattle.cp_machine.specs.declared.process.Status.{Status}
-use Rattle.cp_machine.specs.declared.state.Phase.TheVariants.{Uninitialised}
-use Rattle.cp_machine.specs.Fits.{FrameFits, EntryFits, MachineFits, StackFits, ThreadFits}
-use Rattle.cp_machine.specs.Machine.{Machine, Thread, thread_at, no_monitor, no_thread, with_status}
-use Rattle.cp_machine.specs.Opening.{unstarted_thread, still}
-use Rattle.cp_machine.specs.Stack.{rest_of}
 
 first_fits : (r : Tables) (f : Frame) (list : Option ℕ) → ListFits r f.routine (r.depth - 1) list → 1 ≤ r.depth → FrameFits r f → StackFits r f (rest_of list [])
 first_fits r f None n d h = h

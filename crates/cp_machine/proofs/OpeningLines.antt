@@ -1,14 +1,7 @@
 -- In the opening state nobody is at a gate, and every line is empty.
-use Rattle.std.proofs.Common.{◌≡◌, ◌∙◌, ℕ, zero, suc, List, [], ◌∷◌, eqb, map, ap, sym, refl, subst}
-use Rattle.std.specs.Prelude.{replicate}
-use Rattle.std.specs.List.{IsDistinct}
-use Rattle.cp_slots.specs.Tables.{Tables}
+use Rattle.cp_machine.proofs.Words.{◌≡◌, ◌∙◌, ℕ, zero, suc, List, [], ◌∷◌, eqb, map, ap, sym, refl, subst, replicate, IsDistinct, Tables, Gates, Ready}
+use Rattle.cp_machine.proofs.Words.{LinesFit, no_monitor, thread_at, with_status, still, unstarted_thread}
 use Rattle.cp_slots.specs.declared.tables.Process as slots
-use Rattle.cp_machine.specs.declared.gates.Gates.{Gates}
-use Rattle.cp_machine.specs.declared.process.Status.TheVariants.{Ready}
-use Rattle.cp_machine.specs.Fits.{LinesFit}
-use Rattle.cp_machine.specs.Machine.{no_monitor, thread_at, with_status}
-use Rattle.cp_machine.specs.Opening.{still, unstarted_thread}
 use Rattle.cp_machine.proofs.KernelLines.{IsOff, Lined, line_of, lines_still, off_lined}
 use Rattle.cp_machine.proofs.LineLists.{has, nothing_once}
 

@@ -1,25 +1,12 @@
 -- What a statement comes to, by what its parts answer.
 use Rattle.std.proofs.Common.{◌≡◌, ◌∙◌, ℕ, ◌<◌, Bool, true, false, if◌then◌else◌, List, length, Option, Result, Ok, Err, ap, sym, subst, arith, get_or-set_same}
-use Rattle.std.specs.Prelude.{ℤ}
-use Rattle.std.specs.Ordering.{int_eq}
-use Rattle.std.proofs.lemmas.List.{length-map, length-set}
-use Rattle.cp_slots.specs.declared.place.OrdinalExpression.{OrdinalExpression}
-use Rattle.cp_slots.specs.declared.place.PlaceOrigin.{PlaceOrigin}
-use Rattle.cp_slots.specs.declared.place.Place.{Place}
+use Rattle.cp_machine.proofs.Words.{ℤ, int_eq, length-map, length-set, OrdinalExpression, PlaceOrigin, Place, ErrorName, Address, SetValue, Memory, ranged}
+use Rattle.cp_machine.proofs.Words.{Entry, State, HasCells, rest_of}
 use Rattle.cp_slots.specs.declared.place.SetExpression.{SetExpression}
-use Rattle.cp_store.specs.declared.error.ErrorName.{ErrorName}
-use Rattle.cp_store.specs.declared.memory.Address.{Address}
-use Rattle.cp_store.specs.declared.set.SetValue.{SetValue}
 use Rattle.cp_store.specs.Inside as store
-use Rattle.cp_store.specs.Memory.{Memory}
 use Rattle.cp_store.specs.Sets as sets
-use Rattle.cp_store.specs.Values.{ranged}
-use Rattle.cp_machine.specs.declared.process.Entry.{Entry}
-use Rattle.cp_machine.specs.declared.state.State.{State}
 use Rattle.cp_machine.specs.Machine.{Machine, Thread, machine_of, no_thread, thread_at, thread_of, with_stack}
 use Rattle.cp_machine.specs.Memory.{address_of, cells_put, memory_at, number_put, set_of, set_put, value_of}
-use Rattle.cp_machine.specs.Reach.{HasCells}
-use Rattle.cp_machine.specs.Stack.{rest_of}
 use Rattle.cp_machine.specs.Statements.{Stepped, assign, assign_set, assigned, copy, fault, for_from, gone_on, is_beyond, local, next_turn, next_value, set_assigned, with_value}
 
 -- ---- a process whose control stack alone changed

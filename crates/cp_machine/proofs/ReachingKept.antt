@@ -1,14 +1,6 @@
 -- A step, an admission and the opening keep what the frames of all processes may name there.
-use Rattle.std.proofs.Common.{◌≡◌, ℕ, ◌<◌, length, true}
-use Rattle.cp_slots.specs.Fits.{IsSound}
-use Rattle.cp_slots.specs.Systems.{IsTyped, parameter_count}
-use Rattle.cp_slots.specs.Tables.{Tables, component_at, process_at}
-use Rattle.cp_machine.specs.declared.gates.Gates.{Gates}
-use Rattle.cp_machine.specs.Fits.{LinesFit, MachineFits}
-use Rattle.cp_machine.specs.Machine.{Machine, in_line, is_ready}
-use Rattle.cp_machine.specs.Opening.{admitted, opening}
-use Rattle.cp_machine.specs.Reach.{Reaches}
-use Rattle.cp_machine.specs.Step.{step_at}
+use Rattle.cp_machine.proofs.Words.{◌≡◌, ℕ, ◌<◌, length, true, IsSound, IsTyped, parameter_count, Tables, component_at, process_at, Gates, LinesFit}
+use Rattle.cp_machine.proofs.Words.{MachineFits, Machine, in_line, is_ready, admitted, opening, Reaches, step_at}
 use Rattle.cp_machine.proofs.Executing.{admitted_executes}
 use Rattle.cp_machine.proofs.ExecutingAct.{process_finds, step_executes}
 use Rattle.cp_machine.proofs.ExecutingLemmas.{Executing}

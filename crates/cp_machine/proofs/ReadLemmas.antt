@@ -2,29 +2,16 @@
 use Rattle.std.proofs.Common.{◌≡◌, ◌∙◌, ℕ, ◌+◌, ◌-◌, ◌<◌, ◌≤◌, ◌^◌, Bool, true, false, List, length, Option, Some, None, Result, Ok, Err, ap, sym, refl, subst, arith, get_or-set_same, if◌then◌else◌}
 use Rattle.std.specs.Prelude.{ℤ, IfOk, ◌&&◌, nat_le, nat_lt, slice_index_or}
 use Rattle.std.proofs.lemmas.Bool.{leb-true, ltb-true}
-use Rattle.cp_slots.specs.Fits.{ActionFits, InnerFits}
+use Rattle.cp_machine.proofs.Words.{ActionFits, InnerFits, Tables, RoutineView, item_at, routine_at, Action, Item, PlaceOrigin, Place, ErrorName, Address}
+use Rattle.cp_machine.proofs.Words.{Frame, Covers, Memory, memory_of, nowhere, onward, Entry, ProcessState, State, Machine, Thread, machine_of, no_thread}
+use Rattle.cp_machine.proofs.Words.{thread_at, under, with_stack, address_of, memory_at, origin_of}
 use Rattle.cp_slots.specs.Inside.{SET_CELLS, action_inside, expression_inside, has, place_room, room_from, set_inside}
-use Rattle.cp_slots.specs.Tables.{Tables, RoutineView, item_at, routine_at}
-use Rattle.cp_slots.specs.declared.item.Action.{Action}
 use Rattle.cp_slots.specs.declared.item.Action.TheVariants.{Empty, Assign, AssignSet, Copy, Block, If, Case, While, Until, For, Cycle, Call, Start, Delay, Continue, Display}
-use Rattle.cp_slots.specs.declared.item.Item.{Item}
-use Rattle.cp_slots.specs.declared.place.PlaceOrigin.{PlaceOrigin}
 use Rattle.cp_slots.specs.declared.place.PlaceOrigin.TheVariants as origin
-use Rattle.cp_slots.specs.declared.place.Place.{Place}
-use Rattle.cp_store.specs.declared.error.ErrorName.{ErrorName}
-use Rattle.cp_store.specs.declared.memory.Address.{Address}
-use Rattle.cp_store.specs.declared.memory.Frame.{Frame}
 use Rattle.cp_store.specs.Inside as store
-use Rattle.cp_store.specs.Inside.{Covers}
-use Rattle.cp_store.specs.Memory.{Memory, memory_of, nowhere, onward}
 use Rattle.cp_store.specs.Places.{origin_address}
 use Rattle.cp_store.proofs.Reaches.{and_left, and_right, has_fewer, have_cells}
-use Rattle.cp_machine.specs.declared.process.Entry.{Entry}
-use Rattle.cp_machine.specs.declared.process.ProcessState.{ProcessState}
-use Rattle.cp_machine.specs.declared.state.State.{State}
 use Rattle.cp_machine.specs.Fits.{EntryFits, HasRoom, IsStateOf, IsTaken}
-use Rattle.cp_machine.specs.Machine.{Machine, Thread, machine_of, no_thread, thread_at, under, with_stack}
-use Rattle.cp_machine.specs.Memory.{address_of, memory_at, origin_of}
 use Rattle.cp_machine.specs.Reach.{CanName, CanReach, CanRead, CanReadSet, HasCells, frame_at}
 use Rattle.cp_machine.proofs.Covered.{covered}
 use Rattle.cp_machine.proofs.RoomLemmas.{rest_stands, within}

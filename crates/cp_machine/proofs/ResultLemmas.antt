@@ -1,11 +1,6 @@
 -- A function's result is there.
-use Rattle.std.proofs.Common.{◌≡◌, ℕ, ◌+◌, ◌<◌, List, ◌∷◌, length, Option, Some, None, arith, subst}
-use Rattle.cp_slots.specs.Tables.{Tables, routine_at}
-use Rattle.cp_store.specs.declared.memory.Frame.{Frame}
-use Rattle.cp_machine.specs.declared.process.Entry.{Entry}
-use Rattle.cp_machine.specs.declared.process.Entry.TheVariants.{Return, InitEnd}
-use Rattle.cp_machine.specs.Fits.{StackFits, ThreadFits, size_of}
-use Rattle.cp_machine.specs.Machine.{Thread}
+use Rattle.cp_machine.proofs.Words.{◌≡◌, ℕ, ◌+◌, ◌<◌, List, ◌∷◌, length, Option, Some, None, arith, subst, Tables, routine_at, Frame, Entry, Return, InitEnd}
+use Rattle.cp_machine.proofs.Words.{StackFits, ThreadFits, size_of, Thread}
 use Rattle.cp_machine.specs.Reach.{ResultReaches, StackReaches, ThreadReaches}
 use Rattle.cp_machine.specs.Results.{HasResult}
 

@@ -1,16 +1,8 @@
 -- A process whose topmost entry is known has room for what its item needs.
 use Rattle.std.proofs.Common.{◌≡◌, ◌∙◌, ℕ, ◌+◌, ◌<◌, ◌≤◌, List, ◌∷◌, length, Option, Some, None, ap, sym, subst, arith}
-use Rattle.std.specs.Prelude.{ℤ, slice_index_or, vec_len}
-use Rattle.std.proofs.lemmas.List.{get_or-map, length-map, length-reverse}
-use Rattle.cp_slots.specs.Tables.{Tables, item_at}
-use Rattle.cp_slots.specs.Fits.{InnerFits, CallFits}
-use Rattle.cp_slots.specs.declared.place.Argument.{Argument}
-use Rattle.cp_machine.specs.declared.process.Entry.{Entry}
-use Rattle.cp_machine.specs.declared.process.Entry.TheVariants.{Rest, Successor}
-use Rattle.cp_machine.specs.declared.process.ProcessState.{ProcessState}
-use Rattle.cp_machine.specs.declared.state.State.{State}
+use Rattle.cp_machine.proofs.Words.{ℤ, slice_index_or, vec_len, get_or-map, length-map, length-reverse, Tables, item_at, InnerFits, CallFits, Argument, Entry}
+use Rattle.cp_machine.proofs.Words.{Rest, Successor, ProcessState, State, Thread, thread_of, thread_at, no_thread, machine_of}
 use Rattle.cp_machine.specs.Fits.{EntryFits, StackFits, MachineFits, IsReserved, IsStateOf, IsBusy, HasRoom, HasCallRoom}
-use Rattle.cp_machine.specs.Machine.{Thread, thread_of, thread_at, no_thread, machine_of}
 use Rattle.cp_machine.proofs.Keeping.{frame_fits}
 
 abbrev pub thread : State → ℕ → Thread

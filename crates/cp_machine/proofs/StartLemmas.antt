@@ -1,12 +1,10 @@
 -- A process more, of those that are started.
 use Rattle.std.proofs.Common.{◌≡◌, ◌∙◌, ℕ, ◌+◌, ◌<◌, ◌≤◌, Bool, true, false, List, [], ◌∷◌, ◌++◌, length, map, take, ap, refl, sym, subst, arith}
-use Rattle.std.specs.Prelude.{nat_lt, slice_index_or}
+use Rattle.cp_machine.proofs.Words.{nat_lt, slice_index_or, ProcessState, Thread, thread_of}
 use Rattle.std.proofs.lemmas.Bool.{ltb-true, ltb-false}
 use Rattle.std.proofs.lemmas.List.{get_or_append_left, length-append, map-append, take_more}
 use Rattle.std.proofs.Math.Seq.{get_or-append_seam}
 use Rattle.cp_slots.specs.declared.tables.Process as slots
-use Rattle.cp_machine.specs.declared.process.ProcessState.{ProcessState}
-use Rattle.cp_machine.specs.Machine.{Thread, thread_of}
 
 pub threads_more : (f : slots.Process → Thread) (ps new : List ProcessState) (p : ProcessState) (xs : List slots.Process) (i : ℕ) (d : slots.Process) → new ≡ ps ++ p ∷ [] → i < length xs → thread_of p ≡ f (slice_index_or xs i d) → map thread_of ps ≡ map f (take i xs) → map thread_of new ≡ map f (take (i + 1) xs)
 threads_more f ps new p xs i d pushed lt last others =

@@ -1,37 +1,17 @@
 -- A step keeps each line the line of those at its gate.
 use Rattle.std.proofs.Common.{◌≡◌, ◌∙◌, ℕ, ◌<◌, List, [], ◌∷◌, length, Option, Some, None, Result, Ok, Err, Bool, true, false, ap, refl, arith, if◌then◌else◌}
-use Rattle.std.specs.Prelude.{ℤ, pos, ◌==◌, slice_index_or}
-use Rattle.std.specs.Ordering.{int_eq}
-use Rattle.cp_slots.specs.Tables.{Tables, item_at, component_at}
-use Rattle.cp_slots.specs.Fits.{IsSound, KindFits}
-use Rattle.cp_slots.specs.declared.item.Action.{Action}
+use Rattle.cp_machine.proofs.Words.{ℤ, pos, ◌==◌, slice_index_or, int_eq, Tables, item_at, component_at, IsSound, KindFits, Action, Item, Argument}
+use Rattle.cp_machine.proofs.Words.{PlaceOrigin, ComponentKind, Bound, ErrorName, Address, Frame, bound_in_frame, bound_in_component, Memory, put_number}
+use Rattle.cp_machine.proofs.Words.{put_copy, ranged, is_true, Entry, Rest, Successor, Return, InitEnd, Ready, Ended, Initialised, MOST_SHOWN, LinesFit}
+use Rattle.cp_machine.proofs.Words.{MachineFits, rest_of, from_end, act, take_top, step_at}
 use Rattle.cp_slots.specs.declared.item.Action.TheVariants.{Empty, Assign, AssignSet, Copy, Block, If, Case, While, Until, For, Cycle, Call, Start, Delay, Continue, Display}
-use Rattle.cp_slots.specs.declared.item.Item.{Item}
-use Rattle.cp_slots.specs.declared.place.Argument.{Argument}
-use Rattle.cp_slots.specs.declared.place.PlaceOrigin.{PlaceOrigin}
-use Rattle.cp_slots.specs.declared.tables.ComponentKind.{ComponentKind}
 use Rattle.cp_slots.specs.declared.tables.ComponentKind.TheVariants as kind
-use Rattle.cp_store.specs.declared.argument.Bound.{Bound}
-use Rattle.cp_store.specs.declared.error.ErrorName.{ErrorName}
-use Rattle.cp_store.specs.declared.memory.Address.{Address}
 use Rattle.cp_store.specs.declared.memory.Address.TheVariants as address
-use Rattle.cp_store.specs.declared.memory.Frame.{Frame}
-use Rattle.cp_store.specs.Arguments.{bound_in_frame, bound_in_component}
-use Rattle.cp_store.specs.Memory.{Memory, put_number, put_copy}
 use Rattle.cp_store.specs.Sets as sets
-use Rattle.cp_store.specs.Values.{ranged, is_true}
-use Rattle.cp_machine.specs.declared.process.Entry.{Entry}
-use Rattle.cp_machine.specs.declared.process.Entry.TheVariants.{Rest, Successor, Return, InitEnd}
-use Rattle.cp_machine.specs.declared.process.Status.TheVariants.{Ready, Ended}
-use Rattle.cp_machine.specs.declared.state.Phase.TheVariants.{Initialised}
-use Rattle.cp_machine.specs.declared.state.TheConstants.{MOST_SHOWN}
 use Rattle.cp_machine.specs.Calls.{opened, left, called, called_in, called_by, start_process, start_inside, started, delayed_in, delay_at, continued_from, continue_at}
-use Rattle.cp_machine.specs.Fits.{LinesFit, MachineFits}
 use Rattle.cp_machine.specs.Machine.{Machine, Thread, thread_at, is_at_gate, is_initialised, is_pending, is_ready, is_ready_status, is_some, is_uninitialised, is_unstarted, phase_at, with_permanents, with_phase, with_status, with_thread, with_stack}
 use Rattle.cp_machine.specs.Memory.{memory_at, with_memory, value_of, set_of, address_of, origin_of, component_of, arguments_of, parameters_bound, set_written}
-use Rattle.cp_machine.specs.Stack.{rest_of, from_end}
 use Rattle.cp_machine.specs.Statements.{Stepped, with_value, arm_for, is_beyond, gone_on, next_value, succeeded}
-use Rattle.cp_machine.specs.Step.{act, take_top, step_at}
 use Rattle.cp_machine.proofs.CallerLemmas.{ready_thread}
 use Rattle.cp_machine.proofs.Keeping.{kind_fits}
 use Rattle.cp_machine.proofs.KernelLines.{Lined, IsOff, line_of, like_lined, lines_as, lines_still, off_lined, read_set, ready_off, unstarted_off, entered_lines, let_in_lines, delayed_lines, continued_lines}

@@ -1,19 +1,12 @@
 -- Writes keep how many cells and references there are.
-use Rattle.std.proofs.Common.{◌≡◌, ◌∙◌, ℕ, zero, suc, List, [], ◌∷◌, length, refl}
+use Rattle.cp_machine.proofs.Words.{◌≡◌, ◌∙◌, ℕ, zero, suc, List, [], ◌∷◌, length, refl, length-set, Argument, Bound, Address, Permanent, Local, Frame}
+use Rattle.cp_machine.proofs.Words.{SetValue, set_written}
 use Rattle.std.specs.Prelude.{ℤ, ◌/◌, ◌%◌, ◌^◌}
 use Rattle.std.specs.Int.{cast_signed, w16}
-use Rattle.std.proofs.lemmas.List.{length-set}
-use Rattle.cp_slots.specs.declared.place.Argument.{Argument}
-use Rattle.cp_store.specs.declared.argument.Bound.{Bound}
 use Rattle.cp_store.specs.declared.argument.Bound.TheVariants.{Scalar, Set, Copy, Reference, Component}
-use Rattle.cp_store.specs.declared.memory.Address.{Address}
-use Rattle.cp_store.specs.declared.memory.Address.TheVariants.{Permanent, Local}
-use Rattle.cp_store.specs.declared.memory.Frame.{Frame}
-use Rattle.cp_store.specs.declared.set.SetValue.{SetValue}
 use Rattle.cp_store.specs.Arguments.{put_value, put_in_frame, bound_in_frame, bound_in_component, put_binding, bindings_after}
 use Rattle.cp_store.specs.Memory.{Memory, onward, moved, cell_at, put_number, put_copy}
 use Rattle.cp_store.specs.Sets.{put_word, put_pair, put_quad, put_set}
-use Rattle.cp_machine.specs.Memory.{set_written}
 
 -- as many cells and references
 pub record Kept (x y : Memory) : Type 0 where

@@ -1,17 +1,8 @@
 -- What the item that a process takes needs is there.
 use Rattle.std.proofs.Common.{◌≡◌, ◌∙◌, ℕ, ◌<◌, List, ◌∷◌, length, Option, ap, sym, subst, arith, true}
-use Rattle.std.specs.Prelude.{ℤ}
-use Rattle.std.proofs.lemmas.List.{length-map}
-use Rattle.cp_slots.specs.Tables.{Tables, item_at}
-use Rattle.cp_slots.specs.Fits.{InnerFits, CallFits, ActionFits}
-use Rattle.cp_slots.specs.declared.item.Action.{Action}
-use Rattle.cp_slots.specs.declared.item.Item.{Item}
-use Rattle.cp_slots.specs.declared.place.Argument.{Argument}
-use Rattle.cp_machine.specs.declared.process.Entry.{Entry}
-use Rattle.cp_machine.specs.declared.process.Entry.TheVariants.{Rest, Successor}
-use Rattle.cp_machine.specs.declared.state.State.{State}
+use Rattle.cp_machine.proofs.Words.{ℤ, length-map, Tables, item_at, InnerFits, CallFits, ActionFits, Action, Item, Argument, Entry, Rest, Successor, State}
+use Rattle.cp_machine.proofs.Words.{is_ready, machine_of, monitor_of, thread_of}
 use Rattle.cp_machine.specs.Fits.{EntryFits, ThreadFits, IsStateOf, IsBusy, HasRoom, HasCallRoom, HaveGateRoom}
-use Rattle.cp_machine.specs.Machine.{is_ready, machine_of, monitor_of, thread_of}
 use Rattle.cp_machine.proofs.KeepingAct.{action_fits}
 use Rattle.cp_machine.proofs.KernelLines.{line_short}
 use Rattle.cp_machine.proofs.RoomLemmas.{thread, within, is_busy, rest_stands, successor_stands, has_room, call_room}

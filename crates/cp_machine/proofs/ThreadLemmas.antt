@@ -1,12 +1,7 @@
 -- A process that is read or changed is a thread that is read or changed.
-use Rattle.std.proofs.Common.{◌≡◌, ℕ, ◌<◌, ◌∙◌, List, length, map, ap, sym}
-use Rattle.std.specs.Prelude.{slice_index_or}
-use Rattle.std.proofs.lemmas.List.{get_or-map}
-use Rattle.cp_store.specs.Memory.{Memory}
-use Rattle.cp_machine.specs.declared.process.ProcessState.{ProcessState}
-use Rattle.cp_machine.specs.declared.state.Gate.{Gate}
+use Rattle.cp_machine.proofs.Words.{◌≡◌, ℕ, ◌<◌, ◌∙◌, List, length, map, ap, sym, slice_index_or, get_or-map, Memory, ProcessState, Gate, memory_at}
+use Rattle.cp_machine.proofs.Words.{with_memory}
 use Rattle.cp_machine.specs.Machine.{Machine, Thread, monitor_of, thread_of, thread_at, no_thread, no_monitor, with_permanents, with_thread}
-use Rattle.cp_machine.specs.Memory.{memory_at, with_memory}
 
 pub thread_read : (ps : List ProcessState) (pid : ℕ) (p : ProcessState) → pid < length ps → p ≡ slice_index_or ps pid p → thread_at (map thread_of ps) pid ≡ thread_of p
 thread_read ps pid p h e = get_or-map thread_of ps pid p no_thread h ∙ ap thread_of (sym e)

@@ -1,12 +1,9 @@
 -- The tree of components, which no step changes.
 use Rattle.std.proofs.Common.{◌≡◌, ℕ, zero, suc, ◌<◌, ◌∙◌, Bool, true, false, ◌&&◌, if◌then◌else◌, List, [], ◌∷◌, ◌++◌, length, set, slice_set, Option, Some, None, ap, ap₂, sym, refl, subst, arith, eqb-true, eq-eqb, length-set}
 use Rattle.std.proofs.lemmas.Slice.Eq.{bytes_eq-Decides}
-use Rattle.cp_tree.specs.declared.declaration.SystemKind.{SystemKind}
+use Rattle.cp_meaning.proofs.Words.{SystemKind, Name, same_name, Component, component_at, component_with}
 use Rattle.cp_tree.specs.declared.declaration.SystemKind.TheVariants as system_kind
-use Rattle.cp_meaning.specs.Names.{Name, same_name}
 use Rattle.cp_meaning.specs.Components.{PathStep, Path, step_down, same_element, same_path, around}
-use Rattle.cp_meaning.specs.State.{Component, component_at}
-use Rattle.cp_meaning.specs.Places.{component_with}
 use Rattle.cp_meaning.specs.Ownership.{by_kind, owner_from, owner_of}
 use Rattle.cp_meaning.proofs.Stored.{field_kept}
 

@@ -1,9 +1,6 @@
 -- How many steps small programs make, by computing.
 use Rattle.std.specs.Prelude.{◌≡◌, ℕ, List, [], ◌∷◌, refl}
-use Rattle.cp_tree.specs.Syntax.{Program}
-use Rattle.cp_meaning.specs.State.{first_gates, State}
-use Rattle.cp_meaning.specs.Kernel.{Event, local_event, display_event, ended_event}
-use Rattle.cp_meaning.specs.Steps.{opening, step_of}
+use Rattle.cp_meaning.proofs.Words.{Program, first_gates, State, Event, local_event, display_event, ended_event, opening, step_of}
 use Rattle.cp_meaning.proofs.CountedPrograms.{nothing_done, one_shown, two_rounds, one_call}
 
 -- the events of steps by these processes, in order

@@ -32,4 +32,5 @@ mod TracedPrograms
 mod Traces
 mod Wanted
 mod Witness
+mod Words
 mod Written

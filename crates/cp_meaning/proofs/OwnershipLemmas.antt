@@ -1,17 +1,10 @@
 -- In every step each changed variable is one that the process holds.
 use Rattle.std.proofs.Common.{◌≡◌, ◌≢◌, ℕ, ◌<◌, ◌≤◌, ◌==◌, ◌∙◌, ◌⊎◌, inl, inr, Bool, true, false, ◌&&◌, List, [], ◌∷◌, length, Option, Some, None, Ok, Err, ap, sym, refl, subst, arith, eqb-true}
 use Rattle.cp_tree.specs.declared.declaration.SystemKind.TheVariants as system_kind
-use Rattle.cp_tree.specs.Syntax.{Program}
-use Rattle.cp_meaning.specs.Names.{Name}
-use Rattle.cp_meaning.specs.Outcome.{Outcome}
+use Rattle.cp_meaning.proofs.Words.{Program, Name, Outcome, content_of, Move, starts, Doing, takes, line_of, system_of}
 use Rattle.cp_meaning.specs.State.{Holder, in_call, in_component, Component, component_at, CallKind, own_statement, local_routine, Call, Item, ready, unstarted, Process, process_at, Gates, State, has_entry, initialises}
-use Rattle.cp_meaning.specs.Places.{content_of}
-use Rattle.cp_meaning.specs.Move.{Move, starts, Doing}
-use Rattle.cp_meaning.specs.LocalRules.{takes}
-use Rattle.cp_meaning.specs.Kernel.{line_of}
 use Rattle.cp_meaning.specs.Steps.{first_components, opening, settled, step_of, without, admitted_to, admitted, IsReached, at_first, by_step, by_admission, by_forgetting}
 use Rattle.cp_meaning.specs.Ownership.{owner_of, IsStarted, HoldsComponent, HoldsPlace, HoldsCalls, below_or_same, CallsDescend, IsLawfulProcess, IsLawful, is_parameter, IsParameterOf, ChangesHeld, OthersKept, VariablesKept}
-use Rattle.cp_meaning.specs.Systems.{system_of}
 use Rattle.cp_meaning.specs.Exclusive.{IsExclusive}
 use Rattle.cp_meaning.specs.OwnershipLaw.{Ownership}
 use Rattle.cp_meaning.specs.WellFormed.{IsWellFormed}

@@ -1,8 +1,6 @@
 -- What is read off states where a choice is due, by computing.
 use Rattle.std.specs.Prelude.{◌≡◌, List, [], ◌∷◌, Some, None, refl}
-use Rattle.cp_tree.specs.Syntax.{Program}
-use Rattle.cp_meaning.specs.State.{State, Gates, first_gates, any_gates}
-use Rattle.cp_meaning.specs.Steps.{opening}
+use Rattle.cp_meaning.proofs.Words.{Program, State, Gates, first_gates, any_gates, opening}
 use Rattle.cp_meaning.specs.Readings.{ready_of, rising_line, holder_of, monitors_of}
 use Rattle.cp_meaning.proofs.Following.{Turn, goes, turn}
 use Rattle.cp_meaning.proofs.TracedPrograms.{admits_third}

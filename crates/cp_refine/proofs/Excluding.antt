@@ -3,27 +3,14 @@ use Rattle.std.proofs.Common.{◌≡◌, ℕ, zero, suc, Bool, true, false, if�
 use Rattle.std.proofs.Math.Logic.{∥∥₁_elim}
 use Rattle.std.proofs.Props.{props}
 use Rattle.std.proofs.lemmas.List.Elements.{All-nil, All-cons, All-append}
-use Rattle.cp_tree.specs.Read.{IsRead}
-use Rattle.cp_tree.specs.Syntax.{Tree}
-use Rattle.cp_layout.specs.Laid.{plain, laid}
-use Rattle.cp_slots.specs.Tables.{Tables}
-use Rattle.cp_lawful.specs.Accepted.{IsAccepted}
-use Rattle.cp_lawful.proofs.Accepting.{well_formed}
+use Rattle.cp_refine.proofs.Words.{IsRead, Tree, plain, laid, Tables, IsAccepted, well_formed, Gates, IfGoes, slots, System, Turn, layouts_of, CanGo}
+use Rattle.cp_refine.proofs.Words.{GoInStep, Simulates, named, gates_of}
 use Rattle.cp_meaning.specs.Exclusive.{IsExclusive}
-use Rattle.cp_meaning.specs.State.{Gates}
 use Rattle.cp_meaning.proofs.OwnershipLemmas.{exclusive}
-use Rattle.cp_run.specs.Code.{IfGoes}
 use Rattle.cp_run.specs.Run.{settled_turn, turn_at, turn_after, Node, Halted, Choosing, opened, may, chosen}
-use Rattle.cp_run.specs.Slots.{slots}
 use Rattle.cp_refine.specs.States.{states_on, stretch_states, opened_states, chosen_states, states_from, run_states}
-use Rattle.cp_run.specs.System.{System}
-use Rattle.cp_run.specs.declared.outcome.Turn.{Turn}
 use Rattle.cp_run.specs.declared.outcome.Turn.TheVariants.{Goes}
-use Rattle.cp_resolved.specs.TreeLayouts.{layouts_of}
 use Rattle.cp_refine.specs.Excluding.{RunsExclude}
-use Rattle.cp_refine.specs.InStep.{CanGo, GoInStep}
-use Rattle.cp_refine.specs.Law.{Simulates}
-use Rattle.cp_refine.specs.Named.{named, gates_of}
 use Rattle.cp_refine.proofs.Alike.{goes_on, opening_goes, may_go, may_enter, admitted_goes, openings, choices_alike, NodesAlike}
 use Rattle.cp_refine.proofs.Meaning.{goes_in_step}
 

@@ -1,20 +1,9 @@
 -- A machine without what it displayed stands for the state without what it displayed.
-use Rattle.std.proofs.Common.{ℕ, List, [], ◌∷◌, refl}
-use Rattle.cp_tree.specs.Syntax.{Tree, Program}
-use Rattle.cp_slots.specs.Tables.{Tables, component_at}
-use Rattle.cp_slots.specs.declared.tables.ComponentKind.{ComponentKind}
-use Rattle.cp_store.specs.declared.memory.Frame.{Frame}
-use Rattle.cp_machine.specs.declared.process.Entry.{Entry}
-use Rattle.cp_machine.specs.declared.process.Entry.TheVariants.{Rest, Successor, Return, InitEnd}
+use Rattle.cp_refine.proofs.Words.{ℕ, List, [], ◌∷◌, refl, Tree, Program, Tables, component_at, ComponentKind, Frame, Entry, Rest, Successor, Return, InitEnd}
+use Rattle.cp_refine.proofs.Words.{Machine, thread_at, ComponentStatus, uninitialised, State, by_forgetting, Layouts, Ground, ground_of, Simulates}
+use Rattle.cp_refine.proofs.Words.{Represents, ComponentIs, MonitorIs}
 use Rattle.cp_machine.specs.Fits.{MachineFits, LinesFit}
-use Rattle.cp_machine.specs.Machine.{Machine, thread_at}
 use Rattle.cp_machine.specs.Reach.{Reaches, HasBegunAs, ExecutesAs, StackExecutes, EndsBegun}
-use Rattle.cp_meaning.specs.State.{ComponentStatus, uninitialised, State}
-use Rattle.cp_meaning.specs.Steps.{by_forgetting}
-use Rattle.cp_resolved.specs.Layouts.{Layouts}
-use Rattle.cp_resolved.specs.Stands.{Ground}
-use Rattle.cp_refine.specs.Law.{ground_of, Simulates}
-use Rattle.cp_refine.specs.Represents.{Represents, ComponentIs, MonitorIs}
 use Rattle.cp_slots.specs.declared.tables.ComponentKind.TheVariants as kind
 use Rattle.cp_meaning.specs.State as named
 use Rattle.cp_refine.specs.Represents as represents

@@ -5,6 +5,7 @@ pub mod HoldsInReached
 pub mod Meaning
 pub mod ReachedKinds
 pub mod Turns
+mod Words
 pub mod assignments
 pub mod calls
 pub mod control

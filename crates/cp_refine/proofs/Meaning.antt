@@ -1,20 +1,10 @@
 -- The tables of a tree that was read and is accepted go in step with its meaning.
-use Rattle.std.proofs.Common.{◌≡◌, ℕ, refl, subst}
+use Rattle.cp_refine.proofs.Words.{◌≡◌, ℕ, refl, subst, IsRead, Tree, plain, laid, Tables, IsAccepted, Gates, slots, AreTablesOf, layouts_of, AllKnown}
+use Rattle.cp_refine.proofs.Words.{GoInStep}
 use Rattle.std.proofs.Math.Logic.{∥∥₁_elim}
-use Rattle.cp_tree.specs.Read.{IsRead}
-use Rattle.cp_tree.specs.Syntax.{Tree}
-use Rattle.cp_layout.specs.Laid.{plain, laid}
-use Rattle.cp_slots.specs.Tables.{Tables}
-use Rattle.cp_lawful.specs.Accepted.{IsAccepted}
-use Rattle.cp_meaning.specs.State.{Gates}
 use Rattle.cp_machine.specs.declared.gates.Gates as slot_gates
 use Rattle.cp_machine.specs.declared.gates.Gates.TheVariants.{First, Any}
-use Rattle.cp_run.specs.Slots.{slots}
-use Rattle.cp_resolved.specs.Resolving.{AreTablesOf}
-use Rattle.cp_resolved.specs.TreeLayouts.{layouts_of}
 use Rattle.cp_resolved.proofs.Resolving.{resolving_law}
-use Rattle.cp_refine.specs.AllKnown.{AllKnown}
-use Rattle.cp_refine.specs.InStep.{GoInStep}
 use Rattle.cp_refine.specs.Law.{Simulates, SameRuns, MeansTheSame}
 use Rattle.cp_refine.specs.Named.{named, gates_of, named_gates}
 use Rattle.cp_refine.proofs.steps.GoingInStep.{in_step}

@@ -1,4 +1,5 @@
 pub mod Resolving
+mod Words
 pub mod agreeing
 pub mod components
 pub mod counts

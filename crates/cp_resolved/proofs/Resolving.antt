@@ -1,24 +1,12 @@
 -- The tables of a tree that was read and is accepted stand for it, and are sound.
-use Rattle.std.proofs.Common.{◌≡◌, ◌<◌, ◌≤◌, ℕ, length, refl, arith}
+use Rattle.cp_resolved.proofs.Words.{◌≡◌, ◌<◌, ◌≤◌, ℕ, length, refl, arith, IsRead, Tree, IsSound, most, plain, laid, Tables, system_at, IsAccepted}
+use Rattle.cp_resolved.proofs.Words.{ground_of, AreFew, IsFramed, IsPlaced, Stands, layouts_of}
 use Rattle.std.proofs.Math.Logic.{∥∥₁_elim, ∥∥₁_map}
 use Rattle.std.proofs.Props.{props}
-use Rattle.cp_tree.specs.Read.{IsRead}
-use Rattle.cp_tree.specs.Syntax.{Tree}
-use Rattle.cp_slots.specs.Fits.{IsSound}
-use Rattle.cp_layout.specs.Kinds.{most}
-use Rattle.cp_layout.specs.Laid.{plain, laid}
-use Rattle.cp_slots.specs.Tables.{Tables, system_at}
-use Rattle.cp_lawful.specs.Accepted.{IsAccepted}
-use Rattle.cp_resolved.specs.BodiesStand.{ground_of}
-use Rattle.cp_resolved.specs.Declared.{AreFew}
 use Rattle.cp_resolved.specs.Enumerations.{constant_names}
-use Rattle.cp_resolved.specs.Framed.{IsFramed}
 use Rattle.cp_resolved.specs.ItemsInside.{ItemsInside}
-use Rattle.cp_resolved.specs.LayoutsKnow.{IsPlaced}
-use Rattle.cp_resolved.specs.Resolved.{Stands}
 use Rattle.cp_resolved.specs.Resolving.{ResolvingLaw, IsProgramOf}
 use Rattle.cp_resolved.specs.Soundness.{NamesHold}
-use Rattle.cp_resolved.specs.TreeLayouts.{layouts_of}
 use Rattle.cp_resolved.proofs.forms.BodiesFormed.{bodies_formed}
 use Rattle.cp_resolved.proofs.counts.FewComponents.{accepted_few}
 use Rattle.cp_resolved.proofs.declarations.FramedOfTrees.{accepted_framed}

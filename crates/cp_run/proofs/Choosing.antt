@@ -1,8 +1,6 @@
 -- A due choice: what it may take, and where it leads to.
 use Rattle.std.proofs.Common.{◌≡◌, ℕ, zero, suc, ◌<◌, Bool, true, false, ◌&&◌, nat_lt, if◌then◌else◌, [], ◌∷◌, ◌++◌, refl, sym, ap, ◌∙◌, arith}
-use Rattle.std.proofs.lemmas.Bool.{lt-ltb}
-use Rattle.cp_run.specs.declared.outcome.Turn.{Turn}
-use Rattle.cp_run.specs.System.{System}
+use Rattle.cp_run.proofs.Words.{lt-ltb, Turn, System}
 use Rattle.cp_run.specs.Run.{node_at, those_below, settled_turn, turn_at, stretch, opened, may, chosen}
 
 pub those_same : (n : ℕ) (f g : ℕ → Bool) → ((p : ℕ) → p < n → f p ≡ g p) → those_below n f ≡ those_below n g

@@ -12,3 +12,4 @@ pub mod Tracing
 pub mod Turning
 pub mod Wanting
 pub mod Watching
+mod Words

@@ -1,12 +1,7 @@
 -- One step of a stretch.
 use Rattle.std.proofs.Common.{◌≡◌, ℕ, suc, ◌-◌, ◌+◌, ◌<◌, true, false, if◌then◌else◌, ap, sym, refl, ◌∙◌, arith}
-use Rattle.cp_machine.specs.declared.event.Event.{Event}
-use Rattle.cp_machine.specs.declared.event.Event.TheVariants.{Local}
-use Rattle.cp_run.specs.declared.outcome.Turn.{Turn}
-use Rattle.cp_run.specs.declared.outcome.Turn.TheVariants.{Due, Goes}
+use Rattle.cp_run.proofs.Words.{Event, Local, Turn, Due, Goes, System, Halted, node_at, settled_turn, turn_after, stretch}
 use Rattle.cp_run.specs.declared.outcome.OutcomeKind.TheVariants.{StepLimit}
-use Rattle.cp_run.specs.System.{System}
-use Rattle.cp_run.specs.Run.{Halted, node_at, settled_turn, turn_after, stretch}
 use Rattle.cp_run.proofs.Wanting.{goes_on}
 
 one_step : {S : Type 0} (sys : System S) (left : ℕ) (s : S) (p : ℕ) → stretch sys (suc left) s p ≡ node_at (sys.step s p) (stretch sys left (sys.step s p)) (turn_after sys (sys.step s p) p (sys.event s p))

@@ -2,13 +2,10 @@
 use Rattle.std.proofs.Common.{◌≡◌, ℕ, zero, suc, ◌+◌, ◌*◌, ◌≤◌, Bool, true, false, if◌then◌else◌, List, [], ◌∷◌, ◌++◌, length, ap, arith}
 use Rattle.std.proofs.lemmas.List.{length-append}
 use Rattle.std.proofs.Math.Nat.{mul-le-mul_right}
-use Rattle.cp_machine.specs.declared.event.Event.{Event}
+use Rattle.cp_run.proofs.Words.{Event, Turn, Over, Due, Goes, System}
 use Rattle.cp_machine.specs.declared.event.Event.TheVariants.{Local, Kernel, Ended, Fault, OutputFull}
 use Rattle.cp_run.specs.declared.line.TraceLine.{TraceLine}
 use Rattle.cp_run.specs.declared.line.TraceEvent.TheVariants.{Admit}
-use Rattle.cp_run.specs.declared.outcome.Turn.{Turn}
-use Rattle.cp_run.specs.declared.outcome.Turn.TheVariants.{Over, Due, Goes}
-use Rattle.cp_run.specs.System.{System}
 use Rattle.cp_run.specs.Run.{Node, Halted, Choosing, turn_after, turn_at, settled_turn, may, chosen, opened}
 use Rattle.cp_run.specs.Trace.{holders_in, step_lines, lines_on, stretch_lines, opened_lines, chosen_lines, trace_from, trace}
 

@@ -3,10 +3,8 @@ use Rattle.std.proofs.Common.{◌≡◌, ℕ, zero, suc, ◌-◌, ◌+◌, ◌<�
 use Rattle.std.proofs.lemmas.Bool.{eq-eqb, ne_eqb, eqb-true, cases_order}
 use Rattle.cp_run.specs.declared.outcome.Halt.{Halt}
 use Rattle.cp_run.specs.declared.outcome.Halt.TheVariants.{Choice, Ended as HasEnded}
-use Rattle.cp_run.specs.System.{System}
-use Rattle.cp_run.specs.Run.{Node, Halted, Choosing, may, chosen, run_from}
+use Rattle.cp_run.proofs.Words.{System, Node, Halted, Choosing, may, chosen, run_from, chosen_lines, trace_from}
 use Rattle.cp_run.specs.Code.{node_of, is_over}
-use Rattle.cp_run.specs.Trace.{chosen_lines, trace_from}
 
 pub none_left : (choices used : ℕ) → used ≤ choices → (used == choices) ≡ (choices - used == 0)
 none_left choices used le =

@@ -1,12 +1,9 @@
 -- The lines of a stretch, step by step.
 use Rattle.std.proofs.Common.{◌≡◌, ℕ, suc, ◌-◌, ◌+◌, ◌<◌, ◌≤◌, Bool, true, false, if◌then◌else◌, List, [], ◌∷◌, ◌++◌, ap, refl, sym, ◌∙◌, arith, Result, Ok, Err, IfOk}
 use Rattle.std.proofs.lemmas.List.{append_assoc}
-use Rattle.cp_machine.specs.declared.event.Event.{Event}
+use Rattle.cp_run.proofs.Words.{Event, Turn, System, turn_after, turn_at, settled_turn}
 use Rattle.cp_run.specs.declared.line.TraceLine.{TraceLine}
 use Rattle.cp_run.specs.declared.line.TraceEvent.TheVariants.{Admit}
-use Rattle.cp_run.specs.declared.outcome.Turn.{Turn}
-use Rattle.cp_run.specs.System.{System}
-use Rattle.cp_run.specs.Run.{turn_after, turn_at, settled_turn}
 use Rattle.cp_run.specs.Trace.{holders_in, step_lines, lines_on, stretch_lines, opened_lines, chosen_lines}
 
 one_step : {S : Type 0} (sys : System S) (left : ℕ) (s : S) (p : ℕ) → stretch_lines sys (suc left) s p ≡ step_lines sys (sys.step s p) p (sys.event s p) ++ lines_on (stretch_lines sys left (sys.step s p)) (turn_after sys (sys.step s p) p (sys.event s p))

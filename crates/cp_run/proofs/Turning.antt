@@ -3,10 +3,7 @@ use Rattle.std.proofs.Common.{◌≡◌, ℕ, zero, suc, Bool, true, false, if�
 use Rattle.cp_machine.specs.declared.state.Readiness.{Readiness}
 use Rattle.cp_machine.specs.declared.state.Readiness.TheVariants.{Nobody, One, Several}
 use Rattle.cp_machine.specs.System.{readiness_of}
-use Rattle.cp_run.specs.declared.outcome.Turn.TheVariants.{Over, Due, Goes}
-use Rattle.cp_run.specs.declared.outcome.OutcomeKind.TheVariants.{AllWaiting, Finished}
-use Rattle.cp_run.specs.System.{System}
-use Rattle.cp_run.specs.Run.{those_below, turn_among}
+use Rattle.cp_run.proofs.Words.{Over, Due, Goes, AllWaiting, Finished, System, those_below, turn_among}
 use Rattle.cp_run.specs.Table.{IsAmong, Here, There}
 
 pub among_nobody : {S : Type 0} (sys : System S) (s : S) (kernel : Bool) (p : ℕ) (ready : List ℕ) → readiness_of ready ≡ Nobody → turn_among sys s kernel p ready ≡ (if sys.waits s then Over AllWaiting else Over Finished)

@@ -3,9 +3,7 @@ use Rattle.std.proofs.Common.{◌≡◌, ℕ, zero, suc, ◌<◌, ◌⊎◌, ⊎
 use Rattle.std.specs.List.{list_any}
 use Rattle.std.proofs.lemmas.Bool.{lt-ltb, le-ltb, eq-eqb, eqb-true, ne_eqb, cases_order}
 use Rattle.std.proofs.lemmas.List.Folds.{list_any-append}
-use Rattle.cp_run.specs.System.{System}
-use Rattle.cp_run.specs.declared.outcome.Turn.TheVariants.{Goes}
-use Rattle.cp_run.specs.Run.{those_below, may, turn_among, settled_turn}
+use Rattle.cp_run.proofs.Words.{System, Goes, those_below, may, turn_among, settled_turn}
 
 or_none : (b : Bool) → (b || false) ≡ b
 or_none true = refl

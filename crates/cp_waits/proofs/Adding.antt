@@ -1,26 +1,15 @@
 -- What is added to a graph, choice by choice and state by state, makes it the graph of the states.
 use Rattle.std.proofs.Common.{◌≡◌, ◌⊎◌, inl, inr, ⊎_elim, ◌<◌, ◌≤◌, ◌+◌, ◌∙◌, ℕ, zero, suc, Bool, true, List, [], ◌∷◌, ◌++◌, Option, Some, map, length, get_or, refl, sym, ap, subst, arith, length-append, append_assoc}
-use Rattle.std.specs.Prelude.{Contains, slice_get}
+use Rattle.cp_waits.proofs.Words.{Contains, slice_get, cases_lt, System, may, chosen, those_below, contains_cases, Origin, Leg, first_leg, choice_leg}
+use Rattle.cp_waits.proofs.Words.{ComesTo, first_edge, end_edge, Edge, Graph, Standstill, PassingSets, Came}
 use Rattle.std.proofs.Math.ListN.{get_or-append}
 use Rattle.std.proofs.Math.Seq.{get_or-append_seam}
-use Rattle.std.proofs.lemmas.Bool.{cases_lt}
 use Rattle.std.proofs.lemmas.List.{append-nil, map-append}
 use Rattle.std.proofs.lemmas.List.Elements.{Contains-append_cases}
 use Rattle.std.proofs.lemmas.Option.{same_Some, slice_get_within}
-use Rattle.cp_run.specs.System.{System}
-use Rattle.cp_run.specs.Run.{may, chosen, those_below}
-use Rattle.cp_ends.proofs.Searching.Lists.{contains_cases}
-use Rattle.cp_ends.specs.declared.origin.Origin.{Origin}
 use Rattle.cp_ends.specs.declared.origin.Origin.TheVariants.{Start, Choice}
 use Rattle.cp_waits.specs.Building.{IsStillOf, AddsStill, AddsChoices, IsGraphTo}
 use Rattle.cp_waits.specs.Graphs.{IsNumber, IsChoice, AreChoices, AreEdges, IsLegFrom, LetsWait, IsStill, HasStill, IsGraphOf}
-use Rattle.cp_waits.specs.Legs.{Leg, first_leg, choice_leg, ComesTo}
-use Rattle.cp_waits.specs.Walks.{first_edge, end_edge}
-use Rattle.cp_waits.specs.declared.graph.Edge.{Edge}
-use Rattle.cp_waits.specs.declared.graph.Graph.{Graph}
-use Rattle.cp_waits.specs.declared.graph.Standstill.{Standstill}
-use Rattle.cp_waits.specs.declared.passing.PassingSets.{PassingSets}
-use Rattle.cp_waits.specs.declared.watching.Came.{Came}
 use Rattle.cp_waits.proofs.Graphs.{may_be_those}
 use Rattle.cp_endless.proofs.Basics.{each_append}
 use Rattle.cp_endless.proofs.waiting.Example.{none_in as no_element}

@@ -1,10 +1,6 @@
 -- Which states have edges.
-use Rattle.std.proofs.Common.{◌≡◌, ◌<◌, ℕ, length, arith, inl, inr}
-use Rattle.std.proofs.lemmas.Bool.{cases_lt}
+use Rattle.cp_waits.proofs.Words.{◌≡◌, ◌<◌, ℕ, length, arith, inl, inr, cases_lt, Edge, Graph, IsEdge, end_edge}
 use Rattle.std.proofs.lemmas.List.{get_or_past}
-use Rattle.cp_waits.specs.declared.graph.Edge.{Edge}
-use Rattle.cp_waits.specs.declared.graph.Graph.{Graph}
-use Rattle.cp_waits.specs.Walks.{IsEdge, end_edge}
 
 -- there is no edge past the last state
 pub edge_within : (g : Graph) (i : ℕ) (e : Edge) → IsEdge g i e → i < length g.ends.items

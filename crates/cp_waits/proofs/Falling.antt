@@ -1,30 +1,16 @@
 -- Ranks of the states of a graph are ranks of its machine: whoever has them waits for ever in no fair schedule.
 use Rattle.std.proofs.Common.{◌≡◌, ◌⊎◌, inl, inr, ⊎_elim, ◌∙◌, ◌<◌, ◌≤◌, ℕ, zero, suc, Bool, true, false, if◌then◌else◌, List, [], ◌∷◌, map, Option, None, Some, refl, sym, ap, subst, arith}
-use Rattle.std.specs.Prelude.{Contains, nat_lt, slice_get}
+use Rattle.cp_waits.proofs.Words.{Contains, nat_lt, slice_get, System, Node, Choosing, may, chosen, IsServed, AnyOf, Moment, moments, IsClosedSet, some_same}
+use Rattle.cp_waits.proofs.Words.{place_of, Edge, Graph, PassingSets, IsChoice, IsNumber, keeps, Seen, has, IsEdge}
 use Rattle.std.proofs.lemmas.Bool.{lt-ltb, ltb-true}
-use Rattle.cp_run.specs.System.{System}
-use Rattle.cp_run.specs.Run.{Node, Choosing, may, chosen}
-use Rattle.cp_endless.specs.Fair.{IsServed}
-use Rattle.cp_endless.specs.Moments.{AnyOf, Moment, moments}
 use Rattle.cp_endless.specs.Ranks.{GoesWaiting, RankForbidsWaiting, RankForbidsLingering, WaitsOrIsServed}
-use Rattle.cp_endless.specs.Settled.{IsClosedSet}
 use Rattle.cp_endless.specs.WaitsForEver.{MayLinger, NeverWaitsForEver, WaitsIn}
-use Rattle.cp_ends.proofs.words.Edges.{some_same}
 use Rattle.cp_endless.proofs.waiting.Ranks.{no_waiting, no_linger}
-use Rattle.cp_ends.proofs.Searching.Lists.{place_of}
 use Rattle.cp_ends.proofs.named.Kinds.{contains_unmap}
-use Rattle.cp_waits.specs.declared.graph.Edge.{Edge}
-use Rattle.cp_waits.specs.declared.graph.Graph.{Graph}
 use Rattle.cp_waits.specs.declared.passing.Keeping.{Keeping}
 use Rattle.cp_waits.specs.declared.passing.Keeping.TheVariants.{Waiting, Inside}
-use Rattle.cp_waits.specs.declared.passing.PassingSets.{PassingSets}
-use Rattle.cp_waits.specs.Graphs.{IsChoice, IsNumber}
-use Rattle.cp_waits.specs.Keeps.{keeps}
 use Rattle.cp_waits.specs.Lines.{HasRanks}
-use Rattle.cp_waits.specs.Passings.{Seen}
 use Rattle.cp_waits.specs.Ranks.{IsPassedOver}
-use Rattle.cp_waits.specs.Sets.{has}
-use Rattle.cp_waits.specs.Walks.{IsEdge}
 use Rattle.cp_waits.proofs.Runs.{doing, edge_at, edge_goes, keeper}
 
 -- ---- the number of a state

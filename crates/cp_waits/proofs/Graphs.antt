@@ -1,18 +1,11 @@
 -- The edges of a graph are the choices of its states.
 use Rattle.std.proofs.Common.{◌≡◌, ◌⊎◌, inl, inr, ⊎_elim, ◌<◌, ◌≤◌, ◌+◌, ◌-◌, ◌∙◌, ℕ, zero, suc, Bool, true, false, if◌then◌else◌, List, [], ◌∷◌, ◌++◌, None, Some, length, get_or, refl, sym, ap, subst, arith}
-use Rattle.std.specs.Prelude.{Contains, slice_get}
-use Rattle.std.specs.List.{AllByRecursion as Each}
-use Rattle.std.proofs.lemmas.Bool.{cases_lt}
+use Rattle.cp_waits.proofs.Words.{Contains, slice_get, Each, cases_lt, System, may, those_below, IsEdge, Edge, Graph}
 use Rattle.std.proofs.lemmas.List.Elements.{Contains-append_left, Contains-append_right, Contains-append_cases}
 use Rattle.std.proofs.lemmas.Option.{slice_get_cases, slice_get_within}
-use Rattle.cp_run.specs.System.{System}
-use Rattle.cp_run.specs.Run.{may, those_below}
 use Rattle.cp_ends.proofs.Searching.Lists.{contains_at, contains_first, contains_cases, contains_later, place_of}
 use Rattle.cp_waits.proofs.Edges.{edge_within}
 use Rattle.cp_waits.specs.Graphs.{IsChoice, IsGraphOf}
-use Rattle.cp_waits.specs.Walks.{IsEdge}
-use Rattle.cp_waits.specs.declared.graph.Edge.{Edge}
-use Rattle.cp_waits.specs.declared.graph.Graph.{Graph}
 use Rattle.cp_resolved.proofs.names.Entries.{still_there as get_front}
 use Rattle.cp_ends.proofs.Answering.{below as may_below}
 use Rattle.cp_ends.proofs.named.Kinds.{contains_map as map_contains, contains_unmap as contains_map}

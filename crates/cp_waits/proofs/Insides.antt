@@ -1,21 +1,13 @@
 -- Whether a process is in its call, by the entries of its stack.
 use Rattle.std.proofs.Common.{◌≡◌, ◌∙◌, ◌⊎◌, ⊎_elim, ◌<◌, ◌≤◌, ◌+◌, ℕ, Bool, true, false, List, [], ◌∷◌, length, map, reverse, None, refl, sym, ap, arith}
-use Rattle.std.specs.Prelude.{◌&&◌, ◌||◌, nat_eq, nat_lt, slice_index_or}
-use Rattle.std.specs.List.{list_any}
+use Rattle.cp_waits.proofs.Words.{◌&&◌, ◌||◌, nat_eq, nat_lt, slice_index_or, list_any, ProcessState, Tables, IsStateOf, threads_count, has, Set, thread_read}
 use Rattle.std.proofs.lemmas.Bool.{cases_order, eq-eqb, le-ltb, lt-ltb, ne_eqb}
 use Rattle.std.proofs.lemmas.List.{length-map, reverse-append}
 use Rattle.std.proofs.lemmas.List.Folds.{list_any-append}
 use Rattle.cp_machine.specs.Machine.{thread_of, thread_at}
 use Rattle.cp_machine.specs.declared.process.Entry.{Entry}
 use Rattle.cp_machine.specs.declared.process.Entry.TheVariants.{Rest, Successor, Return, InitEnd}
-use Rattle.cp_machine.specs.declared.process.ProcessState.{ProcessState}
-use Rattle.cp_slots.specs.Tables.{Tables}
-use Rattle.cp_machine.specs.System.{IsStateOf}
 use Rattle.cp_machine.specs.declared.state.State.{State}
-use Rattle.cp_machine.proofs.CallerLemmas.{threads_count}
-use Rattle.cp_waits.specs.Sets.{has}
-use Rattle.cp_waits.specs.declared.set.Set.{Set}
-use Rattle.cp_machine.proofs.ThreadLemmas.{thread_read}
 use Rattle.cp_endless.specs.Silent.{has_monitor_return}
 use Rattle.cp_refine.proofs.gates.Gates.{and_false as both_none}
 

@@ -1,21 +1,13 @@
 -- Where legs come to, by the steps that are made of their stretches.
 use Rattle.std.proofs.Common.{◌≡◌, ◌⊎◌, ⊎_elim, ◌∙◌, ◌+◌, ◌<◌, ◌≤◌, ℕ, suc, Bool, true, false, if◌then◌else◌, List, [], ◌∷◌, ◌++◌, None, Some, refl, sym, ap, subst, arith}
-use Rattle.std.proofs.lemmas.Bool.{cases_lt}
-use Rattle.cp_run.specs.declared.outcome.Turn.{Turn}
-use Rattle.cp_run.specs.declared.outcome.Turn.TheVariants.{Over, Due}
+use Rattle.cp_waits.proofs.Words.{cases_lt, Turn, Over, Due, System, Repeats, some_same, Seen, PassingSets, Came}
 use Rattle.cp_run.specs.declared.outcome.OutcomeKind.{OutcomeKind}
-use Rattle.cp_run.specs.System.{System}
 use Rattle.cp_run.specs.Run.{Halted, Choosing, node_at, turn_after, settled_turn, turn_at, stretch, opened, chosen}
 use Rattle.cp_endless.specs.Moments.{moments_by, stretch_moments, moments}
-use Rattle.cp_endless.specs.Repeats.{Repeats}
 use Rattle.cp_endless.specs.Rounds.{spot_after, spot_by}
 use Rattle.cp_ends.proofs.Stretches.{Stops, moments_later, moments_next, moments_there, node_later, spot_later}
 use Rattle.cp_ends.proofs.words.Returns.{cut_there}
-use Rattle.cp_ends.proofs.words.Edges.{some_same}
 use Rattle.cp_waits.specs.Legs.{Leg, stretch_leg, first_leg, choice_leg, IsHalted, ComesTo}
-use Rattle.cp_waits.specs.Passings.{Seen}
-use Rattle.cp_waits.specs.declared.passing.PassingSets.{PassingSets}
-use Rattle.cp_waits.specs.declared.watching.Came.{Came}
 use Rattle.cp_waits.specs.declared.watching.Came.TheVariants as came
 
 pub not_true : true ≡ false → ⊥

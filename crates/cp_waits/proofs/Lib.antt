@@ -17,3 +17,4 @@ pub mod Told
 pub mod Trapped
 pub mod Uncut
 pub mod Ways
+mod Words

@@ -1,21 +1,12 @@
 -- The numbers of states.
 use Rattle.std.proofs.Common.{◌≡◌, ◌⊎◌, inl, inr, ◌<◌, ◌≤◌, ◌∙◌, ℕ, Bool, true, false, if◌then◌else◌, List, [], ◌∷◌, ◌++◌, Option, None, Some, length, refl, sym, ap, subst, arith}
 use Rattle.std.specs.Prelude.{Contains, ◌^◌}
-use Rattle.std.proofs.lemmas.List.{length-map}
+use Rattle.cp_waits.proofs.Words.{length-map, Tables, thread_of, Machine, IsStateOf, threads_count, Node, Halted, Choosing, may, opened, chosen, System}
+use Rattle.cp_waits.proofs.Words.{slots, node_after, IsIn, silent_slots, without_output, contains_cases, key_self, AreAll, IsNumber}
 use Rattle.std.proofs.lemmas.List.Elements.{All-contains}
-use Rattle.cp_slots.specs.Tables.{Tables}
 use Rattle.cp_key.specs.Room.{IsMachineOf}
-use Rattle.cp_machine.specs.Machine.{thread_of}
-use Rattle.cp_machine.specs.System.{Machine, IsStateOf}
 use Rattle.cp_machine.specs.declared.state.State.{State}
-use Rattle.cp_machine.proofs.CallerLemmas.{threads_count}
 use Rattle.cp_machine.specs.declared.gates.Gates.{Gates}
-use Rattle.cp_run.specs.Run.{Node, Halted, Choosing, may, opened, chosen}
-use Rattle.cp_run.specs.System.{System}
-use Rattle.cp_run.specs.Slots.{slots}
-use Rattle.cp_endless.specs.Reachable.{node_after}
-use Rattle.cp_endless.specs.Settled.{IsIn}
-use Rattle.cp_endless.specs.Silent.{silent_slots, without_output}
 use Rattle.cp_endless.proofs.possible.Words.{after_append}
 use Rattle.cp_ends.specs.Firsts.{HasWord}
 use Rattle.cp_ends.specs.Holds.{same_key, AreStates, Holds, IsNumberOf, SlotFindings}
@@ -23,10 +14,6 @@ use Rattle.cp_ends.specs.Searched.{has}
 use Rattle.cp_ends.specs.Whole.{IsWhole}
 use Rattle.cp_ends.specs.declared.found.Found.{Found}
 use Rattle.cp_ends.specs.declared.states.States.{States}
-use Rattle.cp_ends.proofs.Searching.Lists.{contains_cases}
-use Rattle.cp_ends.proofs.named.Keys.{key_self}
-use Rattle.cp_waits.specs.Building.{AreAll}
-use Rattle.cp_waits.specs.Graphs.{IsNumber}
 
 -- ---- a state is found
 

@@ -1,26 +1,13 @@
 -- A way along the edges of a graph is a run of its machine.
 use Rattle.std.proofs.Common.{◌≡◌, ◌⊎◌, inl, inr, ⊎_elim, ◌∙◌, ◌<◌, ℕ, Bool, true, false, if◌then◌else◌, List, [], ◌∷◌, map, length, None, Some, refl, sym, ap, subst, arith}
-use Rattle.std.specs.Prelude.{slice_get}
-use Rattle.std.specs.List.{AllByRecursion as Each}
-use Rattle.cp_run.specs.System.{System}
-use Rattle.cp_run.specs.Run.{Node, Halted, Choosing, may, chosen}
-use Rattle.cp_endless.specs.Fair.{IsServed}
+use Rattle.cp_waits.proofs.Words.{slice_get, Each, System, Node, Halted, Choosing, may, chosen, IsServed, LeadsTo, node_after, some_same, Edge, Graph, Came}
+use Rattle.cp_waits.proofs.Words.{IsChoice, IsNumber, keeps, AreLasso, AreLingeringLasso, Seen, has}
 use Rattle.cp_endless.specs.Lasso.{HasLasso, IsWaitingLoop, WaitsAlong}
 use Rattle.cp_endless.specs.Moments.{AnyOf, Moment, moments, moments_along, states_along}
-use Rattle.cp_endless.specs.Reachable.{LeadsTo, node_after}
-use Rattle.cp_ends.proofs.words.Edges.{some_same}
-use Rattle.cp_waits.specs.declared.graph.Edge.{Edge}
-use Rattle.cp_waits.specs.declared.graph.Graph.{Graph}
 use Rattle.cp_waits.specs.declared.passing.Keeping.{Keeping}
 use Rattle.cp_waits.specs.declared.passing.Keeping.TheVariants.{Waiting, Inside}
-use Rattle.cp_waits.specs.declared.watching.Came.{Came}
 use Rattle.cp_waits.specs.declared.watching.Came.TheVariants as came
-use Rattle.cp_waits.specs.Graphs.{IsChoice, IsNumber}
-use Rattle.cp_waits.specs.Keeps.{keeps}
 use Rattle.cp_waits.specs.Legs.{ComesTo, IsHalted, choice_leg}
-use Rattle.cp_waits.specs.MayWait.{AreLasso, AreLingeringLasso}
-use Rattle.cp_waits.specs.Passings.{Seen}
-use Rattle.cp_waits.specs.Sets.{has}
 use Rattle.cp_waits.specs.Walks.{IsEdge, IsWay, IsRound}
 use Rattle.cp_endless.proofs.Basics.{any_left, any_right, each_append as each_joined}
 

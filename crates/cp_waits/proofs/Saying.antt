@@ -1,19 +1,13 @@
 -- Lines say of a machine what they say of its graph.
 use Rattle.std.proofs.Common.{◌≡◌, ◌⊎◌, inl, inr, ⊎_elim, ◌∙◌, ◌<◌, ℕ, zero, suc, Bool, true, List, [], ◌∷◌, ◌++◌, get_or, Some, sym, subst, arith}
-use Rattle.std.specs.Prelude.{Contains, slice_get}
+use Rattle.cp_waits.proofs.Words.{Contains, slice_get, cases_order, Tables, Machine, System, Graph, Standstill, has, HasTraps, IsRound}
 use Rattle.std.specs.List.{AllPairs}
-use Rattle.std.proofs.lemmas.Bool.{cases_order}
 use Rattle.std.proofs.lemmas.List.Elements.{Contains-get_or, Contains-push, Contains-push_cases, Contains-append_left}
 use Rattle.std.proofs.lemmas.List.Quantifiers.{all_pairs_push}
-use Rattle.cp_slots.specs.Tables.{Tables}
-use Rattle.cp_machine.specs.System.{Machine}
-use Rattle.cp_run.specs.System.{System}
 use Rattle.cp_endless.specs.WaitsForEver.{MayLinger, NeverWaitsForEver}
 use Rattle.cp_endless.proofs.waiting.Lassos.{lassos, lingers}
 use Rattle.cp_ends.specs.Holds.{AreStates, IsWordOf, origin_at}
 use Rattle.cp_ends.specs.declared.states.States.{States}
-use Rattle.cp_waits.specs.declared.graph.Graph.{Graph}
-use Rattle.cp_waits.specs.declared.graph.Standstill.{Standstill}
 use Rattle.cp_waits.specs.declared.passing.Keeping.TheVariants as keeping
 use Rattle.cp_waits.specs.declared.waiting.How.{How}
 use Rattle.cp_waits.specs.declared.waiting.How.TheVariants.{Throughout, ForGood, InItsCall}
@@ -22,9 +16,6 @@ use Rattle.cp_waits.specs.declared.waiting.Waits.{Waits}
 use Rattle.cp_waits.specs.declared.waiting.Waits.TheVariants.{Known, NotSettled}
 use Rattle.cp_waits.specs.Lines.{AreLines, HasNoLine, HasRanks, IsShown, NeverWaits, SayWhoWaits, ShowsRound, ShowsStandstill, StandsStillNever}
 use Rattle.cp_waits.specs.MayWait.{AreLasso, AreLingeringLasso, AreStandstill, AreWaits, HasLine, MayWait, ShowWaiting, StandsStillAfter, TellWaits, WaitsForGood}
-use Rattle.cp_waits.specs.Sets.{has}
-use Rattle.cp_waits.specs.Traps.{HasTraps}
-use Rattle.cp_waits.specs.Walks.{IsRound}
 use Rattle.cp_endless.proofs.waiting.Example.{none_in as none_there}
 
 -- ---- lists of lines

@@ -1,14 +1,8 @@
 -- What a passing says of what was seen, and of what is seen next.
 use Rattle.std.proofs.Common.{◌≡◌, ◌∙◌, ◌⊎◌, inl, inr, ⊎_elim, ◌<◌, ℕ, Bool, true, false, List, [], ◌∷◌, ◌++◌, refl, sym, subst}
 use Rattle.std.specs.Prelude.{⊤, ◌↔◌, ◌&&◌, ◌||◌, not, nat_eq}
-use Rattle.std.specs.List.{AllByRecursion as Each}
-use Rattle.std.proofs.lemmas.Bool.{eqb-true, eq-eqb}
-use Rattle.cp_run.specs.System.{System}
-use Rattle.cp_endless.specs.Moments.{Moment, AnyOf}
+use Rattle.cp_waits.proofs.Words.{Each, eqb-true, eq-eqb, System, Moment, AnyOf, has, PassingSets, Set}
 use Rattle.cp_waits.specs.Passings.{AreThose, Seen}
-use Rattle.cp_waits.specs.Sets.{has}
-use Rattle.cp_waits.specs.declared.passing.PassingSets.{PassingSets}
-use Rattle.cp_waits.specs.declared.set.Set.{Set}
 use Rattle.cp_endless.proofs.Basics.{any_split as any_apart, each_append as each_both}
 
 differ : false ≡ true → ⊥

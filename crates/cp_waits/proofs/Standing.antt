@@ -1,29 +1,17 @@
 -- Stretches that let a process wait for ever, and what was seen of them.
 use Rattle.std.proofs.Common.{◌≡◌, ◌⊎◌, inl, inr, ◌<◌, ◌≤◌, ◌∙◌, ℕ, suc, Bool, true, false, List, [], ◌∷◌, ◌++◌, Some, if◌then◌else◌, refl, sym, ap, subst, arith}
-use Rattle.std.specs.Prelude.{Contains, ◌&&◌, not, nat_lt}
+use Rattle.cp_waits.proofs.Words.{Contains, ◌&&◌, not, nat_lt, Turn, Goes, System, Repeats, Origin, some_same, LetsWait, has, Graph, Standstill, PassingSets}
+use Rattle.cp_waits.proofs.Words.{Set, Came}
 use Rattle.std.proofs.lemmas.Bool.{cases_lt, le-ltb, lt-ltb}
 use Rattle.std.proofs.lemmas.List.Elements.{Contains-append_left, Contains-push, Contains-push_cases}
 use Rattle.cp_run.specs.declared.outcome.OutcomeKind.TheVariants.{StepLimit}
-use Rattle.cp_run.specs.declared.outcome.Turn.{Turn}
-use Rattle.cp_run.specs.declared.outcome.Turn.TheVariants.{Goes}
-use Rattle.cp_run.specs.System.{System}
 use Rattle.cp_run.specs.Run.{Node, Halted, Choosing, node_at, settled_turn, turn_at, stretch, opened, chosen}
-use Rattle.cp_endless.specs.Repeats.{Repeats}
 use Rattle.cp_endless.specs.Rounds.{IsRound, spot_by}
 use Rattle.cp_endless.specs.Standstill.{StandsStill, IsStandstill}
 use Rattle.cp_endless.proofs.steps.Rounds.{standstills, standstills_found}
-use Rattle.cp_ends.specs.declared.origin.Origin.{Origin}
-use Rattle.cp_ends.proofs.words.Edges.{some_same}
 use Rattle.cp_ends.proofs.words.Returns.{cut_there}
 use Rattle.cp_waits.specs.Building.{IsOfStretch, IsStillOf, AddsStill}
-use Rattle.cp_waits.specs.Graphs.{LetsWait}
 use Rattle.cp_waits.specs.Legs.{Leg, first_leg, choice_leg, GoesRound, ComesTo}
-use Rattle.cp_waits.specs.Sets.{has}
-use Rattle.cp_waits.specs.declared.graph.Graph.{Graph}
-use Rattle.cp_waits.specs.declared.graph.Standstill.{Standstill}
-use Rattle.cp_waits.specs.declared.passing.PassingSets.{PassingSets}
-use Rattle.cp_waits.specs.declared.set.Set.{Set}
-use Rattle.cp_waits.specs.declared.watching.Came.{Came}
 use Rattle.cp_waits.specs.declared.watching.Came.TheVariants.{Choice, End, Repeats as GoesOn}
 use Rattle.cp_refine.proofs.gates.Gates.{and_false as and_none}
 

@@ -1,21 +1,12 @@
 -- A standstill of a graph is a stretch of its machine that goes on for ever without a choice.
 use Rattle.std.proofs.Common.{◌≡◌, inl, inr, ◌∙◌, ◌<◌, ℕ, Bool, true, List, [], ◌∷◌, ◌++◌, Some, refl, sym, ap}
-use Rattle.std.specs.Prelude.{Contains, slice_get}
-use Rattle.cp_machine.specs.System.{Machine}
-use Rattle.cp_run.specs.System.{System}
-use Rattle.cp_run.specs.Run.{Choosing}
-use Rattle.cp_endless.specs.Reachable.{LeadsTo}
+use Rattle.cp_waits.proofs.Words.{Contains, slice_get, Machine, System, Choosing, LeadsTo, Origin, Graph, Standstill, Leg, choice_leg, first_leg}
+use Rattle.cp_waits.proofs.Words.{StandsStillAfter, has}
 use Rattle.cp_endless.specs.Rounds.{SetsOut}
 use Rattle.cp_ends.specs.Holds.{IsWordOf}
-use Rattle.cp_ends.specs.declared.origin.Origin.{Origin}
 use Rattle.cp_ends.specs.declared.origin.Origin.TheVariants.{Start, Choice}
-use Rattle.cp_waits.specs.declared.graph.Graph.{Graph}
-use Rattle.cp_waits.specs.declared.graph.Standstill.{Standstill}
 use Rattle.cp_waits.specs.Graphs.{HasStill, IsLegFrom, IsStill, LetsWait}
-use Rattle.cp_waits.specs.Legs.{Leg, choice_leg, first_leg}
 use Rattle.cp_waits.specs.Lines.{StandsStillNever}
-use Rattle.cp_waits.specs.MayWait.{StandsStillAfter}
-use Rattle.cp_waits.specs.Sets.{has}
 
 module _ (sys : System Machine) (inside waiting : Machine → ℕ → Bool) (steps : ℕ) (states : List (Machine × List ℕ)) (g : Graph)
     (reached : (i : ℕ) (x : Machine × List ℕ) → slice_get states i ≡ Some x → LeadsTo sys steps x.1 (Choosing x.0)) where

@@ -1,19 +1,14 @@
 -- What is said of the graph of all states is so of the slot machine, and of its program on the program's own names.
-use Rattle.std.proofs.Common.{◌≡◌, inl, inr, ◌<◌, ℕ, List, Option, map, Some, sym, subst}
-use Rattle.std.specs.Prelude.{Contains, slice_get}
+use Rattle.cp_waits.proofs.Words.{◌≡◌, inl, inr, ◌<◌, ℕ, List, Option, map, Some, sym, subst, Contains, slice_get, Tables, Machine, Node, Halted, Choosing}
+use Rattle.cp_waits.proofs.Words.{chosen, opened, slots, System, LeadsTo, IsClosedSet, IsIn, SayWhoWaits, Graph}
 use Rattle.cp_tree.specs.Syntax.{Tree}
 use Rattle.cp_tree.specs.Read.{IsRead}
 use Rattle.cp_layout.specs.Laid.{plain, laid}
-use Rattle.cp_slots.specs.Tables.{Tables}
 use Rattle.cp_lawful.specs.Accepted.{IsAccepted}
-use Rattle.cp_machine.specs.System.{Machine}
 use Rattle.cp_machine.specs.declared.gates.Gates as slot_gates
 use Rattle.cp_machine.specs.declared.gates.Gates.TheVariants.{First, Any}
 use Rattle.cp_meaning.specs.State.{Gates, State, first_gates, any_gates}
 use Rattle.cp_resolved.specs.TreeLayouts.{layouts_of}
-use Rattle.cp_run.specs.Run.{Node, Halted, Choosing, chosen, opened}
-use Rattle.cp_run.specs.Slots.{slots}
-use Rattle.cp_run.specs.System.{System}
 use Rattle.cp_refine.specs.InStep.{CanGo, GoInStep}
 use Rattle.cp_refine.specs.Law.{Simulates, ground_of}
 use Rattle.cp_refine.specs.Named.{gates_of, named, named_gates}
@@ -22,8 +17,6 @@ use Rattle.cp_refine.proofs.HoldsInReached.{reached_stands}
 use Rattle.cp_refine.proofs.Meaning.{goes_in_step, it}
 use Rattle.cp_refine.proofs.ReachedKinds.{kinds_agree}
 use Rattle.cp_endless.specs.Meaning.{MeansTheSame}
-use Rattle.cp_endless.specs.Reachable.{LeadsTo}
-use Rattle.cp_endless.specs.Settled.{IsClosedSet, IsIn}
 use Rattle.cp_endless.specs.Silent.{in_call_on_names, in_call_on_slots, named_without_output, silent_named, silent_slots, waits_on_names, waits_on_slots, without_output}
 use Rattle.cp_endless.specs.Standstill.{MayStandStill}
 use Rattle.cp_endless.specs.WaitsForEver.{MayLinger, MayWaitForEver}
@@ -44,10 +37,8 @@ use Rattle.cp_ends.proofs.Searching.Lists.{contains_at, pair_at, place_of}
 use Rattle.cp_ends.proofs.named.Keys.{key_same, key_self}
 use Rattle.cp_ends.proofs.named.Kinds.{are_settled}
 use Rattle.cp_waits.specs.Graphs.{IsGraphOfAll, IsSlotGraphOf}
-use Rattle.cp_waits.specs.Lines.{SayWhoWaits}
 use Rattle.cp_waits.specs.MayWait.{AreWaits, HasLine, ShowWaiting, TellWaits, WaitsForGood}
 use Rattle.cp_waits.specs.Named.{AreWaitsOnNames, LinesMeaningLaw, LingersBy, ShowOnNames, TellOfAll, TellOnNames, WaitsBy}
-use Rattle.cp_waits.specs.declared.graph.Graph.{Graph}
 use Rattle.cp_waits.specs.declared.waiting.How.{How}
 use Rattle.cp_waits.specs.declared.waiting.How.TheVariants.{Throughout, ForGood, InItsCall}
 use Rattle.cp_waits.specs.declared.waiting.Waiting.{Waiting}

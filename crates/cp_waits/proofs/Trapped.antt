@@ -1,35 +1,17 @@
 -- Traps of a graph are traps of its machine: whoever waits for ever comes to where it waits, whatever is chosen.
 use Rattle.std.proofs.Common.{◌≡◌, ◌⊎◌, inl, inr, ⊎_elim, ◌∙◌, ◌+◌, ◌<◌, ◌≤◌, ℕ, zero, suc, Bool, true, false, if◌then◌else◌, List, [], ◌∷◌, length, map, Option, None, Some, refl, sym, ap, subst, arith}
-use Rattle.std.specs.Prelude.{Contains, slice_get}
-use Rattle.std.specs.List.{AllByRecursion as Each}
-use Rattle.std.proofs.lemmas.Bool.{cases_order}
-use Rattle.std.proofs.lemmas.Option.{slice_get_within}
-use Rattle.cp_run.specs.declared.outcome.Turn.{Turn}
-use Rattle.cp_run.specs.declared.outcome.Turn.TheVariants.{Goes}
-use Rattle.cp_run.specs.System.{System}
+use Rattle.cp_waits.proofs.Words.{Contains, slice_get, Each, cases_order, slice_get_within, Turn, Goes, System, IsClosedSet, IsIn, contains_at, Edge, Graph}
+use Rattle.cp_waits.proofs.Words.{Waiting, PassingSets, Came, IsChoice, IsNumber, keeps, ComesTo, choice_leg, WaitsForGood, Seen, HasTraps, IsStateLed}
+use Rattle.cp_waits.proofs.Words.{LeadsToTrap, IsEdge}
 use Rattle.cp_run.specs.Run.{Node, Halted, Choosing, may, chosen, settled_turn, turn_after}
 use Rattle.cp_endless.specs.Fair.{IsEndless, IsFair, IsServed}
 use Rattle.cp_endless.specs.Moments.{Moment, moments, moments_by, stretch_moments}
-use Rattle.cp_endless.specs.Settled.{IsClosedSet, IsIn}
 use Rattle.cp_endless.specs.Traps.{IsTrap}
 use Rattle.cp_endless.specs.WaitsForEver.{WaitsFrom}
 use Rattle.cp_endless.proofs.waiting.Traps.{trapped}
-use Rattle.cp_ends.proofs.Searching.Lists.{contains_at}
 use Rattle.cp_ends.proofs.named.Kinds.{contains_map}
-use Rattle.cp_waits.specs.declared.graph.Edge.{Edge}
-use Rattle.cp_waits.specs.declared.graph.Graph.{Graph}
-use Rattle.cp_waits.specs.declared.passing.Keeping.TheVariants.{Waiting}
-use Rattle.cp_waits.specs.declared.passing.PassingSets.{PassingSets}
-use Rattle.cp_waits.specs.declared.watching.Came.{Came}
 use Rattle.cp_waits.specs.declared.watching.Came.TheVariants as came
-use Rattle.cp_waits.specs.Graphs.{IsChoice, IsNumber}
-use Rattle.cp_waits.specs.Keeps.{keeps}
-use Rattle.cp_waits.specs.Legs.{ComesTo, choice_leg}
-use Rattle.cp_waits.specs.MayWait.{WaitsForGood}
-use Rattle.cp_waits.specs.Passings.{Seen}
 use Rattle.cp_waits.specs.Ranks.{IsPassedOver, IsRanked}
-use Rattle.cp_waits.specs.Traps.{HasTraps, IsStateLed, LeadsToTrap}
-use Rattle.cp_waits.specs.Walks.{IsEdge}
 use Rattle.cp_waits.proofs.Falling.{AreApart, along, at_of, index_here, index_in, keeps_on, who, who_below, who_is}
 use Rattle.cp_waits.proofs.Runs.{edge_at}
 

@@ -2,11 +2,9 @@
 use Rattle.std.proofs.Common.{◌≡◌, inl, inr, ◌∙◌, ℕ, Bool, if◌then◌else◌, List, [], ◌∷◌, None, Some, true, sym, ap, subst}
 use Rattle.cp_run.specs.declared.outcome.OutcomeKind.{OutcomeKind}
 use Rattle.cp_run.specs.declared.outcome.OutcomeKind.TheVariants.{StepLimit}
-use Rattle.cp_run.specs.System.{System}
-use Rattle.cp_run.specs.Run.{Node, Choosing, chosen, opened, stretch}
+use Rattle.cp_waits.proofs.Words.{System, Node, Choosing, chosen, opened, stretch, Repeats, StandsStillAfter}
 use Rattle.cp_endless.specs.Forgetting.{forgetting_system}
 use Rattle.cp_endless.specs.Reachable.{EndsAfter, node_after}
-use Rattle.cp_endless.specs.Repeats.{Repeats}
 use Rattle.cp_endless.specs.Rounds.{IsRound, SetsOut, chosen_spot, spot_after}
 use Rattle.cp_endless.specs.Standstill.{MayStandStill, StandsStill}
 use Rattle.cp_endless.proofs.possible.Words.{after_append}
@@ -20,7 +18,6 @@ use Rattle.cp_ends.specs.declared.end.End as code
 use Rattle.cp_ends.specs.declared.end.End.TheVariants.{Over}
 use Rattle.cp_ends.proofs.named.Kinds.{over_so}
 use Rattle.cp_ends.proofs.words.Edges.{choosing_same, last_same, not_empty, some_same}
-use Rattle.cp_waits.specs.MayWait.{StandsStillAfter}
 
 module _ {S : Type 0} (sys : System S) (steps : ℕ) where
   abbrev Same : S × ℕ → S × ℕ → Type 0

@@ -1,11 +1,6 @@
 -- Ways that go on by an edge.
 use Rattle.std.proofs.Common.{◌≡◌, inl, inr, ℕ, List, [], ◌∷◌, ◌++◌, map, Some, true, ap, refl, ◌∙◌, subst, sym, ◌||◌}
-use Rattle.std.specs.List.{AllByRecursion as Each}
-use Rattle.cp_endless.specs.Moments.{AnyOf}
-use Rattle.cp_waits.specs.declared.graph.Edge.{Edge}
-use Rattle.cp_waits.specs.declared.graph.Graph.{Graph}
-use Rattle.cp_waits.specs.declared.set.Set.{Set}
-use Rattle.cp_waits.specs.Sets.{has}
+use Rattle.cp_waits.proofs.Words.{Each, AnyOf, Edge, Graph, Set, has}
 use Rattle.cp_waits.specs.Walks.{IsEdge, IsWay}
 use Rattle.cp_meaning.proofs.Good.{or_cases as either}
 

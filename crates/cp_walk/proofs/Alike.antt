@@ -1,12 +1,6 @@
 -- From two nodes that are alike the walk collects the same rows, up to what was displayed.
 use Rattle.std.proofs.Common.{◌≡◌, ℕ, zero, suc, Bool, true, false, if◌then◌else◌, List, [], ◌∷◌, ◌++◌, map, refl, sym, ap, ◌∙◌}
-use Rattle.std.proofs.lemmas.List.{map-append}
-use Rattle.cp_machine.specs.declared.shown.Shown.{Shown}
-use Rattle.cp_run.specs.declared.outcome.OutcomeKind.{OutcomeKind}
-use Rattle.cp_run.specs.declared.outcome.OutcomeKind.TheVariants.{ChoiceLimit}
-use Rattle.cp_run.specs.System.{System}
-use Rattle.cp_run.specs.Run.{joined_below, Node, Halted, Choosing, may, chosen}
-use Rattle.cp_run.specs.Table.{Line}
+use Rattle.cp_walk.proofs.Words.{map-append, Shown, OutcomeKind, ChoiceLimit, System, joined_below, Node, Halted, Choosing, may, chosen, Line}
 use Rattle.cp_run.proofs.Alike.{Simulates, NodesAlike, chosen_alike, may_alike}
 use Rattle.cp_walk.specs.Walk.{behind, shown_by, walk}
 

@@ -3,16 +3,9 @@ use Rattle.std.proofs.Common.{◌≡◌, ℕ, zero, suc, ◌+◌, true, false, i
 use Rattle.std.proofs.lemmas.Bool.{cases_order}
 use Rattle.std.proofs.Math.Seq.{take-append_seam}
 use Rattle.std.proofs.lemmas.List.Elements.{All-push}
-use Rattle.std.proofs.lemmas.List.{length-append, length-map, append_assoc, map-append}
-use Rattle.cp_run.specs.declared.outcome.OutcomeKind.{OutcomeKind}
-use Rattle.cp_run.specs.declared.outcome.Outcome.{Outcome}
-use Rattle.cp_run.specs.declared.outcome.OutcomeKind.TheVariants.{ChoiceLimit}
-use Rattle.cp_run.specs.declared.outcome.Halt.{Halt}
+use Rattle.cp_walk.proofs.Words.{length-append, length-map, append_assoc, map-append, OutcomeKind, Outcome, ChoiceLimit, Halt, System, joined_below, Node}
+use Rattle.cp_walk.proofs.Words.{Halted, Choosing, may, chosen, Line, behind, walk}
 use Rattle.cp_run.specs.declared.outcome.Halt.TheVariants.{Choice, Ended}
-use Rattle.cp_run.specs.System.{System}
-use Rattle.cp_run.specs.Run.{joined_below, Node, Halted, Choosing, may, chosen}
-use Rattle.cp_run.specs.Table.{Line}
-use Rattle.cp_walk.specs.Walk.{behind, walk}
 
 -- the rows that begin with one number
 abbrev pub branch : {S : Type 0} → System S → ℕ → ℕ → S → ℕ → List Line

@@ -1,13 +1,8 @@
 -- The nodes of the walk are counted by the words that begin a word of its rows.
 use Rattle.std.proofs.Common.{◌≡◌, ◌∙◌, ℕ, zero, suc, ◌<◌, ◌≤◌, ◌+◌, ◌-◌, ◌⊎◌, ⊎_elim, Bool, true, false, ◌&&◌, ◌==◌, nat_lt, if◌then◌else◌, List, [], ◌∷◌, ◌++◌, length, map, Result, Ok, Err, IfOk, refl, sym, ap, subst, arith}
 use Rattle.std.proofs.lemmas.Bool.{eq-eqb, ne_eqb, ltb-true, cases_order}
-use Rattle.std.proofs.lemmas.List.{length-append, map-append}
-use Rattle.cp_run.specs.System.{System}
-use Rattle.cp_run.specs.Run.{joined_below, Node, Halted, Choosing, may, chosen}
-use Rattle.cp_run.specs.Table.{Line}
-use Rattle.cp_walk.specs.Beginnings.{beginnings, common, words_in}
-use Rattle.cp_walk.specs.Cutting.{Pairwise, parts_before}
-use Rattle.cp_walk.specs.Walk.{behind, walk, IsDue}
+use Rattle.cp_walk.proofs.Words.{length-append, map-append, System, joined_below, Node, Halted, Choosing, may, chosen, Line, beginnings, common, words_in}
+use Rattle.cp_walk.proofs.Words.{Pairwise, parts_before, behind, walk, IsDue}
 use Rattle.cp_walk.proofs.Branches.{branch, walk_due}
 use Rattle.cp_walk.proofs.Counted.{added, counted, last_of, walk_parted}
 

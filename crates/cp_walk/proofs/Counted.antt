@@ -1,19 +1,10 @@
 -- The count of beginnings, word by word.
 use Rattle.std.proofs.Common.{◌≡◌, ◌∙◌, ℕ, zero, suc, ◌<◌, ◌+◌, ◌-◌, Bool, true, false, ◌&&◌, ◌||◌, ◌==◌, nat_lt, if◌then◌else◌, List, [], ◌∷◌, ◌++◌, length, map, take, get_or, refl, sym, ap, subst, arith}
-use Rattle.std.proofs.lemmas.Bool.{eq-eqb, lt-ltb, ltb-true, eqb-true}
+use Rattle.cp_walk.proofs.Words.{eq-eqb, lt-ltb, ltb-true, eqb-true, Tables, Limits, slots, Row, line_of, System, joined_below, Node, Halted, Choosing, may}
+use Rattle.cp_walk.proofs.Words.{chosen, opened, Line, each, table, words_of_rows, words_in, common, beginnings_of, with_new, beginnings, Each, Pairwise}
+use Rattle.cp_walk.proofs.Words.{begins, parts_before, behind, walk}
 use Rattle.std.proofs.lemmas.List.{map-append, map_more}
-use Rattle.cp_slots.specs.Tables.{Tables}
-use Rattle.cp_run.specs.declared.limits.Limits.{Limits}
-use Rattle.cp_run.specs.Slots.{slots}
-use Rattle.cp_walk.specs.declared.row.Row.{Row}
-use Rattle.cp_walk.specs.Rows.{line_of}
 use Rattle.std.proofs.Math.Seq.{take-length}
-use Rattle.cp_run.specs.System.{System}
-use Rattle.cp_run.specs.Run.{joined_below, Node, Halted, Choosing, may, chosen, opened}
-use Rattle.cp_run.specs.Table.{Line, each, table}
-use Rattle.cp_walk.specs.Beginnings.{words_of_rows, words_in, common, beginnings_of, with_new, beginnings}
-use Rattle.cp_walk.specs.Cutting.{Each, Pairwise, begins, parts_before}
-use Rattle.cp_walk.specs.Walk.{behind, walk}
 use Rattle.cp_walk.proofs.Counting.{among, misses, fresh_length, fresh_misses, misses_common, distinct_beginnings, among_new, among_beginnings, between, length_beginnings}
 use Rattle.cp_walk.proofs.Orders.{each_to, each_append, each_map_to}
 use Rattle.cp_walk.proofs.Walks.{table_walk}

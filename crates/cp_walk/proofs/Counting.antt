@@ -1,13 +1,8 @@
 -- How many words begin those of a list.
 use Rattle.std.proofs.Common.{◌≡◌, ◌∙◌, ℕ, suc, ◌≤◌, ◌+◌, Bool, true, false, ◌&&◌, ◌||◌, ◌==◌, nat_lt, if◌then◌else◌, List, [], ◌∷◌, length, map, refl, sym, ap, arith}
-use Rattle.std.specs.Prelude.{nat_eq}
-use Rattle.std.specs.List.{list_any}
-use Rattle.std.proofs.lemmas.Bool.{eq-eqb, ltb-true, eqb-true}
-use Rattle.std.proofs.lemmas.List.{length-map}
+use Rattle.cp_walk.proofs.Words.{nat_eq, list_any, eq-eqb, ltb-true, eqb-true, length-map, pointwise, beginnings_of, common, with_new, Each, begins}
+use Rattle.cp_walk.proofs.Words.{parts_before}
 use Rattle.std.specs.Cmp.Lexicographic.{same_text}
-use lib.Pointwise.{pointwise}
-use Rattle.cp_walk.specs.Beginnings.{beginnings_of, common, with_new}
-use Rattle.cp_walk.specs.Cutting.{Each, begins, parts_before}
 
 abbrev pub eq : List ℕ → List ℕ → Bool
 eq v w = pointwise nat_eq v w

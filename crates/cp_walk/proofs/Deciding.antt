@@ -1,25 +1,18 @@
 -- What the workers' parts and the closed board decide.
-use Rattle.cp_walk.specs.declared.row.Row.{Row}
+use Rattle.cp_walk.proofs.Words.{Row, range_with_len, length-take, take_all, eq-eqb, eqb-true, View, view_of, IsSeatOf, TaskRows, table_of, rows_at}
 use Rattle.std.proofs.Common.{◌≡◌, ℕ, zero, suc, ◌+◌, ◌<◌, ◌≤◌, min, Bool, true, false, cond, eqb, List, [], ◌∷◌, ◌++◌, length, get_or, map, take, flat_map, sum_by, count_by, All, Any, sym, refl, ap, ◌∙◌, subst, arith}
-use Rattle.std.specs.List.{range_with_len}
-use Rattle.std.proofs.lemmas.List.{length-take, take_all}
 use Rattle.std.proofs.lemmas.List.Concat.{length-flat_map}
 use Rattle.std.proofs.lemmas.List.FromFn.{length-range_with_len, get_or-range_with_len}
 use Rattle.std.proofs.lemmas.List.Sums.{sum_by-cons, sum_by-append, get_or-le-sum_by}
 use Rattle.std.proofs.lemmas.List.Elements.{All-nil, All-cons, All-head, All-tail, All-append, All-weaker}
-use Rattle.std.proofs.lemmas.Bool.{eq-eqb, eqb-true}
 use Rattle.cp_board.specs.declared.views.Note.{Note}
-use Rattle.cp_board.specs.declared.views.View.{View}
 use Rattle.cp_board.specs.declared.seats.Board.{Board}
 use Rattle.cp_board.specs.declared.seats.Seat.{Seat}
 use Rattle.cp_board.specs.Views.{rows_noted, NotesOnce, IsTotal, Settles}
-use Rattle.cp_board.specs.Seats.{view_of, IsSeatOf}
 use Rattle.cp_board.proofs.Lists.{sum_ones, sum_same, sum_le, sum_range}
-use Rattle.cp_walk.specs.declared.worker.TaskRows.{TaskRows}
 use Rattle.cp_walk.specs.declared.worker.Worked.{Worked}
 use Rattle.cp_walk.specs.declared.worker.WorkerEnd.{WorkerEnd}
 use Rattle.cp_walk.specs.declared.worker.WorkerEnd.TheVariants.{Dry, Excess, Refused}
-use Rattle.cp_walk.specs.Tables.{table_of, rows_at}
 use Rattle.cp_walk.specs.Ends.{IsDone, IsHonest, EndsAs, IsKept, HasWorked}
 use Rattle.cp_walk.proofs.Doing.{honest}
 

@@ -1,15 +1,12 @@
 -- One more task keeps what a worker has done.
-use Rattle.cp_walk.specs.declared.row.Row.{Row}
+use Rattle.cp_walk.proofs.Words.{Row, View, TaskRows, IsDone, IsHonest}
 use Rattle.std.proofs.Common.{◌≡◌, ℕ, ◌<◌, ◌≤◌, List, [], ◌∷◌, ◌++◌, length, take, Any, sym, refl, ap, ◌∙◌, arith, length-append}
 use Rattle.std.proofs.lemmas.List.{map-append, length-take, get_or_at}
 use Rattle.std.proofs.lemmas.List.Elements.{All-push, All-weaker, All-nil}
 use Rattle.std.proofs.lemmas.List.Sums.{sum_by-cons, sum_by-append}
 use Rattle.cp_board.specs.declared.views.Note.{Note}
-use Rattle.cp_board.specs.declared.views.View.{View}
 use Rattle.cp_board.specs.Views.{note, view, last_of, drew, noted_by, rows_noted}
 use Rattle.cp_board.proofs.Moves.{last_of-push}
-use Rattle.cp_walk.specs.declared.worker.TaskRows.{TaskRows}
-use Rattle.cp_walk.specs.Ends.{IsDone, IsHonest}
 
 pub nothing_done : (rows : ℕ → List Row) (tasks : ℕ) → IsDone rows (view 1 tasks [] [] 0) []
 nothing_done rows tasks = record {

@@ -7,13 +7,10 @@ use Rattle.std.specs.Hash as fed
 use Rattle.std.specs.Hash.{fed_then, fed_along}
 use Rattle.std.specs.Cmp.Lexicographic.{pointwise}
 use Rattle.std.proofs.hash.Loops.{each_more}
-use Rattle.std.proofs.lemmas.Bool.{le-ltb, ne_eqb}
+use Rattle.cp_walk.proofs.Words.{le-ltb, ne_eqb, Shown, each, OutcomeKind}
 use Rattle.std.proofs.lemmas.Grind.{flat_map-append}
 use Rattle.std.proofs.lemmas.List.{get_or_default}
-use Rattle.cp_machine.specs.declared.shown.Shown.{Shown}
 use Rattle.cp_machine.specs.declared.shown.Shown.TheVariants.{Integer, Char, Truth, Constant}
-use Rattle.cp_run.specs.Table.{each}
-use Rattle.cp_run.specs.declared.outcome.OutcomeKind.{OutcomeKind}
 use Rattle.cp_run.specs.declared.outcome.OutcomeKind.TheVariants.{Finished, AllWaiting, RunError, ChoiceLimit, StepLimit, OutputLimit}
 use Rattle.cp_walk.specs.Hashing.{shown_code, codes_of, hashed}
 use Rattle.cp_walk.specs.Report.{kind_numbers, shown_numbers}

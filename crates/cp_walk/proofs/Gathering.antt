@@ -1,13 +1,10 @@
 -- Parts that are written into slots.
-use Rattle.cp_walk.specs.declared.row.Row.{Row}
+use Rattle.cp_walk.proofs.Words.{Row, range_with_len, TaskRows, rows_at}
 use Rattle.std.proofs.Common.{◌≡◌, ℕ, ◌<◌, cond, List, [], ◌∷◌, ◌++◌, length, get_or, set, map, flat_map, sym, refl, ap, ◌∙◌, ⊎_elim, arith}
-use Rattle.std.specs.List.{range_with_len}
 use Rattle.std.proofs.lemmas.List.{get_or-set_same, get_or-set_other}
 use Rattle.std.proofs.Math.ListN.{length-set}
 use Rattle.std.proofs.lemmas.List.FromFn.{fill_by_all, get_or-map-range_with_len, length-map-range_with_len}
 use Rattle.std.proofs.lemmas.Bool.{eq-eqb, ne_eqb, cases_eq}
-use Rattle.cp_walk.specs.declared.worker.TaskRows.{TaskRows}
-use Rattle.cp_walk.specs.Tables.{rows_at}
 
 pub one_slot : (ps : List TaskRows) (p : TaskRows) (tasks : ℕ) → p.task < tasks → set (map (rows_at ps) (range_with_len 0 tasks)) p.task p.rows.items ≡ map (rows_at (p ∷ ps)) (range_with_len 0 tasks)
 one_slot ps p tasks lt =

@@ -2,22 +2,17 @@
 use Rattle.std.proofs.Common.{◌≡◌, ◌∙◌, ℕ, ◌+◌, ◌≤◌, Bool, true, false, cond, if◌then◌else◌, ◌||◌, List, [], ◌∷◌, ◌++◌, length, map, Option, None, Some, refl, sym, ap, arith, subst, take, get_or, unwrap_or, ◌<◌}
 use Rattle.std.specs.Prelude.{IfSome, option_map, nat_eq}
 use Rattle.std.specs.Borrow.{Bor}
-use Rattle.std.specs.List.{list_any}
+use Rattle.cp_walk.proofs.Words.{list_any, pointwise, Line, each, Outcome, Row, line_of}
 use Rattle.std.specs.Map.{lookup, values_of}
 use Rattle.std.proofs.lemmas.Cmp.{nat_list_eq_equiv}
 use Rattle.std.proofs.lemmas.List.{map-append, map_more, length-map, length-take-le}
 use Rattle.std.proofs.lemmas.List.Folds.{list_any-append}
 use Rattle.std.proofs.lemmas.List.Sums.{sum_by-append, count_by-le-length}
 use Rattle.indexmap.specs.IndexMap.{insert_entry}
-use lib.Pointwise.{pointwise}
-use Rattle.cp_run.specs.Table.{Line, each}
-use Rattle.cp_run.specs.declared.outcome.Outcome.{Outcome}
 use Rattle.cp_walk.specs.Report.{outcome_numbers, same_outcome, outcomes_of, firsts, count_of, group_text, groups_text}
 use Rattle.cp_walk.specs.Groups.{Tally, tally, tally_of, tallies_of, tally_with, tally_text}
 use Rattle.cp_walk.specs.declared.groups.RowGroup.{RowGroup}
 use Rattle.cp_walk.specs.declared.key.OutcomeKey.{OutcomeKey}
-use Rattle.cp_walk.specs.declared.row.Row.{Row}
-use Rattle.cp_walk.specs.Rows.{line_of}
 use Rattle.cp_walk.specs.Text.{Spellings}
 
 abbrev numbers : Line → List ℕ

@@ -1,8 +1,6 @@
 -- Texts joined by a byte.
 use Rattle.std.proofs.Common.{◌≡◌, ◌∙◌, ℕ, suc, ◌+◌, ◌<◌, List, [], ◌∷◌, ◌++◌, length, take, get_or, refl, sym, ap, arith, take-suc, map}
-use Rattle.std.proofs.lemmas.List.{append_assoc}
-use Rattle.cp_run.specs.Table.{each}
-use Rattle.cp_walk.specs.Text.{behind_each}
+use Rattle.cp_walk.proofs.Words.{append_assoc, each, behind_each}
 use Rattle.cp_walk.proofs.Walks.{each_map}
 
 behind_append : {A : Type 0} (sign : ℕ) (text : A → List ℕ) (xs ys : List A) → behind_each sign text (xs ++ ys) ≡ behind_each sign text xs ++ behind_each sign text ys

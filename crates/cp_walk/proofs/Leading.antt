@@ -1,19 +1,13 @@
 -- Where a walk stands, some number may be taken.
 use Rattle.std.proofs.Common.{◌≡◌, ◌∙◌, ℕ, ◌<◌, Bool, true, false, ◌&&◌, if◌then◌else◌, length, Option, None, Some, refl, ap, subst, arith}
-use Rattle.std.proofs.lemmas.Bool.{lt-ltb}
-use Rattle.cp_slots.specs.Tables.{Tables}
+use Rattle.cp_walk.proofs.Words.{lt-ltb, Tables, Halt, node_of, may, chosen, opened, slots, IsDue}
 use Rattle.cp_machine.specs.declared.gates.Gates.{Gates}
 use Rattle.cp_machine.specs.declared.state.State.{State}
 use Rattle.cp_machine.specs.System.{Machine, machine_of, is_pending, is_ready, in_line, IsStateOf}
 use Rattle.cp_machine.specs.Machine.{is_some, in_line_of, thread_at}
 use Rattle.cp_machine.proofs.CallerLemmas.{threads_count, pending_waits}
-use Rattle.cp_run.specs.declared.outcome.Halt.{Halt}
 use Rattle.cp_run.specs.declared.outcome.Halt.TheVariants.{Choice, Ended}
-use Rattle.cp_run.specs.Code.{node_of}
-use Rattle.cp_run.specs.Run.{may, chosen, opened}
-use Rattle.cp_run.specs.Slots.{slots}
 use Rattle.cp_run.proofs.Standing.{Stands, opened_stands, chosen_stands}
-use Rattle.cp_walk.specs.Walk.{IsDue}
 
 may_line : (r : Tables) (gates : Gates) (m : Machine) (p : ℕ) → p < length r.processes → is_pending m ≡ true → in_line m p ≡ true → may (slots r gates) m p ≡ true
 unfolding may

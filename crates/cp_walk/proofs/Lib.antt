@@ -24,3 +24,4 @@ pub mod Reporting
 pub mod Starting
 pub mod Walks
 pub mod Whole
+mod Words

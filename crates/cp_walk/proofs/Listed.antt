@@ -5,13 +5,8 @@ use Rattle.std.proofs.Math.Seq.{get_or-append_seam, take-append_seam}
 use Rattle.std.proofs.lemmas.Grind.{flat_map-append}
 use Rattle.std.proofs.lemmas.List.{length-append, length-map, take-append-le, take_more}
 use Rattle.std.proofs.lemmas.Bool.{cases_lt}
-use Rattle.std.specs.List.{list_any}
+use Rattle.cp_walk.proofs.Words.{list_any, System, those_below, joined_below, Choosing, may, chosen, Line, beginnings, words_in, behind, walk, IsDue}
 use Rattle.cp_run.proofs.Wanting.{any_wanted}
-use Rattle.cp_run.specs.System.{System}
-use Rattle.cp_run.specs.Run.{those_below, joined_below, Choosing, may, chosen}
-use Rattle.cp_run.specs.Table.{Line}
-use Rattle.cp_walk.specs.Beginnings.{beginnings, words_in}
-use Rattle.cp_walk.specs.Walk.{behind, walk, IsDue}
 use Rattle.cp_walk.proofs.Branches.{branch, walk_due, append_none, taken, too_many}
 use Rattle.cp_walk.proofs.Calling.{calls_all, calls_taken}
 use Rattle.cp_walk.proofs.Counted.{added}

@@ -1,17 +1,8 @@
 -- The rows of all members are the table.
 use Rattle.std.proofs.Common.{◌≡◌, ℕ, zero, suc, ◌+◌, ◌≤◌, List, [], ◌∷◌, ◌++◌, length, map, take, flat_map, ◌<◌, get_or, Some, slice_get, refl, sym, ap, ◌∙◌, arith}
-use Rattle.std.specs.List.{range_with_len}
-use Rattle.std.proofs.lemmas.List.{take_all, map-append, length-map}
-use Rattle.arrayvec.specs.ArrayVec.{ArrayVec}
-use Rattle.cp_slots.specs.Tables.{Tables}
-use Rattle.cp_run.specs.declared.limits.Limits.{Limits}
-use Rattle.cp_run.specs.Slots.{slots}
-use Rattle.cp_run.specs.Table.{Line, each, table}
-use Rattle.cp_walk.specs.declared.row.Row.{Row}
-use Rattle.cp_walk.specs.Cutting.{rows_behind}
+use Rattle.cp_walk.proofs.Words.{range_with_len, take_all, map-append, length-map, ArrayVec, Tables, Limits, slots, Line, each, table, Row, rows_behind}
+use Rattle.cp_walk.proofs.Words.{line_of, table_of}
 use Rattle.cp_walk.specs.Members.{words_of, row_of, lines_behind, member_rows, CutsTable}
-use Rattle.cp_walk.specs.Rows.{line_of}
-use Rattle.cp_walk.specs.Tables.{table_of}
 
 back : (rows : List Row) → rows ≡ map row_of (map line_of rows)
 back [] = refl

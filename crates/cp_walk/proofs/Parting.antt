@@ -1,12 +1,8 @@
 -- What a split does to the parts of a table.
 use Rattle.std.proofs.Common.{◌≡◌, ◌∙◌, ℕ, zero, suc, ◌<◌, Bool, true, false, ◌&&◌, ◌||◌, nat_lt, if◌then◌else◌, List, [], ◌∷◌, ◌++◌, length, map, refl, sym, ap, subst, arith}
 use Rattle.std.specs.List.{list_any, count_by}
-use Rattle.std.proofs.lemmas.Bool.{eq-eqb, lt-ltb, ltb-true}
-use Rattle.std.proofs.lemmas.List.{append_assoc, map-append}
-use Rattle.cp_run.specs.System.{System}
+use Rattle.cp_walk.proofs.Words.{eq-eqb, lt-ltb, ltb-true, append_assoc, map-append, System, Line, each, table, behind, walk}
 use Rattle.cp_run.specs.Run.{joined_below, those_below, Node, Halted, Choosing, Answer, Ended, Wants, NotReady, later, may, chosen, opened, run, run_from}
-use Rattle.cp_run.specs.Table.{Line, each, table}
-use Rattle.cp_walk.specs.Walk.{behind, walk}
 use Rattle.cp_walk.specs.Cutting.{Each, Pairwise, begins, is_before, parts_before, IsUsed, IsCutting, Parts, rows_from, rows_behind, children}
 use Rattle.cp_walk.proofs.Orders.{each_map_to, each_to, each_append, each_parts, pairs_to, one_count, parted_before, before_longer, longer_before, siblings}
 use Rattle.cp_walk.proofs.Walks.{each_map, each_same}

@@ -1,15 +1,8 @@
 -- A list with others in the place of one element.
 use Rattle.std.proofs.Common.{◌≡◌, ◌∙◌, ℕ, zero, suc, ◌<◌, ◌+◌, ◌-◌, List, [], ◌∷◌, ◌++◌, length, map, take, drop, get_or, refl, sym, ap, subst, arith, ◌≤◌, Some, Ok, Err, if◌then◌else◌}
 use Rattle.std.proofs.lemmas.List.{append_assoc, get_or-map, take-map, take_all, length-drop, length-map, length-append, length-take-le}
-use Rattle.std.proofs.lemmas.Bool.{lt-ltb, le-ltb}
-use Rattle.arrayvec.specs.ArrayVec.{ArrayVec}
-use Rattle.cp_slots.specs.Tables.{Tables}
-use Rattle.cp_run.specs.declared.limits.Limits.{Limits}
-use Rattle.cp_run.specs.Run.{Answer, Ended, Wants, NotReady, opened, run}
-use Rattle.cp_run.specs.Slots.{slots}
-use Rattle.cp_walk.specs.declared.fault.SplitFault.TheVariants.{Full}
+use Rattle.cp_walk.proofs.Words.{lt-ltb, le-ltb, ArrayVec, Tables, Limits, Answer, Ended, Wants, NotReady, opened, run, slots, Full, words_of, CutsTable}
 use Rattle.cp_walk.specs.Cutting.{Each, IsUsed, Parts, children, word_at, wanted_in, split_by}
-use Rattle.cp_walk.specs.Members.{words_of, CutsTable}
 use Rattle.cp_walk.proofs.Parting.{parts_cut, split_parts, split_used, wants_short}
 
 drop_map : {A B : Type 0} (f : A → B) (n : ℕ) (xs : List A) → drop n (map f xs) ≡ map f (drop n xs)

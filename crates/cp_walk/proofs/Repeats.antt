@@ -1,31 +1,21 @@
 -- A node like one that was walked has its rows, with another beginning of the words and of what was displayed.
 use Rattle.std.proofs.Common.{◌≡◌, ◌∙◌, ◌⊎◌, inl, inr, ◌+◌, ◌-◌, ◌<◌, ◌≤◌, ℕ, zero, suc, Bool, true, false, cond, if◌then◌else◌, Option, None, Some, unwrap_or, take_all, List, [], ◌∷◌, ◌++◌, get_or, length, map, take, drop, All, refl, sym, ap, subst, arith}
 use Rattle.std.specs.Prelude.{nat_eq, slice_index_or}
-use Rattle.std.specs.List.{list_any}
-use Rattle.std.specs.Map.{lookup}
+use Rattle.cp_walk.proofs.Words.{list_any, lookup, pointwise, Tables, Shown, Choosing, slots, System, Line, each, beginnings, beginnings_of, with_new}
+use Rattle.cp_walk.proofs.Words.{words_in, line_of, Row}
 use Rattle.std.specs.Cmp.Lexicographic.{bytes_decides}
 use Rattle.std.proofs.lemmas.List.{append-nil, append_assoc, drop-append-le, get_or-map, get_or_append_left, length-append, length-drop, length-map, length-take, map-append, take-append-le, take_more}
 use Rattle.std.proofs.Math.Seq.{drop-append_seam}
 use Rattle.indexmap.specs.IndexMap.{insert_entry}
-use lib.Pointwise.{pointwise}
-use Rattle.cp_slots.specs.Tables.{Tables}
 use Rattle.cp_machine.specs.Alike.{AreAlike}
 use Rattle.cp_machine.specs.declared.gates.Gates.{Gates}
-use Rattle.cp_machine.specs.declared.shown.Shown.{Shown}
 use Rattle.cp_machine.specs.System.{Machine}
 use Rattle.cp_machine.proofs.Alike.{step_alike, step_event_alike, admitted_alike, ready_alike, pending_alike, in_line_alike, waits_alike}
 use Rattle.cp_key.specs.Key.{core_key}
 use Rattle.cp_key.proofs.Keys.{core_counts, core_tells}
-use Rattle.cp_run.specs.Run.{Choosing}
-use Rattle.cp_run.specs.Slots.{slots}
-use Rattle.cp_run.specs.System.{System}
-use Rattle.cp_run.specs.Table.{Line, each}
 use Rattle.cp_run.proofs.Alike.{Simulates}
-use Rattle.cp_walk.specs.Beginnings.{beginnings, beginnings_of, with_new, words_in}
 use Rattle.cp_walk.specs.Walk.{behind, shown_by, walk}
 use Rattle.cp_walk.specs.Walked.{within_span, begun, AreWalked, IsWalked}
-use Rattle.cp_walk.specs.Rows.{line_of}
-use Rattle.cp_walk.specs.declared.row.Row.{Row}
 use Rattle.cp_walk.specs.declared.memo.NodeKey.{NodeKey}
 use Rattle.cp_walk.specs.declared.memo.Span.{Span}
 use Rattle.cp_walk.proofs.Alike.{walk_alike}

@@ -1,19 +1,13 @@
 -- The rows that begin with a word, number by number.
 use Rattle.std.proofs.Common.{◌≡◌, ℕ, zero, suc, ◌+◌, ◌-◌, ◌<◌, true, false, if◌then◌else◌, List, [], ◌∷◌, ◌++◌, length, map, take, drop, get_or, refl, sym, ap, subst, ◌∙◌, arith, take-suc}
-use Rattle.std.proofs.lemmas.List.{append_assoc}
-use Rattle.cp_run.specs.declared.outcome.Halt.{Halt}
+use Rattle.cp_walk.proofs.Words.{append_assoc, Halt, System, Node, Halted, Choosing, may, chosen, opened, Line, behind, walk, rows_from, rows_behind}
+use Rattle.cp_walk.proofs.Words.{eqb-true}
 use Rattle.cp_run.specs.declared.outcome.Halt.TheVariants.{Choice, Ended as HasEnded}
 use Rattle.cp_run.specs.Code.{node_of, is_over}
-use Rattle.cp_run.specs.System.{System}
-use Rattle.cp_run.specs.Run.{Node, Halted, Choosing, may, chosen, opened}
-use Rattle.cp_run.specs.Table.{Line}
 use Rattle.cp_run.proofs.Running.{drop_next, drop_all}
 use Rattle.cp_run.proofs.TraceRuns.{not_over, some_left}
-use Rattle.cp_walk.specs.Walk.{behind, walk}
-use Rattle.cp_walk.specs.Cutting.{rows_from, rows_behind}
 use Rattle.cp_walk.proofs.Whole.{behind_none}
 use Rattle.cp_walk.proofs.Joining.{take_whole}
-use Rattle.std.proofs.lemmas.Bool.{eqb-true}
 
 pub none_over : {S : Type 0} (sys : System S) (steps k p : ℕ) (word rest : List ℕ) (h : Halt) (s : S) → word ≡ p ∷ rest → is_over k h ≡ true → rows_from sys steps k word (node_of h s) ≡ []
 unfolding rows_from

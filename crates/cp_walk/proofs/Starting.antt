@@ -1,15 +1,6 @@
 -- The cutting of one empty word.
-use Rattle.std.proofs.Common.{◌≡◌, ◌∙◌, ℕ, List, [], ◌∷◌, ◌++◌, length, refl, sym, ap, subst, arith}
-use Rattle.std.proofs.lemmas.List.{length-map}
-use Rattle.arrayvec.specs.ArrayVec.{ArrayVec}
-use Rattle.cp_slots.specs.Tables.{Tables}
-use Rattle.cp_run.specs.declared.limits.Limits.{Limits}
-use Rattle.cp_run.specs.System.{System}
-use Rattle.cp_run.specs.Run.{opened, run}
-use Rattle.cp_run.specs.Slots.{slots}
-use Rattle.cp_run.specs.Table.{table}
-use Rattle.cp_walk.specs.Cutting.{Each, IsUsed, Parts, rows_behind}
-use Rattle.cp_walk.specs.Members.{words_of, CutsTable}
+use Rattle.cp_walk.proofs.Words.{◌≡◌, ◌∙◌, ℕ, List, [], ◌∷◌, ◌++◌, length, refl, sym, ap, subst, arith, length-map, ArrayVec, Tables, Limits, System, opened}
+use Rattle.cp_walk.proofs.Words.{run, slots, table, Each, IsUsed, Parts, rows_behind, words_of, CutsTable}
 use Rattle.cp_walk.proofs.Parting.{parts_cut, rows_empty, used_empty}
 use Rattle.cp_walk.proofs.Walks.{table_walk}
 

@@ -1,13 +1,9 @@
 -- The filter of all words is what the walk collects.
 use Rattle.std.proofs.Common.{◌≡◌, ℕ, zero, suc, Bool, true, false, ◌==◌, if◌then◌else◌, List, [], ◌∷◌, ◌++◌, length, map, sym, refl, ap, ◌∙◌, ⊎_elim, ◌≢◌, eqb, arith}
-use Rattle.std.proofs.lemmas.Bool.{eq-eqb, ne_eqb}
+use Rattle.cp_walk.proofs.Words.{eq-eqb, ne_eqb, append_assoc, map-append, Outcome, System, behind, walk}
 use Rattle.std.proofs.lemmas.Bool.Decides.{eqb_tells}
-use Rattle.std.proofs.lemmas.List.{append_assoc, map-append}
-use Rattle.cp_run.specs.declared.outcome.Outcome.{Outcome}
-use Rattle.cp_run.specs.System.{System}
 use Rattle.cp_run.specs.Run.{joined_below, Node, Halted, Choosing, Answer, Ended, Wants, NotReady, later, may, chosen, opened, run_from}
 use Rattle.cp_run.specs.Table.{Line, words, lines_of, each, table}
-use Rattle.cp_walk.specs.Walk.{behind, walk}
 
 each_append : {A B : Type 0} (f : A → List B) (xs ys : List A) → each f (xs ++ ys) ≡ each f xs ++ each f ys
 each_append f [] ys = refl

@@ -1,9 +1,5 @@
 -- The walk from the root is the table.
-use Rattle.std.proofs.Common.{◌≡◌, ℕ, List, [], ◌∷◌, ◌++◌, map, sym, refl, ap, ◌∙◌}
-use Rattle.cp_run.specs.System.{System}
-use Rattle.cp_run.specs.Run.{Node, opened}
-use Rattle.cp_run.specs.Table.{Line, table}
-use Rattle.cp_walk.specs.Walk.{behind, walk}
+use Rattle.cp_walk.proofs.Words.{◌≡◌, ℕ, List, [], ◌∷◌, ◌++◌, map, sym, refl, ap, ◌∙◌, System, Node, opened, Line, table, behind, walk}
 use Rattle.cp_walk.proofs.Walks.{table_walk}
 
 pub behind_none : (lines : List Line) → map (behind []) lines ≡ lines

@@ -1,21 +1,15 @@
 -- Nothing is left out: each end to which a word leads is found, and what a process meets in a stretch it meets in one that is gone through.
 use Rattle.std.proofs.Common.{◌≡◌, ◌≢◌, ◌⊎◌, inl, inr, ◌∙◌, ◌+◌, ℕ, Bool, true, false, if◌then◌else◌, List, [], Some, ap, sym, refl, subst}
-use Rattle.cp_machine.specs.declared.event.Event.{Event}
+use Rattle.cp_at_once_laws.proofs.Words.{Event, OutcomeKind, Over, System, EndsAfter, SetsOut, spot_after, IsTurnKnown, HasQuietLeg, GoesThrough, IsPlain}
+use Rattle.cp_at_once_laws.proofs.Words.{some_same}
 use Rattle.cp_machine.specs.declared.event.Event.TheVariants.{Local, Fault, OutputFull}
-use Rattle.cp_run.specs.declared.outcome.OutcomeKind.{OutcomeKind}
 use Rattle.cp_run.specs.declared.outcome.OutcomeKind.TheVariants.{Finished, AllWaiting, RunError, ChoiceLimit, StepLimit, OutputLimit}
-use Rattle.cp_run.specs.declared.outcome.Turn.TheVariants.{Over}
-use Rattle.cp_run.specs.System.{System}
-use Rattle.cp_endless.specs.Reachable.{EndsAfter}
-use Rattle.cp_endless.specs.Rounds.{SetsOut, spot_after}
 use Rattle.cp_at_once_laws.specs.AtOnce.{is_call, Comes, Fails, fails, later_fails, Commutes, NobodyReady, GoalStays, OwnGoal}
-use Rattle.cp_at_once_laws.specs.Through.{IsTurnKnown, HasQuietLeg, GoesThrough, IsPlain}
 use Rattle.cp_at_once_laws.proofs.search.Goals.{errors_stay, own_errors}
 use Rattle.cp_at_once_laws.proofs.limits.Turns.{ready_in, none_ready}
 use Rattle.cp_at_once_laws.proofs.limits.Closed.{IsHit, hits}
 use Rattle.cp_at_once_laws.proofs.limits.Landing.{Stands, R, Taken, closed, first_gone, local_goes, one_more}
 use Rattle.cp_at_once_laws.proofs.limits.Words.{stop_of, stop_turn, ends, meets_in}
-use Rattle.cp_resolved.proofs.names.Alike.{same_inside as some_same}
 
 module _ {S : Type 0} (sys : System S) (Met : S → Type 0) (Quiet : S → ℕ → Type 0) (law : Commutes sys Met Quiet) (plain : IsPlain sys Met)
     (among : ℕ → S → Type 0) (begun : ℕ → S → ℕ → Type 0) (known : OutcomeKind → Type 0) (through : GoesThrough sys (HasQuietLeg sys Quiet) among begun known) where

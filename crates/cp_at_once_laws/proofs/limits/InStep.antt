@@ -1,17 +1,11 @@
 -- What is gone through in one of two systems that go in step is gone through in the other.
 use Rattle.std.proofs.Common.{◌≡◌, ◌⊎◌, inl, inr, ◌∙◌, ℕ, zero, suc, true, false, Some, ap, sym, refl, subst}
-use Rattle.cp_run.specs.declared.outcome.OutcomeKind.{OutcomeKind}
-use Rattle.cp_run.specs.declared.outcome.Turn.{Turn}
-use Rattle.cp_run.specs.declared.outcome.Turn.TheVariants.{Over, Due, Goes}
-use Rattle.cp_run.specs.System.{System}
+use Rattle.cp_at_once_laws.proofs.Words.{OutcomeKind, Turn, Over, Due, Goes, System, may, turn_at, turn_after, CanGo, GoInStep, spot_after, spot_by}
+use Rattle.cp_at_once_laws.proofs.Words.{some_same}
 use Rattle.cp_run.specs.Code.{IfGoes}
-use Rattle.cp_run.specs.Run.{may, turn_at, turn_after}
-use Rattle.cp_refine.specs.InStep.{CanGo, GoInStep}
 use Rattle.cp_refine.proofs.Alike.{goes_on, goes_same, may_go, may_same, opening_goes}
 use Rattle.cp_refine.proofs.Turns.{turn_same}
-use Rattle.cp_endless.specs.Rounds.{spot_after, spot_by}
 use Rattle.cp_at_once_laws.specs.Through.{IsTurnKnown, IsOpeningKnown, FollowsEach, HasQuietLeg, FollowsOne, GoesThrough}
-use Rattle.cp_resolved.proofs.names.Alike.{same_inside as some_same}
 
 module _ {S T : Type 0} (a : System S) (b : System T) (R : S → T → Type 0) (go : GoInStep a b R) (free : (s : S) (t : T) → R s t → a.is_pending s ≡ false) where
   -- where the one stands, the other does

@@ -1,17 +1,9 @@
 -- A leg of a process that stands in a stretch which is gone through comes to what is gone through: to a choice, to an end, or on in this stretch.
 use Rattle.std.proofs.Common.{◌≡◌, ◌⊎◌, ◌<◌, ◌&&◌, inl, inr, ◌∙◌, ◌+◌, ℕ, Bool, true, false, if◌then◌else◌, [], ◌∷◌, Some, ap, sym, refl, subst}
-use Rattle.cp_machine.specs.declared.event.Event.TheVariants.{Local}
+use Rattle.cp_at_once_laws.proofs.Words.{Local, OutcomeKind, Finished, AllWaiting, Turn, Over, Goes, System, may, settled_turn, turn_at, turn_after}
+use Rattle.cp_at_once_laws.proofs.Words.{spot_after, spot_by, from_there, Leg, calls, after_local, Commutes}
 use Rattle.std.proofs.lemmas.Bool.{lt-ltb}
-use Rattle.cp_run.specs.declared.outcome.OutcomeKind.{OutcomeKind}
-use Rattle.cp_run.specs.declared.outcome.OutcomeKind.TheVariants.{Finished, AllWaiting}
-use Rattle.cp_run.specs.declared.outcome.Turn.{Turn}
-use Rattle.cp_run.specs.declared.outcome.Turn.TheVariants.{Over, Goes}
-use Rattle.cp_run.specs.System.{System}
-use Rattle.cp_run.specs.Run.{may, settled_turn, turn_at, turn_after}
 use Rattle.cp_refine.proofs.Alike.{may_go}
-use Rattle.cp_endless.specs.Rounds.{spot_after, spot_by}
-use Rattle.cp_endless.proofs.steps.Rounds.{from_there}
-use Rattle.cp_at_once_laws.specs.AtOnce.{Leg, calls, after_local, Commutes}
 use Rattle.cp_at_once_laws.specs.Through.{IsTurnKnown, IsOpeningKnown, FollowsEach, HasQuietLeg, FollowsOne, GoesThrough, IsPlain}
 use Rattle.cp_at_once_laws.proofs.search.Front.{as_leg}
 use Rattle.cp_at_once_laws.proofs.limits.Turns.{CallTurn, nobody, alone, choice, ready_in, call_turn, local_turn, which_turn, none_ready, one_ready, head_ready}

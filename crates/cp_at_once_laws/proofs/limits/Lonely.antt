@@ -1,23 +1,11 @@
 -- Who makes every step of a stretch that goes on for ever, and calls again and again, is alone.
 use Rattle.std.proofs.Common.{◌≡◌, ◌≢◌, ◌⊎◌, inl, inr, ◌∙◌, ◌+◌, ◌≤◌, ℕ, zero, suc, Bool, true, false, if◌then◌else◌, [], Some, ap, sym, refl, subst, arith}
-use Rattle.cp_machine.specs.declared.event.Event.{Event}
+use Rattle.cp_at_once_laws.proofs.Words.{Event, OutcomeKind, Turn, Over, Due, Goes, System, settled_turn, turn_after, IsKernelCall, spot_after, spot_by}
+use Rattle.cp_at_once_laws.proofs.Words.{from_there, is_call, after_steps, Commutes, IsPlain, some_same, distance, same_or_not}
 use Rattle.cp_machine.specs.declared.event.Event.TheVariants.{Local, Kernel}
-use Rattle.cp_run.specs.declared.outcome.OutcomeKind.{OutcomeKind}
-use Rattle.cp_run.specs.declared.outcome.Turn.{Turn}
-use Rattle.cp_run.specs.declared.outcome.Turn.TheVariants.{Over, Due, Goes}
-use Rattle.cp_run.specs.System.{System}
-use Rattle.cp_run.specs.Run.{settled_turn, turn_after}
-use Rattle.cp_endless.specs.Repeats.{IsKernelCall}
-use Rattle.cp_endless.specs.Rounds.{spot_after, spot_by}
-use Rattle.cp_endless.proofs.steps.Rounds.{from_there}
-use Rattle.cp_at_once_laws.specs.AtOnce.{is_call, after_steps, Commutes}
-use Rattle.cp_at_once_laws.specs.Through.{IsPlain}
 use Rattle.cp_at_once_laws.proofs.limits.Meeting.{GoesAlone}
 use Rattle.cp_at_once_laws.proofs.limits.Turns.{CallTurn, nobody, alone, choice, call_turn, which_turn, none_ready, one_ready, head_ready}
 use Rattle.cp_at_once_laws.proofs.limits.Words.{EventKind, is_local, is_kernel, is_stop, which_event, stop_turn}
-use Rattle.cp_resolved.proofs.names.Alike.{same_inside as some_same}
-use Rattle.cp_endless.proofs.Basics.{distance}
-use Rattle.cp_refine.proofs.control.Moving.{same_or_other as same_or_not}
 
 module _ {S : Type 0} (sys : System S) (Met : S → Type 0) (Quiet : S → ℕ → Type 0) (law : Commutes sys Met Quiet) (plain : IsPlain sys Met) where
   -- the next step is one of q

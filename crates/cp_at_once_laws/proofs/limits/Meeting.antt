@@ -1,21 +1,14 @@
 -- Endless loops, who is alone for ever, and calls with a mark: where a word meets them, a stretch that is gone through does.
 use Rattle.std.proofs.Common.{◌≡◌, ◌≢◌, ◌⊎◌, inl, inr, ◌∙◌, ◌+◌, ◌≤◌, ◌<◌, ℕ, zero, suc, Bool, true, false, if◌then◌else◌, List, [], ◌∷◌, ◌++◌, Some, ap, sym, refl, subst, arith}
-use Rattle.cp_machine.specs.declared.event.Event.TheVariants.{Local}
-use Rattle.cp_run.specs.declared.outcome.OutcomeKind.{OutcomeKind}
-use Rattle.cp_run.specs.declared.outcome.Turn.{Turn}
-use Rattle.cp_run.specs.declared.outcome.Turn.TheVariants.{Goes}
-use Rattle.cp_run.specs.System.{System}
+use Rattle.cp_at_once_laws.proofs.Words.{Local, OutcomeKind, Turn, Goes, System, IsKernelCall, SetsOut, spot_after, HasQuietLeg, GoesThrough, IsPlain}
+use Rattle.cp_at_once_laws.proofs.Words.{same_or_not}
 use Rattle.cp_run.specs.Run.{those_below, settled_turn, turn_after}
 use Rattle.cp_refine.proofs.Turns.{Every, those_may, every_more as every_less}
-use Rattle.cp_endless.specs.Repeats.{IsKernelCall}
-use Rattle.cp_endless.specs.Rounds.{SetsOut, spot_after}
 use Rattle.cp_at_once_laws.specs.AtOnce.{is_call, QuietLeg, calls_quietly, after_quiet, after_steps, Spins, Marks, marks, later_marks, Commutes, GoalStays, OwnGoal}
-use Rattle.cp_at_once_laws.specs.Through.{HasQuietLeg, GoesThrough, IsPlain}
 use Rattle.cp_at_once_laws.proofs.search.Goals.{loops_stay, own_loops, marks_stay, own_marks}
 use Rattle.cp_at_once_laws.proofs.limits.Turns.{CallTurn, nobody, alone, choice, call_turn, which_turn, none_ready, head_ready}
 use Rattle.cp_at_once_laws.proofs.limits.Landing.{Stands, local_goes, one_more}
 use Rattle.cp_at_once_laws.proofs.limits.Complete.{GoalBack, MeetsThere, met_somewhere}
-use Rattle.cp_refine.proofs.control.Moving.{same_or_other as same_or_not}
 
 -- ---- the numbers below a count are several
 

@@ -1,14 +1,11 @@
 -- An end that is no limit of steps is one with more steps too.
 use Rattle.std.proofs.Common.{◌≡◌, ◌≢◌, ◌∙◌, ◌+◌, ℕ, Bool, true, false, if◌then◌else◌, List, [], ◌∷◌, None, Some, ap, sym, refl, subst}
-use Rattle.cp_run.specs.declared.outcome.OutcomeKind.{OutcomeKind}
-use Rattle.cp_run.specs.declared.outcome.OutcomeKind.TheVariants.{StepLimit}
-use Rattle.cp_run.specs.System.{System}
+use Rattle.cp_at_once_laws.proofs.Words.{OutcomeKind, StepLimit, System, some_same}
 use Rattle.cp_run.specs.Run.{Node, Halted, Choosing, may, opened, chosen}
 use Rattle.cp_endless.specs.Reachable.{EndsAfter, node_after}
 use Rattle.cp_endless.specs.Rounds.{IsCut}
 use Rattle.cp_endless.proofs.steps.Nodes.{cut_node, chosen_same, opened_same}
 use Rattle.cp_at_once_laws.specs.Whole.{GreaterLimits}
-use Rattle.cp_resolved.proofs.names.Alike.{same_inside as some_same}
 
 module _ {S : Type 0} (sys : System S) (steps : ℕ) where
   no_cut : (kind : OutcomeKind) (s : S) → kind ≢ StepLimit → IsCut (Halted kind s) → ⊥

@@ -1,19 +1,10 @@
 -- No end is left out of either of two systems that go in step, where the search at once goes through one of them.
-use Rattle.std.proofs.Common.{◌≡◌, ◌∙◌, ◌+◌, ◌≤◌, ℕ, true, false, List, Some, ap, sym, subst, arith}
-use Rattle.cp_machine.specs.declared.event.Event.TheVariants.{Local}
-use Rattle.cp_run.specs.declared.outcome.OutcomeKind.{OutcomeKind}
-use Rattle.cp_run.specs.System.{System}
-use Rattle.cp_refine.specs.InStep.{CanGo, GoInStep}
-use Rattle.cp_endless.specs.Repeats.{IsKernelCall}
-use Rattle.cp_endless.specs.Rounds.{SetsOut, spot_after}
-use Rattle.cp_at_once_laws.specs.AtOnce.{after_steps, Commutes}
-use Rattle.cp_at_once_laws.specs.Search.{SearchesAtOnce}
-use Rattle.cp_at_once_laws.specs.Through.{HasQuietLeg, IsPlain}
+use Rattle.cp_at_once_laws.proofs.Words.{◌≡◌, ◌∙◌, ◌+◌, ◌≤◌, ℕ, true, false, List, Some, ap, sym, subst, arith, Local, OutcomeKind, System, CanGo, GoInStep}
+use Rattle.cp_at_once_laws.proofs.Words.{IsKernelCall, SetsOut, spot_after, after_steps, Commutes, SearchesAtOnce, HasQuietLeg, IsPlain, some_same}
 use Rattle.cp_at_once_laws.specs.Whole.{GoesOnBy, LeavesNoEndOut}
 use Rattle.cp_at_once_laws.proofs.limits.Lonely.{EachStep, goes_alone, each_step}
 use Rattle.cp_at_once_laws.proofs.limits.Whole.{ends_told, loops_told, lonely_told}
 use Rattle.cp_at_once_laws.proofs.limits.Words.{Arrived, begins, walks}
-use Rattle.cp_resolved.proofs.names.Alike.{same_inside as some_same}
 
 module _ {S : Type 0} (sys : System S) (Met : S → Type 0) (Quiet : S → ℕ → Type 0) (law : Commutes sys Met Quiet) (plain : IsPlain sys Met) where
   -- ---- where it goes on, the state is met

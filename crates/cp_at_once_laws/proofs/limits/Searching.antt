@@ -1,19 +1,13 @@
 -- What the search at once takes is gone through, whatever the limit of steps; and what goes on for ever in it is told.
 use Rattle.std.proofs.Common.{◌≡◌, ◌⊎◌, inl, inr, ◌∙◌, ◌+◌, ◌≤◌, ◌<◌, ℕ, zero, suc, None, Some, ap, sym, refl, subst, arith}
-use Rattle.cp_run.specs.declared.outcome.OutcomeKind.{OutcomeKind}
-use Rattle.cp_run.specs.declared.outcome.Turn.{Turn}
-use Rattle.cp_run.specs.declared.outcome.Turn.TheVariants.{Over, Due, Goes}
-use Rattle.cp_run.specs.System.{System}
+use Rattle.cp_at_once_laws.proofs.Words.{OutcomeKind, Turn, Over, Due, Goes, System, Repeats, repeated_part, IsTurnKnown, FollowsEach, FollowsOne}
+use Rattle.cp_at_once_laws.proofs.Words.{GoesThrough, some_same, distance}
 use Rattle.cp_run.specs.Run.{Node, Choosing, node_at, turn_after, stretch}
 use Rattle.cp_endless.specs.Moments.{AnyOf, Moment, moments_by, stretch_moments}
-use Rattle.cp_endless.specs.Repeats.{Repeats, repeated_part}
 use Rattle.cp_endless.specs.Rounds.{IsCut, IsRound, spot_after, spot_by}
 use Rattle.cp_endless.specs.Settled.{IsIn}
 use Rattle.cp_endless.proofs.steps.Rounds.{from_there, rounds, happens_early}
-use Rattle.cp_at_once_laws.specs.Through.{IsTurnKnown, FollowsEach, FollowsOne, GoesThrough}
 use Rattle.cp_at_once_laws.specs.Search.{ComesOut, GoesRound, IsTaken, IsFollowed, SearchesAtOnce}
-use Rattle.cp_resolved.proofs.names.Alike.{same_inside as some_same}
-use Rattle.cp_endless.proofs.Basics.{distance}
 
 module _ {S : Type 0} (sys : System S) where
   -- a stretch that is not cut comes to the node of the turn at which it stands still

@@ -1,14 +1,9 @@
 -- What comes before the next step, where no monitor is pending.
 use Rattle.std.proofs.Common.{◌≡◌, ◌⊎◌, inl, inr, ◌∙◌, ℕ, zero, suc, ◌<◌, Bool, true, false, if◌then◌else◌, List, [], ◌∷◌, ◌++◌, ap, sym, refl, subst, arith}
-use Rattle.cp_machine.specs.declared.event.Event.{Event}
+use Rattle.cp_at_once_laws.proofs.Words.{Event, Turn, Over, Due, Goes, Finished, AllWaiting, System, is_call}
 use Rattle.cp_machine.specs.declared.event.Event.TheVariants.{Local, Kernel, Ended}
-use Rattle.cp_run.specs.declared.outcome.Turn.{Turn}
-use Rattle.cp_run.specs.declared.outcome.Turn.TheVariants.{Over, Due, Goes}
-use Rattle.cp_run.specs.declared.outcome.OutcomeKind.TheVariants.{Finished, AllWaiting}
-use Rattle.cp_run.specs.System.{System}
 use Rattle.cp_run.specs.Run.{those_below, turn_among, settled_turn, turn_at, turn_after}
 use Rattle.cp_refine.proofs.Turns.{Every, those_may}
-use Rattle.cp_at_once_laws.specs.AtOnce.{is_call}
 
 -- ---- who is among the numbers below a count
 

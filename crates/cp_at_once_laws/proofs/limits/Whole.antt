@@ -1,28 +1,14 @@
 -- The search at once on one of two systems that go in step leaves nothing out of the other: whatever the limit of steps.
 use Rattle.std.proofs.Common.{◌≡◌, ◌≢◌, ◌⊎◌, inl, inr, ◌∙◌, ◌+◌, ◌≤◌, ℕ, zero, suc, true, false, List, None, Some, ap, sym, subst, arith}
-use Rattle.cp_machine.specs.declared.event.Event.{Event}
-use Rattle.cp_machine.specs.declared.event.Event.TheVariants.{Local}
-use Rattle.cp_run.specs.declared.outcome.OutcomeKind.{OutcomeKind}
-use Rattle.cp_run.specs.declared.outcome.OutcomeKind.TheVariants.{StepLimit}
-use Rattle.cp_run.specs.declared.outcome.Turn.{Turn}
-use Rattle.cp_run.specs.declared.outcome.Turn.TheVariants.{Goes}
-use Rattle.cp_run.specs.System.{System}
-use Rattle.cp_run.specs.Run.{turn_after}
-use Rattle.cp_refine.specs.InStep.{CanGo, GoInStep}
-use Rattle.cp_endless.specs.Moments.{AnyOf}
-use Rattle.cp_endless.specs.Reachable.{EndsAfter}
+use Rattle.cp_at_once_laws.proofs.Words.{Event, Local, OutcomeKind, StepLimit, Turn, Goes, System, turn_after, CanGo, GoInStep, AnyOf, EndsAfter, SetsOut}
+use Rattle.cp_at_once_laws.proofs.Words.{spot_after, spot_by, is_call, after_steps, Spins, Commutes, HasQuietLeg, GoesThrough, IsPlain, some_same, distance}
 use Rattle.cp_endless.specs.Repeats.{CallsAt, IsKernelCall, Repeats, repeated_part}
-use Rattle.cp_endless.specs.Rounds.{SetsOut, spot_after, spot_by}
 use Rattle.cp_endless.proofs.steps.Rounds.{cut_if_on}
-use Rattle.cp_at_once_laws.specs.AtOnce.{is_call, after_steps, Spins, Commutes}
 use Rattle.cp_at_once_laws.specs.Search.{ComesOut, GoesRound, SearchesAtOnce}
-use Rattle.cp_at_once_laws.specs.Through.{HasQuietLeg, GoesThrough, IsPlain}
 use Rattle.cp_at_once_laws.proofs.limits.Complete.{end_known}
 use Rattle.cp_at_once_laws.proofs.limits.InStep.{StandsAlike, stands_alike, Among, Begun, goes_through_too}
 use Rattle.cp_at_once_laws.proofs.limits.Meeting.{GoesAlone, MovesOn, loops_there, alone_there, MarkThere, marks_there}
 use Rattle.cp_at_once_laws.proofs.limits.Searching.{Followed, Taken, goes_through, same_mover, calls_in, calls_again}
-use Rattle.cp_resolved.proofs.names.Alike.{same_inside as some_same}
-use Rattle.cp_endless.proofs.Basics.{distance}
 
 -- what stands after some steps stood before
 stood : {S : Type 0} (sys : System S) (k d : ℕ) (s : S) (p : ℕ) (x : S × ℕ) → spot_after sys (k + d) s p ≡ Some x → spot_after sys k s p ≡ None → ⊥

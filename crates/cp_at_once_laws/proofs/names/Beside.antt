@@ -1,7 +1,5 @@
 -- What is asked of a quiet step beside a step of another ready process.
-use Rattle.std.proofs.Common.{◌≡◌, ◌≢◌, ℕ}
-use Rattle.cp_tree.specs.Syntax.{Program}
-use Rattle.cp_meaning.specs.State.{ready, process_at, State}
+use Rattle.cp_at_once_laws.proofs.Words.{◌≡◌, ◌≢◌, ℕ, Program, ready, process_at, State}
 use Rattle.cp_at_once_laws.proofs.pairs.Fit.{Fits}
 pub use Rattle.cp_at_once_laws.proofs.pairs.Beside.{QuietHere, Beside}
 pub use Rattle.cp_at_once_laws.proofs.pairs.Shape.{is_failure}

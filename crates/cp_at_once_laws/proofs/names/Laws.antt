@@ -1,10 +1,5 @@
 -- Quiet steps commute on the program's own names, and so the search that makes them at once finds all.
-use Rattle.std.proofs.Common.{ℕ, Bool, Option}
-use Rattle.cp_tree.specs.Syntax.{Tree}
-use Rattle.cp_lawful.proofs.Accepting.{well_formed}
-use Rattle.cp_meaning.specs.State.{State}
-use Rattle.cp_meaning.specs.WellFormed.{IsWellFormed}
-use Rattle.cp_at_once_laws.specs.AtOnce.{Marks, Commutes, PicksQuiet}
+use Rattle.cp_at_once_laws.proofs.Words.{ℕ, Bool, Option, Tree, well_formed, State, IsWellFormed, Marks, Commutes, PicksQuiet}
 use Rattle.cp_at_once_laws.specs.Found.{ShowsValue, FindsAll, AtOnceNames}
 use Rattle.cp_at_once_laws.specs.Quiet.{names, IsSomewhere, IsQuietStep, CommutesLaw}
 use Rattle.cp_at_once_laws.proofs.rules.StartsKnown.{StartsKnown}

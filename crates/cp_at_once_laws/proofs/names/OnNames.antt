@@ -1,31 +1,15 @@
 -- What the search at once on the slot machine goes through leaves nothing out of the meaning of the program on its own names.
-use Rattle.std.proofs.Common.{◌≡◌, ℕ, true, false, List, ap, subst}
-use Rattle.std.specs.Prelude.{Contains}
-use Rattle.cp_tree.specs.Read.{IsRead}
-use Rattle.cp_tree.specs.Syntax.{Tree}
-use Rattle.cp_layout.specs.Laid.{plain, laid}
-use Rattle.cp_slots.specs.Tables.{Tables}
-use Rattle.cp_lawful.specs.Accepted.{IsAccepted}
-use Rattle.cp_lawful.proofs.Accepting.{well_formed}
-use Rattle.cp_machine.specs.Machine.{Machine}
-use Rattle.cp_machine.specs.declared.gates.Gates.TheVariants.{First}
+use Rattle.cp_at_once_laws.proofs.Words.{◌≡◌, ℕ, true, false, List, ap, subst, Contains, IsRead, Tree, plain, laid, Tables, IsAccepted, well_formed, Machine}
+use Rattle.cp_at_once_laws.proofs.Words.{First, first_gates, State, IsWellFormed, OutcomeKind, CanGo, GoInStep, Commutes, ShowsValue, names, IsSomewhere}
+use Rattle.cp_at_once_laws.proofs.Words.{IsQuietStep, SearchesAtOnce, HasQuietLeg, IsPlain}
 use Rattle.cp_machine.specs.declared.shown.Shown.{Shown}
-use Rattle.cp_meaning.specs.State.{first_gates, State}
-use Rattle.cp_meaning.specs.WellFormed.{IsWellFormed}
-use Rattle.cp_run.specs.declared.outcome.OutcomeKind.{OutcomeKind}
 use Rattle.cp_run.specs.Slots.{slots}
-use Rattle.cp_refine.specs.InStep.{CanGo, GoInStep}
 use Rattle.cp_refine.specs.Named.{named, is_some}
 use Rattle.cp_refine.proofs.Meaning.{goes_in_step}
 use Rattle.cp_endless.specs.Shown.{ShowsAfter}
 use Rattle.cp_endless.specs.Silent.{named_without_output, silent_slots}
-use Rattle.cp_at_once_laws.specs.AtOnce.{Commutes}
-use Rattle.cp_at_once_laws.specs.Found.{ShowsValue}
-use Rattle.cp_at_once_laws.specs.Quiet.{names, IsSomewhere, IsQuietStep}
 use Rattle.cp_at_once_laws.specs.OnSlots.{IsQuietOnSlots, Tells, LeavesNone, LeavesNothingOut}
-use Rattle.cp_at_once_laws.specs.Search.{SearchesAtOnce}
 use Rattle.cp_at_once_laws.proofs.rules.StartsKnown.{StartsKnown}
-use Rattle.cp_at_once_laws.specs.Through.{HasQuietLeg, IsPlain}
 use Rattle.cp_at_once_laws.proofs.limits.NothingLeft.{met_there, no_end_left}
 use Rattle.cp_at_once_laws.proofs.limits.Whole.{IsShown, marks_told}
 use Rattle.cp_at_once_laws.proofs.names.Commuting.{plain as is_plain, shows_there, shows_back}

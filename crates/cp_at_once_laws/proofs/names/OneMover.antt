@@ -1,24 +1,12 @@
 -- Where a stretch that goes on for ever comes back to the same processes, one process makes each of its steps.
 use Rattle.std.proofs.Common.{◌≡◌, ◌≢◌, ℕ, zero, suc, ◌+◌, ◌≤◌, ◌∙◌, ◌⊎◌, inl, inr, true, Ok, Err, ap, sym, refl, subst, arith}
-use Rattle.cp_tree.specs.Syntax.{Tree}
+use Rattle.cp_at_once_laws.proofs.Words.{Tree, Outcome, Status, ready, process_at, first_gates, State, delays, Doing, kernel_step, IsWellFormed, OrderlyState}
+use Rattle.cp_at_once_laws.proofs.Words.{reached, Over, Goes, turn_after, event_of, is_call, names, IsSomewhere, IsPlain, status_told}
 use Rattle.cp_machine.specs.declared.event.Event as slot_event
 use Rattle.cp_machine.specs.declared.event.Event.TheVariants as event
-use Rattle.cp_meaning.specs.Outcome.{Outcome}
-use Rattle.cp_meaning.specs.State.{Status, ready, process_at, first_gates, State}
-use Rattle.cp_meaning.specs.Move.{delays, Doing}
-use Rattle.cp_meaning.specs.Kernel.{kernel_step}
 use Rattle.cp_meaning.specs.Readings.{is_ready as ready_status}
 use Rattle.cp_meaning.specs.Steps.{settled, step_of, line_at}
-use Rattle.cp_meaning.specs.WellFormed.{IsWellFormed}
-use Rattle.cp_meaning.proofs.LineLaw.{OrderlyState}
-use Rattle.cp_meaning.proofs.OwnershipLemmas.{reached}
-use Rattle.cp_run.specs.declared.outcome.Turn.TheVariants.{Over, Goes}
-use Rattle.cp_run.specs.Run.{turn_after}
-use Rattle.cp_refine.specs.Named.{event_of}
-use Rattle.cp_at_once_laws.specs.AtOnce.{is_call}
-use Rattle.cp_at_once_laws.specs.Quiet.{names, IsSomewhere}
 use Rattle.cp_at_once_laws.proofs.rules.StartsKnown.{StartsKnown}
-use Rattle.cp_at_once_laws.specs.Through.{IsPlain}
 use Rattle.cp_at_once_laws.proofs.limits.Turns.{local_turn}
 use Rattle.cp_at_once_laws.proofs.limits.Words.{EventKind, is_local, is_kernel, is_stop, which_event, stop_turn}
 use Rattle.cp_at_once_laws.proofs.names.Commuting.{plain as is_plain, within_of}
@@ -27,7 +15,6 @@ use Rattle.cp_at_once_laws.proofs.names.States.{Known, known}
 use Rattle.cp_at_once_laws.proofs.names.Waking.{only_ready, IsStuck, IsAtGate, Woken, unchanged, own, both_ready, let_go, begun_now, woken_by, own_status, own_what, goes_call, end_stuck}
 use Rattle.cp_at_once_laws.proofs.pairs.Changes.{GoesFrom, Becomes}
 use Rattle.cp_at_once_laws.proofs.pairs.Facts.{Facts, AllFacts, done, facts}
-use Rattle.cp_refine.proofs.steps.Going.{ready_is as status_told}
 
 goes_same : (q r : ℕ) → Goes q ≡ Goes r → q ≡ r
 goes_same q r e = cc

@@ -1,32 +1,20 @@
 -- A leg that may be made at once on slots is a quiet leg on names: what is as it was after the leg was so after each of its steps.
-use Rattle.std.proofs.Common.{◌≡◌, ◌∙◌, ◌⊎◌, inl, inr, ℕ, ◌<◌, ◌≤◌, length, ap, sym, refl, arith}
+use Rattle.cp_at_once_laws.proofs.Words.{◌≡◌, ◌∙◌, ◌⊎◌, inl, inr, ℕ, ◌<◌, ◌≤◌, length, ap, sym, refl, arith, IsRead, Program, Tree, SystemKind, plain, laid}
+use Rattle.cp_at_once_laws.proofs.Words.{Tables, IsAccepted, well_formed, Machine, First, first_components, kind_at, status_at, reached, CanGo, GoInStep}
+use Rattle.cp_at_once_laws.proofs.Words.{is_call, QuietLeg, calls_quietly, after_quiet, HasQuietLeg, status_told}
 use Rattle.std.proofs.lemmas.Bool.{cases_lt}
 use Rattle.std.specs.Prelude.{slice_index_or}
-use Rattle.cp_tree.specs.Read.{IsRead}
-use Rattle.cp_tree.specs.Syntax.{Program, Tree}
-use Rattle.cp_tree.specs.declared.declaration.SystemKind.{SystemKind}
 use Rattle.cp_tree.specs.declared.declaration.SystemKind.TheVariants as system_kind
-use Rattle.cp_layout.specs.Laid.{plain, laid}
 use Rattle.cp_slots.specs.declared.tables.ComponentKind.{ComponentKind}
 use Rattle.cp_slots.specs.declared.tables.ComponentKind.TheVariants as kind
 use Rattle.cp_slots.specs.Tables as tables
-use Rattle.cp_slots.specs.Tables.{Tables}
-use Rattle.cp_lawful.specs.Accepted.{IsAccepted}
-use Rattle.cp_lawful.proofs.Accepting.{well_formed}
-use Rattle.cp_machine.specs.Machine.{Machine}
-use Rattle.cp_machine.specs.declared.gates.Gates.TheVariants.{First}
 use Rattle.cp_machine.specs.declared.state.Phase.{Phase}
 use Rattle.cp_machine.specs.declared.state.Phase.TheVariants.{Uninitialised, Initialising, Initialised}
 use Rattle.cp_meaning.specs.State.{ComponentStatus, uninitialised, initialising, initialised, process_at, first_gates, State}
-use Rattle.cp_meaning.specs.Steps.{first_components}
-use Rattle.cp_meaning.proofs.ComponentTree.{kind_at}
-use Rattle.cp_meaning.proofs.Good.{status_at}
 use Rattle.cp_meaning.proofs.Held.{kind_past}
-use Rattle.cp_meaning.proofs.OwnershipLemmas.{reached}
 use Rattle.cp_resolved.specs.Resolved.{KindIs}
 use Rattle.cp_resolved.specs.TreeLayouts.{layouts_of}
 use Rattle.cp_run.specs.Slots.{slots}
-use Rattle.cp_refine.specs.InStep.{CanGo, GoInStep}
 use Rattle.cp_refine.specs.Law.{Simulates}
 use Rattle.cp_refine.specs.Named.{named}
 use Rattle.cp_refine.specs.Represents.{PhaseIs}
@@ -35,15 +23,12 @@ use Rattle.cp_refine.proofs.Meaning.{it, goes_in_step}
 use Rattle.cp_endless.specs.Silent.{named_without_output, silent_slots, without_output}
 use Rattle.cp_endless.proofs.names.Going.{silent_in_step}
 use Rattle.cp_endless.proofs.names.Meant.{leaves}
-use Rattle.cp_at_once_laws.specs.AtOnce.{is_call, QuietLeg, calls_quietly, after_quiet}
 use Rattle.cp_at_once_laws.specs.OnSlots.{IsQuietEvent, IsQuietOnSlots}
 use Rattle.cp_at_once_laws.specs.Quiet.{names, is_quiet, IsQuietStep}
 use Rattle.cp_at_once_laws.proofs.rules.StartsKnown.{StartsKnown}
-use Rattle.cp_at_once_laws.specs.Through.{HasQuietLeg}
 use Rattle.cp_at_once_laws.proofs.names.Commuting.{within_of}
 use Rattle.cp_at_once_laws.proofs.names.Reached.{unpending}
 use Rattle.cp_at_once_laws.proofs.pairs.Onwards.{rank, rank_same, Onwards, onwards_then, step_onwards}
-use Rattle.cp_refine.proofs.steps.Going.{ready_is as status_told}
 
 -- the machine stands for the state on names
 abbrev pub OnSlots : Tree → Tables → State → Machine → Type 0

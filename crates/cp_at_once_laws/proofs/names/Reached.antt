@@ -1,10 +1,6 @@
 -- No monitor is pending in a reached state where the first of a line goes in, and no component knows a process.
-use Rattle.std.proofs.Common.{◌≡◌, ◌∙◌, None, Some, sym, refl}
-use Rattle.cp_tree.specs.Syntax.{Program}
-use Rattle.cp_meaning.specs.State.{first_gates, State}
+use Rattle.cp_at_once_laws.proofs.Words.{◌≡◌, ◌∙◌, None, Some, sym, refl, Program, first_gates, State, IsWellFormed, reached}
 use Rattle.cp_meaning.specs.Steps.{IsReached, at_first, by_step, by_admission, by_forgetting}
-use Rattle.cp_meaning.specs.WellFormed.{IsWellFormed}
-use Rattle.cp_meaning.proofs.OwnershipLemmas.{reached}
 use Rattle.cp_at_once_laws.proofs.rules.StartsKnown.{StartsKnown}
 use Rattle.cp_at_once_laws.proofs.pairs.Facts.{facts}
 use Rattle.cp_at_once_laws.proofs.pairs.Fit.{ProcessesUnknown}

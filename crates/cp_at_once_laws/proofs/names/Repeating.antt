@@ -1,34 +1,17 @@
 -- A stretch that is seen to repeat on slots goes on for ever on names, and one process makes each of its steps.
 use Rattle.std.proofs.Common.{◌≡◌, inl, inr, ◌∙◌, ◌+◌, ◌≤◌, ℕ, zero, suc, true, List, Option, None, Some, ap, sym, refl, subst, arith}
-use Rattle.cp_tree.specs.Read.{IsRead}
-use Rattle.cp_tree.specs.Syntax.{Tree}
-use Rattle.cp_layout.specs.Laid.{plain, laid}
-use Rattle.cp_slots.specs.Tables.{Tables}
-use Rattle.cp_lawful.specs.Accepted.{IsAccepted}
-use Rattle.cp_lawful.proofs.Accepting.{well_formed}
-use Rattle.cp_machine.specs.Machine.{Machine}
+use Rattle.cp_at_once_laws.proofs.Words.{IsRead, Tree, plain, laid, Tables, IsAccepted, well_formed, Machine, First, State, IsWellFormed, Turn, Over, Due}
+use Rattle.cp_at_once_laws.proofs.Words.{Goes, System, Choosing, opened, turn_after, CanGo, GoInStep, AnyOf, stretch_moments, silent_slots, Commutes, names}
+use Rattle.cp_at_once_laws.proofs.Words.{IsSomewhere, IsQuietStep, IsPlain, some_same, distance}
 use Rattle.cp_machine.specs.declared.event.Event as slot_event
 use Rattle.cp_machine.specs.declared.event.Event.TheVariants as event
-use Rattle.cp_machine.specs.declared.gates.Gates.TheVariants.{First}
-use Rattle.cp_meaning.specs.State.{State}
-use Rattle.cp_meaning.specs.WellFormed.{IsWellFormed}
-use Rattle.cp_run.specs.declared.outcome.Turn.{Turn}
-use Rattle.cp_run.specs.declared.outcome.Turn.TheVariants.{Over, Due, Goes}
-use Rattle.cp_run.specs.System.{System}
-use Rattle.cp_run.specs.Run.{Choosing, opened, turn_after}
-use Rattle.cp_refine.specs.InStep.{CanGo, GoInStep}
-use Rattle.cp_endless.specs.Moments.{AnyOf, stretch_moments}
 use Rattle.cp_endless.specs.Repeats.{Repeats, repeated_part, CallsAt, IsKernelCall}
 use Rattle.cp_endless.specs.Rounds.{IsRound, SetsOut, chosen_spot, opening_spot, spot_after, spot_by}
-use Rattle.cp_endless.specs.Silent.{silent_slots}
 use Rattle.cp_endless.proofs.names.Going.{in_choices}
 use Rattle.cp_endless.proofs.names.Together.{ChoicesAlike, after_there, choosing_alike, turned}
 use Rattle.cp_endless.proofs.steps.Rounds.{from_there, rounds, happens_early}
-use Rattle.cp_at_once_laws.specs.AtOnce.{Commutes}
 use Rattle.cp_at_once_laws.specs.OnSlots.{RepeatsByOneLaw}
-use Rattle.cp_at_once_laws.specs.Quiet.{names, IsSomewhere, IsQuietStep}
 use Rattle.cp_at_once_laws.proofs.rules.StartsKnown.{StartsKnown}
-use Rattle.cp_at_once_laws.specs.Through.{IsPlain}
 use Rattle.cp_at_once_laws.specs.Whole.{GoesOnBy, IsAloneBy, SpinsBy}
 use Rattle.cp_at_once_laws.proofs.limits.NothingLeft.{met_there}
 use Rattle.cp_at_once_laws.proofs.limits.Searching.{any_moment, calls_again}
@@ -37,9 +20,7 @@ use Rattle.cp_at_once_laws.proofs.names.Laws.{kept, beside_law, all_commute}
 use Rattle.cp_at_once_laws.proofs.names.OneMover.{Endless, one_mover, no_end}
 use Rattle.cp_at_once_laws.proofs.names.QuietLegs.{OnSlots, in_step}
 use Rattle.cp_at_once_laws.proofs.rules.Started.{starts_known}
-use Rattle.cp_resolved.proofs.names.Alike.{same_inside as some_same}
 use Rattle.cp_endless.proofs.steps.Repeating.{none_of as each_none}
-use Rattle.cp_endless.proofs.Basics.{distance}
 use Rattle.cp_endless.proofs.names.WaitTogether.{plus as one_more_step, spot_there}
 
 -- ---- spots of two systems that are alike

@@ -1,20 +1,12 @@
 -- Who is delayed or has ended stays so as long as no choice is due: who wakes it is ready after that too.
 use Rattle.std.proofs.Common.{◌≡◌, ◌≢◌, ℕ, ◌<◌, ◌≤◌, ◌∙◌, ◌⊎◌, inl, inr, Bool, true, false, if◌then◌else◌, List, [], ◌∷◌, length, Option, Some, None, ap, sym, refl, subst, arith, ◌==◌}
-use Rattle.cp_tree.specs.Syntax.{Program}
+use Rattle.cp_at_once_laws.proofs.Words.{Program, LineFits, Finished, AllWaiting, Turn, Over, Goes, System, turn_after, settled_turn, event_of, is_call}
 use Rattle.cp_machine.specs.declared.event.Event as slot_event
 use Rattle.cp_machine.specs.declared.event.Event.TheVariants as event
 use Rattle.cp_meaning.specs.State.{Status, unstarted, ready, at_gate, delayed, ended, Process, process_at, Gates, first_gates, any_gates, State}
 use Rattle.cp_meaning.specs.Move.{Move, stays, enters, leaves, delays, continues, starts, shows, ends, Doing}
 use Rattle.cp_meaning.specs.Kernel.{output_room, moved_to, with_process_status, first_in, let_in, process_of, starting_as, starting, displaying, kernel_step}
-use Rattle.cp_meaning.proofs.Orderly.{LineFits}
 use Rattle.cp_meaning.proofs.Orderly as orderly
-use Rattle.cp_run.specs.declared.outcome.OutcomeKind.TheVariants.{Finished, AllWaiting}
-use Rattle.cp_run.specs.declared.outcome.Turn.{Turn}
-use Rattle.cp_run.specs.declared.outcome.Turn.TheVariants.{Over, Goes}
-use Rattle.cp_run.specs.System.{System}
-use Rattle.cp_run.specs.Run.{turn_after, settled_turn}
-use Rattle.cp_refine.specs.Named.{event_of}
-use Rattle.cp_at_once_laws.specs.AtOnce.{is_call}
 use Rattle.cp_at_once_laws.proofs.limits.Turns.{CallTurn, nobody, alone, choice, call_turn, which_turn, one_ready}
 use Rattle.cp_at_once_laws.proofs.pairs.Changes.{GoesFrom, Becomes, left_by, replaced_at, Changes, same, itself, woken, begins, moved_other, kernel_changes}
 

@@ -1,18 +1,9 @@
 -- A step of a process needs nothing of others: from what it holds and what its call concerns.
 use Rattle.std.proofs.Common.{◌≡◌, ℕ, ◌<◌, ◌≤◌, ◌∙◌, ◌⊎◌, inl, inr, Bool, true, false, List, [], ◌∷◌, length, Ok, Err, ap, sym, refl, subst, length-set}
-use Rattle.cp_tree.specs.Syntax.{Program}
-use Rattle.cp_meaning.specs.Outcome.{Outcome}
+use Rattle.cp_at_once_laws.proofs.Words.{Program, Outcome, View, Doing, takes, moved_to, first_components, status_at, HeldBy, HeldCalls, OrderlyState}
+use Rattle.cp_at_once_laws.proofs.Words.{OwnedState}
 use Rattle.cp_meaning.specs.State.{initialised, initial_statement, CallKind, Call, Item, init_end, ready, Process, process_at, first_gates, State}
-use Rattle.cp_meaning.specs.Places.{View}
-use Rattle.cp_meaning.specs.Move.{Doing}
-use Rattle.cp_meaning.specs.LocalRules.{takes}
-use Rattle.cp_meaning.specs.Kernel.{moved_to}
-use Rattle.cp_meaning.specs.Steps.{first_components}
 use Rattle.cp_meaning.proofs.Frames.{Frame, frames, TopStarts, ItemsFit}
-use Rattle.cp_meaning.proofs.Good.{status_at}
-use Rattle.cp_meaning.proofs.Held.{HeldBy, HeldCalls}
-use Rattle.cp_meaning.proofs.LineLaw.{OrderlyState}
-use Rattle.cp_meaning.proofs.OwnKernel.{OwnedState}
 use Rattle.cp_at_once_laws.proofs.reading.Reading.{OwnCalls}
 use Rattle.cp_at_once_laws.proofs.reading.Taking.{LeavesOthers, EndsOwn}
 use Rattle.cp_at_once_laws.proofs.pairs.Changes.{replaced_at, left_by}

@@ -1,14 +1,7 @@
 -- A quiet step of process a beside a step of another ready process b.
 use Rattle.std.proofs.Common.{◌≡◌, ◌≢◌, ℕ, ◌∙◌, ◌⊎◌, inl, inr, Bool, true, false, if◌then◌else◌, suc, List, ◌∷◌, length, Ok, Err, ap, sym, refl, subst}
-use Rattle.cp_tree.specs.Syntax.{Program}
-use Rattle.cp_meaning.specs.Outcome.{Outcome}
-use Rattle.cp_meaning.specs.State.{component_at, is_inside, ready, Process, process_at, State}
-use Rattle.cp_meaning.specs.Kernel.{enter_event, is_anybody_inside, is_delayed_in, kernel_step}
-use Rattle.cp_meaning.specs.Move.{enters, Doing}
-use Rattle.cp_meaning.specs.Steps.{settled, step_of}
-use Rattle.cp_meaning.specs.WellFormed.{IsWellFormed}
-use Rattle.cp_meaning.proofs.Frames.{frames}
-use Rattle.cp_meaning.proofs.Good.{IsMonitor, MoveFits, status_at}
+use Rattle.cp_at_once_laws.proofs.Words.{Program, Outcome, component_at, is_inside, ready, Process, process_at, State, enter_event, is_anybody_inside}
+use Rattle.cp_at_once_laws.proofs.Words.{is_delayed_in, kernel_step, enters, Doing, settled, step_of, IsWellFormed, frames, IsMonitor, MoveFits, status_at}
 use Rattle.cp_at_once_laws.proofs.reading.Mixed.{one_of, mix_at}
 use Rattle.cp_at_once_laws.proofs.pairs.Apart.{Other, itself, Leaves, Moves, apart}
 use Rattle.cp_at_once_laws.proofs.pairs.Changes.{GoesFrom, Changes, kernel_changes, none_delayed, ready_same, moved_status}

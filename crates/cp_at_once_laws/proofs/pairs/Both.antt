@@ -1,14 +1,7 @@
 -- A quiet step beside any step of another ready process.
 use Rattle.std.proofs.Common.{◌≡◌, ◌≢◌, ℕ, ◌∙◌, ◌⊎◌, inl, inr, true, false, Option, Some, None, Ok, Err, ap, sym, refl, subst}
-use Rattle.std.proofs.lemmas.Bool.{cases_eq}
-use Rattle.cp_tree.specs.Syntax.{Program}
-use Rattle.cp_meaning.specs.Outcome.{Outcome}
-use Rattle.cp_meaning.specs.State.{ready, process_at, State}
-use Rattle.cp_meaning.specs.Kernel.{kernel_step}
-use Rattle.cp_meaning.specs.Move.{Move, enters, leaves, delays, continues, Doing}
-use Rattle.cp_meaning.specs.Steps.{settled, step_of}
-use Rattle.cp_meaning.specs.WellFormed.{IsWellFormed}
-use Rattle.cp_meaning.proofs.Good.{status_at}
+use Rattle.cp_at_once_laws.proofs.Words.{cases_eq, Program, Outcome, ready, process_at, State, kernel_step, Move, enters, leaves, delays, continues, Doing}
+use Rattle.cp_at_once_laws.proofs.Words.{settled, step_of, IsWellFormed, status_at}
 use Rattle.cp_meaning.proofs.LineLaw.{some_is}
 use Rattle.cp_at_once_laws.proofs.pairs.Beside.{QuietHere, Beside, beside_apart}
 use Rattle.cp_at_once_laws.proofs.pairs.Changes.{GoesFrom}

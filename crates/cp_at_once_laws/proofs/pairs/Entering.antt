@@ -1,12 +1,8 @@
 -- Process a's call concerns monitor m, which it is inside; process b enters m. Both orders make the same state.
 use Rattle.std.proofs.Common.{◌≡◌, ◌≢◌, ℕ, ◌<◌, ◌≤◌, ◌∙◌, ◌⊎◌, inl, inr, Bool, true, false, not, if◌then◌else◌, List, [], ◌∷◌, ◌++◌, length, slice_set, Option, ap, sym, refl, subst, arith}
 use Rattle.std.proofs.lemmas.List.{set_comm, set-set, get_or-set_same, get_or-set_other, ext_get_or, set-get_or}
-use Rattle.std.proofs.lemmas.Bool.{cases_eq}
-use Rattle.std.proofs.Common.{length-set}
-use Rattle.cp_tree.specs.declared.declaration.SystemKind.{SystemKind}
-use Rattle.cp_meaning.specs.Components.{Path}
+use Rattle.cp_at_once_laws.proofs.Words.{cases_eq, length-set, SystemKind, Path, Doing}
 use Rattle.cp_meaning.specs.State.{Environment, ComponentStatus, Component, component_at, no_component, Status, ready, at_gate, Process, process_at, no_process, Gates, State}
-use Rattle.cp_meaning.specs.Move.{Doing}
 use Rattle.cp_meaning.specs.Kernel.{with_line, with_line_of, line_of, moved_to, with_process_status, made_ready, first_in, entering}
 use Rattle.cp_meaning.proofs.Stored.{field_kept}
 use Rattle.cp_meaning.proofs.Orderly.{line_which, line_at}

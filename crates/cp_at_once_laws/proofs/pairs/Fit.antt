@@ -1,15 +1,7 @@
 -- What is known of a program, and of each of its states that is met.
-use Rattle.std.proofs.Common.{◌≡◌, ℕ, ◌<◌, ◌⊎◌, List, [], length, None}
+use Rattle.cp_at_once_laws.proofs.Words.{◌≡◌, ℕ, ◌<◌, ◌⊎◌, List, [], length, None, Program, Component, unstarted, delayed, Process, process_at, first_gates}
+use Rattle.cp_at_once_laws.proofs.Words.{State, first_components, frames, entry_in, initial_in, kind_at, IsMonitor, Known, OrderlyState, OwnedState}
 use Rattle.cp_tree.specs.declared.declaration.SystemKind.TheVariants as system_kind
-use Rattle.cp_tree.specs.Syntax.{Program}
-use Rattle.cp_meaning.specs.State.{Component, unstarted, delayed, Process, process_at, first_gates, State}
-use Rattle.cp_meaning.specs.Steps.{first_components}
-use Rattle.cp_meaning.proofs.Frames.{frames, entry_in, initial_in}
-use Rattle.cp_meaning.proofs.ComponentTree.{kind_at}
-use Rattle.cp_meaning.proofs.Good.{IsMonitor}
-use Rattle.cp_meaning.proofs.Held.{Known}
-use Rattle.cp_meaning.proofs.LineLaw.{OrderlyState}
-use Rattle.cp_meaning.proofs.OwnKernel.{OwnedState}
 use Rattle.std.specs.Prelude.{true}
 pub use Rattle.cp_at_once_laws.proofs.rules.StartsKnown.{HasNoProcess, StartsKnown}
 

@@ -1,16 +1,13 @@
 -- An item of a process reads only variables that are its own.
 use Rattle.std.proofs.Common.{◌≡◌, ℕ, ◌-◌, ◌==◌, ◌∙◌, ℤ, Bool, true, false, if◌then◌else◌, List, [], ◌∷◌, length, Option, Some, None, Ok, Err, ap, sym, refl, arith, eq-eqb}
 use Rattle.cp_tree.specs.Syntax.{Expression, alone, related, Sum, sum, Terms, no_terms, more_terms, Term, term, Factors, no_factors, more_factors, Factor, named, group, negated, set_of, Expressions, no_expressions, more_expressions, Designator, designator, Selectors, no_selectors, more_selectors, Selector, field, index, Program}
-use Rattle.cp_meaning.specs.Names.{Name}
+use Rattle.cp_at_once_laws.proofs.Words.{Name, number_of, Parameter, step_down}
 use Rattle.cp_meaning.specs.Outcome.{ErrorName, Outcome, ◌>>=◌}
 use Rattle.cp_meaning.specs.Types.{Ty, ordinal, queue_type, set_over, array_over, record_with, component_of, is_within}
-use Rattle.cp_meaning.specs.Values.{number_of}
 use Rattle.cp_meaning.specs.Scopes.{Meaning, constant_meaning, local_variable, permanent_variable, standard_meaning, find}
-use Rattle.cp_meaning.specs.Declarations.{Parameter}
 use Rattle.cp_meaning.specs.State.{Holder, in_call, in_component, Place, Content, holds, refers, knows, Component, component_at, Call}
 use Rattle.cp_meaning.specs.Places.{View, Target, content_of, call_above, environment_of, this_call, plain_place, referred, target_meant, target_named, value_at, value_held, component_with, element_chosen, around_of, component_known, component_by, component_there}
 use Rattle.cp_meaning.specs.Values.{part_at}
-use Rattle.cp_meaning.specs.Components.{step_down}
 use Rattle.cp_meaning.specs.Operations.{Typed, checked, multiplied_values, added_values, signed_value}
 use Rattle.cp_meaning.specs.Lifting.{is_call}
 use Rattle.cp_meaning.specs.Expressions.{value, sum_value, terms_value, term_value, factors_value, factor_value, members_value, target_value, selected, chosen, with_element_of, with_member_checked, first_value, meaning_here, named_value, variable_in}

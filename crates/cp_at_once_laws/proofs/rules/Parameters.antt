@@ -1,8 +1,7 @@
 -- No parameter of a system type is a process (C15).
 use Rattle.std.proofs.Common.{◌≡◌, ℕ, zero, suc, Bool, true, false, List, [], ◌∷◌, ◌++◌, slice_get, Option, Some, None, Ok, refl, sym, ap, subst, ◌∙◌}
-use Rattle.cp_tree.specs.declared.declaration.SystemKind.{SystemKind}
+use Rattle.cp_at_once_laws.proofs.Words.{SystemKind, IsRead, IsAccepted, Name, Ty}
 use Rattle.cp_tree.specs.declared.declaration.SystemKind.TheVariants as system_kind
-use Rattle.cp_tree.specs.Read.{IsRead}
 use Rattle.cp_tree.specs.Syntax.{Program, Group, System, Definition, type_definition, system_definition, SystemDefinition, ProgramPart, program_types, Tree}
 use Rattle.cp_scope.specs.declared.types.ValueType.{ValueType}
 use Rattle.cp_scope.specs.declared.types.Meaning.TheVariants as meaning
@@ -20,10 +19,7 @@ use Rattle.cp_check.specs.Statements.{statements}
 use Rattle.cp_check.specs.Systems as systems_of
 use Rattle.cp_check.specs.Systems.{inside, definition_step, definition_steps, program_part_step, program_part_steps}
 use Rattle.cp_check.specs.Faults.{declarations, program_context, opened, faults_of}
-use Rattle.cp_lawful.specs.Accepted.{IsAccepted}
-use Rattle.cp_meaning.specs.Names.{Name}
 use Rattle.cp_meaning.specs.Types as named
-use Rattle.cp_meaning.specs.Types.{Ty}
 use Rattle.cp_meaning.specs.Scopes as scopes
 use Rattle.cp_meaning.specs.Scopes.{seen_inside, predeclared}
 use Rattle.cp_meaning.specs.Declarations as meant

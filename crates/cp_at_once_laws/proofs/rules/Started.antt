@@ -1,8 +1,5 @@
 -- Who starts a process is the process around it, in each program that breaks no rule.
-use Rattle.cp_tree.specs.Read.{IsRead}
-use Rattle.cp_tree.specs.Syntax.{Tree}
-use Rattle.cp_lawful.specs.Accepted.{IsAccepted}
-use Rattle.cp_lawful.proofs.Accepting.{well_formed}
+use Rattle.cp_at_once_laws.proofs.Words.{IsRead, Tree, IsAccepted, well_formed}
 use Rattle.cp_at_once_laws.proofs.rules.StartsKnown.{StartsKnown}
 use Rattle.cp_at_once_laws.proofs.rules.Around.{around_known}
 use Rattle.cp_at_once_laws.proofs.rules.Parameters.{no_process_known}

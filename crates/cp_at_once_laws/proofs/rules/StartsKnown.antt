@@ -1,13 +1,7 @@
 -- Who may start a process: what the rules C13 and C15 say of it.
 use Rattle.std.specs.Prelude.{◌≡◌, ℕ, ◌<◌, List, [], ◌∷◌, ◌++◌, length}
 use Rattle.cp_tree.specs.declared.declaration.SystemKind.TheVariants as system_kind
-use Rattle.cp_tree.specs.Syntax.{Program}
-use Rattle.cp_meaning.specs.Types.{component_of}
-use Rattle.cp_meaning.specs.Declarations.{Parameter}
-use Rattle.cp_meaning.specs.Systems.{system_of}
-use Rattle.cp_meaning.specs.Components.{PathStep}
-use Rattle.cp_meaning.specs.State.{component_at}
-use Rattle.cp_meaning.specs.Steps.{first_components}
+use Rattle.cp_at_once_laws.proofs.Words.{Program, component_of, Parameter, system_of, PathStep, component_at, first_components}
 
 -- no parameter is of a process type
 abbrev pub HasNoProcess : Program → List Parameter → Type 0

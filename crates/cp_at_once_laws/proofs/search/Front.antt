@@ -1,10 +1,7 @@
 -- A leg that may be made at once is brought to the front of what a schedule does.
 use Rattle.std.proofs.Common.{◌≡◌, ◌≢◌, ◌⊎◌, inl, inr, ℕ, zero, suc, ◌≤◌, ◌∙◌, true, false, Option, None, Some, ap, sym, refl, subst, arith}
-use Rattle.cp_machine.specs.declared.event.Event.{Event}
-use Rattle.cp_machine.specs.declared.event.Event.TheVariants.{Local}
-use Rattle.cp_run.specs.System.{System}
+use Rattle.cp_at_once_laws.proofs.Words.{Event, Local, System, same_or_not}
 use Rattle.cp_at_once_laws.specs.AtOnce.{is_call, Leg, calls, after_local, QuietLeg, calls_quietly, after_quiet, Comes, done, meets, goes, IsNode, Finds, is_done, at_once_meets, at_once, node_meets, node_goes, Commutes, PicksQuiet, NobodyReady, GoalStays, OwnGoal, AtOnceLaw}
-use Rattle.cp_refine.proofs.control.Moving.{same_or_other as same_or_not}
 
 pub local_no_call : (e : Event) → e ≡ Local → is_call e ≡ true → ⊥
 local_no_call e h k = (let bad : false ≡ true = sym (ap is_call h) ∙ k in cc)

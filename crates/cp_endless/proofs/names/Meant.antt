@@ -1,20 +1,12 @@
 -- What is said of the slot machine holds of the meaning of the program on its own names.
-use Rattle.std.proofs.Common.{◌≡◌, ◌∙◌, ℕ, List, refl, sym, subst}
+use Rattle.cp_endless.proofs.Words.{◌≡◌, ◌∙◌, ℕ, List, refl, sym, subst, Tables, Machine, State, ready, slots, GoInStep, CanGo, Line, Contains, System}
 use Rattle.cp_tree.specs.Syntax.{Tree}
 use Rattle.cp_tree.specs.Read.{IsRead}
 use Rattle.cp_layout.specs.Laid.{plain, laid}
-use Rattle.cp_slots.specs.Tables.{Tables}
 use Rattle.cp_lawful.specs.Accepted.{IsAccepted}
-use Rattle.cp_machine.specs.Machine.{Machine}
-use Rattle.cp_meaning.specs.State.{State, ready}
 use Rattle.cp_resolved.specs.TreeLayouts.{layouts_of}
-use Rattle.cp_run.specs.Slots.{slots}
-use Rattle.cp_refine.specs.InStep.{GoInStep, CanGo}
 use Rattle.cp_refine.specs.Law.{ground_of, Simulates}
-use Rattle.cp_run.specs.Table.{Line}
 use Rattle.cp_refine.specs.Named.{named, gates_of}
-use Rattle.std.specs.Prelude.{Contains}
-use Rattle.cp_run.specs.System.{System}
 use Rattle.cp_refine.proofs.HoldsInReached.{reached_stands}
 use Rattle.cp_refine.proofs.Meaning.{it, goes_in_step, meaning_law}
 use Rattle.cp_refine.proofs.ReachedKinds.{kinds_agree}

@@ -1,15 +1,10 @@
 -- Two systems whose choices lead to states that are related have the same ends after each word.
 use Rattle.std.proofs.Common.{◌≡◌, inl, inr, ◌∙◌, ℕ, ◌<◌, Bool, true, false, if◌then◌else◌, List, [], ◌∷◌, None, Some, refl, sym, ap, subst, Option}
-use Rattle.std.specs.List.{AllByRecursion as Each}
-use Rattle.cp_run.specs.declared.outcome.OutcomeKind.{OutcomeKind}
-use Rattle.cp_run.specs.System.{System}
-use Rattle.cp_run.specs.Run.{Node, Halted, Choosing, may, chosen, opened}
+use Rattle.cp_endless.proofs.Words.{Each, OutcomeKind, System, Node, Halted, Choosing, may, chosen, opened, AnyOf, Moment, moments, chosen_spot, opening_spot}
+use Rattle.cp_endless.proofs.Words.{spot_after, some_same}
 use Rattle.cp_refine.proofs.Alike.{NodesAlike}
 use Rattle.cp_endless.specs.Meaning.{EndsTheSame}
-use Rattle.cp_endless.specs.Moments.{AnyOf, Moment, moments}
 use Rattle.cp_endless.specs.Reachable.{EndsAfter, IsPossible, node_after}
-use Rattle.cp_endless.specs.Rounds.{chosen_spot, opening_spot, spot_after}
-use Rattle.cp_resolved.proofs.names.Alike.{same_inside as some_same}
 
 abbrev pub MomentsAlike : {S T : Type 0} → (S → T → Type 0) → List (Moment S) → List (Moment T) → Type 0
 MomentsAlike R [] [] = Unit {0}

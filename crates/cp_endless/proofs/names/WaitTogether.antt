@@ -1,20 +1,15 @@
 -- In two systems whose choices lead to states that are related the same processes wait for ever.
 use Rattle.std.proofs.Common.{◌≡◌, ◌⊎◌, inl, inr, ⊎_elim, ◌∙◌, ℕ, zero, suc, ◌<◌, Bool, true, false, List, None, Some, sym, ap, subst, Option, arith, ◌+◌}
-use Rattle.std.specs.List.{AllByRecursion as Each}
-use Rattle.cp_run.specs.System.{System}
-use Rattle.cp_run.specs.Run.{Choosing, may, chosen, opened}
+use Rattle.cp_endless.proofs.Words.{Each, System, Choosing, may, chosen, opened, Moment, moments, node_after, SetsOut, chosen_spot, opening_spot, spot_after}
+use Rattle.cp_endless.proofs.Words.{some_same}
 use Rattle.cp_refine.proofs.Alike.{NodesAlike}
 use Rattle.cp_endless.specs.Fair.{IsEndless, IsFair, IsServed}
 use Rattle.cp_endless.specs.Meaning.{LingersTheSame, WaitsTheSame}
-use Rattle.cp_endless.specs.Moments.{Moment, moments}
-use Rattle.cp_endless.specs.Reachable.{node_after}
-use Rattle.cp_endless.specs.Rounds.{SetsOut, chosen_spot, opening_spot, spot_after}
 use Rattle.cp_endless.specs.Standstill.{GoesOn, IsFairStretch, MayStandStill}
 use Rattle.cp_endless.specs.Traps.{IsStuckAfter}
 use Rattle.cp_endless.specs.WaitsForEver.{MayLinger, MayWaitForEver, NeverWaitsForEver, WaitsFrom, WaitsSometime}
 use Rattle.cp_endless.proofs.steps.Rounds.{from_there}
 use Rattle.cp_endless.proofs.names.Together.{SpotsAlike, ChoicesAlike, turned, choosing_alike, each_alike, any_alike, after_there}
-use Rattle.cp_resolved.proofs.names.Alike.{same_inside as some_same}
 
 module _ {S T : Type 0} (a : System S) (b : System T) (steps : ℕ) (R : S → T → Type 0) (V : S → T → ℕ → Type 0) (h : ChoicesAlike a b steps R V) where
   module _ (wa : S → ℕ → Bool) (wb : T → ℕ → Bool) (q : ℕ) (waits : (s : S) (t : T) → R s t → wa s q ≡ wb t q) where

@@ -1,13 +1,7 @@
 -- Where the states of a search are gone on from layer by layer, words of at most so many choices lead to what is known.
 use Rattle.std.proofs.Common.{◌≡◌, ◌+◌, ◌≤◌, ℕ, suc, Bool, true, false, if◌then◌else◌, List, [], ◌∷◌, length, None, Some, refl, subst, arith}
-use Rattle.std.specs.Prelude.{Contains}
-use Rattle.cp_run.specs.declared.outcome.OutcomeKind.{OutcomeKind}
-use Rattle.cp_run.specs.System.{System}
-use Rattle.cp_run.specs.Run.{Node, Halted, Choosing, may, chosen, opened}
+use Rattle.cp_endless.proofs.Words.{Contains, OutcomeKind, System, Node, Halted, Choosing, may, chosen, opened, LeadsTo, node_after, IsIn, some_same}
 use Rattle.cp_endless.specs.Layers.{EndsToLaw, IsClosedTo, IsPossibleTo}
-use Rattle.cp_endless.specs.Reachable.{LeadsTo, node_after}
-use Rattle.cp_endless.specs.Settled.{IsIn}
-use Rattle.cp_resolved.proofs.names.Alike.{same_inside as some_same}
 
 module _ {S : Type 0} (sys : System S) (steps d : ℕ) (layer : ℕ → S → Type 0) (known : OutcomeKind → Type 0) (closed : IsClosedTo sys steps d layer known) where
   after_to : (word : List ℕ) (k : ℕ) (node last : Node S) → k + length word ≤ d → IsIn (layer k) known node → node_after sys steps node word ≡ Some last → IsIn (layer (k + length word)) known last

@@ -1,12 +1,8 @@
 -- What closed states say of words of any length.
 use Rattle.std.proofs.Common.{◌≡◌, ℕ, Bool, true, false, if◌then◌else◌, List, [], ◌∷◌, None, Some, refl, subst}
-use Rattle.std.specs.Prelude.{Contains}
-use Rattle.cp_run.specs.declared.outcome.OutcomeKind.{OutcomeKind}
-use Rattle.cp_run.specs.System.{System}
-use Rattle.cp_run.specs.Run.{Node, Halted, Choosing, may, chosen, opened}
+use Rattle.cp_endless.proofs.Words.{Contains, OutcomeKind, System, Node, Halted, Choosing, may, chosen, opened, some_same}
 use Rattle.cp_endless.specs.Reachable.{IsPossible, IsReachable, LeadsTo, node_after}
 use Rattle.cp_endless.specs.Settled.{IsClosed, IsIn, SettledLaw}
-use Rattle.cp_resolved.proofs.names.Alike.{same_inside as some_same}
 
 -- where no choice leads out of some states, no word does
 module _ {S : Type 0} (sys : System S) (steps : ℕ) (among : S → Type 0) (known : OutcomeKind → Type 0) (on : (s : S) (p : ℕ) → among s → may sys s p ≡ true → IsIn among known (chosen sys steps s p)) where

@@ -1,10 +1,7 @@
 -- No word shows a value but those of a closed set.
 use Rattle.std.proofs.Common.{◌≡◌, ◌+◌, ◌≤◌, ◌<◌, ℕ, inl, inr, List, [], ◌∷◌, ◌++◌, length, ap, arith}
 use Rattle.std.proofs.lemmas.List.{length-append}
-use Rattle.cp_run.specs.declared.outcome.OutcomeKind.{OutcomeKind}
-use Rattle.cp_run.specs.System.{System}
-use Rattle.cp_run.specs.Run.{Choosing}
-use Rattle.cp_endless.specs.Forgetting.{forgetting_system}
+use Rattle.cp_endless.proofs.Words.{OutcomeKind, System, Choosing, forgetting_system}
 use Rattle.cp_endless.specs.Shown.{ValuesLaw, ValuesToLaw}
 use Rattle.cp_endless.proofs.possible.Layers.{leads_to}
 use Rattle.cp_endless.proofs.possible.Settled.{leads_in}

@@ -1,13 +1,7 @@
 -- What is settled is so for every greater limit of steps, where each stretch that is cut goes on for ever; so too where none is cut.
 use Rattle.std.proofs.Common.{◌≡◌, ◌⊎◌, inl, inr, ⊎_elim, ◌∙◌, ◌+◌, ℕ, Bool, true, false, if◌then◌else◌, List, [], ◌∷◌, Option, None, Some, refl, sym, ap, subst}
-use Rattle.std.specs.Prelude.{Contains}
-use Rattle.cp_run.specs.declared.outcome.OutcomeKind.{OutcomeKind}
-use Rattle.cp_run.specs.declared.outcome.OutcomeKind.TheVariants.{StepLimit}
-use Rattle.cp_run.specs.System.{System}
-use Rattle.cp_run.specs.Run.{Node, Halted, Choosing, opened, may, chosen}
+use Rattle.cp_endless.proofs.Words.{Contains, OutcomeKind, StepLimit, System, Node, Halted, Choosing, opened, may, chosen, node_after, IsCut}
 use Rattle.cp_endless.specs.MoreSteps.{CutsAreRounds, MoreStepsLaw, MoreStepsRoundsLaw}
-use Rattle.cp_endless.specs.Reachable.{node_after}
-use Rattle.cp_endless.specs.Rounds.{IsCut}
 use Rattle.cp_endless.specs.Settled.{IsIn, IsSettled}
 use Rattle.cp_endless.proofs.steps.Alone.{opened_spot, chosen_at, leads_more}
 use Rattle.cp_endless.proofs.steps.Nodes.{cut_node, cut_or_not, chosen_same, opened_same}

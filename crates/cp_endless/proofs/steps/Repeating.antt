@@ -1,15 +1,9 @@
 -- A stretch that is seen to repeat goes on for ever, alone or spinning, and not both.
 use Rattle.std.proofs.Common.{◌≡◌, inl, inr, ◌∙◌, ◌+◌, ℕ, suc, List, [], ◌∷◌, ◌++◌, Some, refl, sym, ap, subst, arith}
-use Rattle.std.specs.List.{AllByRecursion as Each}
-use Rattle.cp_run.specs.System.{System}
-use Rattle.cp_run.specs.Run.{Choosing, opened}
-use Rattle.cp_endless.specs.Moments.{AnyOf, stretch_moments}
-use Rattle.cp_endless.specs.Reachable.{node_after}
+use Rattle.cp_endless.proofs.Words.{Each, System, Choosing, opened, AnyOf, stretch_moments, node_after, IsRound, SetsOut, chosen_spot, spot_after, some_same}
 use Rattle.cp_endless.specs.Repeats.{CallsAt, Repeats, RepeatsLaw}
-use Rattle.cp_endless.specs.Rounds.{IsRound, SetsOut, chosen_spot, spot_after}
 use Rattle.cp_endless.proofs.steps.Alone.{alone}
 use Rattle.cp_endless.proofs.steps.Rounds.{happens_early}
-use Rattle.cp_resolved.proofs.names.Alike.{same_inside as some_same}
 
 last_same : (u v : List ℕ) (a b : ℕ) → u ++ a ∷ [] ≡ v ++ b ∷ [] → (u ≡ v) × (a ≡ b)
 last_same [] [] a b e = (refl, cc)

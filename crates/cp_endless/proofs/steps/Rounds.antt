@@ -1,17 +1,10 @@
 -- A stretch that comes to a state in which it was before goes on for ever.
 use Rattle.std.proofs.Common.{◌≡◌, ◌⊎◌, inl, inr, ⊎_elim, ◌+◌, ◌<◌, ◌≤◌, ℕ, zero, suc, Bool, true, false, Option, None, Some, refl, sym, ap, subst, ◌∙◌, arith}
-use Rattle.std.specs.List.{AllByRecursion as Each}
-use Rattle.std.proofs.lemmas.Bool.{cases_order}
-use Rattle.cp_run.specs.declared.outcome.Turn.{Turn}
-use Rattle.cp_run.specs.declared.outcome.Turn.TheVariants.{Over, Due, Goes}
-use Rattle.cp_run.specs.System.{System}
-use Rattle.cp_run.specs.Run.{node_at, turn_after, stretch}
-use Rattle.cp_endless.specs.Fair.{IsServed}
+use Rattle.cp_endless.proofs.Words.{Each, cases_order, Turn, Over, Due, Goes, System, node_at, turn_after, stretch, IsServed, some_same}
 use Rattle.cp_endless.specs.Moments.{AnyOf, Moment, RoundHappensLaw, moments_by, stretch_moments}
 use Rattle.cp_endless.specs.Rounds.{CutLaw, IsCut, IsRound, RoundLaw, spot_after, spot_by}
 use Rattle.cp_endless.specs.Standstill.{GoesOn, IsFairStretch, IsStandstill, StandsStill, StandstillFoundLaw, StandstillLaw}
 use Rattle.cp_endless.proofs.Basics.{distance}
-use Rattle.cp_resolved.proofs.names.Alike.{same_inside as some_same}
 
 pub some_none : {A : Type 0} (x : A) → Some x ≡ None → ⊥
 some_none x e = cc

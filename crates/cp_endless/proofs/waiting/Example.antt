@@ -1,22 +1,15 @@
 -- Small systems, to see that the definitions speak of something, and of what they should.
 use Rattle.std.proofs.Common.{◌≡◌, inl, inr, ◌<◌, ◌++◌, ℕ, zero, suc, Bool, true, false, if◌then◌else◌, List, [], ◌∷◌, None, refl, subst, arith}
-use Rattle.std.specs.Prelude.{Contains, pos}
-use Rattle.cp_machine.specs.declared.event.Event.{Event}
+use Rattle.cp_endless.proofs.Words.{Contains, pos, Event, Shown, System, Choosing, stretch, opened, chosen, may, IsServed, forgetting_system, moments}
+use Rattle.cp_endless.proofs.Words.{moments_along, stretch_moments, MayWaitForEver}
 use Rattle.cp_machine.specs.declared.event.Event.TheVariants.{Local, Kernel}
-use Rattle.cp_machine.specs.declared.shown.Shown.{Shown}
-use Rattle.cp_run.specs.System.{System}
-use Rattle.cp_run.specs.Run.{Choosing, stretch, opened, chosen, may}
 use Rattle.cp_machine.specs.declared.event.Kernel.TheVariants as call
 use Rattle.cp_machine.specs.declared.shown.Shown.TheVariants as shown
-use Rattle.cp_endless.specs.Fair.{IsServed}
-use Rattle.cp_endless.specs.Forgetting.{forgetting_system}
 use Rattle.cp_endless.specs.Lasso.{IsLasso, IsWaitingLoop}
-use Rattle.cp_endless.specs.Moments.{moments, moments_along, stretch_moments}
 use Rattle.cp_endless.specs.Reachable.{IsReachable}
 use Rattle.cp_endless.specs.Repeats.{IsAloneAfter, SpinsAfter}
 use Rattle.cp_endless.specs.Settled.{IsSettled}
 use Rattle.cp_endless.specs.Shown.{ShowsAfter}
-use Rattle.cp_endless.specs.WaitsForEver.{MayWaitForEver}
 use Rattle.cp_endless.proofs.waiting.Lassos.{lassos}
 
 -- ---- two processes display for ever, and a third waits

@@ -1,17 +1,9 @@
 -- Where the states are in a list and can be told apart, a process that may wait for ever has a lasso.
 -- A fair schedule is cut into stages in each of which every process is served. Of more stages than there are states two begin in the same state, and what lies between them is the loop.
 use Rattle.std.proofs.Common.{◌≡◌, ◌≢◌, ◌⊎◌, inl, inr, ⊎_elim, ◌+◌, ◌<◌, ◌≤◌, ℕ, zero, suc, Bool, true, false, if◌then◌else◌, List, [], ◌∷◌, length, None, Some, refl, sym, ap, subst, ◌∙◌, arith, get_or}
-use Rattle.std.specs.Prelude.{Contains}
-use Rattle.std.specs.List.{AllByRecursion as Each}
-use Rattle.std.proofs.lemmas.Bool.{cases_order}
-use Rattle.cp_run.specs.System.{System}
-use Rattle.cp_run.specs.Run.{Choosing, may, Node, chosen}
-use Rattle.cp_endless.specs.Fair.{IsServed}
+use Rattle.cp_endless.proofs.Words.{Contains, Each, cases_order, System, Choosing, may, Node, chosen, IsServed, AnyOf, Moment, moments, moments_along}
+use Rattle.cp_endless.proofs.Words.{states_along, node_after, IsClosed, IsIn, MayWaitForEver, WaitsSometime}
 use Rattle.cp_endless.specs.Lasso.{HasLasso, LassoFoundLaw, LingerFoundLaw, WaitsAlong}
-use Rattle.cp_endless.specs.Moments.{AnyOf, Moment, moments, moments_along, states_along}
-use Rattle.cp_endless.specs.Reachable.{node_after}
-use Rattle.cp_endless.specs.Settled.{IsClosed, IsIn}
-use Rattle.cp_endless.specs.WaitsForEver.{MayWaitForEver, WaitsSometime}
 use Rattle.cp_endless.proofs.Basics.{each_append, any_left, any_right, distance_less_one}
 
 -- ---- more places than things (as in Anywhere of cp_merged)

@@ -1,12 +1,7 @@
 -- Where a rank falls as long as a process waits, and something that happens again and again does not happen while it stays, no fair schedule lets the process wait for ever.
 use Rattle.std.proofs.Common.{◌≡◌, ◌⊎◌, inl, inr, ⊎_elim, ◌+◌, ◌<◌, ◌≤◌, ℕ, zero, suc, Bool, true, false, refl, sym, subst, ◌∙◌, arith}
-use Rattle.std.proofs.lemmas.Bool.{cases_order}
-use Rattle.cp_run.specs.System.{System}
-use Rattle.cp_endless.specs.Fair.{IsEndless, IsServed}
-use Rattle.cp_endless.specs.Moments.{moments}
+use Rattle.cp_endless.proofs.Words.{cases_order, System, IsEndless, IsServed, moments, IsClosed, IsIn, WaitsFrom}
 use Rattle.cp_endless.specs.Ranks.{GoesWaiting, NoLingerLaw, NoWaitingLaw, WaitsOrIsServed}
-use Rattle.cp_endless.specs.Settled.{IsClosed, IsIn}
-use Rattle.cp_endless.specs.WaitsForEver.{WaitsFrom}
 use Rattle.cp_endless.proofs.Basics.{distance}
 
 module _ {S : Type 0} (sys : System S) (waiting : S → ℕ → Bool) (q steps : ℕ) (among : S → Type 0) (rank : S → ℕ)

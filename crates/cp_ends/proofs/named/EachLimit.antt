@@ -1,38 +1,20 @@
 -- Where each stretch that was cut goes on for ever, a greater limit of steps shows no other values.
 use Rattle.std.proofs.Common.{◌≡◌, ◌⊎◌, inl, inr, ⊎_elim, ◌∙◌, ◌+◌, ℕ, zero, suc, Bool, true, if◌then◌else◌, List, [], ◌∷◌, ◌++◌, Option, None, Some, refl, sym, ap, subst, arith}
-use Rattle.std.specs.Prelude.{Contains}
-use Rattle.std.proofs.lemmas.List.{append_assoc}
-use Rattle.std.proofs.lemmas.List.Elements.{Contains-append_cases}
-use Rattle.cp_machine.specs.declared.shown.Shown.{Shown}
-use Rattle.cp_run.specs.declared.outcome.OutcomeKind.TheVariants.{StepLimit}
-use Rattle.cp_run.specs.declared.outcome.Turn.{Turn}
+use Rattle.cp_ends.proofs.Words.{Contains, append_assoc, Contains-append_cases, Shown, StepLimit, Turn, System, Node, Halted, Choosing, may, turn_after}
+use Rattle.cp_ends.proofs.Words.{stretch, opened, chosen, each, forgetting_system, Moment, AnyOf, moments_by, stretch_moments, node_after, LeadsTo, Repeats}
+use Rattle.cp_ends.proofs.Words.{repeated_part, shown_at, ShowsAfter, after_first, after_append, happens_early, goal_of, ShowsSo, AreFirsts, EndsSo, Over}
+use Rattle.cp_ends.proofs.Words.{each_append}
 use Rattle.cp_run.specs.declared.outcome.Turn.TheVariants as turn
-use Rattle.cp_run.specs.System.{System}
-use Rattle.cp_run.specs.Run.{Node, Halted, Choosing, may, turn_after, stretch, opened, chosen}
-use Rattle.cp_run.specs.Table.{each}
-use Rattle.cp_endless.specs.Forgetting.{forgetting_system}
-use Rattle.cp_endless.specs.Moments.{Moment, AnyOf, moments_by, stretch_moments}
-use Rattle.cp_endless.specs.Reachable.{node_after, LeadsTo}
-use Rattle.cp_endless.specs.Repeats.{Repeats, repeated_part}
 use Rattle.cp_endless.specs.Rounds.{IsCut, spot_after, spot_by}
-use Rattle.cp_endless.specs.Shown.{shown_at, ShowsAfter}
-use Rattle.cp_endless.proofs.possible.Words.{after_first, after_append}
 use Rattle.cp_endless.proofs.steps.Alone.{alone}
 use Rattle.cp_endless.proofs.steps.Nodes.{cut_node, cut_or_not, chosen_same, opened_same}
-use Rattle.cp_endless.proofs.steps.Rounds.{happens_early}
-use Rattle.cp_ends.specs.Arrivals.{goal_of}
-use Rattle.cp_ends.specs.Ends.{ShowsSo}
-use Rattle.cp_ends.specs.Firsts.{AreFirsts}
-use Rattle.cp_ends.specs.Ends.{EndsSo}
 use Rattle.cp_ends.specs.Named.{HasNoCut}
 use Rattle.cp_ends.specs.declared.end.End as code
-use Rattle.cp_ends.specs.declared.end.End.TheVariants.{Over}
 use Rattle.cp_ends.proofs.named.Kinds.{cut_round, no_steps_more}
 use Rattle.cp_ends.proofs.named.Later.{moments_split, spot_moments}
 use Rattle.cp_ends.proofs.words.Edges.{some_same, edge_node, edge_shown, EndsWith, edge_sets_out, shows_edge, edge_shows}
 use Rattle.cp_ends.proofs.words.Returns.{ComesToNode, ComesAgain, edge_comes, cut_there}
 use Rattle.cp_ends.proofs.words.Translated.{plain_end, value_any, any_value}
-use Rattle.cp_endless.proofs.possible.Walks.{each_append}
 
 module _ {S : Type 0} (sys : System S) where
   -- a stretch that stands still has no more moments

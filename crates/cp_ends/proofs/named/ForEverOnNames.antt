@@ -1,17 +1,8 @@
 -- What goes on for ever on slots does so on the program's own names.
-use Rattle.std.proofs.Common.{◌≡◌, inl, inr, ◌∙◌, ℕ, zero, suc, List, Some, sym, ap, subst}
-use Rattle.cp_tree.specs.Syntax.{Tree}
-use Rattle.cp_tree.specs.Read.{IsRead}
-use Rattle.cp_layout.specs.Laid.{plain, laid}
-use Rattle.cp_slots.specs.Tables.{Tables}
-use Rattle.cp_lawful.specs.Accepted.{IsAccepted}
-use Rattle.cp_machine.specs.System.{Machine}
-use Rattle.cp_machine.specs.declared.event.Event.{Event}
+use Rattle.cp_ends.proofs.Words.{◌≡◌, inl, inr, ◌∙◌, ℕ, zero, suc, List, Some, sym, ap, subst, Tree, IsRead, plain, laid, Tables, IsAccepted, Machine, Event}
+use Rattle.cp_ends.proofs.Words.{slots, System, Choosing, opened, from_there}
 use Rattle.cp_meaning.specs.State.{Gates, State}
 use Rattle.cp_resolved.specs.TreeLayouts.{layouts_of}
-use Rattle.cp_run.specs.Slots.{slots}
-use Rattle.cp_run.specs.System.{System}
-use Rattle.cp_run.specs.Run.{Choosing, opened}
 use Rattle.cp_refine.specs.InStep.{CanGo, GoInStep}
 use Rattle.cp_refine.specs.Law.{Simulates}
 use Rattle.cp_refine.specs.Named.{named, gates_of}
@@ -24,7 +15,6 @@ use Rattle.cp_endless.specs.Standstill.{GoesOn}
 use Rattle.cp_endless.proofs.names.Going.{in_choices, silent_in_step}
 use Rattle.cp_endless.proofs.names.Meant.{leaves}
 use Rattle.cp_endless.proofs.names.Together.{ChoicesAlike, after_there, choosing_alike, turned}
-use Rattle.cp_endless.proofs.steps.Rounds.{from_there}
 use Rattle.cp_ends.specs.ForEver.{GoesOnForEver, IsAloneForEver, SpinsForEver, CallsIn}
 use Rattle.cp_ends.proofs.words.Edges.{some_same}
 use Rattle.cp_endless.proofs.names.WaitTogether.{plus as one_more_step, spot_there}

@@ -1,12 +1,8 @@
 -- Machines of one key are one.
 use Rattle.std.proofs.Common.{◌≡◌, ◌∙◌, ℕ, true, ◌&&◌, List, [], ◌∷◌, refl, ap}
-use Rattle.std.specs.Prelude.{nat_eq}
+use Rattle.cp_ends.proofs.Words.{nat_eq, pointwise, key_of, Machine, same_key}
 use Rattle.std.proofs.lemmas.Bool.{eqb-true, eq-eqb}
-use lib.Pointwise.{pointwise}
-use Rattle.cp_key.specs.Key.{key_of}
 use Rattle.cp_key.proofs.Keys.{key_tells}
-use Rattle.cp_machine.specs.System.{Machine}
-use Rattle.cp_ends.specs.Holds.{same_key}
 use Rattle.cp_resolved.proofs.frames.LeastCells.{right_true as both_second}
 use Rattle.cp_resolved.proofs.counts.FewCells.{left_of as both_first}
 

@@ -1,27 +1,14 @@
 -- Ends by their kinds, and what a complete answer says of the states: they are settled.
 use Rattle.std.proofs.Common.{◌≡◌, ◌⊎◌, inl, inr, ◌∙◌, ◌+◌, ℕ, zero, suc, Bool, true, false, if◌then◌else◌, List, [], ◌∷◌, ◌++◌, map, None, Some, refl, sym, ap, subst, arith}
-use Rattle.std.specs.Prelude.{Contains}
-use Rattle.cp_run.specs.declared.outcome.OutcomeKind.{OutcomeKind}
-use Rattle.cp_run.specs.declared.outcome.OutcomeKind.TheVariants.{StepLimit}
-use Rattle.cp_run.specs.declared.outcome.Turn.{Turn}
-use Rattle.cp_run.specs.System.{System}
-use Rattle.cp_run.specs.Run.{Node, Halted, Choosing, may, opened, chosen}
-use Rattle.cp_endless.specs.Forgetting.{forgetting_system}
+use Rattle.cp_ends.proofs.Words.{Contains, OutcomeKind, StepLimit, Turn, System, Node, Halted, Choosing, may, opened, chosen, forgetting_system, node_after}
+use Rattle.cp_ends.proofs.Words.{LeadsTo, EndsAfter, Repeats, repeated_part, after_append, repeating, has_call, EndsSo, AreFirsts, Over, Alone, Spins}
 use Rattle.cp_endless.specs.MoreSteps.{CutsAreRounds}
-use Rattle.cp_endless.specs.Reachable.{node_after, LeadsTo, EndsAfter}
-use Rattle.cp_endless.specs.Repeats.{Repeats, repeated_part}
 use Rattle.cp_endless.specs.Rounds.{IsCut, IsRound, SetsOut, opening_spot, chosen_spot}
 use Rattle.cp_endless.specs.Settled.{IsIn, IsSettled}
-use Rattle.cp_endless.proofs.possible.Words.{after_append}
 use Rattle.cp_endless.proofs.steps.MoreSteps.{more_steps_rounds}
 use Rattle.cp_endless.proofs.steps.Nodes.{cut_node}
-use Rattle.cp_endless.proofs.steps.Repeating.{repeating}
-use Rattle.cp_ends.specs.Arrivals.{has_call}
-use Rattle.cp_ends.specs.Ends.{EndsSo}
-use Rattle.cp_ends.specs.Firsts.{AreFirsts}
 use Rattle.cp_ends.specs.Named.{kind_of, kinds_of}
 use Rattle.cp_ends.specs.declared.end.End as code
-use Rattle.cp_ends.specs.declared.end.End.TheVariants.{Over, Alone, Spins}
 use Rattle.cp_ends.proofs.words.Edges.{last_same, not_empty, choosing_same, edge_node, EndsWith, node_edge}
 use Rattle.cp_ends.proofs.words.Returns.{ComesToNode, ComesAgain, edge_comes}
 use Rattle.cp_ends.proofs.words.Translated.{alone_of, spins_of, plain_end}

@@ -1,23 +1,12 @@
 -- What a stretch that repeats shows it shows in twice as many steps as the limit.
 use Rattle.std.proofs.Common.{◌≡◌, inl, inr, ◌∙◌, ◌+◌, ℕ, zero, suc, List, ◌∷◌, ◌++◌, Some, sym, ap, subst, arith}
-use Rattle.std.specs.Prelude.{Contains}
-use Rattle.std.proofs.lemmas.List.Elements.{Contains-append_left, Contains-append_right}
-use Rattle.cp_machine.specs.declared.shown.Shown.{Shown}
-use Rattle.cp_run.specs.declared.outcome.Turn.{Turn}
+use Rattle.cp_ends.proofs.Words.{Contains, Contains-append_left, Contains-append_right, Shown, Turn, System, turn_after, each, forgetting_system, Moment}
+use Rattle.cp_ends.proofs.Words.{moments_by, stretch_moments, SetsOut, spot_after, spot_by, shown_at, ShowsAfter, each_append, distance}
 use Rattle.cp_run.specs.declared.outcome.Turn.TheVariants as turn
-use Rattle.cp_run.specs.System.{System}
-use Rattle.cp_run.specs.Run.{turn_after}
-use Rattle.cp_run.specs.Table.{each}
-use Rattle.cp_endless.specs.Forgetting.{forgetting_system}
-use Rattle.cp_endless.specs.Moments.{Moment, moments_by, stretch_moments}
 use Rattle.cp_endless.specs.Repeats.{Repeats, repeated_part, EndsAtEachLimit}
-use Rattle.cp_endless.specs.Rounds.{SetsOut, spot_after, spot_by}
-use Rattle.cp_endless.specs.Shown.{shown_at, ShowsAfter}
 use Rattle.cp_endless.proofs.steps.Alone.{alone, leads_more}
 use Rattle.cp_ends.specs.Ends.{ShowsAgain}
 use Rattle.cp_ends.proofs.words.Edges.{some_same, edge_spot, edge_moments, spot_edge, edge_shows}
-use Rattle.cp_endless.proofs.possible.Walks.{each_append}
-use Rattle.cp_endless.proofs.Basics.{distance}
 
 module _ {S : Type 0} (sys : System S) where
   -- the moments of a stretch, and of what goes on from where it stands

@@ -1,37 +1,22 @@
 -- What is found on slots is so of the program on its own names.
 use Rattle.std.proofs.Common.{◌≡◌, ◌≢◌, ◌⊎◌, inl, inr, ⊎_elim, ◌∙◌, ◌+◌, ◌<◌, ◌≤◌, ℕ, true, List, length, Option, None, Some, ap, subst, arith, ◌||◌, ◌&&◌, ◌==◌}
 use Rattle.std.specs.List.{AllPairs}
-use Rattle.std.specs.Prelude.{All, Contains}
+use Rattle.cp_ends.proofs.Words.{All, Contains, Tree, IsRead, plain, laid, Tables, IsAccepted, Shown, Machine, OutcomeKind, StepLimit, slots, System}
+use Rattle.cp_ends.proofs.Words.{EndsAfter, repeating, EndsSo, ShowsSo, same_key, Over, Alone, Spins}
 use Rattle.std.proofs.lemmas.Bool.{cases_order, lt-ltb}
-use Rattle.cp_tree.specs.Syntax.{Tree}
-use Rattle.cp_tree.specs.Read.{IsRead}
-use Rattle.cp_layout.specs.Laid.{plain, laid}
-use Rattle.cp_slots.specs.Tables.{Tables}
-use Rattle.cp_lawful.specs.Accepted.{IsAccepted}
-use Rattle.cp_machine.specs.declared.shown.Shown.{Shown}
-use Rattle.cp_machine.specs.System.{Machine}
 use Rattle.cp_meaning.specs.State.{Gates}
-use Rattle.cp_run.specs.declared.outcome.OutcomeKind.{OutcomeKind}
-use Rattle.cp_run.specs.declared.outcome.OutcomeKind.TheVariants.{StepLimit}
-use Rattle.cp_run.specs.Slots.{slots}
-use Rattle.cp_run.specs.System.{System}
 use Rattle.cp_refine.specs.Named.{gates_of}
 use Rattle.cp_refine.proofs.Meaning.{meaning_law}
 use Rattle.cp_endless.specs.Layers.{IsPossibleTo}
 use Rattle.cp_endless.specs.Meaning.{MeansTheSame}
-use Rattle.cp_endless.specs.Reachable.{EndsAfter}
 use Rattle.cp_endless.specs.Repeats.{EndsAtEachLimit}
 use Rattle.cp_endless.specs.Silent.{ShowsLess, without_output, silent_slots, silent_named}
 use Rattle.cp_endless.proofs.names.Meant.{endless_meaning, settled_meaning}
 use Rattle.cp_endless.proofs.possible.Tables.{witnesses}
 use Rattle.cp_endless.proofs.slots.Output.{slots_forget}
-use Rattle.cp_endless.proofs.steps.Repeating.{repeating}
-use Rattle.cp_ends.specs.Ends.{EndsSo, ShowsSo}
 use Rattle.cp_ends.specs.Firsts.{is_up_to, in_dictionary, IsFirst, HasWord, Within}
-use Rattle.cp_ends.specs.Holds.{same_key}
 use Rattle.cp_ends.specs.Named.{AnswerMeaningLaw, AnswerToMeaningLaw, AreEndsOnNames, AreValuesOnNames, EndsOnNames, RunsOnNames, ShowsOnNames, IsAnswerOnSlots, IsAnswerOnNames, IsAnswerToOnSlots, IsAnswerToOnNames, IsLookedAt, IsSchedule, IsTold, IsValueTold, kind_of, kinds_of}
 use Rattle.cp_ends.specs.declared.end.End.{End}
-use Rattle.cp_ends.specs.declared.end.End.TheVariants.{Over, Alone, Spins}
 use Rattle.cp_ends.proofs.named.EachLimit.{shows_early}
 use Rattle.cp_ends.proofs.named.ForEver.{alone_for_ever, spins_for_ever}
 use Rattle.cp_ends.proofs.named.ForEverOnNames.{alone_named, spins_named}

@@ -1,26 +1,14 @@
 -- What a stretch that was cut arrives at: an end at the limit of steps, or its round.
 use Rattle.std.proofs.Common.{◌≡◌, ◌≢◌, ◌⊎◌, inl, inr, ⊎_elim, ◌∙◌, ◌<◌, ℕ, zero, suc, Bool, true, false, ◌&&◌, ◌||◌, ◌==◌, eqb, if◌then◌else◌, List, [], ◌∷◌, ◌++◌, Option, None, Some, refl, sym, ap, subst, arith}
-use Rattle.std.specs.List.{AllByRecursion as Each}
+use Rattle.cp_ends.proofs.Words.{Each, Event, Shown, StepLimit, Turn, System, Halted, node_at, turn_after, stretch, each, forgetting_system, Moment, AnyOf}
+use Rattle.cp_ends.proofs.Words.{stretch_moments, spot_after, spot_by, shown_at, End, Arrival, Alone, Spins}
 use Rattle.std.proofs.lemmas.Bool.{cases_order, eq-eqb}
 use Rattle.std.proofs.lemmas.Bool.Decides.{eqb_tells}
-use Rattle.cp_machine.specs.declared.event.Event.{Event}
 use Rattle.cp_machine.specs.declared.event.Event.TheVariants.{Kernel}
-use Rattle.cp_machine.specs.declared.shown.Shown.{Shown}
-use Rattle.cp_run.specs.declared.outcome.OutcomeKind.TheVariants.{StepLimit}
-use Rattle.cp_run.specs.declared.outcome.Turn.{Turn}
 use Rattle.cp_run.specs.declared.outcome.Turn.TheVariants as turn
-use Rattle.cp_run.specs.System.{System}
-use Rattle.cp_run.specs.Run.{Halted, node_at, turn_after, stretch}
-use Rattle.cp_run.specs.Table.{each}
-use Rattle.cp_endless.specs.Forgetting.{forgetting_system}
-use Rattle.cp_endless.specs.Moments.{Moment, AnyOf, stretch_moments}
 use Rattle.cp_endless.specs.Repeats.{CallsAt, IsKernelCall, Repeats, repeated_part}
-use Rattle.cp_endless.specs.Rounds.{spot_after, spot_by}
-use Rattle.cp_endless.specs.Shown.{shown_at}
-use Rattle.cp_ends.specs.Graph.{End, Arrival}
 use Rattle.cp_ends.specs.Arrivals.{return_at, first_return, return_within, is_call, has_call, cut_arrival, goal_of, stretch_by, stretch_arrival, arrival_by}
 use Rattle.cp_ends.specs.declared.end.End as code
-use Rattle.cp_ends.specs.declared.end.End.TheVariants.{Alone, Spins}
 use Rattle.cp_ends.proofs.words.Edges.{some_same, edge_node, edge_spot, edge_shown}
 
 pub pair : {A B : Type 0} (a b : A) (x y : B) → a ≡ b → x ≡ y → (◌≡◌ {A = A × B}) (a, x) (b, y)

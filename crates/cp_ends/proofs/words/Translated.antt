@@ -1,28 +1,13 @@
 -- What the words of the graph lead to is what they lead to in the machine that shows nothing.
 use Rattle.std.proofs.Common.{◌≡◌, ◌⊎◌, inl, inr, ⊎_elim, ◌∙◌, ◌+◌, ℕ, suc, Bool, true, false, if◌then◌else◌, List, [], ◌∷◌, ◌++◌, Option, None, Some, refl, sym, ap, subst, arith}
-use Rattle.std.specs.Prelude.{Contains}
-use Rattle.std.proofs.lemmas.List.Elements.{Contains-append_left, Contains-append_right, Contains-append_cases}
-use Rattle.cp_machine.specs.declared.shown.Shown.{Shown}
-use Rattle.cp_run.specs.declared.outcome.OutcomeKind.{OutcomeKind}
+use Rattle.cp_ends.proofs.Words.{Contains, Contains-append_left, Contains-append_right, Contains-append_cases, Shown, OutcomeKind, Turn, System, Node, Halted}
+use Rattle.cp_ends.proofs.Words.{Choosing, may, settled_turn, opened, chosen, each, forgetting_system, Moment, AnyOf, stretch_moments, node_after, LeadsTo}
+use Rattle.cp_ends.proofs.Words.{EndsAfter, SetsOut, spot_after, shown_at, after_first, repeating, happens_early, EndsSo, ShowsSo, Over, Alone, Spins}
 use Rattle.cp_run.specs.declared.outcome.OutcomeKind.TheVariants.{Finished, AllWaiting, RunError, ChoiceLimit, StepLimit, OutputLimit}
-use Rattle.cp_run.specs.declared.outcome.Turn.{Turn}
-use Rattle.cp_run.specs.System.{System}
-use Rattle.cp_run.specs.Run.{Node, Halted, Choosing, may, settled_turn, opened, chosen}
-use Rattle.cp_run.specs.Table.{each}
-use Rattle.cp_endless.specs.Forgetting.{forgetting_system}
-use Rattle.cp_endless.specs.Moments.{Moment, AnyOf, stretch_moments}
-use Rattle.cp_endless.specs.Reachable.{node_after, LeadsTo, EndsAfter}
 use Rattle.cp_endless.specs.Repeats.{Repeats, repeated_part, IsAloneAfter, SpinsAfter}
-use Rattle.cp_endless.specs.Rounds.{SetsOut, spot_after}
-use Rattle.cp_endless.specs.Shown.{shown_at}
-use Rattle.cp_endless.proofs.possible.Words.{after_first}
-use Rattle.cp_endless.proofs.steps.Repeating.{repeating}
-use Rattle.cp_endless.proofs.steps.Rounds.{happens_early}
 use Rattle.cp_ends.specs.Graph.{Goal, Place, End, Arrival, Graph, further, arrival_from, ArrivesAt, LeadsToPlace, LeadsToEnd, ShowsLast}
 use Rattle.cp_ends.specs.Arrivals.{arrival_by, goal_of, has_call, stretch_arrival, first_arrival, next_arrival, ends_graph}
-use Rattle.cp_ends.specs.Ends.{EndsSo, ShowsSo}
 use Rattle.cp_ends.specs.declared.end.End as code
-use Rattle.cp_ends.specs.declared.end.End.TheVariants.{Over, Alone, Spins}
 use Rattle.cp_ends.proofs.words.Edges.{some_same, first_edge, first_node, edge_by, next_edge, next_node, edge_node, edge_spot, edge_shown, EndsWith, edge_once, node_edge, edge_leads, spot_edge, edge_sets_out, shows_edge, edge_shows}
 use Rattle.cp_ends.proofs.words.Returns.{alone_or_spins, edge_arrival, ComesToNode, ComesAgain, edge_comes, has_calls, has_no_calls}
 use Rattle.cp_ends.proofs.Searching.Arrivals.{last_cases as last_of}

@@ -1,30 +1,13 @@
 -- The whole step of an assignment, of whatever type the target is.
 use Rattle.std.proofs.Common.{◌≡◌, ◌∙◌, ℕ, true, List, [], ◌∷◌, ◌++◌, Option, Some, ap, sym, refl, subst, arith}
-use Rattle.std.specs.Prelude.{ℤ, pos, int_le, slice_index}
-use Rattle.cp_tree.specs.Syntax.{Program, Expression, Designator, assign}
+use Rattle.cp_refine.proofs.Words.{ℤ, pos, int_le, slice_index, Program, Expression, Designator, assign, Address, Frame, HasCells, Memory, put_number, Entry}
+use Rattle.cp_refine.proofs.Words.{Machine, thread_at, with_stack, memory_at, number_put, rest_of, step_at, Range, Ty, ordinal, set_over, array_over}
+use Rattle.cp_refine.proofs.Words.{record_with, is_within, number_value, Place, Item, statement_item, State, stored, becomes, view_of, step_of, settled}
+use Rattle.cp_refine.proofs.Words.{cells_of, Layouts, here, HasType, Sees, PlaceAt}
 use Rattle.cp_slots.specs.Code as code
-use Rattle.cp_store.specs.declared.memory.Address.{Address}
-use Rattle.cp_store.specs.declared.memory.Frame.{Frame}
-use Rattle.cp_store.specs.Inside.{HasCells}
-use Rattle.cp_store.specs.Memory.{Memory, put_number}
-use Rattle.cp_machine.specs.declared.process.Entry.{Entry}
-use Rattle.cp_machine.specs.Machine.{Machine, thread_at, with_stack}
-use Rattle.cp_machine.specs.Memory.{memory_at, number_put}
-use Rattle.cp_machine.specs.Stack.{rest_of}
 use Rattle.cp_machine.specs.Statements as statements
-use Rattle.cp_machine.specs.Step.{step_at}
-use Rattle.cp_meaning.specs.Types.{Range, Ty, ordinal, set_over, array_over, record_with, is_within}
-use Rattle.cp_meaning.specs.Values.{number_value}
-use Rattle.cp_meaning.specs.State.{Place, Item, statement_item, State}
-use Rattle.cp_meaning.specs.Places.{stored}
-use Rattle.cp_meaning.specs.LocalRules.{becomes}
-use Rattle.cp_meaning.specs.Steps.{view_of, step_of, settled}
-use Rattle.cp_resolved.specs.Layouts.{cells_of, Layouts, here}
 use Rattle.cp_resolved.specs.Compiled.{Form, as_ordinal, as_set, as_place, a_variable, expression_form, designator_form}
-use Rattle.cp_resolved.specs.Encoded.{HasType}
 use Rattle.cp_resolved.specs.Stands.{Ground, ItemAt, AssignedBy}
-use Rattle.cp_refine.specs.Agrees.{Sees}
-use Rattle.cp_refine.specs.Represents.{PlaceAt}
 use Rattle.cp_refine.proofs.assignments.Assignments.{assign_runs}
 use Rattle.cp_refine.proofs.assignments.Blocks.{WritesBlock, none_written, one_written}
 use Rattle.cp_refine.proofs.assignments.BlockStores.{VariablesApart, block_success}

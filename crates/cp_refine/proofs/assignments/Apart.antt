@@ -1,19 +1,7 @@
 -- Of tables that stand for a program, variables are apart: those of frames, those of components, and the frames of a process.
 use Rattle.std.proofs.Common.{◌≡◌, ◌≢◌, ℕ, ◌+◌, ◌<◌, ◌≤◌, ◌⊎◌, inl, inr, Bool, true, false, List, [], ◌∷◌, ap, sym, refl, subst, arith, length, Some}
-use Rattle.std.proofs.lemmas.Slice.Eq.{bytes_eq-Decides}
-use Rattle.cp_tree.specs.Syntax.{Program}
-use Rattle.cp_slots.specs.Systems.{IsTyped}
-use Rattle.cp_slots.specs.Tables.{Tables, component_at}
-use Rattle.cp_store.specs.declared.memory.Frame.{Frame}
-use Rattle.cp_machine.specs.declared.process.Entry.{Entry}
-use Rattle.cp_machine.specs.declared.process.Entry.TheVariants.{Rest, Successor, Return, InitEnd}
-use Rattle.cp_machine.specs.Fits.{StackFits, size_of}
-use Rattle.cp_meaning.specs.Names.{Name, same_name}
-use Rattle.cp_meaning.specs.Types.{Ty}
-use Rattle.cp_resolved.specs.Layouts.{cells_of, Layouts, look}
-use Rattle.cp_resolved.specs.Resolved.{RoutineIs, SystemIs}
-use Rattle.cp_resolved.specs.Stands.{Ground}
-use Rattle.cp_refine.specs.Represents.{frames_of}
+use Rattle.cp_refine.proofs.Words.{bytes_eq-Decides, Program, IsTyped, Tables, component_at, Frame, Entry, Rest, Successor, Return, InitEnd, StackFits}
+use Rattle.cp_refine.proofs.Words.{size_of, Name, same_name, Ty, cells_of, Layouts, look, RoutineIs, SystemIs, Ground, frames_of}
 use Rattle.cp_refine.proofs.control.Control.{top_frame}
 use Rattle.cp_refine.proofs.control.Moving.{same_or_other}
 use Rattle.cp_refine.proofs.assignments.Writing.{ComponentsApart, side as below_or_above}

@@ -1,15 +1,7 @@
 -- What an assignment to a variable of an open call leaves as it was: entries, and what stands for the items that are still to be done.
 use Rattle.std.proofs.Common.{◌≡◌, ℕ, suc, ◌==◌, Bool, true, false, if◌then◌else◌, List, [], ◌∷◌, ap, sym, refl, subst, length}
-use Rattle.std.specs.Prelude.{◌&&◌, ◌||◌, slice_set}
-use Rattle.cp_tree.specs.Syntax.{Program}
-use Rattle.cp_store.specs.declared.memory.Frame.{Frame}
-use Rattle.cp_machine.specs.declared.process.Entry.{Entry}
-use Rattle.cp_machine.specs.declared.process.Entry.TheVariants.{Rest, Successor, Return, InitEnd}
-use Rattle.cp_meaning.specs.State.{Environment, Call, Item, has_entry, is_entry_kind}
-use Rattle.cp_meaning.specs.Places.{with_environment, with_call_environment}
-use Rattle.cp_resolved.specs.Layouts.{Layouts}
-use Rattle.cp_resolved.specs.Stands.{Ground}
-use Rattle.cp_refine.specs.Represents.{StackIs}
+use Rattle.cp_refine.proofs.Words.{◌&&◌, ◌||◌, slice_set, Program, Frame, Entry, Rest, Successor, Return, InitEnd, Environment, Call, Item, has_entry}
+use Rattle.cp_refine.proofs.Words.{is_entry_kind, with_environment, with_call_environment, Layouts, Ground, StackIs}
 
 -- ---- what an environment does not change
 

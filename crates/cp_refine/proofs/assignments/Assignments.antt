@@ -1,42 +1,20 @@
 -- The whole step of an assignment of an ordinal, and that to a variable of an open call.
 use Rattle.std.proofs.Common.{◌≡◌, ◌∙◌, ℕ, Bool, true, false, if◌then◌else◌, List, ◌∷◌, ◌++◌, Option, Some, ap, sym, refl, subst}
-use Rattle.std.specs.Prelude.{ℤ, Result, Ok, Err, slice_index}
-use Rattle.cp_tree.specs.Syntax.{Program, Expression, Designator, assign}
-use Rattle.cp_slots.specs.declared.item.Action.{Action}
+use Rattle.cp_refine.proofs.Words.{ℤ, Result, Ok, Err, slice_index, Program, Expression, Designator, assign, Action, item_at, Address, Frame, Entry, Machine}
+use Rattle.cp_refine.proofs.Words.{thread_at, with_stack, memory_at, number_put, address_of, rest_of, step_at, Outcome, out_of_range, ◌>>=◌, Range, Ty}
+use Rattle.cp_refine.proofs.Words.{ordinal, is_within, Value, number_value, Place, Item, statement_item, State, Typed, Target, stored, value, target_value}
+use Rattle.cp_refine.proofs.Words.{Stepped, assigned, becomes, view_of, step_of, settled, plain_value, plain_address, Layouts, Here, here, as_ordinal}
+use Rattle.cp_refine.proofs.Words.{a_variable, expression_form, designator_form, Ground, ItemAt, PlaceAt, OrdinalAgrees, TargetAgrees, Sees, expression_calls}
+use Rattle.cp_refine.proofs.Words.{designator_calls}
 use Rattle.cp_slots.specs.declared.item.Action.TheVariants as action
 use Rattle.cp_slots.specs.declared.place.OrdinalExpression as code_expression
 use Rattle.cp_slots.specs.declared.place.Place as code_place
-use Rattle.cp_slots.specs.Tables.{item_at}
 use Rattle.cp_store.specs.declared.error.ErrorName as slots
 use Rattle.cp_store.specs.declared.error.ErrorName.TheVariants as error
-use Rattle.cp_store.specs.declared.memory.Address.{Address}
-use Rattle.cp_store.specs.declared.memory.Frame.{Frame}
-use Rattle.cp_machine.specs.declared.process.Entry.{Entry}
-use Rattle.cp_machine.specs.Machine.{Machine, thread_at, with_stack}
-use Rattle.cp_machine.specs.Memory.{memory_at, number_put, address_of}
-use Rattle.cp_machine.specs.Stack.{rest_of}
 use Rattle.cp_machine.specs.Statements as statements
-use Rattle.cp_machine.specs.Step.{step_at}
-use Rattle.cp_meaning.specs.Outcome.{Outcome, out_of_range, ◌>>=◌}
-use Rattle.cp_meaning.specs.Types.{Range, Ty, ordinal, is_within}
-use Rattle.cp_meaning.specs.Values.{Value, number_value}
-use Rattle.cp_meaning.specs.State.{Place, Item, statement_item, State}
-use Rattle.cp_meaning.specs.Operations.{Typed}
-use Rattle.cp_meaning.specs.Places.{Target, stored}
-use Rattle.cp_meaning.specs.Expressions.{value, target_value}
-use Rattle.cp_meaning.specs.Kernel.{Stepped}
-use Rattle.cp_meaning.specs.LocalRules.{assigned, becomes}
-use Rattle.cp_meaning.specs.Steps.{view_of, step_of, settled}
 use Rattle.cp_slots.specs.Code as code
-use Rattle.cp_refine.specs.PlainValues.{plain_value, plain_address}
-use Rattle.cp_resolved.specs.Layouts.{Layouts, Here, here}
-use Rattle.cp_resolved.specs.Compiled.{as_ordinal, a_variable, expression_form, designator_form}
-use Rattle.cp_resolved.specs.Stands.{Ground, ItemAt}
-use Rattle.cp_refine.specs.Represents.{PlaceAt}
-use Rattle.cp_refine.specs.Agrees.{OrdinalAgrees, TargetAgrees, Sees}
 use Rattle.cp_refine.proofs.control.Control.{Taken, StepIs, takes_item, acts, fails}
 use Rattle.cp_refine.proofs.expressions.Expressions.{expression_ok, designator_ok}
-use Rattle.cp_meaning.specs.Lifting.{expression_calls, designator_calls}
 use Rattle.cp_refine.proofs.calls.Kept.{kept_left, kept_right}
 use Rattle.cp_refine.proofs.expressions.Views.{views_agree}
 use Rattle.cp_refine.proofs.control.Running.{Executes, frames_below, sees_now}

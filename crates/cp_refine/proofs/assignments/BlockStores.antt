@@ -1,24 +1,9 @@
 -- A value of any type is stored at a place, whether of an open call or of a component.
-use Rattle.std.proofs.Common.{◌≡◌, ℕ, List, ◌++◌, Option, subst, sym}
-use Rattle.cp_tree.specs.Syntax.{Program}
-use Rattle.cp_store.specs.declared.memory.Address.{Address}
-use Rattle.cp_store.specs.Memory.{Memory}
-use Rattle.cp_machine.specs.declared.process.Entry.{Entry}
-use Rattle.cp_machine.specs.Machine.{Machine, thread_at, with_stack}
-use Rattle.cp_machine.specs.Memory.{memory_at, with_memory}
-use Rattle.cp_machine.specs.Stack.{rest_of}
+use Rattle.cp_refine.proofs.Words.{◌≡◌, ℕ, List, ◌++◌, Option, subst, sym, Program, Address, Memory, Entry, Machine, thread_at, with_stack, memory_at}
+use Rattle.cp_refine.proofs.Words.{with_memory, rest_of, Ty, Value, Holder, in_call, in_component, Place, Item, State, stored, becomes, view_of, settled}
+use Rattle.cp_refine.proofs.Words.{Layouts, encode, HasType, Ground, PlaceAt, StackIs, frames_of}
 use Rattle.cp_machine.specs.Statements as statements
-use Rattle.cp_meaning.specs.Types.{Ty}
-use Rattle.cp_meaning.specs.Values.{Value}
 use Rattle.cp_meaning.specs.State as named
-use Rattle.cp_meaning.specs.State.{Holder, in_call, in_component, Place, Item, State}
-use Rattle.cp_meaning.specs.Places.{stored}
-use Rattle.cp_meaning.specs.LocalRules.{becomes}
-use Rattle.cp_meaning.specs.Steps.{view_of, settled}
-use Rattle.cp_resolved.specs.Layouts.{Layouts}
-use Rattle.cp_resolved.specs.Encoded.{encode, HasType}
-use Rattle.cp_resolved.specs.Stands.{Ground}
-use Rattle.cp_refine.specs.Represents.{PlaceAt, StackIs, frames_of}
 use Rattle.cp_refine.proofs.assignments.Blocks.{WritesBlock}
 use Rattle.cp_refine.proofs.control.Control.{Goes, goes, Taken, StepIs}
 use Rattle.cp_refine.proofs.control.Lists.{stack_rest, frames_rest}

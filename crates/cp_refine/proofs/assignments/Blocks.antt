@@ -1,20 +1,11 @@
 -- Cells that are written one after the other: a set, and the copy of an array or a record.
 use Rattle.std.proofs.Common.{◌≡◌, ◌≢◌, ◌∙◌, ℕ, zero, suc, ◌+◌, ◌*◌, ◌-◌, ◌/◌, ◌%◌, ◌^◌, ◌<◌, ◌≤◌, ◌⊎◌, inl, inr, List, Some, ap, sym, refl, subst, arith, length, get_or}
-use Rattle.std.specs.Prelude.{ℤ, pos, slice_index_or}
+use Rattle.cp_refine.proofs.Words.{ℤ, pos, slice_index_or, cases_lt, Address, Permanent, Local, HasCells, Ty, Value, Choice, with_part, cells_of, encode}
+use Rattle.cp_refine.proofs.Words.{set_cells, HasType, chosen_at, Few, further, LiesAt}
 use Rattle.std.specs.Int.{cast_signed, w16}
-use Rattle.std.proofs.lemmas.Bool.{cases_lt}
-use Rattle.cp_store.specs.declared.memory.Address.{Address}
-use Rattle.cp_store.specs.declared.memory.Address.TheVariants.{Permanent, Local}
-use Rattle.cp_store.specs.Inside.{HasCells}
 use Rattle.cp_store.specs.Memory.{Memory, cell_at, moved, put_number, put_copy}
 use Rattle.cp_store.specs.Sets.{put_word, put_pair, put_quad, put_set}
-use Rattle.cp_meaning.specs.Types.{Ty}
-use Rattle.cp_meaning.specs.Values.{Value, Choice, with_part}
-use Rattle.cp_resolved.specs.Layouts.{cells_of}
-use Rattle.cp_resolved.specs.Encoded.{encode, set_cells, HasType, chosen_at}
-use Rattle.cp_refine.specs.Agrees.{Few}
 use Rattle.cp_refine.specs.Given.{OthersKept, PutsBlock}
-use Rattle.cp_refine.specs.Represents.{further, LiesAt}
 use Rattle.cp_refine.proofs.control.Moving.{same_or_other}
 use Rattle.cp_refine.proofs.expressions.Parts.{encode_length}
 use Rattle.cp_refine.proofs.expressions.Reading.{further_further}

@@ -1,18 +1,9 @@
 -- A value of any type that is written into a permanent variable, or a part of one: all components have what they have then.
 use Rattle.std.proofs.Common.{◌≡◌, ◌≢◌, ◌∙◌, ℕ, ◌+◌, ◌<◌, ◌≤◌, ◌⊎◌, inl, inr, true, false, List, Option, Some, ap, sym, subst, arith, length}
-use Rattle.std.proofs.lemmas.Slice.Eq.{bytes_eq-Decides}
-use Rattle.cp_slots.specs.Tables.{Tables, component_at}
-use Rattle.cp_store.specs.declared.memory.Address.TheVariants.{Permanent}
-use Rattle.cp_store.specs.Memory.{Memory}
-use Rattle.cp_meaning.specs.Names.{Name, same_name}
-use Rattle.cp_meaning.specs.Types.{Ty}
-use Rattle.cp_meaning.specs.Values.{Value, Choice, with_part}
+use Rattle.cp_refine.proofs.Words.{bytes_eq-Decides, Tables, component_at, Permanent, Memory, Name, same_name, Ty, Value, Choice, with_part, Content, holds}
+use Rattle.cp_refine.proofs.Words.{Environment, Component, no_component, cells_of, Layouts, look, encode, HasType, chosen_at, further, LiesAt}
 use Rattle.cp_meaning.specs.State as named
-use Rattle.cp_meaning.specs.State.{Content, holds, Environment, Component, no_component}
 use Rattle.cp_meaning.specs.Places.{content_of, with_content, value_held, with_permanents}
-use Rattle.cp_resolved.specs.Layouts.{cells_of, Layouts, look}
-use Rattle.cp_resolved.specs.Encoded.{encode, HasType, chosen_at}
-use Rattle.cp_refine.specs.Represents.{further, LiesAt}
 use Rattle.cp_refine.proofs.assignments.Blocks.{WritesBlock, block_kept, block_new}
 use Rattle.cp_refine.proofs.control.Moving.{set_here, set_there, same_or_other}
 use Rattle.cp_refine.proofs.expressions.Parts.{encode_length, part_stands}

@@ -1,41 +1,18 @@
 -- The whole step of an assignment of an array or a record.
 use Rattle.std.proofs.Common.{◌≡◌, ◌∙◌, ℕ, List, ◌∷◌, ◌++◌, Option, Some, ap, sym, refl, subst, arith}
-use Rattle.std.specs.Prelude.{Result, Ok, Err, slice_index}
-use Rattle.cp_tree.specs.Syntax.{Program, Expression, Designator, assign}
-use Rattle.cp_slots.specs.declared.item.Action.{Action}
+use Rattle.cp_refine.proofs.Words.{Result, Ok, Err, slice_index, Program, Expression, Designator, assign, Action, item_at, Address, Frame, Entry, Machine}
+use Rattle.cp_refine.proofs.Words.{thread_at, with_stack, rest_of, step_at, Outcome, ◌>>=◌, Ty, Value, Place, Item, statement_item, State, Typed, checked}
+use Rattle.cp_refine.proofs.Words.{Target, value_at, stored, value, target_value, Stepped, expression_calls, designator_calls, assigned, becomes, view_of}
+use Rattle.cp_refine.proofs.Words.{step_of, settled, cells_of, Layouts, Here, here, as_place, a_variable, expression_form, designator_form, encode, Ground}
+use Rattle.cp_refine.proofs.Words.{ItemAt, TargetAgrees, Sees, plain_address, PlaceAt, CallsHold, own_memory}
 use Rattle.cp_slots.specs.declared.item.Action.TheVariants as action
 use Rattle.cp_slots.specs.declared.place.Place as code_place
-use Rattle.cp_slots.specs.Tables.{item_at}
 use Rattle.cp_store.specs.declared.error.ErrorName as slots
-use Rattle.cp_store.specs.declared.memory.Address.{Address}
-use Rattle.cp_store.specs.declared.memory.Frame.{Frame}
 use Rattle.cp_store.specs.Memory.{put_copy}
-use Rattle.cp_machine.specs.declared.process.Entry.{Entry}
-use Rattle.cp_machine.specs.Machine.{Machine, thread_at, with_stack}
 use Rattle.cp_machine.specs.Memory.{memory_at, cells_put, address_of}
-use Rattle.cp_machine.specs.Stack.{rest_of}
 use Rattle.cp_machine.specs.Statements as statements
-use Rattle.cp_machine.specs.Step.{step_at}
-use Rattle.cp_meaning.specs.Outcome.{Outcome, ◌>>=◌}
-use Rattle.cp_meaning.specs.Types.{Ty}
-use Rattle.cp_meaning.specs.Values.{Value}
 use Rattle.cp_meaning.specs.State as named
-use Rattle.cp_meaning.specs.State.{Place, Item, statement_item, State}
-use Rattle.cp_meaning.specs.Operations.{Typed, checked}
-use Rattle.cp_meaning.specs.Places.{Target, value_at, stored}
-use Rattle.cp_meaning.specs.Expressions.{value, target_value}
-use Rattle.cp_meaning.specs.Kernel.{Stepped}
-use Rattle.cp_meaning.specs.Lifting.{expression_calls, designator_calls}
-use Rattle.cp_meaning.specs.LocalRules.{assigned, becomes}
-use Rattle.cp_meaning.specs.Steps.{view_of, step_of, settled}
 use Rattle.cp_slots.specs.Code as code
-use Rattle.cp_resolved.specs.Layouts.{cells_of, Layouts, Here, here}
-use Rattle.cp_resolved.specs.Compiled.{as_place, a_variable, expression_form, designator_form}
-use Rattle.cp_resolved.specs.Encoded.{encode}
-use Rattle.cp_resolved.specs.Stands.{Ground, ItemAt}
-use Rattle.cp_refine.specs.Agrees.{TargetAgrees, Sees}
-use Rattle.cp_refine.specs.PlainValues.{plain_address}
-use Rattle.cp_refine.specs.Represents.{PlaceAt, CallsHold, own_memory}
 use Rattle.cp_refine.proofs.assignments.Blocks.{WritesFirst, WritesBlock, copy_writes}
 use Rattle.cp_refine.proofs.assignments.BlockStores.{VariablesApart, block_success}
 use Rattle.cp_refine.proofs.control.Control.{Taken, StepIs, takes_item, acts, fails, top_frame}

@@ -1,27 +1,11 @@
 -- A value of any type is assigned to a variable of an open call, or to a part of one: what stands for what is kept.
 use Rattle.std.proofs.Common.{◌≡◌, ◌∙◌, ℕ, ◌+◌, ◌<◌, ◌≤◌, List, Option, Some, None, ap, sym, refl, subst, arith, length}
-use Rattle.std.specs.Prelude.{ℤ, slice_set}
-use Rattle.cp_tree.specs.Syntax.{Program}
-use Rattle.cp_slots.specs.Tables.{component_at}
-use Rattle.cp_store.specs.declared.memory.Address.{Address}
-use Rattle.cp_store.specs.declared.memory.Address.TheVariants.{Permanent, Local}
-use Rattle.cp_store.specs.declared.memory.Frame.{Frame}
-use Rattle.cp_store.specs.Memory.{Memory, cell_at}
-use Rattle.cp_machine.specs.declared.process.Entry.{Entry}
-use Rattle.cp_machine.specs.Machine.{Machine, Thread, thread_at, no_thread, with_stack}
-use Rattle.cp_machine.specs.Memory.{memory_at, with_memory}
+use Rattle.cp_refine.proofs.Words.{ℤ, slice_set, Program, component_at, Address, Permanent, Local, Frame, Memory, cell_at, Entry, Machine, Thread, thread_at}
+use Rattle.cp_refine.proofs.Words.{no_thread, with_stack, memory_at, with_memory, Name, Ty, Value, Choice, in_call, ready, Environment, Call, Item, Process}
+use Rattle.cp_refine.proofs.Words.{State, content_of, value_held, call_above, with_call_environment, stored, becomes, view_of, settled, cells_of, Layouts}
+use Rattle.cp_refine.proofs.Words.{cell_named, look, encode, HasType, chosen_at, Ground}
 use Rattle.cp_machine.specs.Statements as statements
-use Rattle.cp_meaning.specs.Names.{Name}
-use Rattle.cp_meaning.specs.Types.{Ty}
-use Rattle.cp_meaning.specs.Values.{Value, Choice}
 use Rattle.cp_meaning.specs.State as named
-use Rattle.cp_meaning.specs.State.{in_call, ready, Environment, Call, Item, Process, State}
-use Rattle.cp_meaning.specs.Places.{content_of, value_held, call_above, with_call_environment, stored}
-use Rattle.cp_meaning.specs.LocalRules.{becomes}
-use Rattle.cp_meaning.specs.Steps.{view_of, settled}
-use Rattle.cp_resolved.specs.Layouts.{cells_of, Layouts, cell_named, look}
-use Rattle.cp_resolved.specs.Encoded.{encode, HasType, chosen_at}
-use Rattle.cp_resolved.specs.Stands.{Ground}
 use Rattle.cp_refine.specs.Represents.{further, frame_above, InFrame, PlaceAt, StackIs, CallsHold, frames_of, own_memory, ProcessIs, StatusIs, Represents}
 use Rattle.cp_refine.proofs.assignments.Assigning.{entries_kept, stack_kept, set_set}
 use Rattle.cp_refine.proofs.assignments.Blocks.{WritesBlock}

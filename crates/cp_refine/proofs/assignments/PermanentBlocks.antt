@@ -1,31 +1,14 @@
 -- A value of any type is assigned to a permanent variable, or to a part of one: what stands for what is kept.
 use Rattle.std.proofs.Common.{◌≡◌, ◌≢◌, ◌∙◌, ℕ, ◌+◌, ◌<◌, ◌⊎◌, inl, inr, Bool, true, false, List, [], Option, Some, None, ap, sym, refl, subst, arith, length, length-set}
-use Rattle.std.specs.Prelude.{ℤ, slice_set}
+use Rattle.cp_refine.proofs.Words.{ℤ, slice_set, bytes_eq-Decides, Program, ComponentKind, component_at, Address, Permanent, Local, Frame, Memory, cell_at}
+use Rattle.cp_refine.proofs.Words.{Entry, Machine, Thread, thread_at, no_thread, phase_at, with_stack, memory_at, with_memory, Name, same_name, Ty}
+use Rattle.cp_refine.proofs.Words.{queue_type, Value, Choice, part_at, View, content_of, value_held, environment_of, value_at, stored, becomes, view_of}
+use Rattle.cp_refine.proofs.Words.{settled, Layouts, look, encode, HasType, chosen_at, Ground}
 use Rattle.std.proofs.lemmas.List.{set-get_or}
-use Rattle.std.proofs.lemmas.Slice.Eq.{bytes_eq-Decides}
-use Rattle.cp_tree.specs.Syntax.{Program}
-use Rattle.cp_slots.specs.declared.tables.ComponentKind.{ComponentKind}
 use Rattle.cp_slots.specs.declared.tables.ComponentKind.TheVariants as kind
-use Rattle.cp_slots.specs.Tables.{component_at}
-use Rattle.cp_store.specs.declared.memory.Address.{Address}
-use Rattle.cp_store.specs.declared.memory.Address.TheVariants.{Permanent, Local}
-use Rattle.cp_store.specs.declared.memory.Frame.{Frame}
-use Rattle.cp_store.specs.Memory.{Memory, cell_at}
-use Rattle.cp_machine.specs.declared.process.Entry.{Entry}
-use Rattle.cp_machine.specs.Machine.{Machine, Thread, thread_at, no_thread, phase_at, with_stack}
-use Rattle.cp_machine.specs.Memory.{memory_at, with_memory}
 use Rattle.cp_machine.specs.Statements as statements
-use Rattle.cp_meaning.specs.Names.{Name, same_name}
-use Rattle.cp_meaning.specs.Types.{Ty, queue_type}
-use Rattle.cp_meaning.specs.Values.{Value, Choice, part_at}
 use Rattle.cp_meaning.specs.State as named
 use Rattle.cp_meaning.specs.State.{Holder, in_call, in_component, Place, Content, Component, no_component, ComponentStatus, uninitialised, initialising, initialised, Item, State}
-use Rattle.cp_meaning.specs.Places.{View, content_of, value_held, environment_of, value_at, stored}
-use Rattle.cp_meaning.specs.LocalRules.{becomes}
-use Rattle.cp_meaning.specs.Steps.{view_of, settled}
-use Rattle.cp_resolved.specs.Layouts.{Layouts, look}
-use Rattle.cp_resolved.specs.Encoded.{encode, HasType, chosen_at}
-use Rattle.cp_resolved.specs.Stands.{Ground}
 use Rattle.cp_refine.specs.Represents.{further, BeginsAt, PlaceAt, StackIs, frames_of, PhaseIs, HasBegun, ComponentIs, MonitorIs, QueuesAre, all_permanents, Represents}
 use Rattle.cp_refine.proofs.assignments.Blocks.{WritesBlock}
 use Rattle.cp_refine.proofs.assignments.BlocksInComponents.{after, block_content_kept, components_with_block}

@@ -1,21 +1,9 @@
 -- Two places of one type are the same or have no cell in common, whether they are of open calls or of components.
 use Rattle.std.proofs.Common.{◌≡◌, ◌≢◌, ◌∙◌, ℕ, ◌+◌, ◌<◌, ◌≤◌, ◌==◌, ◌⊎◌, inl, inr, Bool, true, false, if◌then◌else◌, List, [], ◌∷◌, Option, Some, None, ap, sym, refl, subst, arith, length}
-use Rattle.std.proofs.lemmas.Bool.{eqb-true}
-use Rattle.std.proofs.lemmas.Slice.Eq.{bytes_eq-Decides}
-use Rattle.cp_slots.specs.Tables.{Tables, component_at}
-use Rattle.cp_store.specs.declared.memory.Address.{Address}
-use Rattle.cp_store.specs.declared.memory.Address.TheVariants.{Permanent, Local}
-use Rattle.cp_store.specs.declared.memory.Frame.{Frame}
-use Rattle.cp_store.specs.Memory.{Memory}
-use Rattle.cp_meaning.specs.Names.{Name, same_name}
-use Rattle.cp_meaning.specs.Types.{Ty}
-use Rattle.cp_meaning.specs.Values.{Choice}
+use Rattle.cp_refine.proofs.Words.{eqb-true, bytes_eq-Decides, Tables, component_at, Address, Permanent, Local, Frame, Memory, Name, same_name, Ty, Choice}
+use Rattle.cp_refine.proofs.Words.{Holder, in_call, in_component, Place, Call, View, content_of, value_held, call_above, cells_of, Layouts, cell_named, look}
+use Rattle.cp_refine.proofs.Words.{chosen_at, further, LiesAt, frame_above, InFrame, BeginsAt, PlaceAt, CallsHold}
 use Rattle.cp_meaning.specs.State as named
-use Rattle.cp_meaning.specs.State.{Holder, in_call, in_component, Place, Call}
-use Rattle.cp_meaning.specs.Places.{View, content_of, value_held, call_above}
-use Rattle.cp_resolved.specs.Layouts.{cells_of, Layouts, cell_named, look}
-use Rattle.cp_resolved.specs.Encoded.{chosen_at}
-use Rattle.cp_refine.specs.Represents.{further, LiesAt, frame_above, InFrame, BeginsAt, PlaceAt, CallsHold}
 use Rattle.cp_refine.proofs.control.Moving.{same_or_other}
 use Rattle.cp_refine.proofs.assignments.Overlaps.{SameOrApart, part_ends, parts_apart}
 use Rattle.cp_refine.proofs.expressions.Reading.{AllLie, held_above, frame_same as frame_is}

@@ -1,13 +1,8 @@
 -- A value with another part has the cells of that part where it lies, and its own elsewhere.
 use Rattle.std.proofs.Common.{◌≡◌, ◌∙◌, ℕ, zero, suc, ◌+◌, ◌*◌, ◌-◌, ◌<◌, ◌≤◌, ◌⊎◌, inl, inr, Bool, true, false, if◌then◌else◌, List, [], ◌∷◌, ◌++◌, Option, Some, None, ap, sym, refl, subst, arith, length, get_or}
-use Rattle.std.specs.Prelude.{ℤ, pos, nat_lt}
-use Rattle.std.proofs.lemmas.Bool.{ltb-true}
-use Rattle.std.proofs.lemmas.List.{get_or-append-add, get_or_append_left}
-use Rattle.std.proofs.Math.Nat.{suc-mul}
-use Rattle.cp_meaning.specs.Names.{Name, same_name}
+use Rattle.cp_refine.proofs.Words.{ℤ, pos, nat_lt, ltb-true, get_or-append-add, get_or_append_left, suc-mul, Name, same_name, cells_of}
 use Rattle.cp_meaning.specs.Types.{Ty, ordinal, queue_type, set_over, array_over, record_with, component_of, FieldTypes, no_field_types, more_field_types, length_of_range}
 use Rattle.cp_meaning.specs.Values.{Value, array_value, record_value, Values, no_values, more_values, FieldValues, no_field_values, more_field_values, Choice, the_field, the_element, part_of, part_at, with_element, with_field, with_one_part, with_part}
-use Rattle.cp_resolved.specs.Layouts.{cells_of}
 use Rattle.cp_resolved.specs.Encoded.{encode, encode_all, encode_fields, HasType, AllHave, HaveTypes, Chosen, further_chosen, field_chosen, one_chosen, then_chosen, chosen_at}
 use Rattle.cp_refine.proofs.expressions.Parts.{encode_length, PartAt, one_part, part_stands, some_chosen}
 

@@ -1,45 +1,21 @@
 -- The whole step of an assignment of a set.
 use Rattle.std.proofs.Common.{◌≡◌, ◌∙◌, ℕ, Bool, true, false, if◌then◌else◌, List, ◌∷◌, ◌++◌, Option, Some, ap, sym, refl, subst, arith}
-use Rattle.std.specs.Prelude.{pos, int_le, Result, Ok, Err, slice_index}
-use Rattle.cp_tree.specs.Syntax.{Program, Expression, Designator, assign}
-use Rattle.cp_slots.specs.declared.item.Action.{Action}
+use Rattle.cp_refine.proofs.Words.{pos, int_le, Result, Ok, Err, slice_index, Program, Expression, Designator, assign, Action, item_at, Address, Frame}
+use Rattle.cp_refine.proofs.Words.{SetValue, Memory, Entry, Machine, thread_at, with_stack, rest_of, step_at, Outcome, out_of_range, ◌>>=◌, Range, Ty}
+use Rattle.cp_refine.proofs.Words.{set_over, natural_of, Value, set_value, Place, Item, statement_item, State, Typed, Target, stored, value, target_value}
+use Rattle.cp_refine.proofs.Words.{Stepped, expression_calls, designator_calls, assigned, becomes, view_of, step_of, settled, Layouts, Here, here, as_set}
+use Rattle.cp_refine.proofs.Words.{a_variable, expression_form, designator_form, bits_of, set_cells, AreMembers, Ground, ItemAt, SetAgrees, TargetAgrees}
+use Rattle.cp_refine.proofs.Words.{Sees, plain_set, plain_address, PlaceAt}
 use Rattle.cp_slots.specs.declared.item.Action.TheVariants as action
 use Rattle.cp_slots.specs.declared.place.SetExpression as code_set
 use Rattle.cp_slots.specs.declared.place.Place as code_place
-use Rattle.cp_slots.specs.Tables.{item_at}
 use Rattle.cp_store.specs.declared.error.ErrorName as slots
 use Rattle.cp_store.specs.declared.error.ErrorName.TheVariants as error
-use Rattle.cp_store.specs.declared.memory.Address.{Address}
-use Rattle.cp_store.specs.declared.memory.Frame.{Frame}
-use Rattle.cp_store.specs.declared.set.SetValue.{SetValue}
-use Rattle.cp_store.specs.Memory.{Memory}
 use Rattle.cp_store.specs.Sets as sets
-use Rattle.cp_machine.specs.declared.process.Entry.{Entry}
-use Rattle.cp_machine.specs.Machine.{Machine, thread_at, with_stack}
 use Rattle.cp_machine.specs.Memory.{memory_at, set_put, set_written, address_of}
-use Rattle.cp_machine.specs.Stack.{rest_of}
 use Rattle.cp_machine.specs.Statements as statements
-use Rattle.cp_machine.specs.Step.{step_at}
-use Rattle.cp_meaning.specs.Outcome.{Outcome, out_of_range, ◌>>=◌}
-use Rattle.cp_meaning.specs.Types.{Range, Ty, set_over, natural_of}
-use Rattle.cp_meaning.specs.Values.{Value, set_value}
-use Rattle.cp_meaning.specs.State.{Place, Item, statement_item, State}
 use Rattle.cp_meaning.specs.Operations as names
-use Rattle.cp_meaning.specs.Operations.{Typed}
-use Rattle.cp_meaning.specs.Places.{Target, stored}
-use Rattle.cp_meaning.specs.Expressions.{value, target_value}
-use Rattle.cp_meaning.specs.Kernel.{Stepped}
-use Rattle.cp_meaning.specs.Lifting.{expression_calls, designator_calls}
-use Rattle.cp_meaning.specs.LocalRules.{assigned, becomes}
-use Rattle.cp_meaning.specs.Steps.{view_of, step_of, settled}
 use Rattle.cp_slots.specs.Code as code
-use Rattle.cp_resolved.specs.Layouts.{Layouts, Here, here}
-use Rattle.cp_resolved.specs.Compiled.{as_set, a_variable, expression_form, designator_form}
-use Rattle.cp_resolved.specs.Encoded.{bits_of, set_cells, AreMembers}
-use Rattle.cp_resolved.specs.Stands.{Ground, ItemAt}
-use Rattle.cp_refine.specs.Agrees.{SetAgrees, TargetAgrees, Sees}
-use Rattle.cp_refine.specs.PlainValues.{plain_set, plain_address}
-use Rattle.cp_refine.specs.Represents.{PlaceAt}
 use Rattle.cp_refine.proofs.assignments.Blocks.{WritesBlock, set_writes}
 use Rattle.cp_refine.proofs.assignments.BlockStores.{VariablesApart, block_success}
 use Rattle.cp_refine.proofs.control.Control.{Taken, StepIs, takes_item, acts, fails, top_frame}

@@ -1,21 +1,9 @@
 -- A number that is written into a variable, or into a part of one: what lies there is the value with that part, and all else lies as it did.
 use Rattle.std.proofs.Common.{◌≡◌, ◌≢◌, ◌∙◌, ℕ, zero, suc, ◌+◌, ◌<◌, ◌⊎◌, inl, inr, Bool, true, false, if◌then◌else◌, List, [], ◌∷◌, Option, Some, None, ap, sym, refl, arith, length, length-set, get_or}
-use Rattle.std.specs.Prelude.{ℤ, pos, slice_index_or}
-use Rattle.std.proofs.lemmas.Slice.Eq.{bytes_eq-Decides}
-use Rattle.cp_slots.specs.Tables.{Tables, component_at}
-use Rattle.cp_store.specs.declared.memory.Address.{Address}
-use Rattle.cp_store.specs.declared.memory.Address.TheVariants.{Permanent, Local}
-use Rattle.cp_store.specs.Inside.{HasCells}
-use Rattle.cp_store.specs.Memory.{Memory, cell_at, put_number}
-use Rattle.cp_meaning.specs.Names.{Name, same_name}
-use Rattle.cp_meaning.specs.Types.{Range, Ty, ordinal}
-use Rattle.cp_meaning.specs.Values.{Value, number_value, Choice, with_part}
+use Rattle.cp_refine.proofs.Words.{ℤ, pos, slice_index_or, bytes_eq-Decides, Tables, component_at, Address, Permanent, Local, HasCells, Memory, cell_at}
+use Rattle.cp_refine.proofs.Words.{put_number, Name, same_name, Range, Ty, ordinal, Value, number_value, Choice, with_part, Content, Environment, Component}
+use Rattle.cp_refine.proofs.Words.{content_of, with_content, value_held, cells_of, Layouts, look, encode, HasType, chosen_at, further, LiesAt}
 use Rattle.cp_meaning.specs.State as named
-use Rattle.cp_meaning.specs.State.{Content, Environment, Component}
-use Rattle.cp_meaning.specs.Places.{content_of, with_content, value_held}
-use Rattle.cp_resolved.specs.Layouts.{cells_of, Layouts, look}
-use Rattle.cp_resolved.specs.Encoded.{encode, HasType, chosen_at}
-use Rattle.cp_refine.specs.Represents.{further, LiesAt}
 use Rattle.cp_refine.proofs.expressions.Parts.{encode_length}
 use Rattle.cp_refine.proofs.assignments.Rewriting.{Outside, NewAt, part_new}
 use Rattle.cp_refine.proofs.control.Moving.{set_here, set_there, same_or_other}

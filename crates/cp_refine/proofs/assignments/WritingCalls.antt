@@ -1,20 +1,9 @@
 -- A number that is written into a variable of an open call, or a part of one: all open calls hold what they hold then.
 use Rattle.std.proofs.Common.{◌≡◌, ◌∙◌, ℕ, ◌+◌, ◌<◌, ◌≤◌, ◌==◌, ◌⊎◌, inl, inr, Bool, true, false, if◌then◌else◌, List, [], ◌∷◌, Option, Some, ap, sym, refl, subst, arith, length}
-use Rattle.std.specs.Prelude.{ℤ}
-use Rattle.std.proofs.lemmas.Slice.Eq.{bytes_eq-Decides}
-use Rattle.cp_slots.specs.Tables.{Tables}
-use Rattle.cp_store.specs.declared.memory.Address.TheVariants.{Local}
-use Rattle.cp_store.specs.declared.memory.Frame.{Frame}
-use Rattle.cp_store.specs.Memory.{Memory}
-use Rattle.cp_store.specs.Places.{referred}
-use Rattle.cp_meaning.specs.Names.{Name, same_name}
-use Rattle.cp_meaning.specs.Types.{Range, Ty, ordinal}
-use Rattle.cp_meaning.specs.Values.{number_value, Choice, with_part}
-use Rattle.cp_meaning.specs.State.{Content, holds, refers, Place, Environment, Call}
+use Rattle.cp_refine.proofs.Words.{ℤ, bytes_eq-Decides, Tables, Local, Frame, Memory, referred, Name, same_name, Range, Ty, ordinal, number_value, Choice}
+use Rattle.cp_refine.proofs.Words.{with_part, Content, holds, refers, Place, Environment, Call, cells_of, Layouts, cell_named, look, HasType, chosen_at}
+use Rattle.cp_refine.proofs.Words.{LiesAt, frame_above, PlaceAt, CallHolds, CallsHold}
 use Rattle.cp_meaning.specs.Places.{content_of, with_content, value_held, call_above, with_environment, with_call_environment}
-use Rattle.cp_resolved.specs.Layouts.{cells_of, Layouts, cell_named, look}
-use Rattle.cp_resolved.specs.Encoded.{HasType, chosen_at}
-use Rattle.cp_refine.specs.Represents.{LiesAt, frame_above, PlaceAt, CallHolds, CallsHold}
 use Rattle.cp_refine.proofs.expressions.Reading.{calls_frames, frame_same as frame_is}
 use Rattle.cp_refine.proofs.assignments.Writing.{WritesCell, lies_kept, lies_new, content_here, content_there}
 

@@ -1,30 +1,15 @@
 -- The frame of a call, as its parameters are bound: each variable lies in its cells, and each `var` parameter has its place.
 use Rattle.std.proofs.Common.{◌≡◌, ◌≢◌, ◌∙◌, ℕ, ◌+◌, ◌^◌, ◌<◌, ◌≤◌, ◌⊎◌, inl, inr, true, false, List, [], ◌∷◌, Some, ap, sym, refl, subst, arith, length, length-set}
-use Rattle.std.specs.Prelude.{pos, slice_index_or}
-use Rattle.cp_slots.specs.declared.place.Argument.{Argument}
-use Rattle.cp_slots.specs.Tables.{Tables}
-use Rattle.cp_store.specs.declared.argument.Bound.{Bound}
+use Rattle.cp_refine.proofs.Words.{pos, slice_index_or, Argument, Tables, Bound, Address, Permanent, Local, Frame, referred, Name, same_name, Ty, Value}
+use Rattle.cp_refine.proofs.Words.{Parameter, Content, holds, refers, knows, Environment, encode, IsOther, AreDifferent, LiesAt, PlaceAt, onward_is}
 use Rattle.cp_store.specs.declared.argument.Bound.TheVariants.{Copy, Reference, Component}
-use Rattle.cp_store.specs.declared.memory.Address.{Address}
-use Rattle.cp_store.specs.declared.memory.Address.TheVariants.{Permanent, Local}
-use Rattle.cp_store.specs.declared.memory.Frame.{Frame}
 use Rattle.cp_store.specs.Arguments.{put_value, put_in_frame, bound_in_frame}
 use Rattle.cp_store.specs.Memory.{Memory, nowhere, onward, put_reference}
-use Rattle.cp_store.specs.Places.{referred}
-use Rattle.cp_meaning.specs.Names.{Name, same_name}
-use Rattle.cp_meaning.specs.Types.{Ty}
-use Rattle.cp_meaning.specs.Values.{Value}
-use Rattle.cp_meaning.specs.Declarations.{Parameter}
-use Rattle.cp_meaning.specs.State.{Content, holds, refers, knows, Environment}
 use Rattle.cp_resolved.specs.Layouts.{cells_of, Layouts, FrameLayout, cell_named, look}
-use Rattle.cp_resolved.specs.Encoded.{encode}
 use Rattle.cp_resolved.specs.Resolved.{AreApart, ParameterIs, ParametersAre}
 use Rattle.cp_refine.specs.Given.{PutsBlock, IsValue, Keeps, IsApartFrom, GivesValue, IsBound, AreBound}
-use Rattle.cp_refine.specs.Parameters.{IsOther, AreDifferent}
-use Rattle.cp_refine.specs.Represents.{LiesAt, PlaceAt}
 use Rattle.cp_refine.proofs.control.Moving.{set_here, set_there}
 use Rattle.cp_refine.proofs.expressions.Parts.{encode_length}
-use Rattle.cp_store.proofs.Reaches.{onward_exact as onward_is}
 
 -- what is put as a value
 put_is : (m mem : Memory) (f : Frame) (slot : ℕ) (b : Bound) → IsValue m b → put_in_frame mem f slot b ≡ put_value mem (Local (onward f.base slot)) b

@@ -1,29 +1,11 @@
 -- What the arguments of a call give, and the component that it names, at the item of the call: premises of the whole step of a call.
-use Rattle.std.proofs.Common.{◌≡◌, ℕ, List, ◌∷◌, Option, sym, subst, true, false, Some}
-use Rattle.std.specs.Prelude.{map}
-use Rattle.cp_tree.specs.Syntax.{Program, Expressions, Designator}
+use Rattle.cp_refine.proofs.Words.{◌≡◌, ℕ, List, ◌∷◌, Option, sym, subst, true, false, Some, map, Program, Expressions, Designator, Argument, ComponentPlace}
+use Rattle.cp_refine.proofs.Words.{Bound, Frame, Entry, Machine, thread_at, Name, bound, RoutineMeaning, name_of, target_value, expressions_calls}
+use Rattle.cp_refine.proofs.Words.{designator_calls, Meaning, routine_meaning, find, Environment, Item, State, view_of, a_component, designator_form}
+use Rattle.cp_refine.proofs.Words.{cell_named, Layouts, Here, here, Ground, AreGiven, CalleeIs, CallItem, AreBound, BoundsAgree, ComponentAgrees, AreKept}
+use Rattle.cp_refine.proofs.Words.{frames_of}
 use Rattle.cp_slots.specs.Code as code
-use Rattle.cp_slots.specs.declared.place.Argument.{Argument}
-use Rattle.cp_slots.specs.declared.place.ComponentPlace.{ComponentPlace}
-use Rattle.cp_store.specs.declared.argument.Bound.{Bound}
-use Rattle.cp_store.specs.declared.memory.Frame.{Frame}
-use Rattle.cp_machine.specs.declared.process.Entry.{Entry}
-use Rattle.cp_machine.specs.Machine.{Machine, thread_at}
 use Rattle.cp_machine.specs.Memory.{memory_at, component_of, arguments_of}
-use Rattle.cp_meaning.specs.Names.{Name}
-use Rattle.cp_meaning.specs.Calls.{bound}
-use Rattle.cp_meaning.specs.Declarations.{RoutineMeaning}
-use Rattle.cp_meaning.specs.Expressions.{name_of, target_value}
-use Rattle.cp_meaning.specs.Lifting.{expressions_calls, designator_calls}
-use Rattle.cp_meaning.specs.Scopes.{Meaning, routine_meaning, find}
-use Rattle.cp_meaning.specs.State.{Environment, Item, State}
-use Rattle.cp_meaning.specs.Steps.{view_of}
-use Rattle.cp_resolved.specs.Compiled.{a_component, designator_form}
-use Rattle.cp_resolved.specs.Layouts.{cell_named, Layouts, Here, here}
-use Rattle.cp_resolved.specs.Stands.{Ground, AreGiven, CalleeIs, CallItem}
-use Rattle.cp_refine.specs.Given.{AreBound, BoundsAgree, ComponentAgrees}
-use Rattle.cp_refine.specs.Remaining.{AreKept}
-use Rattle.cp_refine.specs.Represents.{frames_of}
 use Rattle.cp_refine.proofs.expressions.Arguments.{ArgumentsKnown, arguments_agree}
 use Rattle.cp_refine.proofs.expressions.ComponentPlaces.{ComponentsKnown, component_agrees}
 use Rattle.cp_refine.proofs.control.Control.{Taken, top_frame}

@@ -1,18 +1,8 @@
 -- A call of a component that is found fits: there is room for the frame, and the routine is one of the component's system type.
-use Rattle.std.proofs.Common.{◌∙◌, ℕ, ◌<◌, List, sym, refl, arith, length}
-use Rattle.cp_tree.specs.Syntax.{Tree}
-use Rattle.cp_slots.specs.declared.place.Argument.{Argument}
+use Rattle.cp_refine.proofs.Words.{◌∙◌, ℕ, ◌<◌, List, sym, refl, arith, length, Tree, Argument, IsOf, Tables, routine_at, Entry, frame_behind, Machine}
+use Rattle.cp_refine.proofs.Words.{thread_at, memory_at, Layouts, ground_of, Prepared}
 use Rattle.cp_slots.specs.Fits.{CallFits, RoutineFits}
-use Rattle.cp_slots.specs.Systems.{IsOf}
-use Rattle.cp_slots.specs.Tables.{Tables, routine_at}
-use Rattle.cp_machine.specs.declared.process.Entry.{Entry}
-use Rattle.cp_machine.specs.Calls.{frame_behind}
 use Rattle.cp_machine.specs.Fits.{FrameFits, StackFits, MachineFits}
-use Rattle.cp_machine.specs.Machine.{Machine, thread_at}
-use Rattle.cp_machine.specs.Memory.{memory_at}
-use Rattle.cp_resolved.specs.Layouts.{Layouts}
-use Rattle.cp_refine.specs.Law.{ground_of}
-use Rattle.cp_refine.specs.Prepared.{Prepared}
 use Rattle.cp_refine.proofs.calls.Calling.{CanCall}
 use Rattle.cp_refine.proofs.steps.Executed.{own_frame, thread_fits, few_permanents}
 use Rattle.cp_refine.proofs.calls.NewFrame.{CanOpen}

@@ -1,22 +1,9 @@
 -- The whole step of a call, with what its arguments give and the component that it names.
-use Rattle.std.proofs.Common.{◌≡◌, ℕ, true, List, ◌++◌, Option, None, Some}
-use Rattle.std.specs.Prelude.{slice_index}
-use Rattle.cp_tree.specs.Syntax.{Program, Expressions, Designator, invoke}
+use Rattle.cp_refine.proofs.Words.{◌≡◌, ℕ, true, List, ◌++◌, Option, None, Some, slice_index, Program, Expressions, Designator, invoke, ComponentPlace, Entry}
+use Rattle.cp_refine.proofs.Words.{Machine, thread_at, step_at, Name, temporary, target_value, expressions_calls, designator_calls, Item, statement_item}
+use Rattle.cp_refine.proofs.Words.{function_call, State, view_of, step_of, Layouts, Here, here, Ground, CallItem, ComponentAgrees, AreKept}
 use Rattle.cp_slots.specs.Code as code
-use Rattle.cp_slots.specs.declared.place.ComponentPlace.{ComponentPlace}
-use Rattle.cp_machine.specs.declared.process.Entry.{Entry}
-use Rattle.cp_machine.specs.Machine.{Machine, thread_at}
 use Rattle.cp_machine.specs.Memory.{component_of}
-use Rattle.cp_machine.specs.Step.{step_at}
-use Rattle.cp_meaning.specs.Names.{Name, temporary}
-use Rattle.cp_meaning.specs.Expressions.{target_value}
-use Rattle.cp_meaning.specs.Lifting.{expressions_calls, designator_calls}
-use Rattle.cp_meaning.specs.State.{Item, statement_item, function_call, State}
-use Rattle.cp_meaning.specs.Steps.{view_of, step_of}
-use Rattle.cp_resolved.specs.Layouts.{Layouts, Here, here}
-use Rattle.cp_resolved.specs.Stands.{Ground, CallItem}
-use Rattle.cp_refine.specs.Given.{ComponentAgrees}
-use Rattle.cp_refine.specs.Remaining.{AreKept}
 use Rattle.cp_refine.proofs.expressions.Arguments.{ArgumentsKnown}
 use Rattle.cp_refine.proofs.calls.CallArguments.{call_arguments, call_component}
 use Rattle.cp_refine.proofs.calls.CallSteps.{IsFound, EntryKnown, CallKnown, NoStandard, scope_name, call_item, function_step, call_step}

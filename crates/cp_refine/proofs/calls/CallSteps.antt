@@ -1,51 +1,28 @@
 -- The whole step of a call: the component's place first, then the arguments, then whether the component is initialised.
 use Rattle.std.proofs.Common.{◌≡◌, ◌∙◌, ℕ, ◌<◌, Bool, true, false, if◌then◌else◌, List, [], ◌∷◌, ◌++◌, Option, Some, None, ap, sym, refl, subst, length}
-use Rattle.std.specs.Prelude.{Result, Ok, Err, map, slice_index}
-use Rattle.std.specs.declared.alloc.Global.{Global}
-use Rattle.std.specs.declared.vec.Vec.{Vec}
-use Rattle.cp_tree.specs.declared.declaration.SystemKind.{SystemKind}
+use Rattle.cp_refine.proofs.Words.{Result, Ok, Err, map, slice_index, Global, Vec, SystemKind, Program, Routine, Designator, Expressions, invoke, Action}
+use Rattle.cp_refine.proofs.Words.{Argument, ComponentPlace, ComponentKind, Tables, component_at, item_at, Bound, Frame, Memory, Entry, Phase, Machine}
+use Rattle.cp_refine.proofs.Words.{thread_at, phase_at, rest_of, act, step_at, Name, temporary, RoutineMeaning, View, Target, this_component, component_there}
+use Rattle.cp_refine.proofs.Words.{target_value, name_of, routine_called, invoked, view_of, step_of, settled, Layouts, Here, here, cell_named, Ground}
+use Rattle.cp_refine.proofs.Words.{InvokedBy, CallItem, CalleeIs, result_cell, AreBound, BoundsAgree, ComponentAgrees, SameKind, KindsAgree, PhaseIs}
+use Rattle.cp_refine.proofs.Words.{CallsHold, own_memory, frames_of}
 use Rattle.cp_tree.specs.declared.declaration.SystemKind.TheVariants as system_kind
-use Rattle.cp_tree.specs.Syntax.{Program, Routine, Designator, Expressions, invoke}
-use Rattle.cp_slots.specs.declared.item.Action.{Action}
 use Rattle.cp_slots.specs.declared.item.Action.TheVariants as action
-use Rattle.cp_slots.specs.declared.place.Argument.{Argument}
-use Rattle.cp_slots.specs.declared.place.ComponentPlace.{ComponentPlace}
 use Rattle.cp_slots.specs.declared.place.ComponentPlace.TheVariants.{Own}
-use Rattle.cp_slots.specs.declared.tables.ComponentKind.{ComponentKind}
 use Rattle.cp_slots.specs.declared.tables.ComponentKind.TheVariants as kind
 use Rattle.cp_slots.specs.Code as code
-use Rattle.cp_slots.specs.Tables.{Tables, component_at, item_at}
-use Rattle.cp_store.specs.declared.argument.Bound.{Bound}
 use Rattle.cp_store.specs.declared.error.ErrorName as slots
 use Rattle.cp_store.specs.declared.error.ErrorName.TheVariants as error
-use Rattle.cp_store.specs.declared.memory.Frame.{Frame}
-use Rattle.cp_store.specs.Memory.{Memory}
-use Rattle.cp_machine.specs.declared.process.Entry.{Entry}
-use Rattle.cp_machine.specs.declared.state.Phase.{Phase}
 use Rattle.cp_machine.specs.declared.state.Phase.TheVariants as phase
 use Rattle.cp_machine.specs.Calls as calls
 use Rattle.cp_machine.specs.Machine as slot_machine
-use Rattle.cp_machine.specs.Machine.{Machine, thread_at, phase_at}
 use Rattle.cp_machine.specs.Memory.{memory_at, component_of, arguments_of}
-use Rattle.cp_machine.specs.Stack.{rest_of}
 use Rattle.cp_machine.specs.Statements as statements
-use Rattle.cp_machine.specs.Step.{act, step_at}
-use Rattle.cp_meaning.specs.Names.{Name, temporary}
 use Rattle.cp_meaning.specs.Outcome.{Outcome, ◌>>=◌, not_init}
 use Rattle.cp_meaning.specs.Scopes.{Meaning, constant_meaning, type_meaning, local_variable, permanent_variable, routine_meaning, standard_meaning, Standard, find}
-use Rattle.cp_meaning.specs.Declarations.{RoutineMeaning}
 use Rattle.cp_meaning.specs.State as named
 use Rattle.cp_meaning.specs.State.{Environment, ComponentStatus, uninitialised, initialising, initialised, local_routine, Call, current, Item, statement_item, function_call, State, has_entry}
-use Rattle.cp_meaning.specs.Places.{View, Target, this_component, component_there}
 use Rattle.cp_meaning.specs.Calls.{bound, opened, is_initialised, entered_as, entered, called_as, called}
-use Rattle.cp_meaning.specs.Expressions.{target_value, name_of, routine_called}
-use Rattle.cp_meaning.specs.LocalRules.{invoked}
-use Rattle.cp_meaning.specs.Steps.{view_of, step_of, settled}
-use Rattle.cp_resolved.specs.Layouts.{Layouts, Here, here, cell_named}
-use Rattle.cp_resolved.specs.Stands.{Ground, InvokedBy, CallItem, CalleeIs, result_cell}
-use Rattle.cp_refine.specs.Given.{AreBound, BoundsAgree, ComponentAgrees}
-use Rattle.cp_refine.specs.Kinds.{SameKind, KindsAgree}
-use Rattle.cp_refine.specs.Represents.{PhaseIs, CallsHold, own_memory, frames_of}
 use Rattle.cp_refine.proofs.calls.Calling.{CanCall, called_inside, called_class, called_monitor}
 use Rattle.cp_refine.proofs.control.Control.{Taken, StepIs, goes, takes_item, acts, fails, scope_is, stack_after, top_frame}
 use Rattle.cp_refine.proofs.gates.Gates.{OwnNumbers}

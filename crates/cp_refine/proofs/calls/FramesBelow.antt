@@ -1,24 +1,7 @@
 -- Open calls hold what they hold where the memory is the same below the end of their frames.
-use Rattle.std.proofs.Common.{◌≡◌, ◌∙◌, ℕ, ◌+◌, ◌<◌, ◌≤◌, List, [], ◌∷◌, sym, subst, arith, length}
-use Rattle.std.specs.Prelude.{pos, slice_index_or}
-use Rattle.cp_tree.specs.Syntax.{Program}
-use Rattle.cp_slots.specs.Tables.{Tables, routine_at}
-use Rattle.cp_store.specs.declared.memory.Address.{Address}
-use Rattle.cp_store.specs.declared.memory.Address.TheVariants.{Local}
-use Rattle.cp_store.specs.declared.memory.Frame.{Frame}
-use Rattle.cp_store.specs.Memory.{Memory}
-use Rattle.cp_store.specs.Places.{referred}
-use Rattle.cp_machine.specs.declared.process.Entry.{Entry}
-use Rattle.cp_machine.specs.declared.process.Entry.TheVariants.{Rest, Successor, Return, InitEnd}
-use Rattle.cp_machine.specs.Fits.{StackFits, size_of}
-use Rattle.cp_meaning.specs.Types.{Ty}
-use Rattle.cp_meaning.specs.Values.{Value}
-use Rattle.cp_meaning.specs.State.{Call}
-use Rattle.cp_meaning.specs.Places.{content_of, value_held}
-use Rattle.cp_resolved.specs.Layouts.{cells_of, Layouts, cell_named}
-use Rattle.cp_resolved.specs.Resolved.{RoutineIs}
-use Rattle.cp_resolved.specs.Stands.{Ground}
-use Rattle.cp_refine.specs.Represents.{LiesAt, PlaceAt, CallHolds, CallsHold, frames_of}
+use Rattle.cp_refine.proofs.Words.{◌≡◌, ◌∙◌, ℕ, ◌+◌, ◌<◌, ◌≤◌, List, [], ◌∷◌, sym, subst, arith, length, pos, slice_index_or, Program, Tables, routine_at}
+use Rattle.cp_refine.proofs.Words.{Address, Local, Frame, Memory, referred, Entry, Rest, Successor, Return, InitEnd, StackFits, size_of, Ty, Value, Call}
+use Rattle.cp_refine.proofs.Words.{content_of, value_held, cells_of, Layouts, cell_named, RoutineIs, Ground, LiesAt, PlaceAt, CallHolds, CallsHold, frames_of}
 use Rattle.cp_refine.proofs.expressions.Parts.{encode_length}
 
 -- ---- where frames lie

@@ -2,33 +2,18 @@
 use Rattle.std.proofs.Common.{◌≡◌, ◌∙◌, ℕ, suc, ◌+◌, ◌-◌, ◌^◌, ◌<◌, Bool, if◌then◌else◌, List, [], ◌∷◌, Option, Some, None, ap, sym, refl, subst, arith, length, eq-eqb}
 use Rattle.std.specs.Prelude.{ℤ, pos, slice_index_or, slice_set, take}
 use Rattle.std.proofs.lemmas.List.{get_or-take, length-take-le}
-use Rattle.cp_tree.specs.Syntax.{Program}
-use Rattle.cp_slots.specs.Tables.{Tables, routine_at}
-use Rattle.cp_store.specs.declared.memory.Address.TheVariants.{Local}
-use Rattle.cp_store.specs.declared.memory.Frame.{Frame}
-use Rattle.cp_store.specs.Memory.{Memory, nowhere, onward, put_number}
-use Rattle.cp_machine.specs.declared.process.Entry.{Entry}
+use Rattle.cp_refine.proofs.Words.{Program, Tables, routine_at, Local, Frame, Memory, nowhere, onward, put_number, Entry, StackFits, size_of, Thread, Name}
+use Rattle.cp_refine.proofs.Words.{result_name, Range, Ty, ordinal, Value, number_value, holds, Component, Call, with_result, Layouts, here, cell_named, look}
+use Rattle.cp_refine.proofs.Words.{HasType, Ground, result_cell, ResultGoes, LiesAt, frame_above, CallsHold, own_memory, frames_of, onward_is}
 use Rattle.cp_machine.specs.Calls.{given_up}
-use Rattle.cp_machine.specs.Fits.{StackFits, size_of}
-use Rattle.cp_machine.specs.Machine.{Thread}
-use Rattle.cp_meaning.specs.Names.{Name, result_name}
-use Rattle.cp_meaning.specs.Types.{Range, Ty, ordinal}
-use Rattle.cp_meaning.specs.Values.{Value, number_value}
-use Rattle.cp_meaning.specs.State.{holds, Component, Call}
 use Rattle.cp_meaning.specs.Places.{View, content_of, with_content, value_held, call_above, with_call_environment, this_call, plain_place, value_at}
-use Rattle.cp_meaning.specs.LocalRules.{with_result}
-use Rattle.cp_resolved.specs.Layouts.{Layouts, here, cell_named, look}
-use Rattle.cp_resolved.specs.Encoded.{HasType}
 use Rattle.cp_resolved.specs.Resolved.{RoutineIs, ResultIs}
-use Rattle.cp_resolved.specs.Stands.{Ground, result_cell, ResultGoes}
-use Rattle.cp_refine.specs.Represents.{LiesAt, frame_above, CallsHold, own_memory, frames_of}
 use Rattle.cp_refine.proofs.assignments.Apart.{frame_apart, frames_apart}
 use Rattle.cp_refine.proofs.control.Control.{top_frame}
 use Rattle.cp_refine.proofs.calls.FramesBelow.{LieBelow, frames_lie, SameBelow, calls_below}
 use Rattle.cp_refine.proofs.expressions.Reading.{calls_frames}
 use Rattle.cp_refine.proofs.assignments.Writing.{put_writes}
 use Rattle.cp_refine.proofs.assignments.WritingCalls.{calls_written}
-use Rattle.cp_store.proofs.Reaches.{onward_exact as onward_is}
 
 -- ---- on names
 

@@ -1,37 +1,18 @@
 -- The frame that a call opens holds the environment of the call: its parameters, and first values for all else.
 use Rattle.std.proofs.Common.{◌≡◌, ◌∙◌, ℕ, ◌+◌, ◌^◌, ◌<◌, Bool, true, false, if◌then◌else◌, List, [], ◌∷◌, ◌++◌, Option, Some, None, ap, sym, refl, subst, arith, length}
-use Rattle.std.specs.Prelude.{pos, replicate, slice_index_or}
+use Rattle.cp_refine.proofs.Words.{pos, replicate, slice_index_or, bytes_eq-Decides, Program, Argument, routine_at, Bound, Reference, Local, Frame}
+use Rattle.cp_refine.proofs.Words.{bound_in_frame, referred, size_of, Name, same_name, Ty, has_components, Variable, Parameter, RoutineMeaning, Content}
+use Rattle.cp_refine.proofs.Words.{holds, refers, knows, Place, Environment, Call, content_of, value_held, parameter_variables, Ground, IsBound, AreBound}
+use Rattle.cp_refine.proofs.Words.{IsOther, AreDifferent, LiesAt, PlaceAt, CallHolds, content_second}
 use Rattle.std.proofs.lemmas.List.{get_or_append_left, get_or-append-add, length-append, length-replicate}
-use Rattle.std.proofs.lemmas.Slice.Eq.{bytes_eq-Decides}
-use Rattle.cp_tree.specs.Syntax.{Program}
-use Rattle.cp_slots.specs.declared.place.Argument.{Argument}
 use Rattle.cp_slots.specs.declared.place.PlaceOrigin.TheVariants.{Reference as reference_origin}
-use Rattle.cp_slots.specs.Tables.{routine_at}
-use Rattle.cp_store.specs.declared.argument.Bound.{Bound}
-use Rattle.cp_store.specs.declared.argument.Bound.TheVariants.{Reference}
-use Rattle.cp_store.specs.declared.memory.Address.TheVariants.{Local}
-use Rattle.cp_store.specs.declared.memory.Frame.{Frame}
-use Rattle.cp_store.specs.Arguments.{bound_in_frame}
 use Rattle.cp_store.specs.Memory.{Memory, nowhere, opened}
-use Rattle.cp_store.specs.Places.{referred}
-use Rattle.cp_machine.specs.Fits.{size_of}
-use Rattle.cp_meaning.specs.Names.{Name, same_name}
-use Rattle.cp_meaning.specs.Types.{Ty, has_components}
 use Rattle.cp_meaning.specs.Values.{least}
-use Rattle.cp_meaning.specs.Declarations.{Variable, Parameter, RoutineMeaning}
-use Rattle.cp_meaning.specs.State.{Content, holds, refers, knows, Place, Environment, Call}
-use Rattle.cp_meaning.specs.Places.{content_of, value_held}
 use Rattle.cp_meaning.specs.Calls.{least_of, least_result}
-use Rattle.cp_meaning.specs.Steps.{parameter_variables}
 use Rattle.cp_resolved.specs.Layouts.{Layouts, FrameLayout, cell_named, look}
 use Rattle.cp_resolved.specs.Resolved.{first_values, first_value, FrameIs, ParameterIs, ParametersAre, RoutineIs}
-use Rattle.cp_resolved.specs.Stands.{Ground}
-use Rattle.cp_refine.specs.Given.{IsBound, AreBound}
-use Rattle.cp_refine.specs.Parameters.{IsOther, AreDifferent}
-use Rattle.cp_refine.specs.Represents.{LiesAt, PlaceAt, CallHolds}
 use Rattle.cp_refine.proofs.calls.Binding.{Binds, OneLies, AllLie, AllBound, all_bound, free_cells}
 use Rattle.cp_refine.proofs.expressions.Parts.{encode_length}
-use Rattle.cp_meaning.proofs.OwnLocal.{nothing_append as content_second}
 
 -- ---- environments
 

@@ -1,41 +1,19 @@
 -- The step of `case`: the same arm is chosen on names and on slots, or none.
 use Rattle.std.proofs.Common.{◌≡◌, ◌∙◌, ℕ, Bool, true, false, if◌then◌else◌, List, [], ◌∷◌, ◌++◌, map, Option, None, ap, sym, refl, subst, arith}
-use Rattle.std.specs.Prelude.{ℤ, ◌||◌, Result, Ok, Err, slice_index}
-use Rattle.std.specs.Ordering.{int_eq}
-use Rattle.std.specs.declared.vec.Vec.{Vec}
-use Rattle.std.specs.declared.alloc.Global.{Global}
-use Rattle.std.proofs.lemmas.Int.{ints}
+use Rattle.cp_refine.proofs.Words.{ℤ, ◌||◌, Result, Ok, Err, slice_index, int_eq, Vec, Global, ints, Program, Expression, Statement, Arms, no_arms, more_arms}
+use Rattle.cp_refine.proofs.Words.{arm, case_of, Action, item_at, Entry, Machine, thread_at, with_stack, memory_at, rest_of, act, step_at, Outcome, ◌>>=◌}
+use Rattle.cp_refine.proofs.Words.{Scope, Ty, number_of, Item, statement_item, State, Typed, same_integer, value, items_of, view_of, step_of, settled}
+use Rattle.cp_refine.proofs.Words.{Layouts, Here, here, error_of, plain_value, OrdinalAgrees}
 use Rattle.cp_tree.specs.declared.constant.Constant.{Constant}
-use Rattle.cp_tree.specs.Syntax.{Program, Expression, Statement, Arms, no_arms, more_arms, arm, case_of}
-use Rattle.cp_slots.specs.declared.item.Action.{Action}
 use Rattle.cp_slots.specs.declared.item.Action.TheVariants as action
 use Rattle.cp_slots.specs.declared.item.ResolvedArm as slot_arm
 use Rattle.cp_slots.specs.declared.place.OrdinalExpression as code_expression
 use Rattle.cp_slots.specs.Code as code
-use Rattle.cp_slots.specs.Tables.{item_at}
 use Rattle.cp_store.specs.declared.error.ErrorName as slots
-use Rattle.cp_machine.specs.declared.process.Entry.{Entry}
-use Rattle.cp_machine.specs.Machine.{Machine, thread_at, with_stack}
-use Rattle.cp_machine.specs.Memory.{memory_at}
-use Rattle.cp_machine.specs.Stack.{rest_of}
 use Rattle.cp_machine.specs.Statements as statements
-use Rattle.cp_machine.specs.Step.{act, step_at}
-use Rattle.cp_meaning.specs.Outcome.{Outcome, ◌>>=◌}
-use Rattle.cp_meaning.specs.Scopes.{Scope}
 use Rattle.cp_meaning.specs.Declarations.{constant_of}
-use Rattle.cp_meaning.specs.Types.{Ty}
-use Rattle.cp_meaning.specs.Values.{number_of}
-use Rattle.cp_meaning.specs.State.{Item, statement_item, State}
-use Rattle.cp_meaning.specs.Operations.{Typed, same_integer}
-use Rattle.cp_meaning.specs.Expressions.{value}
-use Rattle.cp_meaning.specs.Lifting.{items_of}
 use Rattle.cp_meaning.specs.LocalRules.{becomes, has_label, arm_for}
-use Rattle.cp_meaning.specs.Steps.{view_of, step_of, settled}
-use Rattle.cp_resolved.specs.Layouts.{Layouts, Here, here}
 use Rattle.cp_resolved.specs.Stands.{Ground, labels_of, OwnArms, StatementIs}
-use Rattle.cp_refine.specs.Named.{error_of}
-use Rattle.cp_refine.specs.PlainValues.{plain_value}
-use Rattle.cp_refine.specs.Agrees.{OrdinalAgrees}
 use Rattle.cp_refine.proofs.control.Control.{Taken, StepIs, takes_item, acts, fails, local_step, scope_is}
 use Rattle.cp_refine.proofs.control.Lists.{statement_items}
 use Rattle.cp_refine.proofs.expressions.Views.{views_agree}

@@ -1,45 +1,22 @@
 -- Steps that only change what is still to be done: the empty statement, `begin`, `if` and the loops' beginnings.
 use Rattle.std.proofs.Common.{◌≡◌, ◌∙◌, ℕ, ◌<◌, Bool, true, false, if◌then◌else◌, List, [], ◌∷◌, ◌++◌, Option, None, ap, sym, refl, subst, length}
-use Rattle.std.specs.Prelude.{Result, Ok, Err, ℤ, pos, int_lt, slice_set, slice_index}
-use Rattle.cp_tree.specs.Syntax.{Expression, Statement, empty, block, if_then, Statements, Program}
-use Rattle.cp_slots.specs.declared.item.Action.{Action}
+use Rattle.cp_refine.proofs.Words.{Result, Ok, Err, ℤ, pos, int_lt, slice_set, slice_index, Expression, Statement, empty, block, if_then, Statements, Program}
+use Rattle.cp_refine.proofs.Words.{Action, Tables, component_at, item_at, Frame, Memory, Entry, Rest, Successor, Return, InitEnd, Machine, Thread, thread_at}
+use Rattle.cp_refine.proofs.Words.{with_stack, memory_at, rest_of, act, take_top, step_at, items_of, items_of_all, ready, Item, statement_item, Process}
+use Rattle.cp_refine.proofs.Words.{State, Call, current, view_of, step_of, settled, takes, becomes, stays, Scope, value, Typed, is_true, Value, number_of, Ty}
+use Rattle.cp_refine.proofs.Words.{OrdinalAgrees, is_boolean, plain_value, Layouts, Here, here, Ground, ItemAt, AreKept, calls_before, ItemIs, ItemsAre}
 use Rattle.cp_slots.specs.declared.item.Action.TheVariants as action
 use Rattle.cp_slots.specs.declared.item.Item as slot_item
 use Rattle.cp_slots.specs.declared.place.OrdinalExpression as code_expression
-use Rattle.cp_slots.specs.Tables.{Tables, component_at, item_at}
-use Rattle.cp_store.specs.declared.memory.Frame.{Frame}
-use Rattle.cp_store.specs.Memory.{Memory}
 use Rattle.cp_store.specs.declared.error.ErrorName as slots
 use Rattle.cp_store.specs.Values as cells
 use Rattle.cp_machine.specs.declared.event.Event.TheVariants as event
-use Rattle.cp_machine.specs.declared.process.Entry.{Entry}
-use Rattle.cp_machine.specs.declared.process.Entry.TheVariants.{Rest, Successor, Return, InitEnd}
 use Rattle.cp_machine.specs.declared.process.Status.TheVariants as status
-use Rattle.cp_machine.specs.Machine.{Machine, Thread, thread_at, with_stack}
-use Rattle.cp_machine.specs.Memory.{memory_at}
-use Rattle.cp_machine.specs.Stack.{rest_of}
 use Rattle.cp_machine.specs.Statements as statements
-use Rattle.cp_machine.specs.Step.{act, take_top, step_at}
-use Rattle.cp_meaning.specs.Lifting.{items_of, items_of_all}
 use Rattle.cp_meaning.specs.State as named
-use Rattle.cp_meaning.specs.State.{ready, Item, statement_item, Process, State, Call, current}
 use Rattle.cp_meaning.specs.Kernel.{Stepped, local_event, fault_event, moved_to}
-use Rattle.cp_meaning.specs.Steps.{view_of, step_of, settled}
-use Rattle.cp_meaning.specs.LocalRules.{takes, becomes}
-use Rattle.cp_meaning.specs.Move.{stays}
-use Rattle.cp_meaning.specs.Scopes.{Scope}
-use Rattle.cp_meaning.specs.Expressions.{value}
-use Rattle.cp_meaning.specs.Operations.{Typed, is_true}
 use Rattle.cp_meaning.specs.Outcome.{Outcome, ErrorName, ◌>>=◌}
-use Rattle.cp_meaning.specs.Values.{Value, number_of}
-use Rattle.cp_meaning.specs.Types.{Ty}
-use Rattle.cp_refine.specs.Agrees.{OrdinalAgrees}
-use Rattle.cp_resolved.specs.Compiled.{is_boolean}
-use Rattle.cp_refine.specs.PlainValues.{plain_value}
 use Rattle.cp_slots.specs.Code as code
-use Rattle.cp_resolved.specs.Layouts.{Layouts, Here, here}
-use Rattle.cp_resolved.specs.Stands.{Ground, ItemAt}
-use Rattle.cp_refine.specs.Remaining.{AreKept, calls_before, ItemIs, ItemsAre}
 use Rattle.cp_refine.specs.Named.{error_of, event_of}
 use Rattle.cp_refine.specs.Represents.{StatusIs, StackIs, CallsHold, frames_of, own_memory, ProcessIs, Represents}
 use Rattle.cp_refine.proofs.control.Lists.{all_items, statement_items, stack_rest, frames_rest}

@@ -1,55 +1,28 @@
 -- Steps of `for` and of the successor of its value.
 use Rattle.std.proofs.Common.{◌≡◌, ◌∙◌, ℕ, Bool, true, false, if◌then◌else◌, List, ◌∷◌, ◌++◌, Option, None, ap, sym, refl, subst, arith}
 use Rattle.std.specs.Prelude.{ℤ, pos, negsuc, ◌+ℤ◌, ◌-ℤ◌, int_le, int_lt, ◌&&◌, Result, Ok, Err, slice_index}
-use Rattle.std.proofs.lemmas.Int.{ints}
-use Rattle.cp_tree.specs.declared.constant.Identifier.{Identifier}
-use Rattle.cp_tree.specs.declared.statement.Direction.{Direction}
+use Rattle.cp_refine.proofs.Words.{ints, Identifier, Direction, Program, Expression, Statement, for_do, Action, item_at, Address, Permanent, Local, HasCells}
+use Rattle.cp_refine.proofs.Words.{Memory, moved, Entry, Successor, Machine, thread_at, with_stack, rest_of, act, take_top, step_at, Outcome, out_of_range}
+use Rattle.cp_refine.proofs.Words.{◌>>=◌, Scope, Range, Ty, ordinal, is_within, Value, number_value, number_of, current, Place, Item, statement_item}
+use Rattle.cp_refine.proofs.Words.{successor, State, Typed, same_integer, View, target_named, stored, value, Stepped, Doing, expression_calls, items_of}
+use Rattle.cp_refine.proofs.Words.{view_of, step_of, settled, Layouts, Here, here, Designated, as_ordinal, plain_value, OrdinalAgrees, TargetAgrees}
+use Rattle.cp_refine.proofs.Words.{BegunAgrees, Few, Sees, ItemsAre, Frame}
 use Rattle.cp_tree.specs.declared.statement.Direction.TheVariants.{To, Downto}
-use Rattle.cp_tree.specs.Syntax.{Program, Expression, Statement, for_do}
-use Rattle.cp_slots.specs.declared.item.Action.{Action}
 use Rattle.cp_slots.specs.declared.item.Action.TheVariants as action
 use Rattle.cp_slots.specs.declared.place.OrdinalExpression as code_expression
 use Rattle.cp_slots.specs.declared.place.PlaceOrigin.{PlaceOrigin}
 use Rattle.cp_slots.specs.Code as code
-use Rattle.cp_slots.specs.Tables.{item_at}
 use Rattle.cp_store.specs.declared.error.ErrorName as slots
 use Rattle.cp_store.specs.declared.error.ErrorName.TheVariants as error
-use Rattle.cp_store.specs.declared.memory.Address.{Address}
-use Rattle.cp_store.specs.declared.memory.Address.TheVariants.{Permanent, Local}
-use Rattle.cp_store.specs.Inside.{HasCells}
-use Rattle.cp_store.specs.Memory.{Memory, moved}
-use Rattle.cp_machine.specs.declared.process.Entry.{Entry}
-use Rattle.cp_machine.specs.declared.process.Entry.TheVariants.{Successor}
-use Rattle.cp_machine.specs.Machine.{Machine, thread_at, with_stack}
 use Rattle.cp_machine.specs.Memory.{memory_at, value_of, origin_of, number_put}
-use Rattle.cp_machine.specs.Stack.{rest_of}
 use Rattle.cp_machine.specs.Statements as statements
-use Rattle.cp_machine.specs.Step.{act, take_top, step_at}
-use Rattle.cp_meaning.specs.Outcome.{Outcome, out_of_range, ◌>>=◌}
-use Rattle.cp_meaning.specs.Scopes.{Scope}
-use Rattle.cp_meaning.specs.Types.{Range, Ty, ordinal, is_within}
-use Rattle.cp_meaning.specs.Values.{Value, number_value, number_of}
 use Rattle.cp_meaning.specs.State as named
-use Rattle.cp_meaning.specs.State.{current, Place, Item, statement_item, successor, State}
-use Rattle.cp_meaning.specs.Operations.{Typed, same_integer}
-use Rattle.cp_meaning.specs.Places.{View, target_named, stored}
-use Rattle.cp_meaning.specs.Expressions.{value}
-use Rattle.cp_meaning.specs.Kernel.{Stepped}
-use Rattle.cp_meaning.specs.Move.{Doing}
-use Rattle.cp_meaning.specs.Lifting.{expression_calls, items_of}
 use Rattle.cp_meaning.specs.LocalRules.{takes, assigned, becomes, is_beyond, next_value}
-use Rattle.cp_meaning.specs.Steps.{view_of, step_of, settled}
-use Rattle.cp_resolved.specs.Layouts.{Layouts, Here, here}
-use Rattle.cp_resolved.specs.Compiled.{Designated, as_ordinal}
 use Rattle.cp_resolved.specs.Stands.{Ground, ForItem, StatementIs, is_down}
-use Rattle.cp_refine.specs.PlainValues.{plain_value}
 use Rattle.cp_refine.specs.Represents.{PlaceAt, StackIs, TurnIs, CallsHold, own_memory, frames_of}
-use Rattle.cp_refine.specs.Agrees.{OrdinalAgrees, TargetAgrees, BegunAgrees, Few, Sees}
 use Rattle.cp_refine.proofs.control.Control.{Taken, Goes, goes, goes_still, StepIs, takes_item, acts, fails, scope_is, top_frame, call_scope}
 use Rattle.cp_refine.proofs.expressions.Expressions.{expression_ok}
 use Rattle.cp_refine.proofs.expressions.Numbers.{same_is_equal}
-use Rattle.cp_refine.specs.Remaining.{ItemsAre}
-use Rattle.cp_store.specs.declared.memory.Frame.{Frame}
 use Rattle.cp_refine.proofs.calls.Kept.{kept_left, kept_right}
 use Rattle.cp_refine.proofs.control.Lists.{statement_items, stack_rest, frames_rest}
 use Rattle.cp_refine.proofs.control.Running.{Executes, frames_below, sees_now}

@@ -2,49 +2,31 @@
 use Rattle.std.proofs.Common.{◌≡◌, ◌∙◌, ℕ, ◌+◌, ◌<◌, ◌==◌, Bool, true, false, if◌then◌else◌, List, [], ◌∷◌, ◌++◌, Option, Some, None, ap, sym, refl, subst, arith, length, map}
 use Rattle.std.specs.Prelude.{ℤ, pos, negsuc, ◌-◌, Result, Ok, Err, slice_index}
 use Rattle.std.proofs.lemmas.List.{map-append, length-map}
-use Rattle.std.proofs.lemmas.Int.{ints}
-use Rattle.cp_tree.specs.Syntax.{Program, Expression, Expressions, more_expressions, Designator, invoke}
-use Rattle.cp_slots.specs.declared.item.Action.{Action}
+use Rattle.cp_refine.proofs.Words.{ints, Program, Expression, Expressions, more_expressions, Designator, invoke, Action, ComponentKind, component_at, item_at}
+use Rattle.cp_refine.proofs.Words.{Entry, memory_at, rest_of, act, step_at, Outcome, ◌>>=◌, Value, number_value, Meaning, standard_meaning, display_procedure}
+use Rattle.cp_refine.proofs.Words.{find, Stepped, displaying, moved_to, output_room, Doing, value, name_of, expression_calls, expressions_calls}
+use Rattle.cp_refine.proofs.Words.{designator_calls, Typed, range_of_base, view_of, step_of, settled, Layouts, Here, here, as_ordinal, plain_value, HasBegun}
+use Rattle.cp_refine.proofs.Words.{ComponentIs, MonitorIs, Represents, OrdinalAgrees}
 use Rattle.cp_slots.specs.declared.item.Action.TheVariants as action
 use Rattle.cp_slots.specs.declared.item.ShownKind.{ShownKind}
 use Rattle.cp_slots.specs.declared.place.OrdinalExpression as code_expression
-use Rattle.cp_slots.specs.declared.tables.ComponentKind.{ComponentKind}
 use Rattle.cp_slots.specs.declared.tables.ComponentKind.TheVariants as kind
 use Rattle.cp_slots.specs.Code as code
-use Rattle.cp_slots.specs.Tables.{component_at, item_at}
 use Rattle.cp_store.specs.declared.error.ErrorName as slots
 use Rattle.cp_machine.specs.declared.event.Event.TheVariants as event
 use Rattle.cp_machine.specs.declared.event.Kernel.TheVariants as kernel
-use Rattle.cp_machine.specs.declared.process.Entry.{Entry}
 use Rattle.cp_machine.specs.declared.shown.Shown as slot_shown
 use Rattle.cp_machine.specs.declared.shown.Shown.TheVariants as shown_variant
 use Rattle.cp_machine.specs.declared.state.TheConstants.{MOST_SHOWN}
 use Rattle.cp_machine.specs.Machine.{Machine, thread_at, with_stack, with_output}
-use Rattle.cp_machine.specs.Memory.{memory_at}
-use Rattle.cp_machine.specs.Stack.{rest_of}
 use Rattle.cp_machine.specs.Statements as statements
 use Rattle.cp_machine.specs.Statements.{shown_as}
-use Rattle.cp_machine.specs.Step.{act, step_at}
-use Rattle.cp_meaning.specs.Outcome.{Outcome, ◌>>=◌}
 use Rattle.cp_meaning.specs.Types.{Base, integers, booleans, characters, enumerated, Range, Ty, ordinal, is_within}
-use Rattle.cp_meaning.specs.Values.{Value, number_value}
-use Rattle.cp_meaning.specs.Scopes.{Meaning, standard_meaning, display_procedure, find}
 use Rattle.cp_meaning.specs.State as named
 use Rattle.cp_meaning.specs.State.{ready, Item, statement_item, Shown, ComponentStatus, uninitialised, State}
-use Rattle.cp_meaning.specs.Kernel.{Stepped, displaying, moved_to, output_room}
-use Rattle.cp_meaning.specs.Move.{Doing}
-use Rattle.cp_meaning.specs.Expressions.{value, name_of}
-use Rattle.cp_meaning.specs.Lifting.{expression_calls, expressions_calls, designator_calls}
 use Rattle.cp_meaning.specs.LocalRules.{invoked, shown}
-use Rattle.cp_meaning.specs.Operations.{Typed, range_of_base}
-use Rattle.cp_meaning.specs.Steps.{view_of, step_of, settled}
-use Rattle.cp_resolved.specs.Layouts.{Layouts, Here, here}
-use Rattle.cp_resolved.specs.Compiled.{as_ordinal}
 use Rattle.cp_resolved.specs.Stands.{Ground, DisplayItem, InvokedBy, kind_of}
-use Rattle.cp_refine.specs.PlainValues.{plain_value}
 use Rattle.cp_refine.specs.Named.{shown_by, shown_of}
-use Rattle.cp_refine.specs.Represents.{HasBegun, ComponentIs, MonitorIs, Represents}
-use Rattle.cp_refine.specs.Agrees.{OrdinalAgrees}
 use Rattle.cp_refine.proofs.control.Control.{Taken, StepIs, takes_item, acts, fails, goes_on_to, scope_is}
 use Rattle.cp_refine.proofs.expressions.Expressions.{expression_ok}
 use Rattle.cp_refine.proofs.calls.Kept.{kept_left, kept_right}

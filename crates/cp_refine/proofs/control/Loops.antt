@@ -1,36 +1,18 @@
 -- Steps of `if` with `else`, and of the loops `while`, `repeat` and `cycle`.
 use Rattle.std.proofs.Common.{◌≡◌, ◌∙◌, ℕ, Bool, true, false, if◌then◌else◌, List, [], ◌∷◌, ◌++◌, append_assoc, Option, Some, None, ap, sym, refl, subst}
-use Rattle.std.specs.Prelude.{ℤ, Result, Ok, Err, int_lt, pos, slice_index}
+use Rattle.cp_refine.proofs.Words.{ℤ, Result, Ok, Err, int_lt, pos, slice_index, Action, item_at, Entry, Rest, Machine, thread_at, with_stack, memory_at}
+use Rattle.cp_refine.proofs.Words.{value_of, rest_of, act, step_at, Outcome, ◌>>=◌, Scope, Value, number_of, Item, statement_item, until, State, Typed}
+use Rattle.cp_refine.proofs.Words.{is_true, value, expression_calls, items_of, items_of_all, until_items, becomes, Layouts, Here, here, plain_value, AreKept}
+use Rattle.cp_refine.proofs.Words.{ItemsAre, StackIs, frames_of, OrdinalAgrees}
 use Rattle.cp_tree.specs.Syntax.{Program, Expression, Statement, Statements, if_else, while_do, repeat_until, cycle}
-use Rattle.cp_slots.specs.declared.item.Action.{Action}
 use Rattle.cp_slots.specs.declared.item.Action.TheVariants as action
 use Rattle.cp_slots.specs.declared.place.OrdinalExpression as code_expression
 use Rattle.cp_slots.specs.Code as code
-use Rattle.cp_slots.specs.Tables.{item_at}
 use Rattle.cp_store.specs.declared.error.ErrorName as slots
 use Rattle.cp_store.specs.Values as cells
-use Rattle.cp_machine.specs.declared.process.Entry.{Entry}
-use Rattle.cp_machine.specs.declared.process.Entry.TheVariants.{Rest}
-use Rattle.cp_machine.specs.Machine.{Machine, thread_at, with_stack}
-use Rattle.cp_machine.specs.Memory.{memory_at, value_of}
-use Rattle.cp_machine.specs.Stack.{rest_of}
 use Rattle.cp_machine.specs.Statements as statements
-use Rattle.cp_machine.specs.Step.{act, step_at}
-use Rattle.cp_meaning.specs.Outcome.{Outcome, ◌>>=◌}
-use Rattle.cp_meaning.specs.Scopes.{Scope}
-use Rattle.cp_meaning.specs.Values.{Value, number_of}
-use Rattle.cp_meaning.specs.State.{Item, statement_item, until, State}
-use Rattle.cp_meaning.specs.Operations.{Typed, is_true}
-use Rattle.cp_meaning.specs.Expressions.{value}
-use Rattle.cp_meaning.specs.Lifting.{expression_calls, items_of, items_of_all, until_items}
-use Rattle.cp_meaning.specs.LocalRules.{becomes}
 use Rattle.cp_meaning.specs.Steps.{view_of, step_of, settled, at_expression}
-use Rattle.cp_resolved.specs.Layouts.{Layouts, Here, here}
 use Rattle.cp_resolved.specs.Stands.{Ground, OwnAll, UntilItem}
-use Rattle.cp_refine.specs.PlainValues.{plain_value}
-use Rattle.cp_refine.specs.Remaining.{AreKept, ItemsAre}
-use Rattle.cp_refine.specs.Represents.{StackIs, frames_of}
-use Rattle.cp_refine.specs.Agrees.{OrdinalAgrees}
 use Rattle.cp_refine.proofs.control.Control.{Taken, StepIs, TestAgrees, takes_item, acts, acts_before, fails, branches, calls_now, stack_after, local_to, scope_is, is_block, is_if as is_if_else}
 use Rattle.cp_refine.proofs.calls.Kept.{calls_kept, expression_inner}
 use Rattle.cp_refine.proofs.control.Lists.{items_append, calls_items, statement_items, all_items, stack_rest, frames_rest}

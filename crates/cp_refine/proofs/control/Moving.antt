@@ -1,21 +1,12 @@
 -- A step of one process that enters and leaves no monitor and writes no variable keeps what stands for what.
 use Rattle.std.proofs.Common.{◌≡◌, ◌≢◌, ◌∙◌, ℕ, zero, suc, ◌+◌, ◌<◌, ◌⊎◌, inl, inr, Bool, not, if◌then◌else◌, List, [], ◌∷◌, Option, Some, ap, sym, refl, subst, arith, length, length-set, get_or-set_same, get_or-set_other}
-use Rattle.std.specs.Prelude.{◌&&◌, slice_index_or, slice_set}
-use Rattle.cp_tree.specs.Syntax.{Program}
-use Rattle.cp_slots.specs.declared.tables.ComponentKind.{ComponentKind}
+use Rattle.cp_refine.proofs.Words.{◌&&◌, slice_index_or, slice_set, Program, ComponentKind, component_at, Machine, Monitor, Thread, thread_at, no_thread}
+use Rattle.cp_refine.proofs.Words.{phase_at, with_thread, after, View, content_of, value_held, environment_of, value_at, part_at, Permanent, first_inside}
+use Rattle.cp_refine.proofs.Words.{Layouts, Ground}
 use Rattle.cp_slots.specs.declared.tables.ComponentKind.TheVariants as kind
-use Rattle.cp_slots.specs.Tables.{component_at}
 use Rattle.cp_machine.specs.declared.process.Status.TheVariants as status
-use Rattle.cp_machine.specs.Machine.{Machine, Monitor, Thread, thread_at, no_thread, phase_at, with_thread}
 use Rattle.cp_meaning.specs.State as named
 use Rattle.cp_meaning.specs.State.{Holder, in_call, in_component, Place, Environment, Component, uninitialised, initialising, initialised, ComponentStatus, unstarted, ready, delayed, Status, Process, no_process, State, is_inside, has_entry, waits_at}
-use Rattle.cp_meaning.specs.Kernel.{after}
-use Rattle.cp_meaning.specs.Places.{View, content_of, value_held, environment_of, value_at}
-use Rattle.cp_meaning.specs.Values.{part_at}
-use Rattle.cp_store.specs.declared.memory.Address.TheVariants.{Permanent}
-use Rattle.cp_meaning.specs.Readings.{first_inside}
-use Rattle.cp_resolved.specs.Layouts.{Layouts}
-use Rattle.cp_resolved.specs.Stands.{Ground}
 use Rattle.cp_refine.specs.Represents.{LiesAt, ProcessIs, PhaseIs, ComponentIs, MonitorIs, QueuesAre, PendingIs, HasBegun, all_permanents, Represents}
 
 -- ---- lists with one element changed

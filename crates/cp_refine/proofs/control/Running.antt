@@ -1,31 +1,12 @@
 -- Of a process that runs in a state: its frames and all components lie in its memory, so that tests and values are the same.
 use Rattle.std.proofs.Common.{◌≡◌, ◌∙◌, ℕ, ◌+◌, ◌^◌, ◌<◌, ◌≤◌, List, [], ◌∷◌, Option, ap, sym, refl, subst, arith, length}
-use Rattle.std.specs.Prelude.{ℤ, pos, slice_index, slice_index_or}
-use Rattle.cp_tree.specs.Syntax.{Program, Expression, Statement, if_then}
-use Rattle.cp_slots.specs.Tables.{Tables, component_at, routine_at}
-use Rattle.cp_store.specs.declared.memory.Address.TheVariants.{Permanent, Local}
-use Rattle.cp_store.specs.declared.memory.Frame.{Frame}
-use Rattle.cp_store.specs.Memory.{Memory}
-use Rattle.cp_store.specs.Places.{referred}
-use Rattle.cp_machine.specs.declared.process.Entry.{Entry}
-use Rattle.cp_machine.specs.Machine.{Machine, thread_at}
-use Rattle.cp_machine.specs.Memory.{memory_at}
-use Rattle.cp_machine.specs.Step.{step_at}
-use Rattle.cp_meaning.specs.Types.{Ty}
-use Rattle.cp_meaning.specs.Values.{Value}
+use Rattle.cp_refine.proofs.Words.{ℤ, pos, slice_index, slice_index_or, Program, Expression, Statement, if_then, Tables, component_at, routine_at, Permanent}
+use Rattle.cp_refine.proofs.Words.{Local, Frame, Memory, referred, Entry, Machine, thread_at, memory_at, step_at, Ty, Value, Item, statement_item, State}
+use Rattle.cp_refine.proofs.Words.{Call, content_of, value_held, view_of, step_of, expression_calls, AreKept, cells_of, Layouts, here, cell_named, as_ordinal}
+use Rattle.cp_refine.proofs.Words.{RoutineIs, LiesAt, PlaceAt, CallsHold, own_memory, all_permanents, Represents, Few, Sees}
 use Rattle.cp_meaning.specs.State as named
-use Rattle.cp_meaning.specs.State.{Item, statement_item, State, Call}
-use Rattle.cp_meaning.specs.Places.{content_of, value_held}
-use Rattle.cp_meaning.specs.Steps.{view_of, step_of}
 use Rattle.cp_slots.specs.Code as code
-use Rattle.cp_meaning.specs.Lifting.{expression_calls}
-use Rattle.cp_refine.specs.Remaining.{AreKept}
-use Rattle.cp_resolved.specs.Layouts.{cells_of, Layouts, here, cell_named}
-use Rattle.cp_resolved.specs.Compiled.{as_ordinal}
 use Rattle.cp_resolved.specs.Stands.{Ground, IsTest}
-use Rattle.cp_resolved.specs.Resolved.{RoutineIs}
-use Rattle.cp_refine.specs.Represents.{LiesAt, PlaceAt, CallsHold, own_memory, all_permanents, Represents}
-use Rattle.cp_refine.specs.Agrees.{Few, Sees}
 use Rattle.cp_refine.proofs.control.Control.{Taken, StepIs, TestAgrees, top_frame, if_step}
 use Rattle.cp_refine.proofs.expressions.Expressions.{expression_ok}
 use Rattle.cp_refine.proofs.expressions.Reading.{AllLie}

@@ -1,22 +1,10 @@
 -- The names of components at a process that runs: they stand for the components of the tables, since its own component has begun.
-use Rattle.std.proofs.Common.{◌≡◌, Some, ◌∙◌, ℕ, ◌+◌, ◌^◌, ◌<◌, sym, subst, arith, length}
-use Rattle.cp_tree.specs.Syntax.{Tree, Program}
-use Rattle.cp_slots.specs.Tables.{Tables, component_at}
-use Rattle.cp_machine.specs.Fits.{MachineFits}
-use Rattle.cp_machine.specs.Machine.{Machine, thread_at}
+use Rattle.cp_refine.proofs.Words.{◌≡◌, Some, ◌∙◌, ℕ, ◌+◌, ◌^◌, ◌<◌, sym, subst, arith, length, Tree, Program, Tables, component_at, MachineFits, Machine}
+use Rattle.cp_refine.proofs.Words.{thread_at, Name, current, State, view_of, Ty, Layouts, here, look, Ground, NamesKnown, ground_of, Prepared, HasBegun}
+use Rattle.cp_refine.proofs.Words.{CallsHold, own_memory}
 use Rattle.cp_machine.specs.Reach.{Reaches, FrameReaches}
 use Rattle.cp_machine.proofs.Covered.{frame_reaches}
-use Rattle.cp_meaning.specs.Names.{Name}
 use Rattle.cp_meaning.specs.State as named
-use Rattle.cp_meaning.specs.State.{current, State}
-use Rattle.cp_meaning.specs.Steps.{view_of}
-use Rattle.cp_meaning.specs.Types.{Ty}
-use Rattle.cp_resolved.specs.Layouts.{Layouts, here, look}
-use Rattle.cp_resolved.specs.Stands.{Ground}
-use Rattle.cp_refine.specs.ComponentNames.{NamesKnown}
-use Rattle.cp_refine.specs.Law.{ground_of}
-use Rattle.cp_refine.specs.Prepared.{Prepared}
-use Rattle.cp_refine.specs.Represents.{HasBegun, CallsHold, own_memory}
 use Rattle.cp_refine.proofs.calls.CallSteps.{call_component}
 use Rattle.cp_refine.proofs.expressions.ComponentPlaces.{ComponentsKnown}
 use Rattle.cp_refine.proofs.expressions.ComponentsSeen.{components_known}

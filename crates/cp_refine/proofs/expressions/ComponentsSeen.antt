@@ -1,25 +1,11 @@
 -- What names of components stand for in a state for which a machine stands.
 use Rattle.std.proofs.Common.{◌≡◌, ◌∙◌, ℕ, ◌+◌, ◌*◌, ◌^◌, ◌<◌, true, false, List, [], ◌∷◌, Option, Some, None, ap, sym, refl, subst, arith, length}
-use Rattle.std.specs.Prelude.{slice_index_or}
-use Rattle.cp_tree.specs.Syntax.{Program}
-use Rattle.cp_slots.specs.Tables.{Tables, component_at}
-use Rattle.cp_store.specs.declared.memory.Frame.{Frame}
-use Rattle.cp_store.specs.Memory.{Memory, onward}
-use Rattle.cp_machine.specs.Machine.{Machine}
-use Rattle.cp_meaning.specs.Components.{Path, step_down}
-use Rattle.cp_meaning.specs.Names.{Name}
-use Rattle.cp_meaning.specs.Types.{Ty, component_of, array_over}
-use Rattle.cp_meaning.specs.Scopes.{permanent_variable, find}
+use Rattle.cp_refine.proofs.Words.{slice_index_or, Program, Tables, component_at, Frame, Memory, onward, Machine, Path, step_down, Name, Ty, component_of}
+use Rattle.cp_refine.proofs.Words.{array_over, permanent_variable, find, Call, current, knows, State, first_components, system_of, View, content_of}
+use Rattle.cp_refine.proofs.Words.{this_component, component_with, Layouts, here, is_parameter, look, Ground, NamesKnown, CallIs, CallsHold, HasBegun}
+use Rattle.cp_refine.proofs.Words.{Represents}
 use Rattle.cp_meaning.specs.State as named
-use Rattle.cp_meaning.specs.State.{Call, current, knows, State}
-use Rattle.cp_meaning.specs.Steps.{first_components}
-use Rattle.cp_meaning.specs.Systems.{system_of}
-use Rattle.cp_meaning.specs.Places.{View, content_of, this_component, component_with}
-use Rattle.cp_resolved.specs.Layouts.{Layouts, here, is_parameter, look}
 use Rattle.cp_resolved.specs.Resolved as resolved
-use Rattle.cp_resolved.specs.Stands.{Ground}
-use Rattle.cp_refine.specs.ComponentNames.{NamesKnown}
-use Rattle.cp_refine.specs.Represents.{CallIs, CallsHold, HasBegun, Represents}
 use Rattle.cp_refine.proofs.expressions.ComponentPlaces.{own_component, ComponentsKnown}
 
 -- the innermost call is that of the innermost frame

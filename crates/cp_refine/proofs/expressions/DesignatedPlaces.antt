@@ -1,21 +1,12 @@
 -- A name with selectors designates a part of what the name stands for: a variable of the open call, or of the component that is executed.
 use Rattle.std.proofs.Common.{◌≡◌, ℕ, Bool, true, false, if◌then◌else◌, Option, Some, None, Ok, Err, sym, refl, subst}
-use Rattle.std.specs.Prelude.{ℤ, ◌+ℤ◌, neg_ℤ}
-use Rattle.cp_tree.specs.declared.constant.Identifier.{Identifier}
+use Rattle.cp_refine.proofs.Words.{ℤ, ◌+ℤ◌, neg_ℤ, Identifier, Name, Outcome, out_of_range, ◌>>=◌, Typed, Ty, array_over, record_with, component_of}
+use Rattle.cp_refine.proofs.Words.{natural_of, is_within, Meaning, local_variable, permanent_variable, routine_meaning, find, Holder, in_call, in_component}
+use Rattle.cp_refine.proofs.Words.{Place, current, the_element, number_of, View, Target, target_meant, target_named, with_choice, this_component, value}
+use Rattle.cp_refine.proofs.Words.{target_value, selected, chosen, with_index, with_element_of, Here, is_own, is_parameter, field_chosen}
 use Rattle.cp_tree.specs.Syntax.{Designator, designator, Selectors, no_selectors, more_selectors, Selector, field, index}
 use Rattle.cp_slots.specs.Code as code
-use Rattle.cp_meaning.specs.Names.{Name}
-use Rattle.cp_meaning.specs.Outcome.{Outcome, out_of_range, ◌>>=◌}
-use Rattle.cp_meaning.specs.Operations.{Typed}
-use Rattle.cp_meaning.specs.Types.{Ty, array_over, record_with, component_of, natural_of, is_within}
-use Rattle.cp_meaning.specs.Scopes.{Meaning, local_variable, permanent_variable, routine_meaning, find}
-use Rattle.cp_meaning.specs.State.{Holder, in_call, in_component, Place, current}
-use Rattle.cp_meaning.specs.Values.{the_element, number_of}
-use Rattle.cp_meaning.specs.Places.{View, Target, target_meant, target_named, with_choice, this_component}
-use Rattle.cp_meaning.specs.Expressions.{value, target_value, selected, chosen, with_index, with_element_of}
-use Rattle.cp_resolved.specs.Layouts.{Here, is_own, is_parameter}
 use Rattle.cp_resolved.specs.Compiled.{then_form, Designated, a_variable, some_components, a_component, part_of_form, component_begun, permanent_begun, result_begun, begun_form, field_of_form, with_field_form, element_of_form, with_element_form, with_index_form, ordinal_form, chosen_form, selected_form, designator_form, expression_form}
-use Rattle.cp_resolved.specs.Encoded.{field_chosen}
 
 -- ---- on names
 

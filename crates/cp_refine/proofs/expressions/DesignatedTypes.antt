@@ -2,19 +2,14 @@
 use Rattle.std.proofs.Common.{◌≡◌, ℕ, ◌+◌, pos, int_le, Bool, true, false, ◌&&◌, arith, [], ◌∷◌, Option, Some, None, ap, refl, subst}
 use Rattle.cp_tree.specs.Syntax.{Designator, designator, Selectors, no_selectors, more_selectors, Selector, field, index, Program}
 use Rattle.cp_slots.specs.Code as code
-use Rattle.cp_meaning.specs.Names.{Name}
+use Rattle.cp_refine.proofs.Words.{Name, the_field, result_type, Meaning, local_variable, permanent_variable, routine_meaning, find, Here, here, Layouts}
+use Rattle.cp_refine.proofs.Words.{is_own, is_parameter, Chosen, field_chosen, then_chosen, second_true}
 use Rattle.cp_meaning.specs.Types.{Range, Ty, ordinal, set_over, array_over, record_with, component_of, FieldTypes}
-use Rattle.cp_meaning.specs.Values.{the_field}
-use Rattle.cp_meaning.specs.Places.{result_type}
-use Rattle.cp_meaning.specs.Scopes.{Meaning, local_variable, permanent_variable, routine_meaning, find}
-use Rattle.cp_resolved.specs.Layouts.{Here, here, Layouts, is_own, is_parameter}
 use Rattle.cp_resolved.specs.Compiled.{then_form, Designated, a_variable, some_components, a_component, part_of_form, component_begun, permanent_begun, result_begun, begun_form, with_field_form, with_element_form, with_index_form, ordinal_form, chosen_form, selected_form, designator_form, expression_form}
-use Rattle.cp_resolved.specs.Encoded.{Chosen, field_chosen, then_chosen}
 use Rattle.cp_resolved.specs.Standing.{is_bounded, is_based, is_indexed, is_element, is_standing, IsFit, IsFreeResult}
 use Rattle.cp_resolved.proofs.counts.FewCells.{in_order, left_of as first_true}
 use Rattle.cp_resolved.proofs.declarations.StandingParts.{free_part, within_base}
 use Rattle.cp_refine.proofs.assignments.AnyAssignments.{RangeKnown}
-use Rattle.cp_resolved.proofs.frames.LeastCells.{right_true as second_true}
 use Rattle.cp_resolved.proofs.agreeing.AgreeingTypes.{element_standing, free_standing}
 
 -- ---- a type that stands

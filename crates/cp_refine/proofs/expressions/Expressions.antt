@@ -1,35 +1,22 @@
 -- Expressions give the same on names and on slots: the induction.
 use Rattle.std.proofs.Common.{◌≡◌, ◌∙◌, ℕ, ◌+◌, ◌++◌, Bool, true, false, not, if◌then◌else◌, List, [], Option, Some, None, ap, sym, refl, subst, arith}
-use Rattle.std.specs.Prelude.{ℤ, pos, neg_ℤ, int_lt, ◌&&◌, Result, Ok, Err}
-use Rattle.cp_tree.specs.declared.constant.Identifier.{Identifier}
+use Rattle.cp_refine.proofs.Words.{ℤ, pos, neg_ℤ, int_lt, ◌&&◌, Result, Ok, Err, Identifier, Relation, Addition, Multiplication, Tables, Address, Frame}
+use Rattle.cp_refine.proofs.Words.{Memory, cell_at, then_with, temporary, Outcome, ◌>>=◌, Scope, Meaning, constant_meaning, standard_meaning, Standard, find}
+use Rattle.cp_refine.proofs.Words.{View, Target, target_named, value_at, plain_place, this_call, plain_value, plain_set, plain_address, encode, HasType}
 use Rattle.cp_tree.specs.declared.constant.Sign.{Sign}
 use Rattle.cp_tree.specs.declared.constant.Sign.TheVariants as sign
-use Rattle.cp_tree.specs.declared.expression.Relation.{Relation}
-use Rattle.cp_tree.specs.declared.expression.Addition.{Addition}
-use Rattle.cp_tree.specs.declared.expression.Multiplication.{Multiplication}
 use Rattle.cp_tree.specs.Syntax.{Expression, alone, related, Sum, sum, Terms, no_terms, more_terms, Term, term, Factors, no_factors, more_factors, Factor, number, character, named, group, negated, set_of, Expressions, no_expressions, more_expressions, Designator, designator, Selectors, no_selectors, more_selectors, Selector, field, index, Program}
-use Rattle.cp_slots.specs.Tables.{Tables}
 use Rattle.cp_store.specs.declared.error.ErrorName as slots
-use Rattle.cp_store.specs.declared.memory.Address.{Address}
-use Rattle.cp_store.specs.declared.memory.Frame.{Frame}
-use Rattle.cp_store.specs.Memory.{Memory, cell_at}
 use Rattle.cp_store.specs.Sets as sets
 use Rattle.cp_store.specs.Values as cells
-use Rattle.cp_store.specs.Values.{then_with}
-use Rattle.cp_meaning.specs.Names.{temporary}
-use Rattle.cp_meaning.specs.Outcome.{Outcome, ◌>>=◌}
 use Rattle.cp_meaning.specs.Types.{Ty, ordinal, set_over, queue_type, array_over, record_with, component_of, Base, integers, characters, Range, all_integers, all_booleans, is_within}
 use Rattle.cp_meaning.specs.Values.{Value, number_value, array_value, record_value, set_value, queue_value, number_of}
-use Rattle.cp_meaning.specs.Scopes.{Scope, Meaning, constant_meaning, standard_meaning, Standard, find}
 use Rattle.cp_meaning.specs.Operations.{Typed, truth, is_true, related_values, added_values, multiplied_values, signed_value, standard_value, range_of_base}
-use Rattle.cp_meaning.specs.Places.{View, Target, target_named, value_at, plain_place, this_call}
 use Rattle.cp_meaning.specs.Expressions.{value, sum_value, terms_value, term_value, factors_value, factor_value, first_value, members_value, with_member_checked, target_value, selected, chosen, named_value, call_value, result_called, routine_called}
 use Rattle.cp_meaning.specs.Lifting.{is_call, own_call, expression_calls, sum_calls, terms_calls, term_calls, factors_calls, factor_calls, expressions_calls, designator_calls, selectors_calls, selector_calls}
 use Rattle.cp_slots.specs.Code as code
-use Rattle.cp_refine.specs.PlainValues.{plain_value, plain_set, plain_address}
 use Rattle.cp_resolved.specs.Layouts.{Layouts, Here, frame_here, look}
 use Rattle.cp_resolved.specs.Compiled.{Form, as_ordinal, as_set, Formed, Designated, a_variable, then_form, is_integer, is_boolean, compared_forms, added_forms, multiplied_forms, signed_ordinal, signed_form, not_form_of, not_form, applied_form, valued_form, loaded_form, call_form, constant_form, named_form, begun_form, expression_form, sum_form, terms_form, term_form, factors_form, factor_form, first_form, members_form, set_form, with_member_form, designator_form, selected_form, chosen_form}
-use Rattle.cp_resolved.specs.Encoded.{encode, HasType}
 use Rattle.cp_refine.specs.Represents.{BlockAt, LiesAt}
 use Rattle.cp_refine.specs.Agrees.{OrdinalAgrees, SetAgrees, PlaceAgrees, FormAgrees, TargetAgrees, DesignatedAgrees, BegunAgrees, Sees}
 use Rattle.cp_refine.specs.Remaining.{IsKept, AreKept}

@@ -1,14 +1,12 @@
 -- The operations on ordinals of the meaning and of the slot machine are the same.
 use Rattle.std.proofs.Common.{◌≡◌, ◌∙◌, ◌<◌, Bool, true, false, not, if◌then◌else◌, ap, refl, subst, arith}
 use Rattle.std.specs.Prelude.{ℤ, pos, int_lt, int_div, int_rem, ◌&&◌, ◌||◌, Ok, Err, unsigned_abs}
-use Rattle.std.specs.Ordering.{int_eq}
+use Rattle.cp_refine.proofs.Words.{int_eq, ordinal, all_integers, all_booleans, is_within, OrdinalAgrees}
 use Rattle.std.proofs.lemmas.Int.{ints, rem_below}
 use Rattle.cp_store.specs.declared.error.ErrorName.TheVariants.{Overflow, ZeroDivisor}
 use Rattle.cp_store.specs.Values as cells
 use Rattle.cp_meaning.specs.Outcome.{overflow, zero_divisor}
-use Rattle.cp_meaning.specs.Types.{ordinal, all_integers, all_booleans, is_within}
 use Rattle.cp_meaning.specs.Operations.{integer, truth, fitting, same_integer}
-use Rattle.cp_refine.specs.Agrees.{OrdinalAgrees}
 
 -- an integer of the language, or overflow
 pub fits_narrowed : (z : ℤ) → OrdinalAgrees (fitting z) (ordinal all_integers) (cells.narrowed z)

@@ -1,10 +1,6 @@
 -- A part of a value lies where its choices lead to.
 use Rattle.std.proofs.Common.{◌≡◌, ◌∙◌, ℕ, zero, suc, ◌+◌, ◌*◌, ◌<◌, ◌≤◌, Bool, true, false, if◌then◌else◌, List, [], ◌∷◌, ◌++◌, Option, Some, None, ap, refl, subst, arith, length, length-append, get_or}
-use Rattle.std.specs.Prelude.{ℤ, pos, nat_lt}
-use Rattle.std.proofs.lemmas.Bool.{ltb-true}
-use Rattle.std.proofs.lemmas.List.{get_or-append-add, get_or_append_left}
-use Rattle.std.proofs.Math.Nat.{suc-mul}
-use Rattle.cp_meaning.specs.Names.{Name, same_name}
+use Rattle.cp_refine.proofs.Words.{ℤ, pos, nat_lt, ltb-true, get_or-append-add, get_or_append_left, suc-mul, Name, same_name}
 use Rattle.cp_meaning.specs.Types.{Ty, ordinal, queue_type, set_over, array_over, record_with, component_of, FieldTypes, no_field_types, more_field_types, length_of_range}
 use Rattle.cp_meaning.specs.Values.{Value, number_value, array_value, record_value, set_value, queue_value, Values, no_values, more_values, FieldValues, no_field_values, more_field_values, Choice, the_field, the_element, element_at, field_at, part_of, part_at}
 use Rattle.cp_resolved.specs.Layouts.{cells_of, cells_in}

@@ -1,20 +1,9 @@
 -- What a process reads in its frame is what the view of it sees.
 use Rattle.std.proofs.Common.{◌≡◌, ◌∙◌, ℕ, suc, ◌+◌, ◌<◌, ◌≤◌, ◌==◌, Bool, true, false, if◌then◌else◌, List, [], ◌∷◌, Option, Some, None, ap, sym, refl, subst, arith, length}
-use Rattle.cp_slots.specs.Tables.{Tables, component_at}
-use Rattle.cp_store.specs.declared.memory.Address.{Address}
-use Rattle.cp_store.specs.declared.memory.Address.TheVariants.{Permanent, Local}
-use Rattle.cp_store.specs.declared.memory.Frame.{Frame}
-use Rattle.cp_store.specs.Inside.{HasCells}
-use Rattle.cp_store.specs.Memory.{Memory, cell_at}
-use Rattle.cp_meaning.specs.Names.{Name}
-use Rattle.cp_meaning.specs.Types.{Ty}
-use Rattle.cp_meaning.specs.Values.{Value, Choice, part_at}
+use Rattle.cp_refine.proofs.Words.{Tables, component_at, Address, Permanent, Local, Frame, HasCells, Memory, cell_at, Name, Ty, Value, Choice, part_at}
+use Rattle.cp_refine.proofs.Words.{Holder, in_call, in_component, Place, Call, View, content_of, value_held, call_above, environment_of, value_at, cells_of}
+use Rattle.cp_refine.proofs.Words.{Layouts, cell_named, look, encode, Chosen, chosen_at, further, LiesAt, frame_above, InFrame, BeginsAt, PlaceAt, CallsHold}
 use Rattle.cp_meaning.specs.State as named
-use Rattle.cp_meaning.specs.State.{Holder, in_call, in_component, Place, Call}
-use Rattle.cp_meaning.specs.Places.{View, content_of, value_held, call_above, environment_of, value_at}
-use Rattle.cp_resolved.specs.Layouts.{cells_of, Layouts, cell_named, look}
-use Rattle.cp_resolved.specs.Encoded.{encode, Chosen, chosen_at}
-use Rattle.cp_refine.specs.Represents.{further, LiesAt, frame_above, InFrame, BeginsAt, PlaceAt, CallsHold}
 use Rattle.cp_refine.proofs.expressions.Parts.{encode_length, part_stands}
 
 -- ---- parts

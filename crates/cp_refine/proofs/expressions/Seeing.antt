@@ -1,35 +1,19 @@
 -- The names that a process sees begin where their slots do.
 use Rattle.std.proofs.Common.{◌≡◌, ◌∙◌, ℕ, suc, ◌+◌, ◌-◌, ◌^◌, ◌<◌, ◌==◌, ◌⊎◌, inl, inr, Bool, true, false, if◌then◌else◌, List, [], ◌∷◌, Option, Some, None, ap, sym, refl, subst, arith, length, eq-eqb}
-use Rattle.std.specs.Prelude.{Ok}
-use Rattle.std.proofs.lemmas.Bool.{eqb-true}
+use Rattle.cp_refine.proofs.Words.{Ok, eqb-true, Tables, component_at, routine_at, Address, Permanent, Local, Frame, HasCells, Memory, moved, onward}
+use Rattle.cp_refine.proofs.Words.{origin_address, referred, Routine, Program, Name, temporary, result_name, Holder, in_call, in_component, Place, Content}
+use Rattle.cp_refine.proofs.Words.{refers, Component, Call, system_of, plain_address, cells_of, Layouts, here, cell_named, is_own, is_parameter, look}
+use Rattle.cp_refine.proofs.Words.{component_begun, permanent_begun, result_begun, begun_form, Ground, RoutineIs, further, frame_above, InFrame, BeginsAt}
+use Rattle.cp_refine.proofs.Words.{PlaceAt, CallIs, CallHolds, TargetAgrees, BegunAgrees, Few, Sees, onward_is}
 use Rattle.cp_slots.specs.declared.place.PlaceOrigin.TheVariants as origin
-use Rattle.cp_slots.specs.Tables.{Tables, component_at, routine_at}
-use Rattle.cp_store.specs.declared.memory.Address.{Address}
-use Rattle.cp_store.specs.declared.memory.Address.TheVariants.{Permanent, Local}
-use Rattle.cp_store.specs.declared.memory.Frame.{Frame}
-use Rattle.cp_store.specs.Inside.{HasCells}
-use Rattle.cp_store.specs.Memory.{Memory, moved, onward}
-use Rattle.cp_store.specs.Places.{origin_address, referred}
-use Rattle.cp_tree.specs.Syntax.{Routine, Program}
-use Rattle.cp_meaning.specs.Names.{Name, temporary, result_name}
 use Rattle.cp_meaning.specs.Types.{Range, Ty, ordinal, queue_type, set_over, array_over, record_with, component_of}
 use Rattle.cp_meaning.specs.Scopes.{Meaning, local_variable, permanent_variable, routine_meaning, find, since}
-use Rattle.cp_meaning.specs.State.{Holder, in_call, in_component, Place, Content, refers, Component, Call}
 use Rattle.cp_meaning.specs.Places.{View, Target, content_of, call_above, environment_of, this_call, plain_place, referred as refers_to, result_type, target_meant, target_named}
 use Rattle.cp_meaning.specs.Declarations.{routine_in}
-use Rattle.cp_meaning.specs.Systems.{system_of}
 use Rattle.cp_slots.specs.Code as code
-use Rattle.cp_refine.specs.PlainValues.{plain_address}
-use Rattle.cp_resolved.specs.Layouts.{cells_of, Layouts, here, cell_named, is_own, is_parameter, look}
-use Rattle.cp_resolved.specs.Compiled.{component_begun, permanent_begun, result_begun, begun_form}
-use Rattle.cp_resolved.specs.Stands.{Ground}
-use Rattle.cp_resolved.specs.Resolved.{RoutineIs}
-use Rattle.cp_refine.specs.Represents.{further, frame_above, InFrame, BeginsAt, PlaceAt, CallIs, CallHolds}
-use Rattle.cp_refine.specs.Agrees.{TargetAgrees, BegunAgrees, Few, Sees}
 use Rattle.cp_refine.proofs.expressions.Reading.{calls_frames, AllLie, place_lies}
 use Rattle.cp_refine.proofs.expressions.Members.{not_equal as differ}
 use Rattle.cp_refine.proofs.expressions.SetCells.{no_further as further_none}
-use Rattle.cp_store.proofs.Reaches.{onward_exact as onward_is}
 
 -- from an address that is there one moves by no cells
 pub moved_none : (m : Memory) (a : Address) (t : ℕ) → Few m → HasCells m a t → moved a 0 ≡ further a 0

@@ -1,19 +1,11 @@
 -- A set that lies in cells is read as the set that it is: the eight words of its bits put together are these bits.
 use Rattle.std.proofs.Common.{◌≡◌, ◌∙◌, ℕ, ◌+◌, ◌*◌, ◌/◌, ◌%◌, ◌^◌, ◌<◌, ◌≤◌, List, ap, sym, refl, arith}
-use Rattle.std.specs.Prelude.{pos, slice_index_or}
+use Rattle.cp_refine.proofs.Words.{pos, slice_index_or, Address, Permanent, Local, HasCells, Memory, cell_at, moved, Range, set_over, set_value, bits_of}
+use Rattle.cp_refine.proofs.Words.{set_cells, Few, further, LiesAt}
 use Rattle.std.specs.Int.{cast_unsigned, cast_signed, w16}
 use Rattle.std.proofs.lemmas.Int.{of_z-to_z}
 use Rattle.std.proofs.Math.Nat.{div-div-eq-div-mul, mod-add-div'}
-use Rattle.cp_store.specs.declared.memory.Address.{Address}
-use Rattle.cp_store.specs.declared.memory.Address.TheVariants.{Permanent, Local}
-use Rattle.cp_store.specs.Inside.{HasCells}
-use Rattle.cp_store.specs.Memory.{Memory, cell_at, moved}
 use Rattle.cp_store.specs.Sets.{word_at, pair_at, quad_at, stored_at}
-use Rattle.cp_meaning.specs.Types.{Range, set_over}
-use Rattle.cp_meaning.specs.Values.{set_value}
-use Rattle.cp_resolved.specs.Encoded.{bits_of, set_cells}
-use Rattle.cp_refine.specs.Agrees.{Few}
-use Rattle.cp_refine.specs.Represents.{further, LiesAt}
 use Rattle.cp_refine.proofs.expressions.Members.{bits_below}
 
 -- ---- numbers by words

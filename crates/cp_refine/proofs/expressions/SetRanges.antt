@@ -1,17 +1,13 @@
 -- The members of a set are within the bounds of a type on slots where they are on names.
 use Rattle.std.proofs.Common.{◌≡◌, ◌∙◌, ℕ, zero, suc, ◌<◌, ◌≤◌, ◌==◌, ◌⊎◌, inl, inr, Bool, true, false, if◌then◌else◌, List, [], ◌∷◌, ap, sym, refl, arith}
-use Rattle.std.specs.Prelude.{ℤ, pos, negsuc, int_le, ◌&&◌, ◌||◌, nat_lt, Ok, Err}
+use Rattle.cp_refine.proofs.Words.{ℤ, pos, negsuc, int_le, ◌&&◌, ◌||◌, nat_lt, Ok, Err, ints, Range, natural_of, is_within, is_member, bits_of, AreMembers}
 use Rattle.std.proofs.lemmas.Bool.{and_parts, cases_eq, cases_lt, le-ltb}
 use Rattle.std.proofs.lemmas.Bool.Decides.{Decides-eqb}
-use Rattle.std.proofs.lemmas.Int.{ints}
 use Rattle.cp_store.specs.declared.error.ErrorName.TheVariants.{Range as out_of_bounds}
 use Rattle.cp_store.specs.Sets as sets
 use Rattle.cp_store.specs.Sets.{has_bit, are_within}
 use Rattle.cp_store.proofs.Members.{ranges}
-use Rattle.cp_meaning.specs.Types.{Range, natural_of, is_within}
-use Rattle.cp_meaning.specs.Values.{is_member}
 use Rattle.cp_meaning.specs.Operations as names
-use Rattle.cp_resolved.specs.Encoded.{bits_of, AreMembers}
 use Rattle.cp_refine.proofs.expressions.Members.{not_equal, none_above, bits_are, set_with}
 
 -- ---- on names

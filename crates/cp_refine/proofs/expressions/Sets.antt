@@ -1,37 +1,20 @@
 -- Operations on sets, and tests of them, give the same on names and on slots.
 use Rattle.std.proofs.Common.{◌≡◌, ◌∙◌, ℕ, ◌^◌, ◌<◌, ◌≤◌, ◌==◌, ◌⊎◌, inl, inr, Bool, true, false, not, if◌then◌else◌, List, [], ◌∷◌, Some, ap, sym, refl, subst, arith}
-use Rattle.std.specs.Prelude.{ℤ, pos, negsuc, ◌&&◌, Result, Ok, Err, unsigned_abs}
-use Rattle.std.proofs.lemmas.Bool.{cases_lt}
-use Rattle.std.proofs.lemmas.Int.{ints}
-use Rattle.cp_tree.specs.declared.expression.Relation.{Relation}
-use Rattle.cp_tree.specs.declared.expression.Relation.TheVariants.{Equal, NotEqual, In}
-use Rattle.cp_tree.specs.declared.expression.Addition.{Addition}
-use Rattle.cp_tree.specs.declared.expression.Addition.TheVariants.{Plus, Minus, Or}
-use Rattle.cp_tree.specs.declared.expression.Multiplication.{Multiplication}
-use Rattle.cp_tree.specs.declared.expression.Multiplication.TheVariants.{And}
+use Rattle.cp_refine.proofs.Words.{ℤ, pos, negsuc, ◌&&◌, Result, Ok, Err, unsigned_abs, cases_lt, ints, Relation, Equal, NotEqual, In, Addition, Plus, Minus}
+use Rattle.cp_refine.proofs.Words.{Or, Multiplication, And, Address, Frame, SetValue, Memory, then_with, Outcome, out_of_range, ◌>>=◌, bits_of, AreMembers}
+use Rattle.cp_refine.proofs.Words.{HasType, OrdinalAgrees, SetAgrees, FormAgrees, Few, error_of, plain_value, plain_set, plain_address, LiesAt}
 use Rattle.cp_slots.specs.Code as code
 use Rattle.cp_slots.specs.declared.place.SetOperation.{SetOperation}
 use Rattle.cp_slots.specs.declared.place.SetOperation.TheVariants.{Union, Difference, Intersection}
 use Rattle.cp_store.specs.declared.error.ErrorName as slots
 use Rattle.cp_store.specs.declared.error.ErrorName.TheVariants as error
-use Rattle.cp_store.specs.declared.memory.Address.{Address}
-use Rattle.cp_store.specs.declared.memory.Frame.{Frame}
-use Rattle.cp_store.specs.declared.set.SetValue.{SetValue}
-use Rattle.cp_store.specs.Memory.{Memory}
 use Rattle.cp_store.specs.Sets as sets
 use Rattle.cp_store.specs.Values as cells
-use Rattle.cp_store.specs.Values.{then_with}
-use Rattle.cp_meaning.specs.Outcome.{Outcome, out_of_range, ◌>>=◌}
 use Rattle.cp_meaning.specs.Types.{Ty, ordinal, set_over, Range, all_integers, all_booleans, all_characters, natural_of, is_within}
 use Rattle.cp_meaning.specs.Values.{Value, number_value, array_value, record_value, set_value, queue_value, number_of, is_member, with_member}
 use Rattle.cp_meaning.specs.Operations.{Typed, truth, set_of_members, is_among, related_values, added_values, multiplied_values}
 use Rattle.cp_meaning.specs.Expressions.{with_member_checked}
 use Rattle.cp_resolved.specs.Compiled.{Form, as_ordinal, as_set, Formed, compared_forms, added_forms, multiplied_forms, with_member_form}
-use Rattle.cp_resolved.specs.Encoded.{bits_of, AreMembers, HasType}
-use Rattle.cp_refine.specs.Agrees.{OrdinalAgrees, SetAgrees, FormAgrees, Few}
-use Rattle.cp_refine.specs.Named.{error_of}
-use Rattle.cp_refine.specs.PlainValues.{plain_value, plain_set, plain_address}
-use Rattle.cp_refine.specs.Represents.{LiesAt}
 use Rattle.cp_refine.proofs.expressions.Members.{bits_are, none_above, equal_bits, joined, set_with, bits_joined, members_joined}
 use Rattle.cp_refine.proofs.expressions.SetCells.{set_lies}
 use Rattle.cp_refine.proofs.expressions.Values.{FormOk, by_truth}

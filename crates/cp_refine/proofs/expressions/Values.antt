@@ -1,28 +1,16 @@
 -- Expressions give the same on names and on slots.
 use Rattle.std.proofs.Common.{◌≡◌, Bool, true, not, Option, Some, None, ap, sym, refl, subst}
 use Rattle.std.specs.Prelude.{ℤ, ◌+ℤ◌, ◌-ℤ◌, ◌*ℤ◌, int_le, int_lt, Result, Ok, Err}
-use Rattle.std.specs.Ordering.{int_eq}
-use Rattle.std.proofs.lemmas.Int.{ints}
-use Rattle.cp_tree.specs.declared.expression.Relation.{Relation}
+use Rattle.cp_refine.proofs.Words.{int_eq, ints, Relation, Addition, Plus, Minus, Or, Multiplication, Frame, Memory, then_with, Outcome, ◌>>=◌, Value}
+use Rattle.cp_refine.proofs.Words.{number_value, plain_value, HasType, OrdinalAgrees, FormAgrees}
 use Rattle.cp_tree.specs.declared.expression.Relation.TheVariants.{Equal, NotEqual, Less, Greater, AtMost, AtLeast, In}
-use Rattle.cp_tree.specs.declared.expression.Addition.{Addition}
-use Rattle.cp_tree.specs.declared.expression.Addition.TheVariants.{Plus, Minus, Or}
-use Rattle.cp_tree.specs.declared.expression.Multiplication.{Multiplication}
 use Rattle.cp_tree.specs.declared.expression.Multiplication.TheVariants.{Times, Div, Mod, And}
 use Rattle.cp_store.specs.declared.error.ErrorName as slots
-use Rattle.cp_store.specs.declared.memory.Frame.{Frame}
-use Rattle.cp_store.specs.Memory.{Memory}
 use Rattle.cp_store.specs.Values as cells
-use Rattle.cp_store.specs.Values.{then_with}
-use Rattle.cp_meaning.specs.Outcome.{Outcome, ◌>>=◌}
 use Rattle.cp_meaning.specs.Types.{Ty, ordinal, Base, integers, booleans, characters, enumerated, all_integers, all_booleans, is_within}
-use Rattle.cp_meaning.specs.Values.{Value, number_value}
 use Rattle.cp_meaning.specs.Operations.{Typed, truth, same_integer, related_numbers, related_values, added_values, multiplied_values, range_of_base}
 use Rattle.cp_slots.specs.Code as code
-use Rattle.cp_refine.specs.PlainValues.{plain_value}
 use Rattle.cp_resolved.specs.Compiled.{as_ordinal, Formed, then_form, is_integer_base, is_boolean_base, is_integer, is_boolean, compared_forms, added_ordinals, multiplied_ordinals}
-use Rattle.cp_resolved.specs.Encoded.{HasType}
-use Rattle.cp_refine.specs.Agrees.{OrdinalAgrees, FormAgrees}
 use Rattle.cp_refine.proofs.expressions.Numbers.{fits_narrowed, truth_agrees, same_is_equal, or_same, and_same, quotient_same, remainder_same}
 
 -- ---- steps through what may be nothing

@@ -1,32 +1,19 @@
 -- An expression that is a variable: it is found where the variable is.
 use Rattle.std.proofs.Common.{◌≡◌, ◌∙◌, ℕ, ◌++◌, Bool, true, false, if◌then◌else◌, List, [], Option, Some, None, ap, sym, refl, subst}
-use Rattle.std.specs.Prelude.{ℤ, pos, Ok, Err}
+use Rattle.cp_refine.proofs.Words.{ℤ, pos, Ok, Err, Relation, Addition, Plus, Minus, Or, Multiplication, Tables, Frame, Memory, Outcome, ◌>>=◌, Typed}
+use Rattle.cp_refine.proofs.Words.{signed_value, range_of_base, View, Target, value_at, Layouts, Here, TargetAgrees, Sees, plain_address, AreKept}
 use Rattle.cp_tree.specs.declared.constant.Sign.{Sign}
 use Rattle.cp_tree.specs.declared.constant.Sign.TheVariants as sign
-use Rattle.cp_tree.specs.declared.expression.Relation.{Relation}
 use Rattle.cp_tree.specs.declared.expression.Relation.TheVariants.{Equal, NotEqual, Less, Greater, AtMost, AtLeast, In}
-use Rattle.cp_tree.specs.declared.expression.Addition.{Addition}
-use Rattle.cp_tree.specs.declared.expression.Addition.TheVariants.{Plus, Minus, Or}
-use Rattle.cp_tree.specs.declared.expression.Multiplication.{Multiplication}
 use Rattle.cp_tree.specs.declared.expression.Multiplication.TheVariants.{Times, Div, Mod, And}
 use Rattle.cp_tree.specs.Syntax.{Expression, alone, related, sum, Terms, no_terms, more_terms, term, Factors, no_factors, more_factors, Factor, number, character, named, group, negated, set_of, Expressions, no_expressions, more_expressions, Designator}
 use Rattle.cp_slots.specs.Code as code
-use Rattle.cp_slots.specs.Tables.{Tables}
-use Rattle.cp_store.specs.declared.memory.Frame.{Frame}
-use Rattle.cp_store.specs.Memory.{Memory}
-use Rattle.cp_meaning.specs.Outcome.{Outcome, ◌>>=◌}
 use Rattle.cp_meaning.specs.Types.{Ty, ordinal, queue_type, Base, integers, characters, all_integers, is_within}
 use Rattle.cp_meaning.specs.Scopes.{Scope, Meaning, constant_meaning, standard_meaning, Standard, succ_function, pred_function, chr_function, ord_function, abs_function, empty_function, find}
-use Rattle.cp_meaning.specs.Operations.{Typed, signed_value, range_of_base}
-use Rattle.cp_meaning.specs.Places.{View, Target, value_at}
 use Rattle.cp_meaning.specs.Expressions.{value, factor_value, first_value, target_value, named_value, name_of, result_called, routine_called, variable_in, variable_in_factor}
 use Rattle.cp_meaning.specs.Lifting.{is_call, own_call, expression_calls, factor_calls, expressions_calls, designator_calls}
-use Rattle.cp_resolved.specs.Layouts.{Layouts, Here}
 use Rattle.cp_resolved.specs.Compiled.{Form, as_ordinal, as_set, as_place, as_component, Formed, Designated, a_variable, some_components, a_component, then_form, integer_form, set_form, loaded_form, place_form, compared_forms, added_ordinals, added_forms, multiplied_ordinals, multiplied_forms, signed_ordinal, signed_form, not_form_of, not_form, applied_ordinal, applied_place, applied_form_of, applied_form, valued_form, call_form, constant_form, named_form, is_integer, is_boolean, expression_form, sum_form, terms_form, term_form, factors_form, factor_form, first_form, members_form, designator_form}
 use Rattle.cp_resolved.specs.Used.{AreNone, UsedAs, IsUsed, FactorUsed}
-use Rattle.cp_refine.specs.Agrees.{TargetAgrees, Sees}
-use Rattle.cp_refine.specs.PlainValues.{plain_address}
-use Rattle.cp_refine.specs.Remaining.{AreKept}
 use Rattle.cp_refine.proofs.expressions.Expressions.{designator_ok}
 use Rattle.cp_refine.proofs.calls.Kept.{kept_left}
 use Rattle.cp_refine.proofs.expressions.Values.{then_some, form_is}

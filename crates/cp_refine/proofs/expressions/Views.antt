@@ -1,6 +1,6 @@
 -- The code's expressions, sets and places are what their views are.
 use Rattle.std.proofs.Common.{◌≡◌, ◌∙◌, List, [], ◌∷◌, map, not, ap, sym, refl, subst}
-use Rattle.std.specs.Prelude.{pos, Result, Ok, Err}
+use Rattle.cp_refine.proofs.Words.{pos, Result, Ok, Err, Address, Frame, Memory, moved}
 use Rattle.cp_slots.specs.declared.place.OrdinalExpression.{OrdinalExpression}
 use Rattle.cp_slots.specs.declared.place.SetExpression.{SetExpression}
 use Rattle.cp_slots.specs.declared.place.Index.{Index}
@@ -10,9 +10,6 @@ use Rattle.cp_slots.specs.declared.place.OrdinalExpression.TheFolds.{fold-roll-O
 use Rattle.cp_slots.specs.declared.place.OrdinalExpression.TheViews.{roll-OrdinalExpression, roll-SetExpression, roll-Index, roll-Place}
 use Rattle.cp_slots.specs.Code as code
 use Rattle.cp_store.specs.declared.error.ErrorName.{ErrorName}
-use Rattle.cp_store.specs.declared.memory.Address.{Address}
-use Rattle.cp_store.specs.declared.memory.Frame.{Frame}
-use Rattle.cp_store.specs.Memory.{Memory, moved}
 use Rattle.cp_store.specs.Places as places
 use Rattle.cp_store.specs.Places.{ToValue, ToSet, ToElement, ToAddress, origin_address, loaded, value_at, set_at, address_at, element_at}
 use Rattle.cp_store.specs.Sets as sets

@@ -1,22 +1,14 @@
 -- The admission of a process of the pending monitor's line: it goes in, and the line stands without it.
 use Rattle.std.proofs.Common.{◌≡◌, ◌∙◌, ℕ, suc, ◌+◌, ◌<◌, ◌≤◌, ◌==◌, ◌⊎◌, inl, inr, Bool, true, false, cond, ltb, if◌then◌else◌, List, [], ◌∷◌, Option, Some, None, ap, sym, refl, subst, arith, length}
-use Rattle.std.specs.Prelude.{not}
+use Rattle.cp_refine.proofs.Words.{not, cases_lt, lt-ltb, le-ltb, Program, component_at, Machine, monitor_at, first_inside, at_gate, has_entry, State}
+use Rattle.cp_refine.proofs.Words.{Layouts, Ground, MonitorIs, PendingIs, Represents}
 use Rattle.std.specs.List.{position_or_len}
-use Rattle.std.proofs.lemmas.Bool.{cases_lt, lt-ltb, le-ltb}
-use Rattle.cp_tree.specs.Syntax.{Program}
 use Rattle.cp_slots.specs.declared.tables.ComponentKind.TheVariants as kind
-use Rattle.cp_slots.specs.Tables.{component_at}
 use Rattle.cp_machine.specs.Kernel as machine
-use Rattle.cp_machine.specs.Machine.{Machine, monitor_at}
 use Rattle.cp_machine.specs.Opening as slots
 use Rattle.cp_meaning.specs.Kernel as meaning
-use Rattle.cp_meaning.specs.Readings.{first_inside}
 use Rattle.cp_meaning.specs.State as named
-use Rattle.cp_meaning.specs.State.{at_gate, has_entry, State}
 use Rattle.cp_meaning.specs.Steps.{without, admitted, admitted_to}
-use Rattle.cp_resolved.specs.Layouts.{Layouts}
-use Rattle.cp_resolved.specs.Stands.{Ground}
-use Rattle.cp_refine.specs.Represents.{MonitorIs, PendingIs, Represents}
 use Rattle.cp_refine.proofs.gates.Gates.{OwnNumbers, goes_in}
 use Rattle.cp_refine.proofs.gates.LettingIn.{pending_is}
 

@@ -1,10 +1,8 @@
 -- Entering a monitor: who is inside on names is the holder on slots.
 use Rattle.std.proofs.Common.{◌≡◌, ◌≢◌, ◌∙◌, ℕ, zero, suc, ◌<◌, ◌⊎◌, inl, inr, Bool, true, false, not, if◌then◌else◌, List, [], ◌∷◌, ◌++◌, Option, Some, None, ap, sym, refl, subst, arith, length, length-set, eq-eqb}
-use Rattle.std.specs.Prelude.{◌&&◌, ◌||◌, slice_index_or, slice_set}
-use Rattle.cp_tree.specs.Syntax.{Program}
-use Rattle.cp_slots.specs.declared.tables.ComponentKind.{ComponentKind}
+use Rattle.cp_refine.proofs.Words.{◌&&◌, ◌||◌, slice_index_or, slice_set, Program, ComponentKind, component_at, Layouts, Ground, Runs, StatusIs, ProcessIs}
+use Rattle.cp_refine.proofs.Words.{MonitorIs, Represents}
 use Rattle.cp_slots.specs.declared.tables.ComponentKind.TheVariants as kind
-use Rattle.cp_slots.specs.Tables.{component_at}
 use Rattle.cp_machine.specs.declared.process.Status as slot_status
 use Rattle.cp_machine.specs.declared.process.Status.TheVariants as status
 use Rattle.cp_machine.specs.Machine.{Machine, Monitor, Thread, thread_at, monitor_at, no_monitor, with_thread}
@@ -13,9 +11,6 @@ use Rattle.cp_meaning.specs.State as named
 use Rattle.cp_meaning.specs.State.{Component, no_component, ready, at_gate, Status, Process, no_process, State, is_inside, has_entry, waits_at}
 use Rattle.cp_meaning.specs.Kernel.{after, is_anybody_inside, with_line, line_of}
 use Rattle.cp_meaning.specs.Readings.{first_inside, holder_of}
-use Rattle.cp_resolved.specs.Layouts.{Layouts}
-use Rattle.cp_resolved.specs.Stands.{Ground}
-use Rattle.cp_refine.specs.Represents.{Runs, StatusIs, ProcessIs, MonitorIs, Represents}
 use Rattle.cp_refine.proofs.control.Moving.{set_here, set_there, same_or_other, moved, inside_same}
 use Rattle.cp_refine.proofs.expressions.Members.{not_equal as differs}
 

@@ -1,21 +1,13 @@
 -- The line of a monitor in which nobody is is let in, under both kinds of gates.
 use Rattle.std.proofs.Common.{◌≡◌, ◌∙◌, ℕ, ◌<◌, true, List, [], ◌∷◌, Option, Some, None, ap, sym, refl, subst, length}
-use Rattle.std.specs.Prelude.{slice_set}
+use Rattle.cp_refine.proofs.Words.{slice_set, Program, ComponentKind, component_at, Machine, Monitor, no_monitor, monitor_at, first_inside, Layouts, Ground}
+use Rattle.cp_refine.proofs.Words.{gates_of, HasBegun, ComponentIs, MonitorIs, PendingIs, Represents}
 use Rattle.std.proofs.lemmas.List.{set-get_or}
-use Rattle.cp_tree.specs.Syntax.{Program}
-use Rattle.cp_slots.specs.declared.tables.ComponentKind.{ComponentKind}
 use Rattle.cp_slots.specs.declared.tables.ComponentKind.TheVariants as kind
-use Rattle.cp_slots.specs.Tables.{component_at}
 use Rattle.cp_machine.specs.Kernel as machine
-use Rattle.cp_machine.specs.Machine.{Machine, Monitor, no_monitor, monitor_at}
 use Rattle.cp_meaning.specs.Kernel as meaning
-use Rattle.cp_meaning.specs.Readings.{first_inside}
 use Rattle.cp_meaning.specs.State as named
 use Rattle.cp_meaning.specs.State.{at_gate, has_entry, Gates, first_gates, any_gates, ComponentStatus, uninitialised, State}
-use Rattle.cp_resolved.specs.Layouts.{Layouts}
-use Rattle.cp_resolved.specs.Stands.{Ground}
-use Rattle.cp_refine.specs.Named.{gates_of}
-use Rattle.cp_refine.specs.Represents.{HasBegun, ComponentIs, MonitorIs, PendingIs, Represents}
 use Rattle.cp_refine.proofs.gates.Gates.{OwnNumbers, goes_in}
 
 -- ---- what is pending is no part of anything else

@@ -1,44 +1,24 @@
 -- The whole step of `continue`, in an entry procedure of a monitor.
 use Rattle.std.proofs.Common.{◌≡◌, ◌∙◌, ℕ, ◌<◌, List, ◌∷◌, ◌++◌, Option, Some, None, ap, sym, refl, subst, length}
-use Rattle.std.specs.Prelude.{Result, Ok, Err, slice_index, slice_set}
-use Rattle.cp_tree.specs.Syntax.{Program, Expression, Expressions, more_expressions, Designator, invoke}
-use Rattle.cp_slots.specs.declared.item.Action.{Action}
+use Rattle.cp_refine.proofs.Words.{Result, Ok, Err, slice_index, slice_set, Program, Expression, Expressions, more_expressions, Designator, invoke, Action}
+use Rattle.cp_refine.proofs.Words.{component_at, item_at, Address, Permanent, Entry, Return, Machine, Thread, thread_at, memory_at, act, step_at, Outcome}
+use Rattle.cp_refine.proofs.Words.{◌>>=◌, queue_type, Value, queue_value, waiting_in, Meaning, standard_meaning, continue_procedure, find, View, Target}
+use Rattle.cp_refine.proofs.Words.{this_component, content_of, value_held, Stepped, Doing, target_value, name_of, view_of, step_of, settled, Layouts, here}
+use Rattle.cp_refine.proofs.Words.{Ground, QueueItem, InvokedBy, TargetAgrees, plain_address, further, PlaceAt, monitor_left, frames_of, Represents}
 use Rattle.cp_slots.specs.declared.item.Action.TheVariants as action
 use Rattle.cp_slots.specs.declared.place.Place as code_place
 use Rattle.cp_slots.specs.declared.tables.ComponentKind.TheVariants as kind
 use Rattle.cp_slots.specs.Code as code
-use Rattle.cp_slots.specs.Tables.{component_at, item_at}
 use Rattle.cp_store.specs.declared.error.ErrorName as slots
-use Rattle.cp_store.specs.declared.memory.Address.{Address}
-use Rattle.cp_store.specs.declared.memory.Address.TheVariants.{Permanent}
 use Rattle.cp_machine.specs.declared.event.Event.TheVariants as event
 use Rattle.cp_machine.specs.declared.event.Kernel.TheVariants as event_call
-use Rattle.cp_machine.specs.declared.process.Entry.{Entry}
-use Rattle.cp_machine.specs.declared.process.Entry.TheVariants.{Return}
 use Rattle.cp_machine.specs.Calls as slot_calls
 use Rattle.cp_machine.specs.Kernel as machine
-use Rattle.cp_machine.specs.Machine.{Machine, Thread, thread_at}
-use Rattle.cp_machine.specs.Memory.{memory_at}
 use Rattle.cp_machine.specs.Statements as statements
-use Rattle.cp_machine.specs.Step.{act, step_at}
-use Rattle.cp_meaning.specs.Outcome.{Outcome, ◌>>=◌}
-use Rattle.cp_meaning.specs.Types.{queue_type}
-use Rattle.cp_meaning.specs.Values.{Value, queue_value, waiting_in}
-use Rattle.cp_meaning.specs.Scopes.{Meaning, standard_meaning, continue_procedure, find}
 use Rattle.cp_meaning.specs.State as named
 use Rattle.cp_meaning.specs.State.{Holder, in_component, Place, ready, CallKind, entry_routine, Call, current, callers, Item, statement_item, Process, State}
-use Rattle.cp_meaning.specs.Places.{View, Target, this_component, content_of, value_held}
 use Rattle.cp_meaning.specs.Kernel as meaning
-use Rattle.cp_meaning.specs.Kernel.{Stepped}
-use Rattle.cp_meaning.specs.Move.{Doing}
-use Rattle.cp_meaning.specs.Expressions.{target_value, name_of}
 use Rattle.cp_meaning.specs.LocalRules.{after_return, continued_from, in_place_of, invoked}
-use Rattle.cp_meaning.specs.Steps.{view_of, step_of, settled}
-use Rattle.cp_resolved.specs.Layouts.{Layouts, here}
-use Rattle.cp_resolved.specs.Stands.{Ground, QueueItem, InvokedBy}
-use Rattle.cp_refine.specs.Agrees.{TargetAgrees}
-use Rattle.cp_refine.specs.PlainValues.{plain_address}
-use Rattle.cp_refine.specs.Represents.{further, PlaceAt, monitor_left, frames_of, Represents}
 use Rattle.cp_refine.proofs.assignments.Assigning.{set_set}
 use Rattle.cp_refine.proofs.queues.Continuing as continuing
 use Rattle.cp_refine.proofs.queues.Continuing.{MayContinue, EndsWith, ends, no_return, returns, process_ends, state_ends, here_process, call_is, machine_ends, state_left, machine_left, old_queue, continues_on}

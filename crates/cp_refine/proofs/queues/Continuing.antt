@@ -1,31 +1,16 @@
 -- `continue` in an entry procedure: the rest of the entry is removed and its call given up; who waited in the queue goes on, or else the line is let in.
 use Rattle.std.proofs.Common.{◌≡◌, ◌≢◌, ◌∙◌, ℕ, ◌^◌, ◌<◌, true, false, if◌then◌else◌, List, [], ◌∷◌, ◌++◌, Option, Some, None, ap, sym, refl, subst, arith, length, length-set, eq-eqb}
-use Rattle.std.specs.Prelude.{pos, slice_set}
-use Rattle.cp_tree.specs.Syntax.{Program}
+use Rattle.cp_refine.proofs.Words.{pos, slice_set, Program, component_at, Frame, Entry, Rest, Successor, Return, InitEnd, StackFits, ThreadFits, Name}
+use Rattle.cp_refine.proofs.Words.{same_name, Range, Ty, ordinal, queue_type, Value, queue_value, Choice, after_return, first_inside, Layouts, Here, here}
+use Rattle.cp_refine.proofs.Words.{look, chosen_at, RoutineIs, Ground, ItemsAre, StackIs, frames_of, Represents}
 use Rattle.cp_slots.specs.declared.tables.ComponentKind.TheVariants as kind
-use Rattle.cp_slots.specs.Tables.{component_at}
-use Rattle.cp_store.specs.declared.memory.Frame.{Frame}
-use Rattle.cp_machine.specs.declared.process.Entry.{Entry}
-use Rattle.cp_machine.specs.declared.process.Entry.TheVariants.{Rest, Successor, Return, InitEnd}
 use Rattle.cp_machine.specs.declared.process.Status.TheVariants as status
-use Rattle.cp_machine.specs.Fits.{StackFits, ThreadFits}
 use Rattle.cp_machine.specs.Kernel as machine
 use Rattle.cp_machine.specs.Machine.{Machine, Monitor, Thread, no_thread, no_monitor, monitor_at, thread_at, with_stack}
 use Rattle.cp_machine.specs.Stack.{from_end}
-use Rattle.cp_meaning.specs.Names.{Name, same_name}
-use Rattle.cp_meaning.specs.Types.{Range, Ty, ordinal, queue_type}
-use Rattle.cp_meaning.specs.Values.{Value, queue_value, Choice}
 use Rattle.cp_meaning.specs.State as named
 use Rattle.cp_meaning.specs.State.{ready, delayed, Status, own_statement, initial_statement, entry_routine, Call, callers, Item, statement_item, function_call, start_item, until, return, Process, no_process, State, has_entry, is_inside}
 use Rattle.cp_meaning.specs.Kernel as meaning
-use Rattle.cp_meaning.specs.LocalRules.{after_return}
-use Rattle.cp_meaning.specs.Readings.{first_inside}
-use Rattle.cp_resolved.specs.Layouts.{Layouts, Here, here, look}
-use Rattle.cp_resolved.specs.Encoded.{chosen_at}
-use Rattle.cp_resolved.specs.Resolved.{RoutineIs}
-use Rattle.cp_resolved.specs.Stands.{Ground}
-use Rattle.cp_refine.specs.Remaining.{ItemsAre}
-use Rattle.cp_refine.specs.Represents.{StackIs, frames_of, Represents}
 use Rattle.cp_refine.proofs.assignments.Assigning.{set_set}
 use Rattle.cp_refine.proofs.control.Control.{Goes, still_process, goes_still}
 use Rattle.cp_refine.proofs.gates.Gates.{none_left}

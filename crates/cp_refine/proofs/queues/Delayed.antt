@@ -1,27 +1,14 @@
 -- A process is delayed: it waits in a queue of its monitor, in which nobody is then.
 use Rattle.std.proofs.Common.{◌≡◌, ◌≢◌, ◌∙◌, ℕ, ◌+◌, ◌<◌, ◌⊎◌, inl, inr, true, false, List, [], Some, None, ap, sym, refl, subst, arith, length, length-set, eq-eqb}
-use Rattle.std.specs.Prelude.{◌&&◌, not, slice_set}
-use Rattle.std.proofs.lemmas.Slice.Eq.{bytes_eq-Decides}
-use Rattle.cp_tree.specs.Syntax.{Program}
-use Rattle.cp_slots.specs.declared.tables.ComponentKind.{ComponentKind}
+use Rattle.cp_refine.proofs.Words.{◌&&◌, not, slice_set, bytes_eq-Decides, Program, ComponentKind, component_at, Permanent, Entry, Machine, Thread, no_thread}
+use Rattle.cp_refine.proofs.Words.{monitor_at, thread_at, Name, same_name, Ty, queue_type, Value, queue_value, Choice, part_at, View, value_at, first_inside}
+use Rattle.cp_refine.proofs.Words.{Layouts, look, Chosen, chosen_at, Ground}
 use Rattle.cp_slots.specs.declared.tables.ComponentKind.TheVariants as kind
-use Rattle.cp_slots.specs.Tables.{component_at}
-use Rattle.cp_store.specs.declared.memory.Address.TheVariants.{Permanent}
-use Rattle.cp_machine.specs.declared.process.Entry.{Entry}
 use Rattle.cp_machine.specs.declared.process.Status.TheVariants as status
 use Rattle.cp_machine.specs.Kernel as machine
-use Rattle.cp_machine.specs.Machine.{Machine, Thread, no_thread, monitor_at, thread_at}
-use Rattle.cp_meaning.specs.Names.{Name, same_name}
-use Rattle.cp_meaning.specs.Types.{Ty, queue_type}
-use Rattle.cp_meaning.specs.Values.{Value, queue_value, Choice, part_at}
 use Rattle.cp_meaning.specs.State as named
 use Rattle.cp_meaning.specs.State.{Holder, in_call, in_component, Place, ComponentStatus, uninitialised, unstarted, ready, delayed, Status, Item, Process, no_process, State, has_entry, is_inside, waits_at}
 use Rattle.cp_meaning.specs.Kernel as meaning
-use Rattle.cp_meaning.specs.Places.{View, value_at}
-use Rattle.cp_meaning.specs.Readings.{first_inside}
-use Rattle.cp_resolved.specs.Layouts.{Layouts, look}
-use Rattle.cp_resolved.specs.Encoded.{Chosen, chosen_at}
-use Rattle.cp_resolved.specs.Stands.{Ground}
 use Rattle.cp_refine.specs.Represents.{further, StackIs, ProcessIs, CallsHold, MonitorIs, HasBegun, BeginsAt, PlaceAt, frames_of, own_memory, Represents}
 use Rattle.cp_refine.proofs.control.Control.{Goes}
 use Rattle.cp_refine.proofs.gates.Gates.{OwnNumbers, OthersOutside, none_left, monitors_change, and_false}

@@ -1,48 +1,28 @@
 -- The whole step of `delay`: the caller waits in the queue, unless another process does.
 use Rattle.std.proofs.Common.{◌≡◌, ◌∙◌, ℕ, ◌+◌, ◌<◌, if◌then◌else◌, List, ◌++◌, Option, Some, None, ap, sym, refl, subst, arith, length}
-use Rattle.std.specs.Prelude.{ℤ, pos, Result, Ok, Err, slice_index, slice_index_or, slice_set}
-use Rattle.cp_tree.specs.Syntax.{Program, Expression, Expressions, more_expressions, Designator, invoke}
-use Rattle.cp_slots.specs.declared.item.Action.{Action}
+use Rattle.cp_refine.proofs.Words.{ℤ, pos, Result, Ok, Err, slice_index, slice_index_or, slice_set, Program, Expression, Expressions, more_expressions}
+use Rattle.cp_refine.proofs.Words.{Designator, invoke, Action, component_at, item_at, Address, Permanent, Entry, Machine, Thread, no_thread, thread_at}
+use Rattle.cp_refine.proofs.Words.{with_stack, memory_at, rest_of, act, step_at, queue_type, Value, queue_value, part_at, waiting_in, Meaning}
+use Rattle.cp_refine.proofs.Words.{standard_meaning, delay_procedure, find, Holder, in_component, Place, Item, statement_item, State, Stepped, delays, Doing}
+use Rattle.cp_refine.proofs.Words.{with_items, with_move, View, Target, this_component, stored, target_value, variable_in, name_of, view_of, step_of, settled}
+use Rattle.cp_refine.proofs.Words.{Layouts, here, HasType, flag_of, Ground, QueueItem, InvokedBy, TargetAgrees, plain_address}
 use Rattle.cp_slots.specs.declared.item.Action.TheVariants as action
 use Rattle.cp_slots.specs.declared.place.Place as code_place
 use Rattle.cp_slots.specs.declared.tables.ComponentKind.TheVariants as kind
 use Rattle.cp_slots.specs.Code as code
-use Rattle.cp_slots.specs.Tables.{component_at, item_at}
 use Rattle.cp_store.specs.declared.error.ErrorName as slots
 use Rattle.cp_store.specs.declared.error.ErrorName.TheVariants as error
-use Rattle.cp_store.specs.declared.memory.Address.{Address}
-use Rattle.cp_store.specs.declared.memory.Address.TheVariants.{Permanent}
 use Rattle.cp_store.specs.Values.{is_true}
 use Rattle.cp_machine.specs.declared.event.Event.TheVariants as event
 use Rattle.cp_machine.specs.declared.event.Kernel.TheVariants as event_call
-use Rattle.cp_machine.specs.declared.process.Entry.{Entry}
 use Rattle.cp_machine.specs.declared.process.Status.TheVariants as status
 use Rattle.cp_machine.specs.Calls as calls
 use Rattle.cp_machine.specs.Kernel as machine
-use Rattle.cp_machine.specs.Machine.{Machine, Thread, no_thread, thread_at, with_stack}
-use Rattle.cp_machine.specs.Memory.{memory_at}
-use Rattle.cp_machine.specs.Stack.{rest_of}
 use Rattle.cp_machine.specs.Statements as statements
-use Rattle.cp_machine.specs.Step.{act, step_at}
 use Rattle.cp_meaning.specs.Outcome.{Outcome, ◌>>=◌, queue_in_use}
-use Rattle.cp_meaning.specs.Types.{queue_type}
-use Rattle.cp_meaning.specs.Values.{Value, queue_value, part_at, waiting_in}
-use Rattle.cp_meaning.specs.Scopes.{Meaning, standard_meaning, delay_procedure, find}
 use Rattle.cp_meaning.specs.State as named
-use Rattle.cp_meaning.specs.State.{Holder, in_component, Place, Item, statement_item, State}
 use Rattle.cp_meaning.specs.Kernel as meaning
-use Rattle.cp_meaning.specs.Kernel.{Stepped}
-use Rattle.cp_meaning.specs.Move.{delays, Doing}
-use Rattle.cp_meaning.specs.Calls.{with_items, with_move}
-use Rattle.cp_meaning.specs.Places.{View, Target, this_component, stored}
-use Rattle.cp_meaning.specs.Expressions.{target_value, variable_in, name_of}
 use Rattle.cp_meaning.specs.LocalRules.{queue_free, delayed_in, in_place_of, invoked}
-use Rattle.cp_meaning.specs.Steps.{view_of, step_of, settled}
-use Rattle.cp_resolved.specs.Layouts.{Layouts, here}
-use Rattle.cp_resolved.specs.Encoded.{HasType, flag_of}
-use Rattle.cp_resolved.specs.Stands.{Ground, QueueItem, InvokedBy}
-use Rattle.cp_refine.specs.Agrees.{TargetAgrees}
-use Rattle.cp_refine.specs.PlainValues.{plain_address}
 use Rattle.cp_refine.specs.Represents.{further, LiesAt, PlaceAt, CallsHold, all_permanents, own_memory, frames_of, Represents}
 use Rattle.cp_refine.proofs.assignments.Assigning.{set_set}
 use Rattle.cp_refine.proofs.calls.CallSteps.{call_component}

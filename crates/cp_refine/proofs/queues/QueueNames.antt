@@ -1,27 +1,12 @@
 -- A queue that is named stands at its place, which is one of the component itself: what `delay` and `continue` ask.
 use Rattle.std.proofs.Common.{◌≡◌, ◌∙◌, ℕ, Bool, true, false, if◌then◌else◌, List, ◌∷◌, Option, Some, ap, sym, refl, subst}
-use Rattle.std.specs.Prelude.{ℤ, ◌+ℤ◌, neg_ℤ, Ok, Err}
+use Rattle.cp_refine.proofs.Words.{ℤ, ◌+ℤ◌, neg_ℤ, Ok, Err, Entry, Machine, thread_at, memory_at, Outcome, out_of_range, ◌>>=◌, Ty, queue_type, array_over}
+use Rattle.cp_refine.proofs.Words.{natural_of, is_within, the_element, number_of, Meaning, permanent_variable, find, in_component, Item, State, current}
+use Rattle.cp_refine.proofs.Words.{Typed, View, Target, target_meant, with_choice, this_component, expression_calls, view_of, Layouts, here, as_place}
+use Rattle.cp_refine.proofs.Words.{expression_form, Ground, TargetAgrees, plain_address, AreKept}
 use Rattle.cp_tree.specs.Syntax.{Program, Expression, Designator, designator, Selectors, no_selectors, more_selectors, Selector, field, index}
 use Rattle.cp_slots.specs.Code as code
-use Rattle.cp_machine.specs.declared.process.Entry.{Entry}
-use Rattle.cp_machine.specs.Machine.{Machine, thread_at}
-use Rattle.cp_machine.specs.Memory.{memory_at}
-use Rattle.cp_meaning.specs.Outcome.{Outcome, out_of_range, ◌>>=◌}
-use Rattle.cp_meaning.specs.Types.{Ty, queue_type, array_over, natural_of, is_within}
-use Rattle.cp_meaning.specs.Values.{the_element, number_of}
-use Rattle.cp_meaning.specs.Scopes.{Meaning, permanent_variable, find}
-use Rattle.cp_meaning.specs.State.{in_component, Item, State, current}
-use Rattle.cp_meaning.specs.Operations.{Typed}
-use Rattle.cp_meaning.specs.Places.{View, Target, target_meant, with_choice, this_component}
 use Rattle.cp_meaning.specs.Expressions.{value, target_value, selected, chosen, with_index, with_element_of, name_of, variable_in}
-use Rattle.cp_meaning.specs.Lifting.{expression_calls}
-use Rattle.cp_meaning.specs.Steps.{view_of}
-use Rattle.cp_resolved.specs.Layouts.{Layouts, here}
-use Rattle.cp_resolved.specs.Compiled.{as_place, expression_form}
-use Rattle.cp_resolved.specs.Stands.{Ground}
-use Rattle.cp_refine.specs.Agrees.{TargetAgrees}
-use Rattle.cp_refine.specs.PlainValues.{plain_address}
-use Rattle.cp_refine.specs.Remaining.{AreKept}
 use Rattle.cp_refine.proofs.control.Control.{Taken, top_frame}
 use Rattle.cp_refine.proofs.queues.Delaying.{QueueNamed}
 use Rattle.cp_refine.proofs.control.Running.{Executes, frames_below, sees_now}

@@ -1,25 +1,12 @@
 -- A queue of a component is written: what it holds lies in its cell, and all else lies as it did.
 use Rattle.std.proofs.Common.{◌≡◌, ◌≢◌, ◌∙◌, ℕ, ◌+◌, ◌<◌, ◌≤◌, ◌⊎◌, inl, inr, Bool, true, false, List, [], ◌∷◌, Option, Some, None, ap, sym, refl, subst, arith, length, length-set, get_or}
-use Rattle.std.specs.Prelude.{ℤ, pos, slice_index_or, slice_set}
-use Rattle.std.proofs.lemmas.Bool.{cases_lt}
-use Rattle.std.proofs.lemmas.Slice.Eq.{bytes_eq-Decides}
-use Rattle.cp_tree.specs.Syntax.{Program}
-use Rattle.cp_slots.specs.declared.tables.ComponentKind.{ComponentKind}
-use Rattle.cp_slots.specs.Tables.{component_at}
-use Rattle.cp_store.specs.declared.memory.Address.{Address}
-use Rattle.cp_store.specs.declared.memory.Address.TheVariants.{Permanent}
-use Rattle.cp_store.specs.Memory.{Memory, cell_at, put_number}
+use Rattle.cp_refine.proofs.Words.{ℤ, pos, slice_index_or, slice_set, cases_lt, bytes_eq-Decides, Program, ComponentKind, component_at, Address, Permanent}
+use Rattle.cp_refine.proofs.Words.{Memory, cell_at, put_number, Machine, phase_at, Name, same_name, Ty, queue_type, Value, queue_value, Choice, with_part}
+use Rattle.cp_refine.proofs.Words.{part_at, cells_of, Layouts, look, encode, flag_of, chosen_at, Ground}
 use Rattle.cp_machine.specs.declared.state.Phase.TheVariants as phase
-use Rattle.cp_machine.specs.Machine.{Machine, phase_at}
-use Rattle.cp_meaning.specs.Names.{Name, same_name}
-use Rattle.cp_meaning.specs.Types.{Ty, queue_type}
-use Rattle.cp_meaning.specs.Values.{Value, queue_value, Choice, with_part, part_at}
 use Rattle.cp_meaning.specs.State as named
 use Rattle.cp_meaning.specs.State.{Holder, in_call, in_component, Place, Content, holds, knows, Environment, Component, no_component, ComponentStatus, State}
 use Rattle.cp_meaning.specs.Places.{View, content_of, with_content, value_held, with_permanents, environment_of, value_at}
-use Rattle.cp_resolved.specs.Layouts.{cells_of, Layouts, look}
-use Rattle.cp_resolved.specs.Encoded.{encode, flag_of, chosen_at}
-use Rattle.cp_resolved.specs.Stands.{Ground}
 use Rattle.cp_refine.specs.Represents.{further, LiesAt, BeginsAt, PlaceAt, PhaseIs, HasBegun, ComponentIs, all_permanents, Represents}
 use Rattle.cp_refine.proofs.control.Moving.{set_here, set_there, same_or_other}
 use Rattle.cp_refine.proofs.expressions.Parts.{encode_length, part_stands}

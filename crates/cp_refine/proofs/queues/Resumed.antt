@@ -2,27 +2,16 @@
 use Rattle.std.proofs.Common.{◌≡◌, ◌≢◌, ◌∙◌, ℕ, suc, zero, ◌+◌, ◌<◌, ◌==◌, ◌⊎◌, inl, inr, Bool, true, false, cond, ltb, List, [], ◌∷◌, Some, None, ap, sym, refl, subst, arith, length, length-set, eq-eqb}
 use Rattle.std.specs.Prelude.{◌&&◌, not, position, pos, slice_index_or, slice_set}
 use Rattle.std.specs.List.{position_or_len}
-use Rattle.std.proofs.lemmas.Bool.{eqb-true, lt-ltb, le-ltb}
-use Rattle.cp_tree.specs.Syntax.{Program}
-use Rattle.cp_slots.specs.declared.tables.ComponentKind.{ComponentKind}
+use Rattle.cp_refine.proofs.Words.{eqb-true, lt-ltb, le-ltb, Program, ComponentKind, component_at, Address, Permanent, Name, same_name, Ty, queue_type, Value}
+use Rattle.cp_refine.proofs.Words.{queue_value, Choice, part_at, View, content_of, value_held, environment_of, value_at, first_inside, Layouts, look}
+use Rattle.cp_refine.proofs.Words.{chosen_at, Ground}
 use Rattle.cp_slots.specs.declared.tables.ComponentKind.TheVariants as kind
-use Rattle.cp_slots.specs.Tables.{component_at}
-use Rattle.cp_store.specs.declared.memory.Address.{Address}
-use Rattle.cp_store.specs.declared.memory.Address.TheVariants.{Permanent}
 use Rattle.cp_machine.specs.declared.process.Status as slot_status
 use Rattle.cp_machine.specs.declared.process.Status.TheVariants as status
 use Rattle.cp_machine.specs.Kernel as machine
 use Rattle.cp_machine.specs.Machine.{Machine, Thread, no_thread, monitor_at, thread_at, is_delayed_at}
-use Rattle.cp_meaning.specs.Names.{Name, same_name}
-use Rattle.cp_meaning.specs.Types.{Ty, queue_type}
-use Rattle.cp_meaning.specs.Values.{Value, queue_value, Choice, part_at}
 use Rattle.cp_meaning.specs.State as named
 use Rattle.cp_meaning.specs.State.{Holder, in_call, in_component, Place, Component, ComponentStatus, uninitialised, unstarted, ready, at_gate, delayed, ended, Status, Process, no_process, State, has_entry, waits_at}
-use Rattle.cp_meaning.specs.Places.{View, content_of, value_held, environment_of, value_at}
-use Rattle.cp_meaning.specs.Readings.{first_inside}
-use Rattle.cp_resolved.specs.Layouts.{Layouts, look}
-use Rattle.cp_resolved.specs.Encoded.{chosen_at}
-use Rattle.cp_resolved.specs.Stands.{Ground}
 use Rattle.cp_refine.specs.Represents.{further, LiesAt, StatusIs, ProcessIs, MonitorIs, HasBegun, BeginsAt, PlaceAt, all_permanents, Represents}
 use Rattle.cp_refine.proofs.gates.Gates.{OwnNumbers, all_outside, only_one, monitors_change}
 use Rattle.cp_refine.proofs.control.Moving.{set_here, set_there, same_or_other, inside_same}

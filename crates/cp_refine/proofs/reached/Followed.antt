@@ -1,38 +1,15 @@
 -- In each reached state the next step of a ready process is one by the rules.
 use Rattle.std.proofs.Common.{◌≡◌, ◌∙◌, ℕ, ◌<◌, List, [], ◌∷◌, ◌++◌, Option, Some, None, ap, sym, refl, subst, arith, length}
-use Rattle.cp_tree.specs.Read.{IsRead}
+use Rattle.cp_refine.proofs.Words.{IsRead, plain, laid, Tables, Entry, Rest, Successor, Return, InitEnd, MachineFits, Machine, thread_at, Reaches, IsAccepted}
+use Rattle.cp_refine.proofs.Words.{name_of, temporary, View, is_ready, ready, Item, statement_item, function_call, start_item, Gates, State, view_of}
+use Rattle.cp_refine.proofs.Words.{IsReached, at_first, by_step, by_admission, by_forgetting, Layouts, Here, here, AreTablesOf, Ground, InvokedBy, layouts_of}
+use Rattle.cp_refine.proofs.Words.{slots, AllKnown, GoInStep, InvokeKnown, StatementKnown, ItemKnown, ground_of, Simulates, Prepared, StackIs, StateKnown}
 use Rattle.cp_tree.specs.Syntax.{Tree, Program, Expressions, no_expressions, more_expressions, Designator, Statement, invoke, init}
-use Rattle.cp_layout.specs.Laid.{plain, laid}
-use Rattle.cp_slots.specs.Tables.{Tables}
-use Rattle.cp_machine.specs.declared.process.Entry.{Entry}
-use Rattle.cp_machine.specs.declared.process.Entry.TheVariants.{Rest, Successor, Return, InitEnd}
-use Rattle.cp_machine.specs.Fits.{MachineFits}
-use Rattle.cp_machine.specs.Machine.{Machine, thread_at}
-use Rattle.cp_machine.specs.Reach.{Reaches}
-use Rattle.cp_lawful.specs.Accepted.{IsAccepted}
-use Rattle.cp_meaning.specs.Expressions.{name_of}
 use Rattle.cp_refine.specs.Followed.{IsInvoked, StatementFollows, ItemsFollow, StepFollows}
-use Rattle.cp_meaning.specs.Names.{temporary}
-use Rattle.cp_meaning.specs.Places.{View}
-use Rattle.cp_meaning.specs.Readings.{is_ready}
 use Rattle.cp_meaning.specs.Scopes.{Meaning, standard_meaning, Standard, delay_procedure, continue_procedure, display_procedure, find}
 use Rattle.cp_meaning.specs.State as named
-use Rattle.cp_meaning.specs.State.{ready, Item, statement_item, function_call, start_item, Gates, State}
-use Rattle.cp_meaning.specs.Steps.{view_of, IsReached, at_first, by_step, by_admission, by_forgetting}
-use Rattle.cp_resolved.specs.Layouts.{Layouts, Here, here}
-use Rattle.cp_resolved.specs.Resolving.{AreTablesOf}
-use Rattle.cp_resolved.specs.Stands.{Ground, InvokedBy}
-use Rattle.cp_resolved.specs.TreeLayouts.{layouts_of}
-use Rattle.cp_run.specs.Slots.{slots}
-use Rattle.cp_refine.specs.AllKnown.{AllKnown}
 use Rattle.cp_refine.specs.Following.{FollowingLaw}
-use Rattle.cp_refine.specs.InStep.{GoInStep}
-use Rattle.cp_refine.specs.ItemsKnown.{InvokeKnown, StatementKnown, ItemKnown}
-use Rattle.cp_refine.specs.Law.{ground_of, Simulates}
 use Rattle.cp_refine.specs.Named.{named as on_names, gates_of, is_some, in_line_of}
-use Rattle.cp_refine.specs.Prepared.{Prepared}
-use Rattle.cp_refine.specs.Represents.{StackIs}
-use Rattle.cp_refine.specs.StatesKnown.{StateKnown}
 use Rattle.cp_refine.proofs.steps.Beginning.{same_count}
 use Rattle.cp_refine.proofs.control.Control.{Taken, scope_is}
 use Rattle.cp_refine.proofs.Forgetting.{forgets}

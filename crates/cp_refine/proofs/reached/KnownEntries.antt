@@ -1,28 +1,16 @@
 -- Of every tree that was read and breaks no rule: an entry is called of a class or monitor alone, and its tables number the routines of the program.
-use Rattle.std.proofs.Common.{◌≡◌, ◌∙◌, ◌⊎◌, inl, inr, length, Some, ap, sym}
-use Rattle.cp_tree.specs.Syntax.{invoke, Program, Tree}
-use Rattle.cp_tree.specs.Read.{IsRead}
+use Rattle.cp_refine.proofs.Words.{◌≡◌, ◌∙◌, ◌⊎◌, inl, inr, length, Some, ap, sym, invoke, Program, Tree, IsRead, Tables, IsAccepted, RoutineMeaning, Scope}
+use Rattle.cp_refine.proofs.Words.{function_call, a_component, designator_form, tokens_of, Layouts, layouts_of, placed_law, IsWithin, ItemStands, scope_of}
+use Rattle.cp_refine.proofs.Words.{body_of}
 use Rattle.cp_layout.specs.Laid.{PlainTables, plain, laid}
-use Rattle.cp_slots.specs.Tables.{Tables}
-use Rattle.cp_lawful.specs.Accepted.{IsAccepted}
-use Rattle.cp_meaning.specs.Declarations.{RoutineMeaning}
-use Rattle.cp_meaning.specs.Scopes.{Scope}
-use Rattle.cp_meaning.specs.State.{function_call}
-use Rattle.cp_resolved.specs.Compiled.{a_component, designator_form}
-use Rattle.cp_resolved.specs.Judging.{tokens_of}
-use Rattle.cp_resolved.specs.Layouts.{Layouts}
 use Rattle.cp_resolved.specs.LayoutsKnow.{IsPlaced}
 use Rattle.cp_resolved.specs.Openings.{openings_of, numbering_of}
-use Rattle.cp_resolved.specs.TreeLayouts.{layouts_of}
 use Rattle.cp_resolved.specs.Typed.{ScopesAgree}
 use Rattle.cp_resolved.proofs.items.BodiesStand.{laid_routines}
 use Rattle.cp_resolved.proofs.statements.CallsKnown as calls_known
 use Rattle.cp_resolved.proofs.statements.ComponentsCalled.{no_function, no_procedure}
 use Rattle.cp_resolved.proofs.names.Opened.{opened_all}
-use Rattle.cp_resolved.proofs.declarations.Placed.{placed_law}
 use Rattle.cp_resolved.proofs.counts.RoutinesCounted.{Many, all_many}
-use Rattle.cp_refine.specs.Bodies.{IsWithin, ItemStands}
-use Rattle.cp_refine.specs.RoutinesKnown.{scope_of, body_of}
 use Rattle.cp_refine.proofs.reached.KnownItems.{EntriesKnown}
 use Rattle.cp_refine.proofs.reached.KnownRoutines.{function_there, invoke_there}
 

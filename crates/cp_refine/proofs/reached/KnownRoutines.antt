@@ -1,23 +1,15 @@
 -- Of every tree that was read and breaks no rule: what the rules of the language say of calls, `delay` and `continue` in the bodies of its routines.
 use Rattle.std.proofs.Common.{◌≡◌, ◌∙◌, inl, inr, ℕ, Bool, true, false, List, [], ◌∷◌, Option, Some, None, ap, sym, refl, subst}
-use Rattle.std.specs.Prelude.{not}
+use Rattle.cp_refine.proofs.Words.{not, IsRead, IsAccepted, RoutineMeaning, name_of, routine_called, first_components, Layouts, layouts_of, calls_before}
 use Rattle.cp_tree.specs.Syntax.{Expressions, Designator, Start, Statement, assign, invoke, block, if_then, if_else, case_of, while_do, repeat_until, for_do, cycle, init, Statements, no_statements, more_statements, Arms, no_arms, more_arms, arm, Program, Tree}
-use Rattle.cp_tree.specs.Read.{IsRead}
-use Rattle.cp_lawful.specs.Accepted.{IsAccepted}
-use Rattle.cp_meaning.specs.Declarations.{RoutineMeaning}
-use Rattle.cp_meaning.specs.Expressions.{name_of, routine_called}
 use Rattle.cp_meaning.specs.Scopes.{Meaning, routine_meaning, standard_meaning, delay_procedure, continue_procedure, Scope, find}
 use Rattle.cp_meaning.specs.State.{component_at, Item, statement_item, function_call, start_item, until, successor}
-use Rattle.cp_meaning.specs.Steps.{first_components}
-use Rattle.cp_resolved.specs.Layouts.{Layouts}
-use Rattle.cp_resolved.specs.TreeLayouts.{layouts_of}
 use Rattle.cp_resolved.proofs.statements.CalleesKnown.{IsCalledAs, CalleeKnown, numbered}
 use Rattle.cp_resolved.proofs.statements.CallsKnown as calls_known
 use Rattle.cp_resolved.proofs.statements.ExpressionsJudged.{FunctionSaid, AllSaid}
 use Rattle.cp_resolved.proofs.statements.RoutinesNoted.{entry_at, waits_at}
 use Rattle.cp_resolved.proofs.statements.StatementsJudged.{InvokeSaid, StartsSaid, StatementSaid, StatementsSaid, ArmsSaid}
 use Rattle.cp_refine.specs.Bodies.{IsAmong, IsAmongArms, IsPartOf, IsWithin, listed, inside, IsAmongItems, IsAmongStarts, OwnStands, ItemStands}
-use Rattle.cp_refine.specs.Remaining.{calls_before}
 use Rattle.cp_refine.specs.RoutinesKnown.{Traits, scope_of, body_of, CalledAs, Callee, Initial, RoutinesKnown}
 use Rattle.cp_machine.proofs.CallOutcomes.{not_true as of_quiet}
 

@@ -1,11 +1,9 @@
 -- Who is inside a monitor in a reached state: at most one process, and nobody while a monitor is pending.
 use Rattle.std.proofs.Common.{◌≡◌, ◌≢◌, ◌∙◌, ◌⊎◌, inl, inr, ℕ, suc, ◌<◌, Bool, true, false, if◌then◌else◌, List, [], ◌∷◌, Some, None, ap, sym, refl, subst, arith, length}
 use Rattle.cp_meaning.specs.State.{initialising, initialised, unstarted, ready, Call, current, Process, process_at, State, waits_at, is_inside}
-use Rattle.cp_meaning.specs.Kernel.{after}
-use Rattle.cp_meaning.specs.Readings.{first_inside}
+use Rattle.cp_refine.proofs.Words.{after, first_inside, OrderlyState}
 use Rattle.cp_meaning.proofs.Frames.{frames, entry_in, initial_in, entry_or_initial, Descends}
 use Rattle.cp_meaning.proofs.Good.{IsMonitor, NonEmpty}
-use Rattle.cp_meaning.proofs.LineLaw.{OrderlyState}
 use Rattle.cp_meaning.proofs.Orderly.{inside_parts, inside_from}
 
 pub not_true : (b : Bool) → (b ≡ true → ⊥) → b ≡ false

@@ -1,28 +1,14 @@
 -- What the steps on slots ask of a reached state, in terms of the tables.
 use Rattle.std.proofs.Common.{◌≡◌, ◌≢◌, ◌∙◌, ℕ, ◌<◌, true, false, List, [], ◌∷◌, Some, ap, sym, refl, subst, arith, length}
-use Rattle.cp_tree.specs.declared.declaration.SystemKind.{SystemKind}
+use Rattle.cp_refine.proofs.Words.{SystemKind, Program, Tree, IsTyped, ComponentKind, Phase, Machine, is_uninitialised, phase_at, line_of, process_of}
+use Rattle.cp_refine.proofs.Words.{component_there, view_of, is_member, IsAccepted, Layouts, Stands, Ground, SameKind, KindsAgree, ground_of, Simulates}
+use Rattle.cp_refine.proofs.Words.{PhaseIs, HasBegun}
 use Rattle.cp_tree.specs.declared.declaration.SystemKind.TheVariants as system_kind
-use Rattle.cp_tree.specs.Syntax.{Program, Tree}
-use Rattle.cp_slots.specs.Systems.{IsTyped}
 use Rattle.cp_slots.specs.Tables.{Tables, component_at, process_at}
-use Rattle.cp_slots.specs.declared.tables.ComponentKind.{ComponentKind}
 use Rattle.cp_slots.specs.declared.tables.ComponentKind.TheVariants as kind
-use Rattle.cp_machine.specs.declared.state.Phase.{Phase}
 use Rattle.cp_machine.specs.declared.state.Phase.TheVariants as phase
-use Rattle.cp_machine.specs.Machine.{Machine, is_uninitialised, phase_at}
-use Rattle.cp_meaning.specs.Kernel.{line_of, process_of}
-use Rattle.cp_meaning.specs.Places.{component_there}
 use Rattle.cp_meaning.specs.State as named
 use Rattle.cp_meaning.specs.State.{ComponentStatus, uninitialised, initialising, initialised, unstarted, ready, own_statement, initial_statement, entry_routine, Call, current, callers, Item, init_end, Gates, State, Place, has_entry}
-use Rattle.cp_meaning.specs.Steps.{view_of}
-use Rattle.cp_meaning.specs.Values.{is_member}
-use Rattle.cp_lawful.specs.Accepted.{IsAccepted}
-use Rattle.cp_resolved.specs.Layouts.{Layouts}
-use Rattle.cp_resolved.specs.Resolved.{Stands}
-use Rattle.cp_resolved.specs.Stands.{Ground}
-use Rattle.cp_refine.specs.Kinds.{SameKind, KindsAgree}
-use Rattle.cp_refine.specs.Law.{ground_of, Simulates}
-use Rattle.cp_refine.specs.Represents.{PhaseIs, HasBegun}
 use Rattle.cp_refine.proofs.gates.Admitting.{MayGoIn}
 use Rattle.cp_refine.proofs.gates.Gates.{OwnNumbers, OthersOutside}
 use Rattle.cp_refine.proofs.HoldsInReached.{HoldsInReached, IsProcess, reached_stands}

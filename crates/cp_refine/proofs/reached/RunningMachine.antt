@@ -1,25 +1,8 @@
 -- In each state that the machine reaches it stands for one that the program reaches, so that the laws of the language hold of it.
-use Rattle.std.proofs.Common.{◌≡◌, ◌∙◌, ℕ, ◌<◌, List, subst, sym}
-use Rattle.cp_tree.specs.Read.{IsRead}
-use Rattle.cp_tree.specs.Syntax.{Tree}
-use Rattle.cp_layout.specs.Laid.{plain, laid}
-use Rattle.cp_slots.specs.Tables.{Tables}
-use Rattle.cp_lawful.specs.Accepted.{IsAccepted}
-use Rattle.cp_lawful.proofs.Accepting.{well_formed}
-use Rattle.cp_meaning.specs.State.{Gates, State}
-use Rattle.cp_meaning.specs.WellFormed.{IsWellFormed}
+use Rattle.cp_refine.proofs.Words.{◌≡◌, ◌∙◌, ℕ, ◌<◌, List, subst, sym, IsRead, Tree, plain, laid, Tables, IsAccepted, well_formed, Gates, State, IsWellFormed}
+use Rattle.cp_refine.proofs.Words.{Machine, slots, System, Layouts, AreTablesOf, layouts_of, CanGo, CanEnter, GoInStep, Simulates, named, gates_of, AllKnown}
 use Rattle.cp_meaning.proofs.OwnershipLemmas.{exclusive, ownership}
-use Rattle.cp_machine.specs.Machine.{Machine}
-use Rattle.cp_run.specs.Slots.{slots}
-use Rattle.cp_run.specs.System.{System}
-use Rattle.cp_resolved.specs.Layouts.{Layouts}
-use Rattle.cp_resolved.specs.Resolving.{AreTablesOf}
-use Rattle.cp_resolved.specs.TreeLayouts.{layouts_of}
-use Rattle.cp_refine.specs.InStep.{CanGo, CanEnter, GoInStep}
-use Rattle.cp_refine.specs.Law.{Simulates}
-use Rattle.cp_refine.specs.Named.{named, gates_of}
 use Rattle.cp_refine.specs.Running.{Happening, IsMet, met_first, met_by_step, met_by_admission, StepsAsMeant, RunsAsMeant}
-use Rattle.cp_refine.specs.AllKnown.{AllKnown}
 use Rattle.cp_refine.proofs.steps.GoingInStep.{there, goes_now, still}
 use Rattle.cp_refine.proofs.HoldsInReached.{reached_lawful}
 use Rattle.cp_refine.proofs.Meaning.{it, known, goes_in_step}

@@ -1,14 +1,6 @@
 -- What is known of the states that a tree reaches which was read and breaks no rule.
-use Rattle.std.proofs.Common.{◌≡◌, ℕ, ◌<◌, true, length}
-use Rattle.cp_tree.specs.Syntax.{Tree}
-use Rattle.cp_layout.specs.Laid.{plain, laid}
-use Rattle.cp_slots.specs.Tables.{Tables}
-use Rattle.cp_tree.specs.Read.{IsRead}
-use Rattle.cp_lawful.specs.Accepted.{IsAccepted}
-use Rattle.cp_meaning.specs.State.{process_at, delayed, entry_routine, current, Gates, State, has_entry}
-use Rattle.cp_meaning.specs.Steps.{IsReached}
-use Rattle.cp_resolved.specs.Openings.{openings_of}
-use Rattle.cp_resolved.specs.TreeLayouts.{layouts_of}
+use Rattle.cp_refine.proofs.Words.{◌≡◌, ℕ, ◌<◌, true, length, Tree, plain, laid, Tables, IsRead, IsAccepted, process_at, delayed, entry_routine, current}
+use Rattle.cp_refine.proofs.Words.{Gates, State, has_entry, IsReached, openings_of, layouts_of}
 use Rattle.cp_refine.specs.AllKnown.{StatesKnown}
 use Rattle.cp_refine.specs.StatesKnown.{IsContinuing}
 use Rattle.cp_refine.proofs.expressions.DesignatedTypes.{NamesTyped}

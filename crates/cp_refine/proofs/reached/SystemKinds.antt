@@ -1,21 +1,11 @@
 -- The kind of a component is that of its system type, also in each state that is reached.
 use Rattle.std.proofs.Common.{◌≡◌, ◌∙◌, ℕ, zero, suc, ◌<◌, List, [], ◌∷◌, ap, sym, refl, subst, arith, length}
-use Rattle.std.specs.Prelude.{map}
-use Rattle.cp_tree.specs.declared.declaration.SystemKind.{SystemKind}
+use Rattle.cp_refine.proofs.Words.{map, SystemKind, Tree, Program, Tables, component_at, Machine, State, system_of, Layouts, SameKind, ground_of, Prepared}
 use Rattle.cp_tree.specs.declared.declaration.SystemKind.TheVariants as system_kind
-use Rattle.cp_tree.specs.Syntax.{Tree, Program}
 use Rattle.cp_slots.specs.declared.tables.ComponentKind.TheVariants as kind
-use Rattle.cp_slots.specs.Tables.{Tables, component_at}
-use Rattle.cp_machine.specs.Machine.{Machine}
 use Rattle.cp_meaning.specs.Components.{Listed, components_of}
 use Rattle.cp_meaning.specs.State as named
-use Rattle.cp_meaning.specs.State.{State}
 use Rattle.cp_meaning.specs.Steps.{first_component}
-use Rattle.cp_meaning.specs.Systems.{system_of}
-use Rattle.cp_resolved.specs.Layouts.{Layouts}
-use Rattle.cp_refine.specs.Kinds.{SameKind}
-use Rattle.cp_refine.specs.Law.{ground_of}
-use Rattle.cp_refine.specs.Prepared.{Prepared}
 use Rattle.cp_refine.proofs.HoldsInReached.{HoldsInReached}
 use Rattle.cp_refine.proofs.reached.ReadyInReached.{ReadyInReached}
 

@@ -1,30 +1,11 @@
 -- A process that begins: its initial statement stands on its control stack, and its frame holds what an open call without variables has.
 use Rattle.std.proofs.Common.{◌≡◌, ◌∙◌, ℕ, ◌+◌, ◌<◌, List, [], ◌∷◌, None, ap, sym, refl, subst, arith, length, get_or}
-use Rattle.std.specs.Prelude.{ℤ, pos}
-use Rattle.cp_tree.specs.Syntax.{Program}
+use Rattle.cp_refine.proofs.Words.{ℤ, pos, Program, component_at, routine_at, Address, Local, Frame, Thread, unstarted_thread, Ty, Value, RoutineMeaning}
+use Rattle.cp_refine.proofs.Words.{system_of, Call, own_statement, end, begun, items_of_all, content_of, value_held, Layouts, here, cell_named, look, encode}
+use Rattle.cp_refine.proofs.Words.{HasType, Ground, ItemsAre, parameter_variables, LiesAt, CallIs, CallHolds, CallsHold, own_memory, Runs}
 use Rattle.cp_slots.specs.declared.tables.Process as slot_process
-use Rattle.cp_slots.specs.Tables.{component_at, routine_at}
-use Rattle.cp_store.specs.declared.memory.Address.{Address}
-use Rattle.cp_store.specs.declared.memory.Address.TheVariants.{Local}
-use Rattle.cp_store.specs.declared.memory.Frame.{Frame}
 use Rattle.cp_machine.specs.declared.process.Status.TheVariants as status
-use Rattle.cp_machine.specs.Machine.{Thread}
-use Rattle.cp_machine.specs.Opening.{unstarted_thread}
-use Rattle.cp_meaning.specs.Types.{Ty}
-use Rattle.cp_meaning.specs.Values.{Value}
-use Rattle.cp_meaning.specs.Declarations.{RoutineMeaning}
-use Rattle.cp_meaning.specs.Systems.{system_of}
-use Rattle.cp_meaning.specs.State.{Call, own_statement, end}
-use Rattle.cp_meaning.specs.Kernel.{begun}
-use Rattle.cp_meaning.specs.Lifting.{items_of_all}
-use Rattle.cp_meaning.specs.Places.{content_of, value_held}
-use Rattle.cp_resolved.specs.Layouts.{Layouts, here, cell_named, look}
-use Rattle.cp_resolved.specs.Encoded.{encode, HasType}
-use Rattle.cp_resolved.specs.Stands.{Ground}
-use Rattle.cp_refine.specs.Remaining.{ItemsAre}
 use Rattle.cp_resolved.specs.Resolved.{StandsAt, RoutineIs, SystemIs, first_value, initial_meaning}
-use Rattle.cp_meaning.specs.Steps.{parameter_variables}
-use Rattle.cp_refine.specs.Represents.{LiesAt, CallIs, CallHolds, CallsHold, own_memory, Runs}
 use Rattle.cp_refine.proofs.control.Lists.{all_items, stack_rest, frames_rest}
 use Rattle.cp_refine.proofs.expressions.Parts.{encode_length}
 

@@ -1,29 +1,13 @@
 -- A process that was not started begins, with its parameters bound.
 use Rattle.std.proofs.Common.{◌≡◌, ◌≢◌, ◌∙◌, ℕ, ◌<◌, ◌⊎◌, inl, inr, List, [], ap, sym, refl, subst, arith, length, length-set}
-use Rattle.std.specs.Prelude.{◌&&◌, not, slice_set}
-use Rattle.cp_tree.specs.Syntax.{Program}
-use Rattle.cp_slots.specs.declared.place.Argument.{Argument}
-use Rattle.cp_slots.specs.declared.tables.ComponentKind.{ComponentKind}
+use Rattle.cp_refine.proofs.Words.{◌&&◌, not, slice_set, Program, Argument, ComponentKind, IsItself, Bound, Permanent, Memory, Machine, Thread, no_thread}
+use Rattle.cp_refine.proofs.Words.{thread_at, unstarted_thread, queue_type, Parameter, system_of, View, value_at, begun, Layouts, Ground, AreHanded}
 use Rattle.cp_slots.specs.declared.tables.ComponentKind.TheVariants as kind
-use Rattle.cp_slots.specs.Systems.{IsItself}
 use Rattle.cp_slots.specs.Tables.{component_at, process_at, system_at}
-use Rattle.cp_store.specs.declared.argument.Bound.{Bound}
-use Rattle.cp_store.specs.declared.memory.Address.TheVariants.{Permanent}
-use Rattle.cp_store.specs.Memory.{Memory}
 use Rattle.cp_machine.specs.declared.process.Status as slot_status
 use Rattle.cp_machine.specs.declared.process.Status.TheVariants as status
-use Rattle.cp_machine.specs.Machine.{Machine, Thread, no_thread, thread_at}
-use Rattle.cp_machine.specs.Opening.{unstarted_thread}
-use Rattle.cp_meaning.specs.Types.{queue_type}
-use Rattle.cp_meaning.specs.Declarations.{Parameter}
-use Rattle.cp_meaning.specs.Systems.{system_of}
 use Rattle.cp_meaning.specs.State as named
 use Rattle.cp_meaning.specs.State.{in_component, Place, Environment, ComponentStatus, uninitialised, unstarted, ready, delayed, Status, Call, Process, no_process, State, has_entry, is_inside, waits_at}
-use Rattle.cp_meaning.specs.Places.{View, value_at}
-use Rattle.cp_meaning.specs.Kernel.{begun}
-use Rattle.cp_resolved.specs.Layouts.{Layouts}
-use Rattle.cp_resolved.specs.Stands.{Ground}
-use Rattle.cp_refine.specs.Given.{AreHanded}
 use Rattle.cp_refine.specs.Represents.{StatusIs, ProcessIs, HasBegun, MonitorIs, PlaceAt, QueuesAre, Runs, Represents}
 use Rattle.cp_refine.proofs.starts.Begun.{CanBegin, begun_runs}
 use Rattle.cp_refine.proofs.starts.Handed.{CanStart, memory, bindings, components_after, count, line_same, components_stand, queue_kept}

@@ -1,33 +1,16 @@
 -- The components after the parameters of one are bound: that one has them, and all others are as they were.
 use Rattle.std.proofs.Common.{◌≡◌, ◌≢◌, ◌∙◌, ℕ, zero, suc, ◌+◌, ◌<◌, ◌≤◌, ◌⊎◌, inl, inr, List, [], ◌++◌, Option, Some, None, ap, sym, refl, subst, arith, length, length-set}
-use Rattle.std.specs.Prelude.{pos, slice_index_or, slice_set}
-use Rattle.cp_tree.specs.Syntax.{Program}
-use Rattle.cp_slots.specs.declared.place.Argument.{Argument}
-use Rattle.cp_slots.specs.Systems.{IsTyped}
-use Rattle.cp_slots.specs.Tables.{component_at, system_at}
-use Rattle.cp_store.specs.declared.argument.Bound.{Bound}
-use Rattle.cp_store.specs.declared.memory.Address.TheVariants.{Permanent}
-use Rattle.cp_store.specs.Memory.{Memory}
-use Rattle.cp_machine.specs.Machine.{Machine, phase_at}
-use Rattle.cp_meaning.specs.Names.{Name}
-use Rattle.cp_meaning.specs.Types.{Ty, queue_type}
-use Rattle.cp_meaning.specs.Values.{Value, Choice, part_at}
-use Rattle.cp_meaning.specs.Declarations.{Parameter}
+use Rattle.cp_refine.proofs.Words.{pos, slice_index_or, slice_set, Program, Argument, IsTyped, component_at, system_at, Bound, Permanent, Memory, Machine}
+use Rattle.cp_refine.proofs.Words.{phase_at, Name, Ty, queue_type, Value, Choice, part_at, Parameter, View, content_of, value_held, environment_of, value_at}
+use Rattle.cp_refine.proofs.Words.{parameter_variables, chosen_at, Ground, AreHanded, AreDifferent, content_second}
 use Rattle.cp_meaning.specs.State as named
 use Rattle.cp_meaning.specs.State.{Holder, in_call, in_component, Place, Content, knows, Environment, Component, no_component, ComponentStatus, State}
-use Rattle.cp_meaning.specs.Places.{View, content_of, value_held, environment_of, value_at}
-use Rattle.cp_meaning.specs.Steps.{parameter_variables}
 use Rattle.cp_resolved.specs.Layouts.{cells_of, Layouts, SystemLayout, look}
-use Rattle.cp_resolved.specs.Encoded.{chosen_at}
 use Rattle.cp_resolved.specs.Resolved.{SystemParametersAre}
-use Rattle.cp_resolved.specs.Stands.{Ground}
-use Rattle.cp_refine.specs.Given.{AreHanded}
-use Rattle.cp_refine.specs.Parameters.{AreDifferent}
 use Rattle.cp_refine.specs.Represents.{LiesAt, BeginsAt, PlaceAt, PhaseIs, HasBegun, ComponentIs, all_permanents, Represents}
 use Rattle.cp_refine.proofs.starts.Handing.{CanHand, Hands, handed_memory, handed_bindings, hands_all, variables_handed, parts_handed, others_handed, not_found}
 use Rattle.cp_refine.proofs.control.Moving.{set_here, set_there, same_or_other}
 use Rattle.cp_refine.proofs.expressions.Parts.{encode_length}
-use Rattle.cp_meaning.proofs.OwnLocal.{nothing_append as content_second}
 
 -- what has to be known of the component whose parameters are bound
 pub record CanStart (g : Ground) (l : Layouts) (s : State) (m : Machine) (mem : Memory) (d : ℕ) (qs : List Parameter) : Type 0 where

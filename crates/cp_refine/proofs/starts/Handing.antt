@@ -1,32 +1,16 @@
 -- The parameters of a component are bound: those with values lie in its permanent cells, and those that are components have their numbers.
 use Rattle.std.proofs.Common.{◌≡◌, ◌≢◌, ◌∙◌, ℕ, ◌+◌, ◌^◌, ◌<◌, ◌≤◌, ◌⊎◌, inl, inr, Bool, true, false, if◌then◌else◌, List, [], ◌∷◌, ◌++◌, Option, Some, None, ap, sym, refl, subst, arith, length, length-set}
-use Rattle.std.specs.Prelude.{pos, slice_index_or}
-use Rattle.std.proofs.lemmas.Slice.Eq.{bytes_eq-Decides}
-use Rattle.cp_slots.specs.declared.place.Argument.{Argument}
-use Rattle.cp_store.specs.declared.argument.Bound.{Bound}
+use Rattle.cp_refine.proofs.Words.{pos, slice_index_or, bytes_eq-Decides, Argument, Bound, Permanent, Local, Memory, onward, Name, same_name, Ty}
+use Rattle.cp_refine.proofs.Words.{component_of, Value, Parameter, Content, holds, refers, knows, Environment, content_of, value_held, parameter_variables}
+use Rattle.cp_refine.proofs.Words.{HasType, Few, IsOther, AreDifferent, LiesAt, content_second, onward_is}
 use Rattle.cp_store.specs.declared.argument.Bound.TheVariants.{Copy, Reference, Component}
-use Rattle.cp_store.specs.declared.memory.Address.TheVariants.{Permanent, Local}
 use Rattle.cp_store.specs.Arguments.{put_value, bound_in_component, put_binding, bindings_after}
-use Rattle.cp_store.specs.Memory.{Memory, onward}
-use Rattle.cp_meaning.specs.Names.{Name, same_name}
-use Rattle.cp_meaning.specs.Types.{Ty, component_of}
-use Rattle.cp_meaning.specs.Values.{Value}
-use Rattle.cp_meaning.specs.Declarations.{Parameter}
-use Rattle.cp_meaning.specs.State.{Content, holds, refers, knows, Environment}
-use Rattle.cp_meaning.specs.Places.{content_of, value_held}
-use Rattle.cp_meaning.specs.Steps.{parameter_variables}
 use Rattle.cp_resolved.specs.Layouts.{cells_of, SystemLayout, look}
-use Rattle.cp_resolved.specs.Encoded.{HasType}
 use Rattle.cp_resolved.specs.Resolved.{AreApart, SystemParameterIs, SystemParametersAre}
-use Rattle.cp_refine.specs.Agrees.{Few}
 use Rattle.cp_refine.specs.Given.{IsValue, Keeps, IsApartFrom, IsOutside, IsHanded, AreHanded}
-use Rattle.cp_refine.specs.Parameters.{IsOther, AreDifferent}
-use Rattle.cp_refine.specs.Represents.{LiesAt}
 use Rattle.cp_refine.proofs.control.Moving.{set_here, set_there}
 use Rattle.cp_refine.proofs.calls.NewFrame.{content_first, others_named}
 use Rattle.cp_refine.proofs.expressions.Parts.{encode_length}
-use Rattle.cp_meaning.proofs.OwnLocal.{nothing_append as content_second}
-use Rattle.cp_store.proofs.Reaches.{onward_exact as onward_is}
 
 -- a value is bound to no number, and a component to no cell
 no_binding : (m : Memory) (ns : List ℕ) (n : ℕ) (b : Bound) → IsValue m b → put_binding ns n b ≡ ns

@@ -1,35 +1,13 @@
 -- The initial statement of a class or monitor begins: its frame stands above those of its callers, and its end is that of an initial statement.
 use Rattle.std.proofs.Common.{◌≡◌, ◌∙◌, ℕ, ◌+◌, ◌<◌, ◌≤◌, List, [], ◌∷◌, ◌++◌, None, ap, sym, refl, subst, arith, length}
-use Rattle.std.specs.Prelude.{pos, slice_index_or, slice_set}
-use Rattle.std.proofs.lemmas.List.{get_or_append_left, length-append}
-use Rattle.cp_tree.specs.Syntax.{Program}
-use Rattle.cp_slots.specs.declared.place.Argument.{Argument}
-use Rattle.cp_slots.specs.Tables.{component_at, routine_at}
-use Rattle.cp_store.specs.declared.argument.Bound.{Bound}
+use Rattle.cp_refine.proofs.Words.{pos, slice_index_or, slice_set, get_or_append_left, length-append, Program, Argument, component_at, routine_at, Bound}
+use Rattle.cp_refine.proofs.Words.{Permanent, Local, Frame, Memory, Entry, InitEnd, frame_behind, size_of, Machine, Thread, thread_at, with_thread, rest_of}
+use Rattle.cp_refine.proofs.Words.{Name, Ty, Value, Parameter, RoutineMeaning, system_of, items_of_all, Layouts, here, cell_named, first_values}
+use Rattle.cp_refine.proofs.Words.{initial_meaning, Ground, IsValue, Keeps, GivesValue, IsHanded, AreHanded, AreBound, ItemsAre}
 use Rattle.cp_store.specs.declared.argument.Bound.TheVariants.{Copy, Reference, Component}
-use Rattle.cp_store.specs.declared.memory.Address.TheVariants.{Permanent, Local}
-use Rattle.cp_store.specs.declared.memory.Frame.{Frame}
-use Rattle.cp_store.specs.Memory.{Memory}
-use Rattle.cp_machine.specs.declared.process.Entry.{Entry}
-use Rattle.cp_machine.specs.declared.process.Entry.TheVariants.{InitEnd}
-use Rattle.cp_machine.specs.Calls.{frame_behind}
-use Rattle.cp_machine.specs.Fits.{size_of}
-use Rattle.cp_machine.specs.Machine.{Machine, Thread, thread_at, with_thread}
 use Rattle.cp_machine.specs.Memory.{memory_at, frame_opened}
-use Rattle.cp_machine.specs.Stack.{rest_of}
-use Rattle.cp_meaning.specs.Names.{Name}
-use Rattle.cp_meaning.specs.Types.{Ty}
-use Rattle.cp_meaning.specs.Values.{Value}
-use Rattle.cp_meaning.specs.Declarations.{Parameter, RoutineMeaning}
-use Rattle.cp_meaning.specs.Systems.{system_of}
 use Rattle.cp_meaning.specs.State as named
 use Rattle.cp_meaning.specs.State.{Content, holds, knows, Environment, ready, initial_statement, Call, Item, init_end, Process, State}
-use Rattle.cp_meaning.specs.Lifting.{items_of_all}
-use Rattle.cp_resolved.specs.Layouts.{Layouts, here, cell_named}
-use Rattle.cp_resolved.specs.Resolved.{first_values, initial_meaning}
-use Rattle.cp_resolved.specs.Stands.{Ground}
-use Rattle.cp_refine.specs.Given.{IsValue, Keeps, GivesValue, IsHanded, AreHanded, AreBound}
-use Rattle.cp_refine.specs.Remaining.{ItemsAre}
 use Rattle.cp_refine.specs.Represents.{StackIs, StatusIs, ProcessIs, CallIs, CallsHold, frames_of, own_memory, Represents}
 use Rattle.cp_refine.proofs.calls.Calling.{CanCall}
 use Rattle.cp_refine.proofs.control.Control.{Goes}

@@ -1,20 +1,13 @@
 -- A class or monitor goes on to another phase: its initial statement begins or has ended.
 use Rattle.std.proofs.Common.{◌≡◌, ◌≢◌, ◌∙◌, ℕ, ◌+◌, ◌<◌, ◌⊎◌, inl, inr, List, ap, sym, refl, subst, arith, length, length-set}
-use Rattle.cp_tree.specs.Syntax.{Program}
-use Rattle.cp_slots.specs.declared.tables.ComponentKind.{ComponentKind}
+use Rattle.cp_refine.proofs.Words.{Program, ComponentKind, component_at, Permanent, Phase, View, content_of, value_held, environment_of, value_at, part_at}
+use Rattle.cp_refine.proofs.Words.{Layouts, Ground}
 use Rattle.cp_slots.specs.declared.tables.ComponentKind.TheVariants as kind
-use Rattle.cp_slots.specs.Tables.{component_at}
-use Rattle.cp_store.specs.declared.memory.Address.TheVariants.{Permanent}
-use Rattle.cp_machine.specs.declared.state.Phase.{Phase}
 use Rattle.cp_machine.specs.declared.state.Phase.TheVariants as phase
 use Rattle.cp_machine.specs.Machine.{Machine, phase_at, with_phase}
 use Rattle.cp_meaning.specs.State as named
 use Rattle.cp_meaning.specs.State.{Holder, in_call, in_component, Place, Environment, Component, no_component, ComponentStatus, uninitialised, State}
 use Rattle.cp_meaning.specs.Calls.{with_status}
-use Rattle.cp_meaning.specs.Places.{View, content_of, value_held, environment_of, value_at}
-use Rattle.cp_meaning.specs.Values.{part_at}
-use Rattle.cp_resolved.specs.Layouts.{Layouts}
-use Rattle.cp_resolved.specs.Stands.{Ground}
 use Rattle.cp_refine.specs.Represents.{LiesAt, PhaseIs, HasBegun, ComponentIs, MonitorIs, all_permanents, Represents}
 use Rattle.cp_refine.proofs.control.Moving.{set_here, set_there, same_or_other}
 

@@ -1,52 +1,29 @@
 -- The whole step that starts a process: the component's place first, then the arguments, and last whether it was started before.
 use Rattle.std.proofs.Common.{◌≡◌, ◌≢◌, ◌∙◌, ℕ, zero, suc, ◌<◌, ◌==◌, ◌⊎◌, inl, inr, if◌then◌else◌, List, [], ◌∷◌, ◌++◌, Option, Some, None, ap, sym, refl, subst, arith, length, length-set}
-use Rattle.std.specs.Prelude.{ℤ, Result, Ok, Err, map, slice_index, slice_set}
-use Rattle.std.specs.declared.alloc.Global.{Global}
-use Rattle.std.specs.declared.vec.Vec.{Vec}
-use Rattle.cp_tree.specs.declared.declaration.SystemKind.{SystemKind}
+use Rattle.cp_refine.proofs.Words.{ℤ, Result, Ok, Err, map, slice_index, slice_set, Global, Vec, SystemKind, Program, Start, Action, Argument, ComponentPlace}
+use Rattle.cp_refine.proofs.Words.{Bound, Address, bound_in_component, bindings_after, Memory, Entry, rest_of, step_at, Parameter, system_of, View, Target}
+use Rattle.cp_refine.proofs.Words.{component_there, Doing, starts, Stepped, after, process_of, target_value, at_designator, view_of, step_of, settled}
+use Rattle.cp_refine.proofs.Words.{Layouts, Ground, AreHanded, BoundsAgree, ComponentAgrees, SameKind, KindsAgree, StatusIs, Represents}
 use Rattle.cp_tree.specs.declared.declaration.SystemKind.TheVariants as system_kind
-use Rattle.cp_tree.specs.Syntax.{Program, Start}
-use Rattle.cp_slots.specs.declared.item.Action.{Action}
 use Rattle.cp_slots.specs.declared.item.Action.TheVariants as action
-use Rattle.cp_slots.specs.declared.place.Argument.{Argument}
-use Rattle.cp_slots.specs.declared.place.ComponentPlace.{ComponentPlace}
 use Rattle.cp_slots.specs.declared.tables.ComponentKind.TheVariants as kind
 use Rattle.cp_slots.specs.Code as code
 use Rattle.cp_slots.specs.Tables.{component_at, item_at, process_at, system_at}
-use Rattle.cp_store.specs.declared.argument.Bound.{Bound}
 use Rattle.cp_store.specs.declared.error.ErrorName as slots
 use Rattle.cp_store.specs.declared.error.ErrorName.TheVariants as error
-use Rattle.cp_store.specs.declared.memory.Address.{Address}
-use Rattle.cp_store.specs.Arguments.{bound_in_component, bindings_after}
-use Rattle.cp_store.specs.Memory.{Memory}
 use Rattle.cp_machine.specs.declared.event.Event.TheVariants as event
 use Rattle.cp_machine.specs.declared.event.Kernel.TheVariants as event_call
-use Rattle.cp_machine.specs.declared.process.Entry.{Entry}
 use Rattle.cp_machine.specs.declared.process.Status as slot_status
 use Rattle.cp_machine.specs.declared.process.Status.TheVariants as status
 use Rattle.cp_machine.specs.Calls as calls
 use Rattle.cp_machine.specs.Machine.{Machine, Thread, no_thread, thread_at, is_unstarted, with_stack, with_status, with_bindings}
 use Rattle.cp_machine.specs.Memory.{memory_at, component_of, arguments_of, with_memory, parameters_bound}
-use Rattle.cp_machine.specs.Stack.{rest_of}
 use Rattle.cp_machine.specs.Statements as statements
-use Rattle.cp_machine.specs.Step.{step_at}
 use Rattle.cp_meaning.specs.Outcome.{Outcome, ◌>>=◌, init_twice}
-use Rattle.cp_meaning.specs.Declarations.{Parameter}
-use Rattle.cp_meaning.specs.Systems.{system_of}
 use Rattle.cp_meaning.specs.State as named
 use Rattle.cp_meaning.specs.State.{Environment, Item, start_item, unstarted, ready, at_gate, delayed, ended, Status, Process, State}
-use Rattle.cp_meaning.specs.Places.{View, Target, component_there}
-use Rattle.cp_meaning.specs.Move.{Doing, starts}
 use Rattle.cp_meaning.specs.Kernel as meaning
-use Rattle.cp_meaning.specs.Kernel.{Stepped, after, process_of}
 use Rattle.cp_meaning.specs.Calls.{bound, with_items, with_move, started_as, started_at}
-use Rattle.cp_meaning.specs.Expressions.{target_value}
-use Rattle.cp_meaning.specs.Steps.{at_designator, view_of, step_of, settled}
-use Rattle.cp_resolved.specs.Layouts.{Layouts}
-use Rattle.cp_resolved.specs.Stands.{Ground}
-use Rattle.cp_refine.specs.Given.{AreHanded, BoundsAgree, ComponentAgrees}
-use Rattle.cp_refine.specs.Kinds.{SameKind, KindsAgree}
-use Rattle.cp_refine.specs.Represents.{StatusIs, Represents}
 use Rattle.cp_refine.proofs.assignments.Assigning.{set_set}
 use Rattle.cp_refine.proofs.starts.Begun.{CanBegin}
 use Rattle.cp_refine.proofs.starts.BegunProcess.{state_begun, process_begun}

@@ -1,45 +1,23 @@
 -- What the arguments of a start give: values, and components.
 use Rattle.std.proofs.Common.{◌≡◌, ◌∙◌, ℕ, Bool, true, false, if◌then◌else◌, List, [], ◌∷◌, Some, ap, sym, refl, subst, length}
-use Rattle.std.specs.Prelude.{map, Result, Ok, Err, ℤ}
+use Rattle.cp_refine.proofs.Words.{map, Result, Ok, Err, ℤ, Expression, Expressions, no_expressions, more_expressions, Designator, Tables, Argument}
+use Rattle.cp_refine.proofs.Words.{ArgumentValue, Bound, Frame, Memory, then_with, ranged, Name, Outcome, ◌>>=◌, Parameter, Content, holds, refers, knows}
+use Rattle.cp_refine.proofs.Words.{Environment, View, Target, component_there, value_at, target_value, variable_in, value, expression_calls}
+use Rattle.cp_refine.proofs.Words.{expressions_calls, Layouts, Here, cells_of, Sees, TargetAgrees, Address, SetValue, Value, checked, plain_value, plain_set}
+use Rattle.cp_refine.proofs.Words.{plain_address, PlaceAt, BoundsAgree, ComponentAgrees, IsOutside, IsHanded, AreHanded, error_of, AreKept}
 use Rattle.std.proofs.lemmas.Bool.{eq-eqb}
-use Rattle.cp_tree.specs.Syntax.{Expression, Expressions, no_expressions, more_expressions, Designator}
 use Rattle.cp_slots.specs.Code as code
-use Rattle.cp_slots.specs.Tables.{Tables}
-use Rattle.cp_slots.specs.declared.place.Argument.{Argument}
-use Rattle.cp_slots.specs.declared.place.ArgumentValue.{ArgumentValue}
 use Rattle.cp_slots.specs.declared.place.ArgumentValue.TheVariants as value_of
-use Rattle.cp_store.specs.declared.argument.Bound.{Bound}
 use Rattle.cp_store.specs.declared.argument.Bound.TheVariants.{Component, Scalar, Set, Copy, Reference}
 use Rattle.cp_store.specs.declared.error.ErrorName as slots
-use Rattle.cp_store.specs.declared.memory.Frame.{Frame}
 use Rattle.cp_store.specs.Arguments.{bound_at, bounds_at}
 use Rattle.cp_store.specs.Components.{component_at}
-use Rattle.cp_store.specs.Memory.{Memory}
 use Rattle.cp_store.specs.Sets as sets
-use Rattle.cp_store.specs.Values.{then_with, ranged}
-use Rattle.cp_meaning.specs.Names.{Name}
-use Rattle.cp_meaning.specs.Outcome.{Outcome, ◌>>=◌}
 use Rattle.cp_meaning.specs.Types.{Ty, ordinal, set_over, array_over, record_with, component_of, natural_of}
-use Rattle.cp_meaning.specs.Declarations.{Parameter}
 use Rattle.cp_meaning.specs.State as named
-use Rattle.cp_meaning.specs.State.{Content, holds, refers, knows, Environment}
-use Rattle.cp_meaning.specs.Places.{View, Target, component_there, value_at}
-use Rattle.cp_meaning.specs.Expressions.{target_value, variable_in, value}
 use Rattle.cp_meaning.specs.Calls.{of_system, knows_of, refers_to, bound_variable, bound_value, bound_argument, bound}
-use Rattle.cp_meaning.specs.Lifting.{expression_calls, expressions_calls}
-use Rattle.cp_resolved.specs.Layouts.{Layouts, Here, cells_of}
 use Rattle.cp_resolved.specs.Compiled.{Form, as_ordinal, as_set, as_place, as_component, Formed, expression_form}
 use Rattle.cp_resolved.specs.Stands.{ValueGiven, GivenBy, IsGiven, AreGiven}
-use Rattle.cp_refine.specs.Agrees.{Sees, TargetAgrees}
-use Rattle.cp_store.specs.declared.memory.Address.{Address}
-use Rattle.cp_store.specs.declared.set.SetValue.{SetValue}
-use Rattle.cp_meaning.specs.Values.{Value}
-use Rattle.cp_meaning.specs.Operations.{checked}
-use Rattle.cp_refine.specs.PlainValues.{plain_value, plain_set, plain_address}
-use Rattle.cp_refine.specs.Represents.{PlaceAt}
-use Rattle.cp_refine.specs.Given.{BoundsAgree, ComponentAgrees, IsOutside, IsHanded, AreHanded}
-use Rattle.cp_refine.specs.Named.{error_of}
-use Rattle.cp_refine.specs.Remaining.{AreKept}
 use Rattle.cp_refine.proofs.assignments.AnyAssignments.{RangeKnown}
 use Rattle.cp_refine.proofs.expressions.Arguments.{ValueAgrees, value_given, first_bound, scalar_bound, set_bound, copy_bound, copy_given, held}
 use Rattle.cp_refine.proofs.expressions.ComponentPlaces.{ComponentsKnown, component_agrees}

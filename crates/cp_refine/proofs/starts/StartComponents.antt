@@ -1,38 +1,19 @@
 -- The arguments of a start, one by one: an argument for a component is a name, of a component of the parameter's type.
 use Rattle.std.proofs.Common.{◌≡◌, ◌∙◌, ℕ, Bool, true, false, List, [], ◌∷◌, Some, ap, sym, refl, subst}
-use Rattle.std.specs.Prelude.{map, Result, Ok, Err}
-use Rattle.cp_tree.specs.Syntax.{Expression, Expressions, more_expressions, Designator}
+use Rattle.cp_refine.proofs.Words.{map, Result, Ok, Err, Expression, Expressions, more_expressions, Designator, Tables, Argument, ArgumentValue}
+use Rattle.cp_refine.proofs.Words.{ComponentPlace, Copy, Address, Frame, Memory, Name, Outcome, Parameter, View, Target, component_there, target_value}
+use Rattle.cp_refine.proofs.Words.{variable_in, expression_calls, expressions_calls, Layouts, Here, cells_of, Each, ValueGiven, GivenBy, AreGiven, Sees}
+use Rattle.cp_refine.proofs.Words.{ComponentAgrees, IsOutside, AreKept, PlaceAt}
 use Rattle.cp_slots.specs.Code as code
 use Rattle.cp_slots.specs.Systems.{is_component, HandsOne, Hands, Names}
-use Rattle.cp_slots.specs.Tables.{Tables}
-use Rattle.cp_slots.specs.declared.place.Argument.{Argument}
-use Rattle.cp_slots.specs.declared.place.ArgumentValue.{ArgumentValue}
 use Rattle.cp_slots.specs.declared.place.ArgumentValue.TheVariants as value_of
-use Rattle.cp_slots.specs.declared.place.ComponentPlace.{ComponentPlace}
-use Rattle.cp_store.specs.declared.argument.Bound.TheVariants.{Copy}
 use Rattle.cp_store.specs.declared.error.ErrorName as slots
-use Rattle.cp_store.specs.declared.memory.Address.{Address}
-use Rattle.cp_store.specs.declared.memory.Frame.{Frame}
 use Rattle.cp_store.specs.Components.{component_at}
-use Rattle.cp_store.specs.Memory.{Memory}
-use Rattle.cp_meaning.specs.Names.{Name}
-use Rattle.cp_meaning.specs.Outcome.{Outcome}
 use Rattle.cp_meaning.specs.Types.{Ty, ordinal, queue_type, set_over, array_over, record_with, component_of}
-use Rattle.cp_meaning.specs.Declarations.{Parameter}
 use Rattle.cp_meaning.specs.State as named
-use Rattle.cp_meaning.specs.Places.{View, Target, component_there}
-use Rattle.cp_meaning.specs.Expressions.{target_value, variable_in}
-use Rattle.cp_meaning.specs.Lifting.{expression_calls, expressions_calls}
-use Rattle.cp_resolved.specs.Layouts.{Layouts, Here, cells_of}
 use Rattle.cp_resolved.specs.Compiled.{Form, as_ordinal, as_set, as_place, as_component, Formed, expression_form}
 use Rattle.cp_resolved.specs.Headed.{HandedBy, AreHanded}
-use Rattle.cp_resolved.specs.Small.{Each}
-use Rattle.cp_resolved.specs.Stands.{ValueGiven, GivenBy, AreGiven}
 use Rattle.cp_resolved.specs.Used.{IsUsed, AreUsed}
-use Rattle.cp_refine.specs.Agrees.{Sees}
-use Rattle.cp_refine.specs.Given.{ComponentAgrees, IsOutside}
-use Rattle.cp_refine.specs.Remaining.{AreKept}
-use Rattle.cp_refine.specs.Represents.{PlaceAt}
 use Rattle.cp_refine.specs.StatesKnown.{IsHandedSo, AreHandedSo}
 use Rattle.cp_refine.proofs.expressions.ComponentPlaces.{ComponentsKnown, component_agrees}
 use Rattle.cp_refine.proofs.calls.Kept.{kept_left, kept_right}

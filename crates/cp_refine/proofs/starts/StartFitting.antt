@@ -1,22 +1,8 @@
 -- A component that is started can be handed its parameters: they lie in its own cells, apart from all others.
-use Rattle.std.proofs.Common.{◌≡◌, ◌∙◌, ℕ, ◌<◌, true, false, List, ◌∷◌, sym, refl, arith, length}
-use Rattle.cp_tree.specs.Syntax.{Tree, Expressions, more_expressions}
-use Rattle.cp_slots.specs.Tables.{Tables, component_at}
-use Rattle.cp_store.specs.declared.memory.Frame.{Frame}
-use Rattle.cp_machine.specs.Fits.{MachineFits}
-use Rattle.cp_machine.specs.Machine.{Machine}
-use Rattle.cp_machine.specs.Memory.{memory_at}
-use Rattle.cp_meaning.specs.Declarations.{Parameter}
-use Rattle.cp_meaning.specs.Places.{View}
-use Rattle.cp_meaning.specs.State.{State}
-use Rattle.cp_meaning.specs.Systems.{system_of}
-use Rattle.cp_meaning.specs.Types.{queue_type}
-use Rattle.cp_resolved.specs.Layouts.{Layouts}
-use Rattle.cp_resolved.proofs.declarations.StandingParts.{free_part}
-use Rattle.cp_refine.specs.Law.{ground_of}
+use Rattle.cp_refine.proofs.Words.{◌≡◌, ◌∙◌, ℕ, ◌<◌, true, false, List, ◌∷◌, sym, refl, arith, length, Tree, Expressions, more_expressions, Tables}
+use Rattle.cp_refine.proofs.Words.{component_at, Frame, MachineFits, Machine, memory_at, Parameter, View, State, system_of, queue_type, Layouts, free_part}
+use Rattle.cp_refine.proofs.Words.{ground_of, Prepared, AreHandedSo}
 use Rattle.cp_refine.specs.Parameters.{HaveTypes}
-use Rattle.cp_refine.specs.Prepared.{Prepared}
-use Rattle.cp_refine.specs.StatesKnown.{AreHandedSo}
 use Rattle.cp_refine.proofs.expressions.DesignatedTypes.{range_known}
 use Rattle.cp_refine.proofs.steps.Executed.{systems_stand, few_permanents, few_cells, few_references}
 use Rattle.cp_refine.proofs.starts.Handed.{CanStart}

@@ -1,26 +1,9 @@
 -- The component that is started, and what its arguments give, at the item of the start: premises of the whole step.
-use Rattle.std.proofs.Common.{◌≡◌, ℕ, List, ◌∷◌, Option, sym, subst}
-use Rattle.std.specs.Prelude.{map}
-use Rattle.cp_tree.specs.Syntax.{Program, Start}
+use Rattle.cp_refine.proofs.Words.{◌≡◌, ℕ, List, ◌∷◌, Option, sym, subst, map, Program, Start, component_at, system_at, Argument, ComponentPlace, Bound}
+use Rattle.cp_refine.proofs.Words.{Frame, Entry, Machine, thread_at, bound, target_value, designator_calls, expressions_calls, Environment, Item, start_item}
+use Rattle.cp_refine.proofs.Words.{State, view_of, system_of, Layouts, Here, here, Ground, AreGiven, Sees, BoundsAgree, ComponentAgrees}
 use Rattle.cp_slots.specs.Code as code
-use Rattle.cp_slots.specs.Tables.{component_at, system_at}
-use Rattle.cp_slots.specs.declared.place.Argument.{Argument}
-use Rattle.cp_slots.specs.declared.place.ComponentPlace.{ComponentPlace}
-use Rattle.cp_store.specs.declared.argument.Bound.{Bound}
-use Rattle.cp_store.specs.declared.memory.Frame.{Frame}
-use Rattle.cp_machine.specs.declared.process.Entry.{Entry}
-use Rattle.cp_machine.specs.Machine.{Machine, thread_at}
 use Rattle.cp_machine.specs.Memory.{memory_at, component_of, arguments_of}
-use Rattle.cp_meaning.specs.Calls.{bound}
-use Rattle.cp_meaning.specs.Expressions.{target_value}
-use Rattle.cp_meaning.specs.Lifting.{designator_calls, expressions_calls}
-use Rattle.cp_meaning.specs.State.{Environment, Item, start_item, State}
-use Rattle.cp_meaning.specs.Steps.{view_of}
-use Rattle.cp_meaning.specs.Systems.{system_of}
-use Rattle.cp_resolved.specs.Layouts.{Layouts, Here, here}
-use Rattle.cp_resolved.specs.Stands.{Ground, AreGiven}
-use Rattle.cp_refine.specs.Agrees.{Sees}
-use Rattle.cp_refine.specs.Given.{BoundsAgree, ComponentAgrees}
 use Rattle.cp_refine.proofs.expressions.ComponentPlaces.{ComponentsKnown, component_agrees}
 use Rattle.cp_refine.proofs.control.Control.{Taken}
 use Rattle.cp_refine.proofs.calls.Kept.{kept_left, kept_right}

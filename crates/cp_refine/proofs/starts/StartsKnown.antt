@@ -3,55 +3,26 @@
 use Rattle.std.proofs.Common.{◌≡◌, ◌∙◌, ℕ, ◌<◌, ◌≤◌, List, [], ◌∷◌, ◌++◌, length, Option, Some, ap, sym, refl, subst}
 use Rattle.std.specs.Global.{Global}
 use Rattle.std.specs.Prelude.{map, Ok, Vec}
-use Rattle.cp_tree.specs.Read.{IsRead}
-use Rattle.cp_tree.specs.Syntax.{Designator, designator, init, Program, Start, Statement, Tree}
+use Rattle.cp_refine.proofs.Words.{IsRead, Designator, designator, init, Program, Start, Statement, Tree, plain, laid, Argument, ComponentPlace, ActionFits}
+use Rattle.cp_refine.proofs.Words.{CallFits, Tables, component_at, item_at, routine_at, system_at, Frame, Entry, Rest, Successor, Return, InitEnd, Machine}
+use Rattle.cp_refine.proofs.Words.{thread_at, IsAccepted, well_formed, RoutineMeaning, target_value, designator_calls, expressions_calls, Name, View, Target}
+use Rattle.cp_refine.proofs.Words.{component_there, is_ready, Scope, local_variable, find, Gates, Item, start_item, return, init_end, end, ready, State}
+use Rattle.cp_refine.proofs.Words.{current, view_of, program_system, system_of, Ty, a_component, designator_form, tokens_of, Here, here, Layouts, SystemIs}
+use Rattle.cp_refine.proofs.Words.{Ground, layouts_of, placed_law, ItemStands, ground_of, Simulates, Prepared, StackIs, frames_of, Traits, scope_of, body_of}
+use Rattle.cp_refine.proofs.Words.{RoutinesKnown, ItemsFit}
 use Rattle.cp_slots.specs.Code as code
-use Rattle.cp_layout.specs.Laid.{plain, laid}
 use Rattle.cp_slots.specs.declared.item.Action.TheVariants as action
-use Rattle.cp_slots.specs.declared.place.Argument.{Argument}
-use Rattle.cp_slots.specs.declared.place.ComponentPlace.{ComponentPlace}
-use Rattle.cp_slots.specs.Fits.{ActionFits, CallFits}
 use Rattle.cp_slots.specs.Systems.{ActionNames, Hands, IsOf, Names, StartNames}
-use Rattle.cp_slots.specs.Tables.{Tables, component_at, item_at, routine_at, system_at}
-use Rattle.cp_store.specs.declared.memory.Frame.{Frame}
-use Rattle.cp_machine.specs.declared.process.Entry.{Entry}
-use Rattle.cp_machine.specs.declared.process.Entry.TheVariants.{Rest, Successor, Return, InitEnd}
-use Rattle.cp_machine.specs.Machine.{Machine, thread_at}
 use Rattle.cp_machine.specs.Memory.{memory_at, component_of}
-use Rattle.cp_lawful.specs.Accepted.{IsAccepted}
-use Rattle.cp_lawful.proofs.Accepting.{well_formed}
-use Rattle.cp_meaning.specs.Declarations.{RoutineMeaning}
-use Rattle.cp_meaning.specs.Expressions.{target_value}
-use Rattle.cp_meaning.specs.Lifting.{designator_calls, expressions_calls}
-use Rattle.cp_meaning.specs.Names.{Name}
-use Rattle.cp_meaning.specs.Places.{View, Target, component_there}
-use Rattle.cp_meaning.specs.Readings.{is_ready}
-use Rattle.cp_meaning.specs.Scopes.{Scope, local_variable, find}
 use Rattle.cp_meaning.specs.State as named
-use Rattle.cp_meaning.specs.State.{Gates, Item, start_item, return, init_end, end, ready, State, current}
-use Rattle.cp_meaning.specs.Steps.{view_of}
-use Rattle.cp_meaning.specs.Systems.{program_system, system_of}
-use Rattle.cp_meaning.specs.Types.{Ty}
-use Rattle.cp_resolved.specs.Compiled.{a_component, designator_form}
 use Rattle.cp_resolved.specs.FormedStatements.{StartFormed, StatementFormed}
 use Rattle.cp_resolved.specs.Headed.{EntranceFits}
-use Rattle.cp_resolved.specs.Judging.{tokens_of}
-use Rattle.cp_resolved.specs.Layouts.{Here, here, Layouts}
 use Rattle.cp_resolved.specs.Openings.{meaning_at}
-use Rattle.cp_resolved.specs.Resolved.{SystemIs}
-use Rattle.cp_resolved.specs.Stands.{Ground}
-use Rattle.cp_resolved.specs.TreeLayouts.{layouts_of}
 use Rattle.cp_resolved.proofs.declarations.FramedOfTrees.{accepted_framed}
 use Rattle.cp_resolved.proofs.systems.HandedOfTrees.{entrance_fits}
 use Rattle.cp_resolved.proofs.statements.InitialsKnown.{formed_somewhere, no_local}
 use Rattle.cp_resolved.proofs.statements.KnownOfTrees.{here_in, KnownFor, known_law, number_below}
 use Rattle.cp_resolved.proofs.statements.KnownStatements as statements
-use Rattle.cp_resolved.proofs.declarations.Placed.{placed_law}
-use Rattle.cp_refine.specs.Bodies.{ItemStands}
-use Rattle.cp_refine.specs.Law.{ground_of, Simulates}
-use Rattle.cp_refine.specs.Prepared.{Prepared}
-use Rattle.cp_refine.specs.Represents.{StackIs, frames_of}
-use Rattle.cp_refine.specs.RoutinesKnown.{Traits, scope_of, body_of, RoutinesKnown, ItemsFit}
 use Rattle.cp_refine.specs.StatesKnown.{AreHandedSo, IsStarting}
 use Rattle.cp_refine.proofs.expressions.ComponentPlaces.{ComponentsKnown}
 use Rattle.cp_refine.proofs.expressions.ComponentsNow.{components_now}

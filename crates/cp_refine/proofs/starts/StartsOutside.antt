@@ -1,38 +1,16 @@
 -- A start leads to a component of an earlier system type than the one that is executed, and nothing that a name designates lies in its cells.
 use Rattle.std.proofs.Common.{◌≡◌, ◌≢◌, ◌∙◌, ℕ, ◌+◌, ◌<◌, ◌≤◌, ◌⊎◌, inl, inr, Bool, true, false, if◌then◌else◌, List, [], ◌∷◌, ◌++◌, length, Option, Some, None, Ok, ap, sym, refl, subst, arith}
 use Rattle.std.proofs.lemmas.Bool.{eq-eqb}
-use Rattle.cp_tree.specs.declared.constant.Identifier.{Identifier}
-use Rattle.cp_tree.specs.Syntax.{Tree, Program, Designator, designator, Selectors}
+use Rattle.cp_refine.proofs.Words.{Identifier, Tree, Program, Designator, designator, Selectors, Tables, component_at, system_at, Copy, Address, Permanent}
+use Rattle.cp_refine.proofs.Words.{Frame, MachineFits, Machine, thread_at, Reaches, Name, same_name, Parameter, target_value, Meaning, local_variable}
+use Rattle.cp_refine.proofs.Words.{permanent_variable, find, Holder, in_call, in_component, Place, State, current, parameter_variables, view_of, system_of}
+use Rattle.cp_refine.proofs.Words.{Ty, array_over, component_of, Choice, a_component, designator_form, chosen_at, cells_of, Here, here, is_parameter, Layouts}
+use Rattle.cp_refine.proofs.Words.{look, SystemIs, NamesKnown, IsOutside, ground_of, Prepared}
 use Rattle.cp_slots.specs.Code as code
-use Rattle.cp_slots.specs.Tables.{Tables, component_at, system_at}
-use Rattle.cp_store.specs.declared.argument.Bound.TheVariants.{Copy}
-use Rattle.cp_store.specs.declared.memory.Address.{Address}
-use Rattle.cp_store.specs.declared.memory.Address.TheVariants.{Permanent}
-use Rattle.cp_store.specs.declared.memory.Frame.{Frame}
-use Rattle.cp_machine.specs.Fits.{MachineFits}
-use Rattle.cp_machine.specs.Machine.{Machine, thread_at}
-use Rattle.cp_machine.specs.Reach.{Reaches}
 use Rattle.cp_meaning.specs.Components.{PathStep, Path, step_down}
-use Rattle.cp_meaning.specs.Names.{Name, same_name}
-use Rattle.cp_meaning.specs.Declarations.{Parameter}
-use Rattle.cp_meaning.specs.Expressions.{target_value}
 use Rattle.cp_meaning.specs.Places.{View, Target, target_meant, content_of, this_component, component_with, element_chosen, around_of, component_known, component_by, component_there}
-use Rattle.cp_meaning.specs.Scopes.{Meaning, local_variable, permanent_variable, find}
 use Rattle.cp_meaning.specs.State as named
-use Rattle.cp_meaning.specs.State.{Holder, in_call, in_component, Place, State, current}
-use Rattle.cp_meaning.specs.Steps.{parameter_variables, view_of}
-use Rattle.cp_meaning.specs.Systems.{system_of}
-use Rattle.cp_meaning.specs.Types.{Ty, array_over, component_of}
 use Rattle.cp_meaning.specs.WellFormed.{HasEarlier, IsWellFormed}
-use Rattle.cp_meaning.specs.Values.{Choice}
-use Rattle.cp_resolved.specs.Compiled.{a_component, designator_form}
-use Rattle.cp_resolved.specs.Encoded.{chosen_at}
-use Rattle.cp_resolved.specs.Layouts.{cells_of, Here, here, is_parameter, Layouts, look}
-use Rattle.cp_resolved.specs.Resolved.{SystemIs}
-use Rattle.cp_refine.specs.ComponentNames.{NamesKnown}
-use Rattle.cp_refine.specs.Given.{IsOutside}
-use Rattle.cp_refine.specs.Law.{ground_of}
-use Rattle.cp_refine.specs.Prepared.{Prepared}
 use Rattle.cp_refine.specs.Represents.{further, InFrame, InComponent, BeginsAt, PlaceAt, frame_above}
 use Rattle.cp_refine.proofs.expressions.ComponentPlaces.{ComponentsKnown, own_component}
 use Rattle.cp_refine.proofs.expressions.ComponentsNow.{components_now, current_component, executed_there, executed_system}

@@ -1,39 +1,23 @@
 -- The opening states are related, and what is read of related states is the same.
 use Rattle.std.proofs.Common.{◌≡◌, ◌∙◌, ℕ, ◌+◌, ◌<◌, List, [], Option, Some, None, ap, sym, refl, subst, arith, length}
-use Rattle.std.specs.Prelude.{slice_index_or}
-use Rattle.cp_tree.specs.declared.declaration.SystemKind.{SystemKind}
+use Rattle.cp_refine.proofs.Words.{slice_index_or, SystemKind, Tree, Program, ComponentKind, Tables, component_at, Machine, slots, System, Parameter, Name}
+use Rattle.cp_refine.proofs.Words.{first_gates, Gates, State, opening, first_components, parameter_variables, at_first, Ty, Layouts, look, Ground, CanGo}
+use Rattle.cp_refine.proofs.Words.{LooksAlike, ground_of, Simulates, Prepared, PendingIs}
 use Rattle.cp_tree.specs.declared.declaration.SystemKind.TheVariants as system_kind
-use Rattle.cp_tree.specs.Syntax.{Tree, Program}
-use Rattle.cp_slots.specs.declared.tables.ComponentKind.{ComponentKind}
 use Rattle.cp_slots.specs.declared.tables.ComponentKind.TheVariants as kind
 use Rattle.cp_slots.specs.Fits.{KindFits}
-use Rattle.cp_slots.specs.Tables.{Tables, component_at}
 use Rattle.cp_machine.specs.declared.process.Status.TheVariants as status
-use Rattle.cp_machine.specs.Machine.{Machine}
 use Rattle.cp_machine.specs.Opening as machine
 use Rattle.cp_machine.proofs.OpeningFits.{still_fits, restatused}
 use Rattle.cp_machine.proofs.OpeningLines.{opening_lines}
 use Rattle.cp_machine.proofs.ReachingKept.{opening_reaches}
-use Rattle.cp_run.specs.Slots.{slots}
-use Rattle.cp_run.specs.System.{System}
-use Rattle.cp_meaning.specs.Declarations.{Parameter}
-use Rattle.cp_meaning.specs.Names.{Name}
 use Rattle.cp_meaning.specs.Readings as readings
 use Rattle.cp_meaning.specs.Readings.{monitors_of, monitors_from}
 use Rattle.cp_meaning.specs.State as named
-use Rattle.cp_meaning.specs.State.{first_gates, Gates, State}
-use Rattle.cp_meaning.specs.Steps.{opening, first_components, parameter_variables, at_first}
 use Rattle.cp_meaning.specs.Systems.{SystemMeaning, declared, own_meaning, or_own, system_of, program_system}
-use Rattle.cp_meaning.specs.Types.{Ty}
-use Rattle.cp_resolved.specs.Layouts.{Layouts, look}
 use Rattle.cp_resolved.specs.Resolved as resolved
-use Rattle.cp_resolved.specs.Stands.{Ground}
-use Rattle.cp_refine.specs.InStep.{CanGo, LooksAlike}
-use Rattle.cp_refine.specs.Law.{ground_of, Simulates}
 use Rattle.cp_refine.specs.Named as own
 use Rattle.cp_refine.specs.Named.{gates_of, monitor_number}
-use Rattle.cp_refine.specs.Prepared.{Prepared}
-use Rattle.cp_refine.specs.Represents.{PendingIs}
 use Rattle.cp_refine.proofs.gates.MonitorNumbers.{is_a_monitor, one_number}
 use Rattle.cp_refine.proofs.steps.Observed.{is_ready_alike, waits_alike, pending_alike, output_alike, holder_alike, in_line_alike}
 use Rattle.cp_refine.proofs.steps.OpeningState.{processes_are, opens}

@@ -1,19 +1,10 @@
 -- What prepared tables, and a machine inside them, say of a process: its routine stands, its memory is few, and variables are apart.
-use Rattle.std.proofs.Common.{◌≡◌, ℕ, ◌^◌, ◌<◌, true, List, arith, length}
-use Rattle.cp_tree.specs.Syntax.{Tree}
+use Rattle.cp_refine.proofs.Words.{◌≡◌, ℕ, ◌^◌, ◌<◌, true, List, arith, length, Tree, Tables, component_at, routine_at, Entry, Machine, Thread, thread_at, Ty}
+use Rattle.cp_refine.proofs.Words.{Layouts, SystemIs, is_free, ground_of, Prepared}
 use Rattle.cp_slots.specs.Fits.{RoutineFits}
 use Rattle.cp_slots.specs.Systems.{AreWords}
-use Rattle.cp_slots.specs.Tables.{Tables, component_at, routine_at}
-use Rattle.cp_machine.specs.declared.process.Entry.{Entry}
 use Rattle.cp_machine.specs.Fits.{FrameFits, StackFits, ThreadFits, MachineFits, size_of}
-use Rattle.cp_machine.specs.Machine.{Machine, Thread, thread_at}
 use Rattle.cp_machine.proofs.Keeping.{frame_fits}
-use Rattle.cp_meaning.specs.Types.{Ty}
-use Rattle.cp_resolved.specs.Layouts.{Layouts}
-use Rattle.cp_resolved.specs.Resolved.{SystemIs}
-use Rattle.cp_resolved.specs.Standing.{is_free}
-use Rattle.cp_refine.specs.Law.{ground_of}
-use Rattle.cp_refine.specs.Prepared.{Prepared}
 use Rattle.cp_refine.proofs.assignments.Apart.{frame_apart, frames_apart, components_apart}
 use Rattle.cp_refine.proofs.assignments.BlockStores.{VariablesApart}
 use Rattle.cp_refine.proofs.expressions.DesignatedTypes.{NamesTyped}

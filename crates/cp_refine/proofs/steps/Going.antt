@@ -1,18 +1,10 @@
 -- A process that may go on: it runs on both sides, and what its control stack begins with is what it does next.
 use Rattle.std.proofs.Common.{◌≡◌, ℕ, ◌<◌, true, List, [], ◌∷◌, ◌++◌, Option, Some, None, sym, refl, subst, length}
-use Rattle.cp_tree.specs.Syntax.{Program}
-use Rattle.cp_machine.specs.declared.process.Entry.{Entry}
-use Rattle.cp_machine.specs.declared.process.Entry.TheVariants.{Rest}
+use Rattle.cp_refine.proofs.Words.{Program, Entry, Rest, Machine, thread_at, is_ready, ready, Status, Item, State, Layouts, Here, here, Ground, ItemIs}
+use Rattle.cp_refine.proofs.Words.{ItemsAre, StatusIs, StackIs, CallsHold, Represents, own_memory, frames_of}
 use Rattle.cp_machine.specs.declared.process.Status as slot_status
 use Rattle.cp_machine.specs.declared.process.Status.TheVariants as status
-use Rattle.cp_machine.specs.Machine.{Machine, thread_at}
-use Rattle.cp_meaning.specs.Readings.{is_ready}
 use Rattle.cp_meaning.specs.State as named
-use Rattle.cp_meaning.specs.State.{ready, Status, Item, State}
-use Rattle.cp_resolved.specs.Layouts.{Layouts, Here, here}
-use Rattle.cp_resolved.specs.Stands.{Ground}
-use Rattle.cp_refine.specs.Remaining.{ItemIs, ItemsAre}
-use Rattle.cp_refine.specs.Represents.{StatusIs, StackIs, CallsHold, Represents, own_memory, frames_of}
 use Rattle.cp_refine.proofs.control.Control.{Taken}
 use Rattle.cp_meaning.proofs.LineLaw.{some_is as some_number}
 

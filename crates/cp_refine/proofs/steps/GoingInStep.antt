@@ -1,9 +1,8 @@
 -- The meaning of a program and the slot machine of its tables go in step.
 use Rattle.std.proofs.Common.{◌≡◌, ◌∙◌, ℕ, ◌<◌, true, false, Option, Some, None, ap, sym, refl, arith, length}
-use Rattle.cp_tree.specs.Syntax.{Tree, Program}
+use Rattle.cp_refine.proofs.Words.{Tree, Program, Tables, IsAccepted, slots, System, line_of, Gates, State, is_member, Layouts, Stands, CanGo, CanEnter}
+use Rattle.cp_refine.proofs.Words.{GoInStep, ground_of, Simulates, Prepared, AllKnown}
 use Rattle.cp_slots.specs.Fits.{IsSound}
-use Rattle.cp_slots.specs.Tables.{Tables}
-use Rattle.cp_lawful.specs.Accepted.{IsAccepted}
 use Rattle.cp_machine.specs.declared.event.Event.TheVariants.{Local}
 use Rattle.cp_machine.specs.Machine.{Machine, is_ready, in_line}
 use Rattle.cp_machine.specs.Machine as slot_machine
@@ -15,20 +14,9 @@ use Rattle.cp_machine.proofs.KernelLines.{admitted_lines}
 use Rattle.cp_machine.proofs.LocalReady.{local_ready}
 use Rattle.cp_machine.proofs.ReachingKept.{step_reaches, admitted_reaches}
 use Rattle.cp_machine.proofs.StepLines.{step_lines}
-use Rattle.cp_run.specs.Slots.{slots}
-use Rattle.cp_run.specs.System.{System}
-use Rattle.cp_meaning.specs.Kernel.{line_of}
-use Rattle.cp_meaning.specs.State.{Gates, State}
 use Rattle.cp_meaning.specs.Steps.{step_of, line_at, by_step, by_admission, admitted, admitted_to}
-use Rattle.cp_meaning.specs.Values.{is_member}
-use Rattle.cp_resolved.specs.Layouts.{Layouts}
-use Rattle.cp_resolved.specs.Resolved.{Stands}
-use Rattle.cp_refine.specs.InStep.{CanGo, CanEnter, GoInStep}
-use Rattle.cp_refine.specs.Law.{ground_of, Simulates}
 use Rattle.cp_refine.specs.Named as own
 use Rattle.cp_refine.specs.Named.{gates_of, is_some, in_line_of}
-use Rattle.cp_refine.specs.Prepared.{Prepared}
-use Rattle.cp_refine.specs.AllKnown.{AllKnown}
 use Rattle.cp_refine.proofs.gates.Admitting.{admits}
 use Rattle.cp_refine.proofs.steps.Beginning.{opening_simulates, process_count, first_goes, same_count, looks_alike}
 use Rattle.cp_refine.proofs.control.Control.{StepIs}

@@ -1,25 +1,16 @@
 -- After a run error or a full output the machine is as it was.
 use Rattle.std.proofs.Common.{◌≡◌, ℕ, Bool, true, false, if◌then◌else◌, ◌==◌, List, ◌∷◌, Option, Some, None, length, refl}
-use Rattle.std.specs.Prelude.{Result, Ok, Err, ℤ, pos, slice_index_or}
-use Rattle.std.specs.Ordering.{int_eq}
-use Rattle.cp_slots.specs.Tables.{Tables, item_at, component_at}
-use Rattle.cp_slots.specs.declared.item.Action.{Action}
+use Rattle.cp_refine.proofs.Words.{Result, Ok, Err, ℤ, pos, slice_index_or, int_eq, Tables, item_at, component_at, Action, Argument, ComponentKind, Bound}
+use Rattle.cp_refine.proofs.Words.{Address, Frame, Entry, Rest, Successor, Return}
 use Rattle.cp_slots.specs.declared.item.Action.TheVariants.{Assign, AssignSet, Copy, If, Case, While, Until, For, Call, Start, Delay, Continue, Display}
 use Rattle.cp_slots.specs.declared.item.Item.{Item}
-use Rattle.cp_slots.specs.declared.place.Argument.{Argument}
 use Rattle.cp_slots.specs.declared.place.PlaceOrigin.{PlaceOrigin}
-use Rattle.cp_slots.specs.declared.tables.ComponentKind.{ComponentKind}
 use Rattle.cp_slots.specs.declared.tables.ComponentKind.TheVariants as kind
-use Rattle.cp_store.specs.declared.argument.Bound.{Bound}
 use Rattle.cp_store.specs.declared.error.ErrorName.{ErrorName}
 use Rattle.cp_store.specs.declared.error.ErrorName.TheVariants as error
-use Rattle.cp_store.specs.declared.memory.Address.{Address}
 use Rattle.cp_store.specs.declared.memory.Address.TheVariants as address
-use Rattle.cp_store.specs.declared.memory.Frame.{Frame}
 use Rattle.cp_store.specs.Sets as sets
 use Rattle.cp_store.specs.Values.{is_true, ranged}
-use Rattle.cp_machine.specs.declared.process.Entry.{Entry}
-use Rattle.cp_machine.specs.declared.process.Entry.TheVariants.{Rest, Successor, Return}
 use Rattle.cp_machine.specs.declared.shown.Shown.{Shown}
 use Rattle.cp_machine.specs.declared.state.TheConstants.{MOST_SHOWN}
 use Rattle.cp_machine.specs.Calls as calls

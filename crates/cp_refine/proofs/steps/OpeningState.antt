@@ -1,38 +1,22 @@
 -- The state in which a run begins on names is what the machine begins with.
 use Rattle.std.proofs.Common.{◌≡◌, ◌∙◌, ℕ, zero, suc, ◌+◌, ◌<◌, ◌≤◌, List, [], ◌∷◌, Some, None, ap, sym, refl, subst, arith, length, length-set}
-use Rattle.std.specs.Prelude.{map, replicate, slice_index_or, slice_set}
+use Rattle.cp_refine.proofs.Words.{map, replicate, slice_index_or, slice_set, SystemKind, Program, Tree, ComponentKind, IsItself, IsTyped, Permanent, Machine}
+use Rattle.cp_refine.proofs.Words.{Monitor, Thread, no_thread, thread_at, no_monitor, phase_at, unstarted_thread, Name, Ty, Value, queue_value, part_at}
+use Rattle.cp_refine.proofs.Words.{system_of, program_system, View, content_of, value_held, environment_of, value_at, after, begun, first_inside, least_of}
+use Rattle.cp_refine.proofs.Words.{Layouts, look, encode, HasType, Ground, gates_of}
 use Rattle.std.proofs.lemmas.List.{get_or-map, length-map}
-use Rattle.cp_tree.specs.declared.declaration.SystemKind.{SystemKind}
 use Rattle.cp_tree.specs.declared.declaration.SystemKind.TheVariants as system_kind
-use Rattle.cp_tree.specs.Syntax.{Program, Tree}
-use Rattle.cp_slots.specs.declared.tables.ComponentKind.{ComponentKind}
 use Rattle.cp_slots.specs.declared.tables.ComponentKind.TheVariants as kind
-use Rattle.cp_slots.specs.Systems.{IsItself, IsTyped}
 use Rattle.cp_slots.specs.Tables as tables
 use Rattle.cp_slots.specs.Tables.{component_at, process_at}
-use Rattle.cp_store.specs.declared.memory.Address.TheVariants.{Permanent}
 use Rattle.cp_machine.specs.declared.process.Status.TheVariants as status
 use Rattle.cp_machine.specs.declared.state.Phase.TheVariants as phase
-use Rattle.cp_machine.specs.Machine.{Machine, Monitor, Thread, no_thread, thread_at, no_monitor, phase_at}
 use Rattle.cp_machine.specs.Opening as slots
-use Rattle.cp_machine.specs.Opening.{unstarted_thread}
-use Rattle.cp_meaning.specs.Names.{Name}
-use Rattle.cp_meaning.specs.Types.{Ty}
-use Rattle.cp_meaning.specs.Values.{Value, queue_value, part_at}
-use Rattle.cp_meaning.specs.Systems.{system_of, program_system}
 use Rattle.cp_meaning.specs.Components.{Listed, listed, listed_variables, components_of}
 use Rattle.cp_meaning.specs.State as named
 use Rattle.cp_meaning.specs.State.{Holder, in_component, Place, Environment, uninitialised, Component, no_component, unstarted, delayed, Process, no_process, Gates, first_gates, State}
-use Rattle.cp_meaning.specs.Places.{View, content_of, value_held, environment_of, value_at}
-use Rattle.cp_meaning.specs.Kernel.{after, begun}
-use Rattle.cp_meaning.specs.Readings.{first_inside}
 use Rattle.cp_meaning.specs.Steps.{parameter_variables, first_environment, first_component, process_first, processes_from, own_begun, first_components, opening}
-use Rattle.cp_meaning.specs.Calls.{least_of}
-use Rattle.cp_resolved.specs.Layouts.{Layouts, look}
-use Rattle.cp_resolved.specs.Encoded.{encode, HasType}
-use Rattle.cp_resolved.specs.Stands.{Ground}
 use Rattle.cp_resolved.specs.Resolved.{StandsAt, Stands, first_permanent}
-use Rattle.cp_refine.specs.Named.{gates_of}
 use Rattle.cp_refine.specs.Represents.{LiesAt, StatusIs, ProcessIs, PhaseIs, HasBegun, ComponentIs, MonitorIs, QueuesAre, all_permanents, Runs, Represents}
 use Rattle.cp_refine.proofs.starts.Begun.{CanBegin, begun_runs}
 use Rattle.cp_refine.proofs.expressions.LeastValues.{IsFree, part_free, append_free, least_of_free, content_free}

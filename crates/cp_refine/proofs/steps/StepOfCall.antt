@@ -6,43 +6,22 @@ use Rattle.cp_tree.specs.Syntax.{Tree, Program, Expressions, no_expressions, mor
 use Rattle.cp_tree.specs.declared.declaration.SystemKind.TheVariants as system_kind
 use Rattle.cp_slots.specs.Code as code
 use Rattle.cp_slots.specs.declared.item.Action.TheVariants as action
-use Rattle.cp_slots.specs.declared.place.Argument.{Argument}
-use Rattle.cp_slots.specs.declared.place.ComponentPlace.{ComponentPlace}
+use Rattle.cp_refine.proofs.Words.{Argument, ComponentPlace, Tables, item_at, component_at, routine_at, Entry, MachineFits, Machine, thread_at, Reaches}
+use Rattle.cp_refine.proofs.Words.{step_at, Name, temporary, View, Target, component_there, Parameter, RoutineMeaning, name_of, routine_called, target_value}
+use Rattle.cp_refine.proofs.Words.{designator_calls, expressions_calls, Meaning, routine_meaning, find, Place, Item, statement_item, function_call, State}
+use Rattle.cp_refine.proofs.Words.{has_entry, view_of, step_of, system_of, Ty, a_component, designator_form, Layouts, Here, here, cell_named, Ground}
+use Rattle.cp_refine.proofs.Words.{AreGiven, CallItem, CalleeIs, result_cell, is_free, ComponentAgrees, ground_of, Prepared, AreKept}
 use Rattle.cp_slots.specs.Fits.{ActionFits, CallFits as RoomFits}
 use Rattle.cp_slots.specs.Systems.{ActionNames, CallNames, IsOf}
 use Rattle.cp_slots.specs.declared.tables.ComponentKind.TheVariants as kind
-use Rattle.cp_slots.specs.Tables.{Tables, item_at, component_at, routine_at}
-use Rattle.cp_machine.specs.declared.process.Entry.{Entry}
-use Rattle.cp_machine.specs.Fits.{MachineFits}
-use Rattle.cp_machine.specs.Machine.{Machine, thread_at}
 use Rattle.cp_machine.specs.Memory.{component_of}
-use Rattle.cp_machine.specs.Reach.{Reaches}
-use Rattle.cp_machine.specs.Step.{step_at}
 use Rattle.cp_store.specs.declared.error.ErrorName as slots
-use Rattle.cp_meaning.specs.Names.{Name, temporary}
 use Rattle.cp_meaning.specs.Outcome.{Outcome, ErrorName}
-use Rattle.cp_meaning.specs.Places.{View, Target, component_there}
-use Rattle.cp_meaning.specs.Declarations.{Parameter, RoutineMeaning}
-use Rattle.cp_meaning.specs.Expressions.{name_of, routine_called, target_value}
 use Rattle.cp_refine.specs.Followed.{AreArguments, HasEntries, IsCallable, IsCall}
-use Rattle.cp_meaning.specs.Lifting.{designator_calls, expressions_calls}
-use Rattle.cp_meaning.specs.Scopes.{Meaning, routine_meaning, find}
 use Rattle.cp_meaning.specs.State as named
-use Rattle.cp_meaning.specs.State.{Place, Item, statement_item, function_call, State, has_entry}
-use Rattle.cp_meaning.specs.Steps.{view_of, step_of}
-use Rattle.cp_meaning.specs.Systems.{system_of}
 use Rattle.cp_meaning.specs.Types as types
-use Rattle.cp_meaning.specs.Types.{Ty}
-use Rattle.cp_resolved.specs.Compiled.{a_component, designator_form}
-use Rattle.cp_resolved.specs.Layouts.{Layouts, Here, here, cell_named}
-use Rattle.cp_resolved.specs.Stands.{Ground, AreGiven, CallItem, CalleeIs, result_cell}
-use Rattle.cp_resolved.specs.Standing.{is_free}
-use Rattle.cp_refine.specs.Given.{ComponentAgrees}
 use Rattle.cp_refine.specs.ItemsKnown.{VariablesGiven, CallIsKnown}
-use Rattle.cp_refine.specs.Law.{ground_of}
 use Rattle.cp_refine.specs.Parameters.{HaveValues}
-use Rattle.cp_refine.specs.Prepared.{Prepared}
-use Rattle.cp_refine.specs.Remaining.{AreKept}
 use Rattle.cp_refine.proofs.calls.CallArguments.{call_component}
 use Rattle.cp_refine.proofs.expressions.Arguments.{ArgumentsKnown, IsNoComponent}
 use Rattle.cp_refine.proofs.calls.CallFitting.{can_call}

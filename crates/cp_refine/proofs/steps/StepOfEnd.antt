@@ -1,22 +1,8 @@
 -- The steps with which a call, an initial statement or a process ends: each goes on slots as on names.
-use Rattle.std.proofs.Common.{◌≡◌, ℕ, List, [], ◌∷◌, Option, subst}
-use Rattle.cp_tree.specs.Syntax.{Tree, Program}
+use Rattle.cp_refine.proofs.Words.{◌≡◌, ℕ, List, [], ◌∷◌, Option, subst, Tree, Program, Tables, component_at, Frame, Entry, Return, InitEnd, MachineFits}
+use Rattle.cp_refine.proofs.Words.{Machine, thread_at, step_at, entry_routine, Call, State, step_of, Layouts, Ground, ground_of, Prepared, StackIs}
 use Rattle.cp_slots.specs.declared.tables.ComponentKind.TheVariants as kind
-use Rattle.cp_slots.specs.Tables.{Tables, component_at}
-use Rattle.cp_store.specs.declared.memory.Frame.{Frame}
-use Rattle.cp_machine.specs.declared.process.Entry.{Entry}
-use Rattle.cp_machine.specs.declared.process.Entry.TheVariants.{Return, InitEnd}
-use Rattle.cp_machine.specs.Fits.{MachineFits}
-use Rattle.cp_machine.specs.Machine.{Machine, thread_at}
-use Rattle.cp_machine.specs.Step.{step_at}
 use Rattle.cp_meaning.specs.State as named
-use Rattle.cp_meaning.specs.State.{entry_routine, Call, State}
-use Rattle.cp_meaning.specs.Steps.{step_of}
-use Rattle.cp_resolved.specs.Layouts.{Layouts}
-use Rattle.cp_resolved.specs.Stands.{Ground}
-use Rattle.cp_refine.specs.Law.{ground_of}
-use Rattle.cp_refine.specs.Prepared.{Prepared}
-use Rattle.cp_refine.specs.Represents.{StackIs}
 use Rattle.cp_refine.proofs.control.Control.{StepIs}
 use Rattle.cp_refine.proofs.control.Ending.{end_step}
 use Rattle.cp_refine.proofs.steps.Executed.{few_cells}

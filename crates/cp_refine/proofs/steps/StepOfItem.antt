@@ -1,24 +1,10 @@
 -- The step of a process whose control stack begins with an item, of whatever kind the item is.
-use Rattle.std.proofs.Common.{◌≡◌, ◌∙◌, ℕ, List, ◌++◌, Option, Some, None, ap, sym, refl}
-use Rattle.std.specs.Prelude.{slice_index}
+use Rattle.cp_refine.proofs.Words.{◌≡◌, ◌∙◌, ℕ, List, ◌++◌, Option, Some, None, ap, sym, refl, slice_index, Tables, Entry, MachineFits, Machine, thread_at}
+use Rattle.cp_refine.proofs.Words.{Reaches, step_at, name_of, this_component, Item, statement_item, function_call, start_item, until, State, Layouts, Here}
+use Rattle.cp_refine.proofs.Words.{here, Ground, InvokedBy, InvokeKnown, StatementKnown, ItemKnown, ground_of, Prepared, StateKnown}
 use Rattle.cp_tree.specs.Syntax.{Tree, Program, Expressions, more_expressions, Designator, Statement, empty, assign, invoke, block, if_then, if_else, case_of, while_do, repeat_until, for_do, cycle, init}
-use Rattle.cp_slots.specs.Tables.{Tables}
-use Rattle.cp_machine.specs.declared.process.Entry.{Entry}
-use Rattle.cp_machine.specs.Fits.{MachineFits}
-use Rattle.cp_machine.specs.Machine.{Machine, thread_at}
-use Rattle.cp_machine.specs.Reach.{Reaches}
-use Rattle.cp_machine.specs.Step.{step_at}
-use Rattle.cp_meaning.specs.Expressions.{name_of}
-use Rattle.cp_meaning.specs.Places.{this_component}
 use Rattle.cp_meaning.specs.Scopes.{Meaning, constant_meaning, type_meaning, local_variable, permanent_variable, routine_meaning, standard_meaning, Standard, delay_procedure, continue_procedure, display_procedure, find}
-use Rattle.cp_meaning.specs.State.{Item, statement_item, function_call, start_item, until, State}
 use Rattle.cp_meaning.specs.Steps.{view_of, step_of, at_item}
-use Rattle.cp_resolved.specs.Layouts.{Layouts, Here, here}
-use Rattle.cp_resolved.specs.Stands.{Ground, InvokedBy}
-use Rattle.cp_refine.specs.ItemsKnown.{InvokeKnown, StatementKnown, ItemKnown}
-use Rattle.cp_refine.specs.Law.{ground_of}
-use Rattle.cp_refine.specs.Prepared.{Prepared}
-use Rattle.cp_refine.specs.StatesKnown.{StateKnown}
 use Rattle.cp_refine.proofs.control.Control.{Taken, StepIs, empty_step, block_step, scope_is}
 use Rattle.cp_refine.proofs.steps.Going.{Going}
 use Rattle.cp_refine.proofs.HoldsInReached.{HoldsInReached}

@@ -1,23 +1,9 @@
 -- The step of a ready process goes on slots as on names: what it does next is said by its control stack.
-use Rattle.std.proofs.Common.{◌≡◌, ℕ, List, [], ◌∷◌, ◌++◌, ap, sym, refl, subst}
-use Rattle.std.specs.Prelude.{slice_index}
-use Rattle.cp_tree.specs.Syntax.{Tree, Program}
-use Rattle.cp_slots.specs.Tables.{Tables}
-use Rattle.cp_machine.specs.declared.process.Entry.{Entry}
-use Rattle.cp_machine.specs.declared.process.Entry.TheVariants.{Rest, Successor, Return, InitEnd}
-use Rattle.cp_machine.specs.Fits.{MachineFits}
-use Rattle.cp_machine.specs.Machine.{Machine, thread_at}
-use Rattle.cp_machine.specs.Reach.{Reaches}
-use Rattle.cp_machine.specs.Step.{step_at}
+use Rattle.cp_refine.proofs.Words.{◌≡◌, ℕ, List, [], ◌∷◌, ◌++◌, ap, sym, refl, subst, slice_index, Tree, Program, Tables, Entry, Rest, Successor, Return}
+use Rattle.cp_refine.proofs.Words.{InitEnd, MachineFits, Machine, thread_at, Reaches, step_at, Item, State, Layouts, Ground, ground_of, Prepared, StackIs}
+use Rattle.cp_refine.proofs.Words.{StateKnown}
 use Rattle.cp_meaning.specs.State as named
-use Rattle.cp_meaning.specs.State.{Item, State}
 use Rattle.cp_meaning.specs.Steps.{step_of, at_item, at_items, line_at}
-use Rattle.cp_resolved.specs.Layouts.{Layouts}
-use Rattle.cp_resolved.specs.Stands.{Ground}
-use Rattle.cp_refine.specs.Law.{ground_of}
-use Rattle.cp_refine.specs.Prepared.{Prepared}
-use Rattle.cp_refine.specs.Represents.{StackIs}
-use Rattle.cp_refine.specs.StatesKnown.{StateKnown}
 use Rattle.cp_refine.proofs.control.Control.{StepIs}
 use Rattle.cp_refine.proofs.steps.Going.{Going, takes_one}
 use Rattle.cp_refine.proofs.HoldsInReached.{HoldsInReached}

@@ -1,46 +1,21 @@
 -- The steps of `delay` and `continue`: they go on slots as on names.
 use Rattle.std.proofs.Common.{◌≡◌, ◌∙◌, ℕ, ◌+◌, ◌<◌, true, List, [], ◌∷◌, ◌++◌, Option, Some, None, ap, sym, refl, subst, length, eq-eqb}
-use Rattle.std.specs.Prelude.{Result, Ok, Err, slice_index}
-use Rattle.cp_tree.specs.declared.declaration.SystemKind.{SystemKind}
+use Rattle.cp_refine.proofs.Words.{Result, Ok, Err, slice_index, SystemKind, ComponentKind, Tables, component_at, Entry, MachineFits, Machine, thread_at}
+use Rattle.cp_refine.proofs.Words.{Reaches, step_at, Address, Permanent, Name, name_of, target_value, expression_calls, expressions_calls, designator_calls}
+use Rattle.cp_refine.proofs.Words.{Outcome, Target, this_component, value_at, Meaning, standard_meaning, delay_procedure, continue_procedure, find, view_of}
+use Rattle.cp_refine.proofs.Words.{step_of, system_of, Ty, queue_type, Value, queue_value, waiting_in, Layouts, Here, here, as_place, expression_form, Ground}
+use Rattle.cp_refine.proofs.Words.{InvokedBy, QueueItem, result_cell, ResultGoes, memory_at, TargetAgrees, SameKind, ground_of, plain_address, Prepared}
+use Rattle.cp_refine.proofs.Words.{PlaceAt, frames_of}
 use Rattle.cp_tree.specs.declared.declaration.SystemKind.TheVariants as system_kind
 use Rattle.cp_tree.specs.Syntax.{Tree, Program, Expression, Expressions, more_expressions, Designator, invoke}
-use Rattle.cp_slots.specs.declared.tables.ComponentKind.{ComponentKind}
 use Rattle.cp_slots.specs.declared.tables.ComponentKind.TheVariants as kind
-use Rattle.cp_slots.specs.Tables.{Tables, component_at}
-use Rattle.cp_machine.specs.declared.process.Entry.{Entry}
-use Rattle.cp_machine.specs.Fits.{MachineFits}
-use Rattle.cp_machine.specs.Machine.{Machine, thread_at}
-use Rattle.cp_machine.specs.Reach.{Reaches}
-use Rattle.cp_machine.specs.Step.{step_at}
 use Rattle.cp_store.specs.declared.error.ErrorName as slots
-use Rattle.cp_store.specs.declared.memory.Address.{Address}
-use Rattle.cp_store.specs.declared.memory.Address.TheVariants.{Permanent}
-use Rattle.cp_meaning.specs.Names.{Name}
-use Rattle.cp_meaning.specs.Expressions.{name_of, target_value}
 use Rattle.cp_refine.specs.Followed.{IsQueueNamed, WaitsThere}
 use Rattle.cp_meaning.specs.Kernel.{is_delayed_in}
-use Rattle.cp_meaning.specs.Lifting.{expression_calls, expressions_calls, designator_calls}
-use Rattle.cp_meaning.specs.Outcome.{Outcome}
-use Rattle.cp_meaning.specs.Places.{Target, this_component, value_at}
-use Rattle.cp_meaning.specs.Scopes.{Meaning, standard_meaning, delay_procedure, continue_procedure, find}
 use Rattle.cp_meaning.specs.State as named
 use Rattle.cp_meaning.specs.State.{Place, in_component, delayed, entry_routine, Call, current, Item, statement_item, State, has_entry}
-use Rattle.cp_meaning.specs.Steps.{view_of, step_of}
-use Rattle.cp_meaning.specs.Systems.{system_of}
-use Rattle.cp_meaning.specs.Types.{Ty, queue_type}
-use Rattle.cp_meaning.specs.Values.{Value, queue_value, waiting_in}
-use Rattle.cp_resolved.specs.Layouts.{Layouts, Here, here}
-use Rattle.cp_resolved.specs.Compiled.{as_place, expression_form}
-use Rattle.cp_resolved.specs.Stands.{Ground, InvokedBy, QueueItem, result_cell, ResultGoes}
 use Rattle.cp_slots.specs.Code as code
-use Rattle.cp_machine.specs.Memory.{memory_at}
-use Rattle.cp_refine.specs.Agrees.{TargetAgrees}
 use Rattle.cp_refine.specs.ItemsKnown.{QueueKnown}
-use Rattle.cp_refine.specs.Kinds.{SameKind}
-use Rattle.cp_refine.specs.Law.{ground_of}
-use Rattle.cp_refine.specs.PlainValues.{plain_address}
-use Rattle.cp_refine.specs.Prepared.{Prepared}
-use Rattle.cp_refine.specs.Represents.{PlaceAt, frames_of}
 use Rattle.cp_refine.proofs.expressions.ComponentsNow.{executed_there, executed_system, current_component}
 use Rattle.cp_refine.proofs.queues.Continuing.{MayContinue}
 use Rattle.cp_refine.proofs.queues.ContinueSteps.{Ends, own_continue, continue_step}

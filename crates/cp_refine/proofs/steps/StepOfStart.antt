@@ -2,50 +2,23 @@
 use Rattle.std.proofs.Common.{◌≡◌, ◌∙◌, ℕ, ◌<◌, true, false, List, [], ◌∷◌, ◌++◌, Option, Some, ap, sym, refl, subst, arith, length}
 use Rattle.std.specs.Global.{Global}
 use Rattle.std.specs.Prelude.{Result, Ok, Err, Vec, map, slice_index}
-use Rattle.cp_tree.specs.declared.declaration.SystemKind.{SystemKind}
+use Rattle.cp_refine.proofs.Words.{SystemKind, Tree, Program, Expressions, no_expressions, more_expressions, Start, Argument, ComponentPlace, ComponentKind}
+use Rattle.cp_refine.proofs.Words.{ActionFits, CallFits, Bound, Frame, Entry, MachineFits, Machine, thread_at, Reaches, step_at, bound, Parameter}
+use Rattle.cp_refine.proofs.Words.{target_value, process_of, Name, Outcome, View, Target, component_there, Environment, Item, start_item, State, view_of}
+use Rattle.cp_refine.proofs.Words.{step_of, at_designator, system_of, Layouts, Here, here, SystemIs, initial_meaning, Ground, AreGiven, BoundsAgree}
+use Rattle.cp_refine.proofs.Words.{ComponentAgrees, SameKind, ground_of, Prepared, frames_of, AreHandedSo, StateKnown}
 use Rattle.cp_tree.specs.declared.declaration.SystemKind.TheVariants as system_kind
-use Rattle.cp_tree.specs.Syntax.{Tree, Program, Expressions, no_expressions, more_expressions, Start}
 use Rattle.cp_slots.specs.Code as code
 use Rattle.cp_slots.specs.declared.item.Action.TheVariants as action
-use Rattle.cp_slots.specs.declared.place.Argument.{Argument}
-use Rattle.cp_slots.specs.declared.place.ComponentPlace.{ComponentPlace}
-use Rattle.cp_slots.specs.declared.tables.ComponentKind.{ComponentKind}
 use Rattle.cp_slots.specs.declared.tables.ComponentKind.TheVariants as kind
-use Rattle.cp_slots.specs.Fits.{ActionFits, CallFits}
 use Rattle.cp_slots.specs.Systems.{ActionNames, StartNames, IsOf}
 use Rattle.cp_slots.specs.Tables.{Tables, item_at, component_at, process_at, routine_at, system_at}
-use Rattle.cp_store.specs.declared.argument.Bound.{Bound}
 use Rattle.cp_store.specs.declared.error.ErrorName as slots
-use Rattle.cp_store.specs.declared.memory.Frame.{Frame}
-use Rattle.cp_machine.specs.declared.process.Entry.{Entry}
-use Rattle.cp_machine.specs.Fits.{MachineFits}
-use Rattle.cp_machine.specs.Machine.{Machine, thread_at}
 use Rattle.cp_machine.specs.Memory.{component_of, arguments_of}
-use Rattle.cp_machine.specs.Reach.{Reaches}
-use Rattle.cp_machine.specs.Step.{step_at}
-use Rattle.cp_meaning.specs.Calls.{bound}
-use Rattle.cp_meaning.specs.Declarations.{Parameter}
-use Rattle.cp_meaning.specs.Expressions.{target_value}
 use Rattle.cp_refine.specs.Followed.{AreArguments, IsStartable}
-use Rattle.cp_meaning.specs.Kernel.{process_of}
-use Rattle.cp_meaning.specs.Names.{Name}
-use Rattle.cp_meaning.specs.Outcome.{Outcome}
-use Rattle.cp_meaning.specs.Places.{View, Target, component_there}
 use Rattle.cp_meaning.specs.State as named
-use Rattle.cp_meaning.specs.State.{Environment, Item, start_item, State}
-use Rattle.cp_meaning.specs.Steps.{view_of, step_of, at_designator}
-use Rattle.cp_meaning.specs.Systems.{system_of}
-use Rattle.cp_resolved.specs.Layouts.{Layouts, Here, here}
-use Rattle.cp_resolved.specs.Resolved.{SystemIs, initial_meaning}
-use Rattle.cp_resolved.specs.Stands.{Ground, AreGiven}
-use Rattle.cp_refine.specs.Given.{BoundsAgree, ComponentAgrees}
 use Rattle.cp_refine.specs.ItemsKnown.{StartKnown}
-use Rattle.cp_refine.specs.Kinds.{SameKind}
-use Rattle.cp_refine.specs.Law.{ground_of}
 use Rattle.cp_refine.specs.Parameters.{HaveTypes}
-use Rattle.cp_refine.specs.Prepared.{Prepared}
-use Rattle.cp_refine.specs.Represents.{frames_of}
-use Rattle.cp_refine.specs.StatesKnown.{AreHandedSo, StateKnown}
 use Rattle.cp_refine.proofs.starts.Begun.{CanBegin}
 use Rattle.cp_refine.proofs.calls.CallFitting.{can_call}
 use Rattle.cp_refine.proofs.expressions.ComponentPlaces.{ComponentsKnown}

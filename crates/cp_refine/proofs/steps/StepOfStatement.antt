@@ -1,29 +1,12 @@
 -- The step of each statement that is no call: it goes on slots as on names.
-use Rattle.std.proofs.Common.{◌≡◌, ℕ, ◌<◌, List, ◌∷◌, Option, Some, subst, length}
-use Rattle.std.specs.Prelude.{slice_index}
-use Rattle.cp_tree.specs.declared.constant.Identifier.{Identifier}
-use Rattle.cp_tree.specs.declared.statement.Direction.{Direction}
+use Rattle.cp_refine.proofs.Words.{◌≡◌, ℕ, ◌<◌, List, ◌∷◌, Option, Some, subst, length, slice_index, Identifier, Direction, Tables, Entry, Rest, StackFits}
+use Rattle.cp_refine.proofs.Words.{MachineFits, Machine, thread_at, memory_at, step_at, Base, enumerated, ordinal, standard_meaning, display_procedure, find}
+use Rattle.cp_refine.proofs.Words.{name_of, Item, statement_item, until, State, Layouts, Here, here, as_ordinal, Ground, ground_of, Prepared}
 use Rattle.cp_tree.specs.Syntax.{Tree, Program, Expression, Expressions, more_expressions, Designator, Statement, assign, invoke, if_then, if_else, case_of, while_do, for_do, Statements, Arms}
 use Rattle.std.specs.Prelude.{Bool}
 use Rattle.cp_slots.specs.Code as code
-use Rattle.cp_slots.specs.Tables.{Tables}
-use Rattle.cp_machine.specs.declared.process.Entry.{Entry}
-use Rattle.cp_machine.specs.declared.process.Entry.TheVariants.{Rest}
-use Rattle.cp_machine.specs.Fits.{StackFits, MachineFits}
-use Rattle.cp_machine.specs.Machine.{Machine, thread_at}
-use Rattle.cp_machine.specs.Memory.{memory_at}
-use Rattle.cp_machine.specs.Step.{step_at}
-use Rattle.cp_meaning.specs.Types.{Base, enumerated, ordinal}
-use Rattle.cp_meaning.specs.Scopes.{standard_meaning, display_procedure, find}
-use Rattle.cp_meaning.specs.Expressions.{name_of}
-use Rattle.cp_meaning.specs.State.{Item, statement_item, until, State}
 use Rattle.cp_meaning.specs.Steps.{view_of, step_of, at_expression}
-use Rattle.cp_resolved.specs.Layouts.{Layouts, Here, here}
-use Rattle.cp_resolved.specs.Compiled.{as_ordinal}
-use Rattle.cp_resolved.specs.Stands.{Ground}
 use Rattle.cp_refine.specs.ItemsKnown.{AssignKnown, DisplayKnown, HasFewConstants}
-use Rattle.cp_refine.specs.Law.{ground_of}
-use Rattle.cp_refine.specs.Prepared.{Prepared}
 use Rattle.cp_refine.proofs.assignments.AnyAssignments.{assignment_runs}
 use Rattle.cp_refine.proofs.control.Cases.{case_step}
 use Rattle.cp_refine.proofs.control.Control.{Taken, StepIs, goes, top_frame}

@@ -1,25 +1,9 @@
 -- The step of the successor of a value in a `for`, and what a process sees whose next item is none of a list.
-use Rattle.std.proofs.Common.{◌≡◌, ℕ, List, [], ◌∷◌, ◌++◌, subst}
-use Rattle.std.specs.Prelude.{ℤ, slice_index}
-use Rattle.cp_tree.specs.Syntax.{Tree, Program}
-use Rattle.cp_store.specs.declared.memory.Frame.{Frame}
-use Rattle.cp_machine.specs.declared.process.Entry.{Entry}
-use Rattle.cp_machine.specs.declared.process.Entry.TheVariants.{Successor}
-use Rattle.cp_machine.specs.Fits.{StackFits, MachineFits}
-use Rattle.cp_machine.specs.Machine.{Machine, thread_at}
-use Rattle.cp_machine.specs.Memory.{memory_at}
-use Rattle.cp_machine.specs.Step.{step_at}
+use Rattle.cp_refine.proofs.Words.{◌≡◌, ℕ, List, [], ◌∷◌, ◌++◌, subst, ℤ, slice_index, Tree, Program, Frame, Entry, Successor, StackFits, MachineFits}
+use Rattle.cp_refine.proofs.Words.{Machine, thread_at, memory_at, step_at, Call, Item, State, view_of, step_of, ordinal, Layouts, here, Ground, Tables, Sees}
+use Rattle.cp_refine.proofs.Words.{ground_of, Prepared}
 use Rattle.cp_meaning.specs.State as named
-use Rattle.cp_meaning.specs.State.{Call, Item, State}
-use Rattle.cp_meaning.specs.Steps.{view_of, step_of}
-use Rattle.cp_meaning.specs.Types.{ordinal}
-use Rattle.cp_resolved.specs.Layouts.{Layouts, here}
-use Rattle.cp_resolved.specs.Stands.{Ground}
 use Rattle.cp_slots.specs.Code as code
-use Rattle.cp_slots.specs.Tables.{Tables}
-use Rattle.cp_refine.specs.Agrees.{Sees}
-use Rattle.cp_refine.specs.Law.{ground_of}
-use Rattle.cp_refine.specs.Prepared.{Prepared}
 use Rattle.cp_refine.specs.Represents.{StackIs, CallsHold, own_memory, frames_of, TurnIs}
 use Rattle.cp_refine.proofs.control.Control.{Goes, StepIs, top_frame}
 use Rattle.cp_refine.proofs.control.Counting.{next_step}

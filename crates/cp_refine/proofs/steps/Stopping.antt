@@ -1,14 +1,9 @@
 -- After a run error or a full output the state is as it was.
-use Rattle.std.proofs.Common.{◌≡◌, ℕ, Bool, true, false, ◌==◌, Option, Some, None, length, refl}
-use Rattle.std.specs.Prelude.{Ok, Err}
-use Rattle.cp_tree.specs.Syntax.{Program}
+use Rattle.cp_refine.proofs.Words.{◌≡◌, ℕ, Bool, true, false, ◌==◌, Option, Some, None, length, refl, Ok, Err, Program, Outcome, Environment, Status}
+use Rattle.cp_refine.proofs.Words.{unstarted, ready, process_at, Shown, State, takes, view_of, settled}
 use Rattle.cp_meaning.specs.Kernel.{output_room, kernel_step, starting_as, starting, displaying, process_of}
 use Rattle.cp_meaning.specs.Move.{Move, starts, shows, Doing}
-use Rattle.cp_meaning.specs.Outcome.{Outcome}
-use Rattle.cp_meaning.specs.State.{Environment, Status, unstarted, ready, process_at, Shown, State}
 use Rattle.cp_meaning.specs.Kernel as kernel
-use Rattle.cp_meaning.specs.LocalRules.{takes}
-use Rattle.cp_meaning.specs.Steps.{view_of, settled}
 use Rattle.cp_refine.specs.Stopped.{is_stop, StateAsBeforeLaw}
 
 module _ (p : Program) (s : State) (pid : ℕ) where

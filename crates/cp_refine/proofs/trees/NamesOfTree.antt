@@ -1,16 +1,9 @@
 -- In tables that stand for a tree, components are of its system types, and their names stand for the same in a routine as in its system type.
 use Rattle.std.specs.Prelude.{◌<◌, ◌≤◌, ℕ, length}
-use Rattle.cp_tree.specs.Syntax.{Tree}
-use Rattle.cp_slots.specs.Tables.{Tables, component_at}
-use Rattle.cp_meaning.specs.Systems.{program_system}
-use Rattle.cp_resolved.specs.Framed.{IsFramed}
+use Rattle.cp_refine.proofs.Words.{Tree, Tables, component_at, program_system, IsFramed, Stands, layouts_of, NamesKnown, ground_of}
 use Rattle.cp_resolved.specs.LayoutsKnow.{IsPlaced}
-use Rattle.cp_resolved.specs.Resolved.{Stands}
-use Rattle.cp_resolved.specs.TreeLayouts.{layouts_of}
 use Rattle.cp_resolved.proofs.components.ListedSystems.{systems_within}
 use Rattle.cp_resolved.proofs.components.VisibleComponents.{names_scope, names_parameter, names_variable, names_array}
-use Rattle.cp_refine.specs.ComponentNames.{NamesKnown}
-use Rattle.cp_refine.specs.Law.{ground_of}
 
 module _ (t : Tree) (r : Tables) (stands : Stands (ground_of t r) t (layouts_of t)) where
   pub components_below : (n : ℕ) → n < length r.components → (component_at r n).system ≤ program_system t.program

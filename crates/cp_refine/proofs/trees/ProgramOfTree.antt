@@ -1,20 +1,9 @@
 -- What steps ask of a program, of the layouts of its tree: from what its declarations are.
-use Rattle.std.proofs.Common.{◌≡◌, false, List, [], ◌∷◌, ◌++◌}
-use Rattle.cp_tree.specs.Read.{IsRead}
-use Rattle.cp_tree.specs.Syntax.{Tree}
-use Rattle.cp_layout.specs.Laid.{plain, laid}
-use Rattle.cp_slots.specs.Tables.{Tables}
-use Rattle.cp_lawful.specs.Accepted.{IsAccepted}
-use Rattle.cp_meaning.specs.Declarations.{Variable, Parameter}
-use Rattle.cp_meaning.specs.Steps.{parameter_variables}
-use Rattle.cp_meaning.specs.Systems.{system_of}
-use Rattle.cp_resolved.specs.Framed.{IsFramed}
-use Rattle.cp_resolved.specs.Small.{Each}
+use Rattle.cp_refine.proofs.Words.{◌≡◌, false, List, [], ◌∷◌, ◌++◌, IsRead, Tree, plain, laid, Tables, IsAccepted, Variable, Parameter, parameter_variables}
+use Rattle.cp_refine.proofs.Words.{system_of, IsFramed, Each, layouts_of, placed_law}
 use Rattle.cp_resolved.specs.Standing.{IsStandingVariable}
-use Rattle.cp_resolved.specs.TreeLayouts.{layouts_of}
 use Rattle.cp_resolved.proofs.declarations.FramedOfTrees.{accepted_framed}
 use Rattle.cp_resolved.proofs.systems.PartCells.{accepted_parts, accepted_parts_apart}
-use Rattle.cp_resolved.proofs.declarations.Placed.{placed_law}
 use Rattle.cp_resolved.proofs.Resolving.{resolving_law}
 use Rattle.cp_resolved.proofs.agreeing.ScopesOfTrees.{scopes_law}
 use Rattle.cp_resolved.proofs.declarations.SystemParameters.{accepted_values, accepted_free}

@@ -1,20 +1,13 @@
 -- The layouts of the routines of a tree: names, results and parameters have the types that the rules of the language give them.
 use Rattle.std.proofs.Common.{◌≡◌, ℕ, zero, suc, Bool, true, false, if◌then◌else◌, List, [], ◌∷◌, ◌++◌, Option, Some, None, inl, inr, refl, subst}
 use Rattle.std.specs.Prelude.{slice_get}
-use Rattle.cp_tree.specs.Syntax.{Tree, Program}
-use Rattle.cp_meaning.specs.Declarations.{Variable, Parameter}
-use Rattle.cp_meaning.specs.Names.{Name}
+use Rattle.cp_refine.proofs.Words.{Tree, Program, Variable, Parameter, Name, parameter_variables, declared, own_meaning, program_system, Range, Ty, ordinal}
+use Rattle.cp_refine.proofs.Words.{look, initial_meaning, Each}
 use Rattle.cp_meaning.specs.Scopes.{predeclared, find}
-use Rattle.cp_meaning.specs.Steps.{parameter_variables}
-use Rattle.cp_meaning.specs.Systems.{declared, own_meaning, program_system}
-use Rattle.cp_meaning.specs.Types.{Range, Ty, ordinal}
 use Rattle.cp_resolved.specs.Framed as framed
 use Rattle.cp_resolved.specs.Framed.{IsFramed, IsOrdinalResult}
 use Rattle.cp_resolved.specs.Judging.{Place, AreAgreed, tokens_of, places_of, ScopesAre}
-use Rattle.cp_resolved.specs.Layouts.{look}
 use Rattle.cp_resolved.specs.Openings.{Opening, openings_of, parts_openings, routine_openings, initial_opening, meaning_in, meaning_at}
-use Rattle.cp_resolved.specs.Resolved.{initial_meaning}
-use Rattle.cp_resolved.specs.Small.{Each}
 use Rattle.cp_resolved.specs.Standing.{IsFit, IsFreeVariable, IsFreeResult}
 use Rattle.cp_resolved.specs.TreeLayouts.{parameters_by, layouts_of}
 use Rattle.cp_resolved.specs.Typed.{Tokens}

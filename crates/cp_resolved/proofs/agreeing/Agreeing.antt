@@ -1,15 +1,8 @@
 -- Where the checker's scopes and a scope of the program agree on each name: what is visible, and one name more.
 use Rattle.std.proofs.Common.{◌≡◌, ℕ, Bool, true, false, if◌then◌else◌, List, [], ◌∷◌, ◌++◌, Option, Some, None, Ok, Err, is_some, refl, sym, ap, ◌∙◌, append_assoc, append-nil}
-use Rattle.std.specs.Prelude.{nat_eq}
-use Rattle.std.specs.Str.{bytes_eq}
-use Rattle.std.proofs.lemmas.Slice.Eq.{bytes_eq-Decides}
-use Rattle.std.proofs.lemmas.Bool.Decides.{Decides-eqb}
-use Rattle.cp_scope.specs.declared.fault.CheckFault.{CheckFault}
-use Rattle.cp_scope.specs.declared.types.Meaning.{Meaning}
-use Rattle.cp_scope.specs.Judged.{Judged, both, ◌>>=◌, faults}
+use Rattle.cp_resolved.proofs.Words.{nat_eq, bytes_eq, bytes_eq-Decides, Decides-eqb, CheckFault, Meaning, Judged, both, ◌>>=◌, faults, Name}
 use Rattle.cp_scope.specs.Scopes.{Names, Scope, Scopes, Shape, Shapes, shape_in, through_seal, look_in, or_else, look_outer, look, with_shape, with_name, sealed, enter}
 use Rattle.cp_scope.specs.Scopes as checker
-use Rattle.cp_meaning.specs.Names.{Name}
 use Rattle.cp_resolved.specs.Tokens.{IsOther}
 
 -- ---- what breaks no rule

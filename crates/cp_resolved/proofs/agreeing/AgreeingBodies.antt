@@ -1,42 +1,22 @@
 -- Bodies of routines that break no rule, and the routines of a system type one after the other.
 use Rattle.std.proofs.Common.{◌≡◌, ℕ, Bool, true, false, List, [], ◌∷◌, ◌++◌, Option, Some, None, Ok, Err, is_some, refl, sym, ap, subst, ◌∙◌}
-use Rattle.std.specs.Str.{bytes_eq}
-use Rattle.cp_tree.specs.declared.declaration.SystemKind.{SystemKind}
-use Rattle.cp_tree.specs.Syntax.{Program, Routine}
-use Rattle.cp_scope.specs.declared.types.ValueType.{ValueType}
-use Rattle.cp_scope.specs.declared.types.Meaning.{Meaning}
+use Rattle.cp_resolved.proofs.Words.{bytes_eq, SystemKind, Program, Routine, ValueType, Meaning, Use, no_use, Judged, faults, Context, Step, reserve_name}
+use Rattle.cp_resolved.proofs.Words.{part_steps, last_is, Loud, Heard, statements_loud, Name, find, routine_meaning, routine_in, with_routines, each_in}
+use Rattle.cp_resolved.proofs.Words.{in_routine, routine_place, routine_places, IsOwn, IsAgreed, AreAgreed, Place, Opening, with_routine, routine_openings}
+use Rattle.cp_resolved.proofs.Words.{AreLimited, Each, IsSmallRoutine, IsFit, IsFreeVariable, IsFreeParameter, all_tokens, part_tokens, routine_tokens}
+use Rattle.cp_resolved.proofs.Words.{Tokens, HeadingIs, IsMarked, ScopesAgree, none_before}
 use Rattle.cp_scope.specs.declared.types.Meaning.TheVariants as meaning
-use Rattle.cp_scope.specs.declared.count.Use.{Use}
-use Rattle.cp_scope.specs.Counts.{no_use}
-use Rattle.cp_scope.specs.Judged.{Judged, faults}
 use Rattle.cp_scope.specs.Scopes.{Scope, Scopes, Shapes, Shape, body_shape, shape_in, or_else, look_outer, heading_at, look, with_shape, with_name, sealed, add, enter, Around, last_of, leave, keep, settle, census}
 use Rattle.cp_scope.specs.Scopes as checker
-use Rattle.cp_check.specs.declared.operand.Context.{Context}
 use Rattle.cp_check.specs.declared.types.Spot.TheVariants as spot
 use Rattle.cp_check.specs.Names as names
-use Rattle.cp_check.specs.Types.{Step}
-use Rattle.cp_check.specs.Declarations.{reserve_name, part_steps}
 use Rattle.cp_check.specs.Headings.{after_faults, Headed, may_enter, heading, announced, announced_of}
 use Rattle.cp_check.specs.Routines as routines
 use Rattle.cp_check.specs.Routines.{routine_context, routine_step, routine_steps, routine_use, body_step, closed_of}
 use Rattle.cp_check.specs.Statements.{statements}
-use Rattle.cp_lawful.proofs.Kept.{last_is}
-use Rattle.cp_lawful.proofs.Loud.{Loud, Heard, statements_loud}
-use Rattle.cp_meaning.specs.Names.{Name}
 use Rattle.cp_meaning.specs.Scopes as scopes
-use Rattle.cp_meaning.specs.Scopes.{find, routine_meaning}
 use Rattle.cp_meaning.specs.Declarations as meant
-use Rattle.cp_meaning.specs.Declarations.{routine_in}
-use Rattle.cp_meaning.specs.Systems.{with_routines}
-use Rattle.cp_resolved.specs.Enumerations.{each_in, in_routine}
 use Rattle.cp_resolved.specs.Framed.{IsOrdinalResult}
-use Rattle.cp_resolved.specs.Judging.{routine_place, routine_places, IsOwn, IsAgreed, AreAgreed, Place}
-use Rattle.cp_resolved.specs.Openings.{Opening, with_routine, routine_openings}
-use Rattle.cp_resolved.specs.Limited.{AreLimited}
-use Rattle.cp_resolved.specs.Small.{Each, IsSmallRoutine}
-use Rattle.cp_resolved.specs.Standing.{IsFit, IsFreeVariable, IsFreeParameter}
-use Rattle.cp_resolved.specs.Tokens.{all_tokens, part_tokens, routine_tokens}
-use Rattle.cp_resolved.specs.Typed.{Tokens, HeadingIs, IsMarked, ScopesAgree}
 use Rattle.cp_resolved.proofs.agreeing.Agreeing.{look_is, none_left, none_right, new_names, More, more_trans, with_more, with_there, Appends, appends_none, appends_then}
 use Rattle.cp_resolved.proofs.agreeing.AgreeingNames.{W, heading_kept, heading_is_more, Known, IsKnown, known_moved, Agree, sees, fits, agree_same, agree_kept, agree_known, agree_returned}
 use Rattle.cp_resolved.proofs.agreeing.AgreeingTypes.{IsFew}
@@ -46,7 +26,6 @@ use Rattle.cp_resolved.proofs.declarations.ParametersRead.{Reads, name_read, par
 use Rattle.cp_resolved.proofs.agreeing.RoutinesSeen.{body_entry}
 use Rattle.cp_resolved.proofs.agreeing.AgreeingRoutines.{none_after, heading_none, heading_agrees, Announced, announced_agrees, announcing}
 use Rattle.cp_resolved.proofs.declarations.EntriesAllowed.{entry_allowed}
-use Rattle.cp_lawful.proofs.Once.{none_before}
 
 pub record Uses (j : Judged Use) : Type 0 where
   pub value : Use

@@ -1,18 +1,12 @@
 -- What the checker counts of the cells of a type that breaks no rule is what the type takes.
 use Rattle.std.proofs.Common.{◌≡◌, ◌+◌, ◌*◌, ◌<◌, ◌≤◌, ℕ, zero, suc, ℤ, pos, negsuc, Bool, true, false, refl, ap, subst, ◌∙◌, arith}
 use Rattle.std.specs.Prelude.{min, nat_le, nat_lt, ◌+ℤ◌, ◌-ℤ◌, int_le, unsigned_abs}
-use Rattle.std.proofs.lemmas.Bool.{leb-true, leb-false, ltb-false}
-use Rattle.cp_scope.specs.declared.types.Range.{Range}
-use Rattle.cp_scope.specs.declared.types.ValueType.{ValueType}
-use Rattle.cp_scope.specs.declared.shape.ArrayShape.{ArrayShape}
-use Rattle.cp_scope.specs.declared.shape.Census.{Census}
+use Rattle.cp_resolved.proofs.Words.{leb-true, leb-false, ltb-false, Range, ValueType, ArrayShape, Census, Ty, FieldTypes, natural_of, length_of_range}
+use Rattle.cp_resolved.proofs.Words.{cells_of, cells_in, is_indexed, is_free, are_free}
 use Rattle.cp_scope.specs.Counts.{times}
 use Rattle.cp_scope.specs.Scopes as checker
 use Rattle.cp_scope.specs.Scopes.{Names, shape_in, shape_cells, count_of, both_census, element_census, array_census, variable_census, census_from, census, no_census}
 use Rattle.cp_meaning.specs.Types as named
-use Rattle.cp_meaning.specs.Types.{Ty, FieldTypes, natural_of, length_of_range}
-use Rattle.cp_resolved.specs.Layouts.{cells_of, cells_in}
-use Rattle.cp_resolved.specs.Standing.{is_indexed, is_free, are_free}
 use Rattle.cp_resolved.specs.Typed.{Tokens, Written, RangeIs, TypeIs, FieldsAre}
 use Rattle.cp_resolved.proofs.agreeing.AgreeingNames.{array_is}
 use Rattle.cp_resolved.proofs.counts.FewCells.{left_of, not_negative}

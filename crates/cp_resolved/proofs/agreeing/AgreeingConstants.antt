@@ -3,36 +3,21 @@ use Rattle.std.proofs.Common.{◌≡◌, ℕ, zero, ◌-◌, ◌≤◌, ℤ, pos
 use Rattle.std.specs.Prelude.{FitsSigned}
 use Rattle.std.specs.Int.{int_wrapping_neg, w64}
 use Rattle.std.proofs.lemmas.Int.{wrapping_neg_is, int_wrap_fits}
-use Rattle.std.proofs.lemmas.Bool.Decides.{Decides-eqb}
-use Rattle.cp_tree.specs.declared.constant.Sign.{Sign}
+use Rattle.cp_resolved.proofs.Words.{Decides-eqb, Sign, Constant, ConstantKind, C5, Meaning, same_base, ◌>>=◌, ConstantNumber, Name, is_within, all_integers}
+use Rattle.cp_resolved.proofs.Words.{find, range_of_base, is_integer_base, IsSmallConstant, IsFit, Tokens, BaseIs, ConstantIs}
 use Rattle.cp_tree.specs.declared.constant.Sign.TheVariants as sign
-use Rattle.cp_tree.specs.declared.constant.Constant.{Constant}
-use Rattle.cp_tree.specs.declared.constant.ConstantKind.{ConstantKind}
 use Rattle.cp_tree.specs.declared.constant.ConstantKind.TheVariants as kinds
-use Rattle.cp_scope.specs.declared.fault.Rule.TheVariants.{C5}
 use Rattle.cp_scope.specs.declared.fault.CheckFault.TheVariants as check_fault
 use Rattle.cp_scope.specs.declared.types.Base as check_base
 use Rattle.cp_scope.specs.declared.types.Base.TheVariants as base
-use Rattle.cp_scope.specs.declared.types.Meaning.{Meaning}
 use Rattle.cp_scope.specs.declared.types.Meaning.TheVariants as meaning
-use Rattle.cp_scope.specs.Types.{same_base}
-use Rattle.cp_scope.specs.Judged.{◌>>=◌}
 use Rattle.cp_scope.specs.Scopes.{Scopes, look}
-use Rattle.cp_check.specs.declared.constant.ConstantNumber.{ConstantNumber}
 use Rattle.cp_check.specs.Names as names
 use Rattle.cp_check.specs.Constants as constants
-use Rattle.cp_meaning.specs.Names.{Name}
 use Rattle.cp_meaning.specs.Types as named
-use Rattle.cp_meaning.specs.Types.{is_within, all_integers}
 use Rattle.cp_meaning.specs.Scopes as scopes
-use Rattle.cp_meaning.specs.Scopes.{find}
 use Rattle.cp_meaning.specs.Declarations as meant
-use Rattle.cp_meaning.specs.Operations.{range_of_base}
-use Rattle.cp_resolved.specs.Compiled.{is_integer_base}
 use Rattle.cp_resolved.specs.InStep.{IsSmall}
-use Rattle.cp_resolved.specs.Small.{IsSmallConstant}
-use Rattle.cp_resolved.specs.Standing.{IsFit}
-use Rattle.cp_resolved.specs.Typed.{Tokens, BaseIs, ConstantIs}
 use Rattle.cp_resolved.proofs.forms.Typing.{integer_base}
 use Rattle.cp_resolved.proofs.agreeing.Agreeing.{Good, good_then, good_if}
 use Rattle.cp_resolved.proofs.agreeing.AgreeingNames.{IsKnown}

@@ -1,34 +1,20 @@
 -- What agrees stays so where more is written, and where one more name is declared.
 use Rattle.std.proofs.Common.{◌≡◌, ℕ, Bool, true, false, if◌then◌else◌, List, [], ◌∷◌, ◌++◌, Option, Some, None, is_some, refl, sym, ap, subst, ◌∙◌}
-use Rattle.std.specs.Prelude.{nat_eq}
-use Rattle.std.specs.Str.{bytes_eq}
-use Rattle.std.proofs.lemmas.Bool.Decides.{Decides-eqb}
-use Rattle.cp_scope.specs.declared.types.ValueType.{ValueType}
-use Rattle.cp_scope.specs.declared.types.Meaning.{Meaning}
+use Rattle.cp_resolved.proofs.Words.{nat_eq, bytes_eq, Decides-eqb, ValueType, Meaning, ArrayShape, Program, Name, Ty, FieldTypes, find, since, is_seen}
+use Rattle.cp_resolved.proofs.Words.{seen_inside, Parameter, RoutineMeaning, routine_in, type_named, system_of, routine_of_type, cells_in, Each, IsFit}
+use Rattle.cp_resolved.proofs.Words.{is_standing, itself}
 use Rattle.cp_scope.specs.declared.types.Meaning.TheVariants as meaning
 use Rattle.cp_scope.specs.declared.types.Parameter as check_parameter
-use Rattle.cp_scope.specs.declared.shape.ArrayShape.{ArrayShape}
 use Rattle.cp_scope.specs.Types.{is_open}
 use Rattle.cp_scope.specs.Scopes.{as_member, settle, Names, Scope, Scopes, Heading, Shape, array_shape, record_shape, system_shape, heading_shape, body_shape, Shapes, shape_in, as_array, as_heading, heading_at, member_at, through_seal, or_else, look_outer, look, with_shape, with_name, add, keep}
 use Rattle.cp_scope.specs.Scopes as checker
-use Rattle.cp_tree.specs.Syntax.{Program}
-use Rattle.cp_meaning.specs.Names.{Name}
 use Rattle.cp_meaning.specs.Types as named
-use Rattle.cp_meaning.specs.Types.{Ty, FieldTypes}
 use Rattle.cp_meaning.specs.Scopes as scopes
-use Rattle.cp_meaning.specs.Scopes.{find, since, is_seen, seen_inside}
-use Rattle.cp_meaning.specs.Declarations.{Parameter, RoutineMeaning, routine_in, type_named}
-use Rattle.cp_meaning.specs.Systems.{system_of}
-use Rattle.cp_meaning.specs.Expressions.{routine_of_type}
-use Rattle.cp_resolved.specs.Layouts.{cells_in}
-use Rattle.cp_resolved.specs.Small.{Each}
-use Rattle.cp_resolved.specs.Standing.{IsFit, is_standing}
 use Rattle.cp_resolved.specs.Tokens.{AreDifferent}
 use Rattle.cp_resolved.specs.Typed.{Tokens, SystemThere, IsValueParameter, Written, TypeIs, FieldsAre, AreParameters, HeadingIs, IsMarked, VariableIs, KindIs, RoutineIs, MeaningIs}
 use Rattle.cp_resolved.specs.Limited.{IsLimitedMeaning, AreLimited}
 use Rattle.cp_resolved.proofs.counts.FewCells.{few_free, few_standing}
 use Rattle.cp_resolved.proofs.agreeing.Agreeing.{is_itself, unknown, find_last, new_names, inner_look, look_is, More, with_more, with_there, with_other, AreFree, free_others}
-use Rattle.cp_lawful.proofs.Once.{itself}
 
 -- the heading of a routine is written
 pub record HeadingThere (n : ℕ) (ss : Shapes) : Type 0 where

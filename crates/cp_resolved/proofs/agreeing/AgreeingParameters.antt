@@ -1,17 +1,12 @@
 -- The parameters that the checker reads off the names of a scope, and those of a heading.
 use Rattle.std.proofs.Common.{◌≡◌, Bool, true, false, List, [], ◌∷◌, ◌++◌, Option, Some, None, refl, sym, ap, subst, ◌∙◌, append_assoc}
 use Rattle.std.proofs.lemmas.List.{append-nil}
-use Rattle.cp_tree.specs.declared.constant.Identifier.{Identifier}
-use Rattle.cp_scope.specs.declared.types.Meaning.{Meaning}
+use Rattle.cp_resolved.proofs.Words.{Identifier, Meaning, add_names, Ty, Parameter, is_free}
 use Rattle.cp_scope.specs.declared.types.Parameter as check_parameter
 use Rattle.cp_scope.specs.Types.{parameter_of}
 use Rattle.cp_scope.specs.Scopes.{Names, Scope, Scopes, parameter_in, parameters_in, with_some, add}
-use Rattle.cp_check.specs.Declarations.{add_names}
 use Rattle.cp_meaning.specs.Types as named
-use Rattle.cp_meaning.specs.Types.{Ty}
 use Rattle.cp_meaning.specs.Declarations as meant
-use Rattle.cp_meaning.specs.Declarations.{Parameter}
-use Rattle.cp_resolved.specs.Standing.{is_free}
 use Rattle.cp_resolved.specs.Typed.{Written, TypeIs, IsHanded, AreParameters}
 use Rattle.cp_resolved.proofs.agreeing.Agreeing.{new_names}
 use Rattle.cp_resolved.proofs.declarations.Reserving.{AreFresh, AreOthers, fresh_after}

@@ -1,35 +1,21 @@
 -- Declarations that break no rule: what they leave agrees with the scope that they leave.
 use Rattle.std.proofs.Common.{◌≡◌, ℕ, Bool, true, false, ◌&&◌, List, [], ◌∷◌, ◌++◌, Option, Some, None, Ok, is_some, refl, sym, ap, subst, ◌∙◌}
-use Rattle.cp_tree.specs.declared.constant.Identifier.{Identifier}
-use Rattle.cp_tree.specs.declared.declaration.SystemKind.{SystemKind}
+use Rattle.cp_resolved.proofs.Words.{Identifier, SystemKind, Program, ConstantDefinition, TypeDefinition, VariableGroup, Part, ValueType, Meaning, Judged}
+use Rattle.cp_resolved.proofs.Words.{◌>>=◌, faults, ConstantNumber, Spot, Typed, typed, Name, Ty, FieldTypes, is_seen, Block, in_type, in_part, each_in, Each}
+use Rattle.cp_resolved.proofs.Words.{IsSmallConstant, IsSmallType, IsSmallPart, cells_in, are_few, is_indexed, is_free, are_free, is_standing, all_tokens}
+use Rattle.cp_resolved.proofs.Words.{type_tokens, part_tokens, none_first}
 use Rattle.cp_tree.specs.Syntax as syntax
-use Rattle.cp_tree.specs.Syntax.{Program, ConstantDefinition, TypeDefinition, VariableGroup, Part}
-use Rattle.cp_scope.specs.declared.types.ValueType.{ValueType}
-use Rattle.cp_scope.specs.declared.types.Meaning.{Meaning}
 use Rattle.cp_scope.specs.declared.types.Meaning.TheVariants as meaning
 use Rattle.cp_scope.specs.Types.{is_open}
-use Rattle.cp_scope.specs.Judged.{Judged, ◌>>=◌, faults}
 use Rattle.cp_scope.specs.Scopes.{Scope, Scopes, Shapes, is_among, add, settle}
 use Rattle.cp_scope.specs.Scopes as checker
-use Rattle.cp_check.specs.declared.constant.ConstantNumber.{ConstantNumber}
-use Rattle.cp_check.specs.declared.types.Spot.{Spot}
 use Rattle.cp_check.specs.declared.types.Spot.TheVariants as spot
 use Rattle.cp_check.specs.Constants.{constant}
 use Rattle.cp_check.specs.Records.{reserve_field, reserve_fields, with_fields}
-use Rattle.cp_check.specs.Types.{Typed, typed}
 use Rattle.cp_check.specs.Declarations.{as_declared, reserve_name, reserve_names, add_names, add_all, add_one, to_constant, to_kind, to_variable, constant_step, constant_steps, type_step, type_steps, variable_step, variable_steps, part_step, part_steps}
-use Rattle.cp_meaning.specs.Names.{Name}
 use Rattle.cp_meaning.specs.Types as named
-use Rattle.cp_meaning.specs.Types.{Ty, FieldTypes}
 use Rattle.cp_meaning.specs.Scopes as scopes
-use Rattle.cp_meaning.specs.Scopes.{is_seen}
 use Rattle.cp_meaning.specs.Declarations as meant
-use Rattle.cp_meaning.specs.Declarations.{Block}
-use Rattle.cp_resolved.specs.Enumerations.{in_type, in_part, each_in}
-use Rattle.cp_resolved.specs.Small.{Each, IsSmallConstant, IsSmallType, IsSmallPart}
-use Rattle.cp_resolved.specs.Layouts.{cells_in}
-use Rattle.cp_resolved.specs.Standing.{are_few, is_indexed, is_free, are_free, is_standing}
-use Rattle.cp_resolved.specs.Tokens.{all_tokens, type_tokens, part_tokens}
 use Rattle.cp_resolved.specs.Typed.{Tokens, TypeIs, is_plain, are_plain, MayStand}
 use Rattle.cp_resolved.proofs.agreeing.Agreeing.{Appends, appends_none, appends_same, appends_then, Sound, good_sound, none_left, none_right, More, more_same, more_trans}
 use Rattle.cp_resolved.proofs.agreeing.AgreeingNames.{W, New, Agree, sees, agree_same, agree_settled, agree_added}
@@ -39,7 +25,6 @@ use Rattle.cp_resolved.proofs.agreeing.AgreeingWritten.{each_left, each_right, t
 use Rattle.cp_resolved.proofs.declarations.Reserving.{named_all, all_filled, Pends, ReservedIn, AreAmong, AreFresh, AreOthers, one_reserved, all_reserved, pending_fresh, fresh_after, with_inner, NameReserved, name_reserved, NamesReserved, names_reserved}
 use Rattle.cp_resolved.proofs.agreeing.Agreeing as agreeing
 use Rattle.cp_resolved.proofs.frames.LeastCells.{right_true}
-use Rattle.cp_lawful.proofs.Once.{no_first as none_first}
 
 -- ---- types that are plain
 

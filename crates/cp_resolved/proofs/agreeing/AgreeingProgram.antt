@@ -1,41 +1,27 @@
 -- Programs that break no rule: their scopes agree at the statements of each routine and of each initial statement.
 use Rattle.std.proofs.Common.{◌≡◌, ◌≤◌, ℕ, pos, Bool, true, false, if◌then◌else◌, List, [], ◌∷◌, ◌++◌, length, Option, Some, None, Ok, Err, is_some, refl, sym, ap, subst, ◌∙◌, arith}
-use Rattle.std.specs.Str.{bytes_eq}
-use Rattle.cp_tree.specs.declared.constant.Identifier.{Identifier}
+use Rattle.cp_resolved.proofs.Words.{bytes_eq, Identifier, Range, ValueType, whole, Meaning, Use, no_use, Judged, ◌>>=◌, faults, Step, Typed, typed}
+use Rattle.cp_resolved.proofs.Words.{routine_steps, Heard, Name, find, predeclared, seen_inside, in_routine, in_definition, in_program_part, each_in}
+use Rattle.cp_resolved.proofs.Words.{enumerations_of, nothing_declared, Each, IsSmallDefinition, IsSmallProgramPart, IsSmallProgram, IsFit}
+use Rattle.cp_resolved.proofs.Words.{IsStandingVariable, IsStandingParameter, none_first, none_before}
 use Rattle.cp_tree.specs.Syntax.{Program, Definition, type_definition, system_definition, SystemDefinition, ProgramPart, program_constants, program_types, program_variables, Tree}
 use Rattle.cp_scope.specs.declared.types.Base.TheVariants as base
-use Rattle.cp_scope.specs.declared.types.Range.{Range}
-use Rattle.cp_scope.specs.declared.types.ValueType.{ValueType}
 use Rattle.cp_scope.specs.declared.types.ValueType.TheVariants as types
-use Rattle.cp_scope.specs.Types.{whole}
-use Rattle.cp_scope.specs.declared.types.Meaning.{Meaning}
 use Rattle.cp_scope.specs.declared.types.Meaning.TheVariants as meaning
-use Rattle.cp_scope.specs.declared.count.Use.{Use}
-use Rattle.cp_scope.specs.Counts.{no_use}
-use Rattle.cp_scope.specs.Judged.{Judged, ◌>>=◌, faults}
 use Rattle.cp_scope.specs.Scopes.{Names, Scopes, shape_in, look_outer, add, settle, enter, start}
 use Rattle.cp_scope.specs.Scopes as checker
 use Rattle.cp_check.specs.declared.types.Spot.TheVariants as spot
-use Rattle.cp_check.specs.Types.{Step, Typed, typed}
 use Rattle.cp_check.specs.Declarations.{as_declared, to_kind, reserve_name, add_one, constant_steps, variable_steps}
-use Rattle.cp_check.specs.Routines.{routine_steps}
 use Rattle.cp_check.specs.Statements.{statements}
 use Rattle.cp_check.specs.Systems as systems_of
 use Rattle.cp_check.specs.Systems.{definition_step, definition_steps, program_part_step, program_part_steps}
 use Rattle.cp_check.specs.Faults.{declarations, program_context, opened, limit_faults, faults_of}
-use Rattle.cp_lawful.proofs.Loud.{Heard}
-use Rattle.cp_meaning.specs.Names.{Name}
 use Rattle.cp_meaning.specs.Types as named
 use Rattle.cp_meaning.specs.Scopes as scopes
-use Rattle.cp_meaning.specs.Scopes.{find, predeclared, seen_inside}
 use Rattle.cp_meaning.specs.Declarations as meant
 use Rattle.cp_meaning.specs.Systems.{SystemMeaning, system_in, Declared, definition_in, definitions_in, program_part_in, program_parts_in, declared, program_system, own_meaning, with_routines}
-use Rattle.cp_resolved.specs.Enumerations.{in_routine, in_definition, in_program_part, each_in, enumerations_of}
-use Rattle.cp_resolved.specs.Fit.{nothing_declared}
 use Rattle.cp_resolved.specs.Judging.{Place, definition_places, definitions_places, part_places, parts_places, routine_places, places_of, AreAgreed}
 use Rattle.cp_resolved.specs.Openings.{Opening, definition_openings, definitions_openings, part_openings, parts_openings, routine_openings, initial_opening, openings_of}
-use Rattle.cp_resolved.specs.Small.{Each, IsSmallDefinition, IsSmallProgramPart, IsSmallProgram}
-use Rattle.cp_resolved.specs.Standing.{IsFit, IsStandingVariable, IsStandingParameter}
 use Rattle.cp_resolved.specs.Tokens.{AreDifferent, all_tokens, routine_tokens, definition_tokens, program_part_tokens, program_tokens}
 use Rattle.cp_resolved.specs.Typed.{Tokens, SystemThere, IsSystemParameter, RangeIs, TypeIs, predeclared_of, MeaningIs, IsMarked}
 use Rattle.cp_resolved.proofs.agreeing.Agreeing.{appends_none, none_left, none_right, AreFree}
@@ -47,7 +33,6 @@ use Rattle.cp_resolved.proofs.agreeing.AgreeingRoutines.{none_after}
 use Rattle.cp_resolved.proofs.agreeing.AgreeingBodies.{all_heard, place_agreed, routines_agree}
 use Rattle.cp_resolved.proofs.agreeing.AgreeingSystems.{agreed_append, IsNumbered, system_agrees}
 use Rattle.cp_resolved.proofs.agreeing.VariablesAmongNames.{Declares, declares_more, variables_declare, Counted, AreCounted, all_counted, last_counted}
-use Rattle.cp_lawful.proofs.Once.{no_first as none_first, none_before}
 
 module _ (tokens : Tokens) (p : Program) where
   -- ---- system types by their numbers

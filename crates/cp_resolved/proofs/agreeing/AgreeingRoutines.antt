@@ -1,41 +1,24 @@
 -- Routines that break no rule: where their statements stand, the checker's scopes agree with the scope of the routine, and so they do after it.
 use Rattle.std.proofs.Common.{◌≡◌, ℕ, Bool, true, false, if◌then◌else◌, List, [], ◌∷◌, ◌++◌, Option, Some, None, Ok, is_some, refl, sym, ap, subst, ◌∙◌}
 use Rattle.std.specs.Prelude.{◌-◌}
-use Rattle.std.specs.Str.{bytes_eq}
-use Rattle.cp_tree.specs.declared.constant.Identifier.{Identifier}
-use Rattle.cp_tree.specs.declared.declaration.SystemKind.{SystemKind}
+use Rattle.cp_resolved.proofs.Words.{bytes_eq, Identifier, SystemKind, CheckFault, ValueType, Meaning, Judged, ◌>>=◌, faults, Holding, Step, C5, fault}
+use Rattle.cp_resolved.proofs.Words.{unless, as_declared, reserve_name, reserve_names, add_names, add_all, last_is, Name, Ty, find, since, routine_meaning}
+use Rattle.cp_resolved.proofs.Words.{routine_in, with_routine, Each, is_free, IsFit, IsFreeParameter, itself, none_first, none_before}
 use Rattle.cp_tree.specs.declared.declaration.SystemKind.TheVariants as system_kind
 use Rattle.cp_tree.specs.Syntax.{Program, Group, ParameterGroup, RoutineKind, procedure, function, Routine}
-use Rattle.cp_scope.specs.declared.fault.CheckFault.{CheckFault}
-use Rattle.cp_scope.specs.declared.types.ValueType.{ValueType}
 use Rattle.cp_scope.specs.declared.types.ValueType.TheVariants as types
-use Rattle.cp_scope.specs.declared.types.Meaning.{Meaning}
 use Rattle.cp_scope.specs.declared.types.Meaning.TheVariants as meaning
 use Rattle.cp_scope.specs.declared.types.Parameter as check_parameter
 use Rattle.cp_scope.specs.Types.{is_ordinal, parameter_of}
-use Rattle.cp_scope.specs.Judged.{Judged, ◌>>=◌, faults}
 use Rattle.cp_scope.specs.Scopes.{Names, parameters_in, Scope, Scopes, Shapes, Shape, heading_shape, shape_in, look_in, or_else, look_outer, look, with_name, sealed, enter, Around, last_of, add_around, keep, settle}
 use Rattle.cp_scope.specs.Scopes as checker
-use Rattle.cp_check.specs.declared.types.Holding.{Holding}
 use Rattle.cp_check.specs.declared.types.Holding.TheVariants as holds
 use Rattle.cp_check.specs.Types as typing
-use Rattle.cp_check.specs.Types.{Step}
-use Rattle.cp_scope.specs.declared.fault.Rule.TheVariants.{C5}
-use Rattle.cp_check.specs.Calls.{fault, unless}
-use Rattle.cp_check.specs.Declarations.{as_declared, reserve_name, reserve_names, add_names, add_all}
 use Rattle.cp_check.specs.Headings as headings
 use Rattle.cp_check.specs.Headings.{after_faults, Headed, written, heading, announced}
-use Rattle.cp_lawful.proofs.Kept.{last_is}
-use Rattle.cp_meaning.specs.Names.{Name}
-use Rattle.cp_meaning.specs.Types.{Ty}
 use Rattle.cp_meaning.specs.Scopes as scopes
-use Rattle.cp_meaning.specs.Scopes.{find, since, routine_meaning}
 use Rattle.cp_meaning.specs.Declarations as meant
-use Rattle.cp_meaning.specs.Declarations.{routine_in}
 use Rattle.cp_resolved.specs.Framed as framed
-use Rattle.cp_resolved.specs.Openings.{with_routine}
-use Rattle.cp_resolved.specs.Small.{Each}
-use Rattle.cp_resolved.specs.Standing.{is_free, IsFit, IsFreeParameter}
 use Rattle.cp_resolved.specs.Typed.{Tokens, TypeIs, IsOrdinalResult, ResultIs, AreParameters, HeadingIs, RoutineIs, IsMarked}
 use Rattle.cp_resolved.proofs.agreeing.Agreeing.{Good, good_then, good_sound, none_left, none_right, is_itself, new_names, look_last, look_is, look_entered, find_last, inner_look, More, more_same, more_trans, with_more, with_there, appends_none}
 use Rattle.cp_resolved.proofs.agreeing.AgreeingNames.{W, heading_is_more, IsTypeKnown, IsStacked, New, Known, IsKnown, is_known_moved, stacked_more, find_first, find_other, since_other, last_or, Agree, sees, fits, agree_kept}
@@ -43,7 +26,6 @@ use Rattle.cp_resolved.proofs.agreeing.AgreeingTypes.{Held, held_named, KindOf, 
 use Rattle.cp_resolved.proofs.agreeing.AgreeingParameters.{free_handed, copies, parameters_both, copies_are, names_read, shapes_added}
 use Rattle.cp_resolved.proofs.agreeing.AgreeingParts.{free_plain, StepResult, step_then, step_same, names_result, all_declared}
 use Rattle.cp_resolved.proofs.declarations.Reserving.{AreFresh, pending_fresh}
-use Rattle.cp_lawful.proofs.Once.{itself, no_first as none_first, none_before}
 
 pub none_after : {A : Type 0} (fs : List CheckFault) (j : Judged A) → faults (after_faults fs j) ≡ [] → after_faults fs j ≡ j
 none_after [] j h = refl

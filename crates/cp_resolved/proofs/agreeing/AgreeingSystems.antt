@@ -1,48 +1,29 @@
 -- System types that break no rule: where their statements stand the scopes agree, and they stand for components whose routines are those of their scope.
 use Rattle.std.proofs.Common.{◌≡◌, ℕ, Bool, true, false, if◌then◌else◌, List, [], ◌∷◌, ◌++◌, Option, Some, None, Ok, refl, sym, ap, subst, ◌∙◌}
-use Rattle.std.specs.Prelude.{nat_eq}
-use Rattle.std.proofs.lemmas.Bool.Decides.{Decides-eqb}
-use Rattle.cp_tree.specs.declared.declaration.SystemKind.{SystemKind}
+use Rattle.cp_resolved.proofs.Words.{nat_eq, Decides-eqb, SystemKind, ValueType, Census, Use, no_use, Judged, ◌>>=◌, faults, Holding, Step, Typed}
+use Rattle.cp_resolved.proofs.Words.{as_declared, reserve_names, add_names, add_all, part_steps, after_faults, last_is, statements_loud, Name, Ty, find}
+use Rattle.cp_resolved.proofs.Words.{seen_inside, Block, SystemMeaning, with_routines, system_in, system_of, routine_of_system, routine_of_type, each_in}
+use Rattle.cp_resolved.proofs.Words.{in_part, in_routine, in_system, AreLimited, Each, IsSmallSystem, is_element, is_standing, IsStandingVariable}
+use Rattle.cp_resolved.proofs.Words.{IsStandingParameter, none_first, none_before}
 use Rattle.cp_tree.specs.declared.declaration.SystemKind.TheVariants as system_kind
 use Rattle.cp_tree.specs.Syntax.{Program, Group, System}
-use Rattle.cp_scope.specs.declared.types.ValueType.{ValueType}
 use Rattle.cp_scope.specs.declared.types.ValueType.TheVariants as types
 use Rattle.cp_scope.specs.declared.types.Meaning.TheVariants as meaning
 use Rattle.cp_scope.specs.declared.types.Parameter as check_parameter
-use Rattle.cp_scope.specs.declared.shape.Census.{Census}
-use Rattle.cp_scope.specs.declared.count.Use.{Use}
-use Rattle.cp_scope.specs.Counts.{no_use}
-use Rattle.cp_scope.specs.Judged.{Judged, ◌>>=◌, faults}
 use Rattle.cp_scope.specs.Scopes.{Names, parameters_in, settle, Scope, Scopes, Shapes, Shape, system_shape, shape_in, as_member, member_at, heading_at, look_in, or_else, look_outer, look, with_shape, sealed, enter, Around, last_of, leave, keep, census}
 use Rattle.cp_scope.specs.Scopes as checker
 use Rattle.cp_check.specs.declared.types.Spot.TheVariants as spot
-use Rattle.cp_check.specs.declared.types.Holding.{Holding}
 use Rattle.cp_check.specs.declared.types.Holding.TheVariants as holds
 use Rattle.cp_check.specs.Types as typing
-use Rattle.cp_check.specs.Types.{Step, Typed}
-use Rattle.cp_check.specs.Declarations.{as_declared, reserve_names, add_names, add_all, part_steps}
-use Rattle.cp_check.specs.Headings.{after_faults}
 use Rattle.cp_check.specs.Routines.{Opened, need_of, routine_steps}
 use Rattle.cp_check.specs.Statements.{statements}
 use Rattle.cp_check.specs.Systems as systems_of
 use Rattle.cp_check.specs.Systems.{inside, initial_context, system_heading}
-use Rattle.cp_lawful.proofs.Kept.{last_is}
-use Rattle.cp_lawful.proofs.Loud.{statements_loud}
-use Rattle.cp_meaning.specs.Names.{Name}
 use Rattle.cp_meaning.specs.Types as named
-use Rattle.cp_meaning.specs.Types.{Ty}
 use Rattle.cp_meaning.specs.Scopes as scopes
-use Rattle.cp_meaning.specs.Scopes.{find, seen_inside}
 use Rattle.cp_meaning.specs.Declarations as meant
-use Rattle.cp_meaning.specs.Declarations.{Block}
-use Rattle.cp_meaning.specs.Systems.{SystemMeaning, with_routines, system_in, system_of}
-use Rattle.cp_meaning.specs.Expressions.{routine_of_system, routine_of_type}
-use Rattle.cp_resolved.specs.Enumerations.{each_in, in_part, in_routine, in_system}
 use Rattle.cp_resolved.specs.Judging.{Place, parts_scopes, initial_place, routine_places, system_places, AreAgreed}
 use Rattle.cp_resolved.specs.Openings.{Opening, parts_scope, routine_openings, initial_opening, system_openings}
-use Rattle.cp_resolved.specs.Limited.{AreLimited}
-use Rattle.cp_resolved.specs.Small.{Each, IsSmallSystem}
-use Rattle.cp_resolved.specs.Standing.{is_element, is_standing, IsStandingVariable, IsStandingParameter}
 use Rattle.cp_resolved.specs.Tokens.{all_tokens, routine_tokens, system_tokens}
 use Rattle.cp_resolved.specs.Typed.{Tokens, SystemThere, IsValueParameter, IsSystemParameter, Written, TypeIs, IsHanded, AreParameters, HeadingIs, RoutineIs}
 use Rattle.cp_resolved.proofs.agreeing.Agreeing.{Good, good_then, good_sound, none_left, none_right, look_entered, inner_look, More, more_same, more_trans, with_more, with_there, with_other, free_others, appends_none}
@@ -56,7 +37,6 @@ use Rattle.cp_resolved.proofs.agreeing.AgreeingRoutines.{none_after, AreRead}
 use Rattle.cp_resolved.proofs.agreeing.AgreeingBodies.{Uses, loud_uses, all_heard, place_agreed, RoutinesResult, routines_agree}
 use Rattle.cp_resolved.proofs.agreeing.VariablesAmongNames.{Declares, declares_more, parts_declare, Counted, closed_counted}
 use Rattle.cp_resolved.proofs.declarations.Reserving.{AreFresh, pending_fresh}
-use Rattle.cp_lawful.proofs.Once.{no_first as none_first, none_before}
 
 pub agreed_append : (tokens : Tokens) (p : Program) (xs ys : List Place) (os qs : List Opening) → AreAgreed tokens p xs os → AreAgreed tokens p ys qs → AreAgreed tokens p (xs ++ ys) (os ++ qs)
 agreed_append tokens p [] ys [] qs h g = g

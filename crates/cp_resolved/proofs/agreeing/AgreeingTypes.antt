@@ -1,39 +1,22 @@
 -- Types that break no rule: the checker and the scope give them the same type, and their enumerations the same names.
 use Rattle.std.proofs.Common.{◌≡◌, ℕ, ◌≤◌, ℤ, Bool, true, false, ◌&&◌, if◌then◌else◌, List, [], ◌∷◌, length, Option, Some, None, Ok, Err, refl, sym, ap, subst, ◌∙◌, arith}
-use Rattle.std.specs.Str.{bytes_eq}
-use Rattle.std.specs.Prelude.{int_lt, int_le}
-use Rattle.cp_tree.specs.declared.constant.Constant.{Constant}
-use Rattle.cp_tree.specs.declared.declaration.SystemKind.{SystemKind}
+use Rattle.cp_resolved.proofs.Words.{bytes_eq, int_lt, int_le, Constant, SystemKind, Program, Range, ValueType, Meaning, same_base, Judged, both, ◌>>=◌}
+use Rattle.cp_resolved.proofs.Words.{ConstantNumber, Spot, Holding, Name, same_name, Ty, is_within, range_of, find, range_of_base, Enumerated, IsSmallSimple}
+use Rattle.cp_resolved.proofs.Words.{is_bounded, is_indexed, is_free, is_element, is_standing, IsFit}
 use Rattle.cp_tree.specs.Syntax as syntax
-use Rattle.cp_tree.specs.Syntax.{Program}
 use Rattle.cp_scope.specs.declared.fault.Rule.TheVariants.{C5, C11, C13, C18}
 use Rattle.cp_scope.specs.declared.fault.CheckFault.TheVariants as check_fault
-use Rattle.cp_scope.specs.declared.types.Range.{Range}
-use Rattle.cp_scope.specs.declared.types.ValueType.{ValueType}
 use Rattle.cp_scope.specs.declared.types.ValueType.TheVariants as types
-use Rattle.cp_scope.specs.declared.types.Meaning.{Meaning}
 use Rattle.cp_scope.specs.declared.types.Meaning.TheVariants as meaning
-use Rattle.cp_scope.specs.Types.{same_base}
-use Rattle.cp_scope.specs.Judged.{Judged, both, ◌>>=◌}
 use Rattle.cp_scope.specs.Scopes.{Scopes, Shapes, shape_in, as_array, look, or_else, look_outer}
-use Rattle.cp_check.specs.declared.constant.ConstantNumber.{ConstantNumber}
-use Rattle.cp_check.specs.declared.types.Spot.{Spot}
 use Rattle.cp_check.specs.declared.types.Spot.TheVariants as spot
-use Rattle.cp_check.specs.declared.types.Holding.{Holding}
 use Rattle.cp_check.specs.declared.types.Holding.TheVariants as holds
 use Rattle.cp_check.specs.Names as names
 use Rattle.cp_check.specs.Constants.{constant}
 use Rattle.cp_check.specs.Types as typing
-use Rattle.cp_meaning.specs.Names.{Name, same_name}
 use Rattle.cp_meaning.specs.Types as named
-use Rattle.cp_meaning.specs.Types.{Ty, is_within, range_of}
 use Rattle.cp_meaning.specs.Scopes as scopes
-use Rattle.cp_meaning.specs.Scopes.{find}
 use Rattle.cp_meaning.specs.Declarations as meant
-use Rattle.cp_meaning.specs.Operations.{range_of_base}
-use Rattle.cp_resolved.specs.Enumerations.{Enumerated}
-use Rattle.cp_resolved.specs.Small.{IsSmallSimple}
-use Rattle.cp_resolved.specs.Standing.{is_bounded, is_indexed, is_free, is_element, is_standing, IsFit}
 use Rattle.cp_resolved.specs.Typed.{Tokens, Written, RangeIs, TypeIs, KindIs}
 use Rattle.cp_resolved.proofs.agreeing.Agreeing.{Good, good_then, good_both, good_if, is_itself, look_is, inner_look}
 use Rattle.cp_resolved.proofs.agreeing.AgreeingNames.{W, IsKnown, IsStacked, IsTypeKnown, Agree, sees}

@@ -1,45 +1,29 @@
 -- Written types that break no rule: what they leave agrees, and they are the types that they mean.
 use Rattle.std.proofs.Common.{◌≡◌, ℕ, suc, ◌+◌, ◌-◌, ◌*◌, ◌<◌, ◌≤◌, pos, Bool, true, false, ◌&&◌, ◌||◌, if◌then◌else◌, List, [], ◌∷◌, ◌++◌, length, Option, Some, None, Ok, Err, is_some, refl, sym, ap, subst, ◌∙◌, arith, append_assoc}
 use Rattle.std.specs.Prelude.{ℤ, ◌-ℤ◌, int_lt, int_le, nat_lt}
-use Rattle.std.specs.Str.{bytes_eq}
-use Rattle.std.proofs.lemmas.Bool.{le-leb, ltb-false}
+use Rattle.cp_resolved.proofs.Words.{bytes_eq, le-leb, ltb-false, Identifier, Program, CheckFault, Range, ValueType, Meaning, ArrayShape, whole, Judged, both}
+use Rattle.cp_resolved.proofs.Words.{◌>>=◌, faults, Spot, Step, nothing, Typed, typed, Name, all_characters, Ty, FieldTypes, is_within, range_of}
+use Rattle.cp_resolved.proofs.Words.{length_of_range, range_of_base, in_simple, in_type, in_groups, Each, IsSmallSimple, IsSmallType, AreSmallGroups}
+use Rattle.cp_resolved.proofs.Words.{cells_of, cells_in, type_tokens, groups_tokens, none_first, or_left, or_right}
 use Rattle.std.proofs.lemmas.List.{length-map, append-nil}
-use Rattle.cp_tree.specs.declared.constant.Identifier.{Identifier}
 use Rattle.cp_tree.specs.Syntax as syntax
-use Rattle.cp_tree.specs.Syntax.{Program}
 use Rattle.cp_scope.specs.declared.fault.Rule.TheVariants.{C2, C20}
-use Rattle.cp_scope.specs.declared.fault.CheckFault.{CheckFault}
 use Rattle.cp_scope.specs.declared.fault.CheckFault.TheVariants as check_fault
 use Rattle.cp_scope.specs.declared.types.Base as check_base
 use Rattle.cp_scope.specs.declared.types.Base.TheVariants as base
-use Rattle.cp_scope.specs.declared.types.Range.{Range}
-use Rattle.cp_scope.specs.declared.types.ValueType.{ValueType}
 use Rattle.cp_scope.specs.declared.types.ValueType.TheVariants as types
-use Rattle.cp_scope.specs.declared.types.Meaning.{Meaning}
 use Rattle.cp_scope.specs.declared.types.Meaning.TheVariants as meaning
-use Rattle.cp_scope.specs.declared.shape.ArrayShape.{ArrayShape}
-use Rattle.cp_scope.specs.Types.{whole}
 use Rattle.cp_scope.specs.Counts.{times}
-use Rattle.cp_scope.specs.Judged.{Judged, both, ◌>>=◌, faults}
 use Rattle.cp_scope.specs.Scopes.{Names, Scope, new_scope, Scopes, Shape, array_shape, record_shape, Shapes, shape_in, as_array, count_of, is_declared, is_declared_in, is_among, with_name, with_shape, add, keep}
 use Rattle.cp_scope.specs.Scopes as checker
-use Rattle.cp_check.specs.declared.types.Spot.{Spot}
 use Rattle.cp_check.specs.declared.types.Spot.TheVariants as spot
 use Rattle.cp_check.specs.Constants.{constant}
 use Rattle.cp_check.specs.Records.{Fields, reserve_fields, with_fields, add_fields, sound_of}
 use Rattle.cp_check.specs.Types as typing
-use Rattle.cp_check.specs.Types.{Step, nothing, Typed, typed}
-use Rattle.cp_meaning.specs.Names.{Name}
 use Rattle.cp_meaning.specs.Types as named
-use Rattle.cp_meaning.specs.Types.{all_characters, Ty, FieldTypes, is_within, range_of, length_of_range}
 use Rattle.cp_meaning.specs.Scopes as scopes
 use Rattle.cp_meaning.specs.Declarations as meant
-use Rattle.cp_meaning.specs.Operations.{range_of_base}
-use Rattle.cp_resolved.specs.Enumerations.{in_simple, in_type, in_groups}
-use Rattle.cp_resolved.specs.Small.{Each, IsSmallSimple, IsSmallType, AreSmallGroups}
-use Rattle.cp_resolved.specs.Layouts.{cells_of, cells_in}
 use Rattle.cp_resolved.specs.Standing.{is_bounded, is_based, are_few, is_indexed, is_free, are_free, is_element, is_standing}
-use Rattle.cp_resolved.specs.Tokens.{type_tokens, groups_tokens}
 use Rattle.cp_resolved.specs.Typed.{Tokens, BaseIs, RangeIs, TypeIs, FieldsAre}
 use Rattle.cp_resolved.proofs.agreeing.Agreeing.{Appends, appends_same, appends_then, Good, good_then, Sound, good_sound, none_left, none_right, none_of_both, new_names, find_last, is_itself, More, more_same, more_trans, with_more, with_there}
 use Rattle.cp_resolved.proofs.agreeing.AgreeingCells.{array_takes, record_takes}
@@ -47,7 +31,6 @@ use Rattle.cp_resolved.proofs.agreeing.AgreeingNames.{W, Agree, sees, agree_adde
 use Rattle.cp_resolved.proofs.agreeing.AgreeingTypes.{MayHold, OwnedAt, array_owned, StandsAt, stands_free, spotted_stands, held_array, IsOrdinal, ordinal_of, IsFew, TypedAs, type_spotted, subrange_typed}
 use Rattle.cp_resolved.proofs.counts.FewCells.{in_order, few_element, characters_within}
 use Rattle.cp_resolved.proofs.declarations.Reserving.{Pends, ReservedIn, all_reserved, pending_fresh, named_all, Filled, all_filled}
-use Rattle.cp_lawful.proofs.Once.{no_first as none_first, or_left, or_right}
 
 -- ---- lists
 

@@ -1,15 +1,9 @@
 -- System types and enumerations by their tokens, where these are different.
 use Rattle.std.proofs.Common.{◌≡◌, ℕ, zero, suc, Bool, if◌then◌else◌, List, [], ◌∷◌, ◌++◌, length, Some, slice_get, refl, sym, ap, subst, ◌∙◌, arith, append_assoc, length-append}
 use Rattle.std.proofs.lemmas.List.{append-nil}
-use Rattle.cp_tree.specs.declared.declaration.SystemKind.{SystemKind}
+use Rattle.cp_resolved.proofs.Words.{SystemKind, names_of, seen_inside, Enumerated, nothing_declared, Each, tokens_of}
 use Rattle.cp_tree.specs.Syntax.{array_of, record_of, no_fields, more_fields, fields, TypeDefinition, VariableGroup, constants, types, variables, System, Definition, type_definition, system_definition, SystemDefinition, ProgramPart, program_constants, program_types, program_variables, Program}
-use Rattle.cp_meaning.specs.Declarations.{names_of}
 use Rattle.cp_meaning.specs.Systems.{SystemMeaning, system_in, Declared, definition_in, definitions_in, program_part_in, program_parts_in, declared, own_meaning, or_own}
-use Rattle.cp_meaning.specs.Scopes.{seen_inside}
-use Rattle.cp_resolved.specs.Enumerations.{Enumerated}
-use Rattle.cp_resolved.specs.Fit.{nothing_declared}
-use Rattle.cp_resolved.specs.Small.{Each}
-use Rattle.cp_resolved.specs.Judging.{tokens_of}
 use Rattle.cp_resolved.specs.Tokens.{all_tokens, type_tokens, groups_tokens, part_tokens, routine_tokens, definition_tokens, program_part_tokens, program_tokens, IsOther, AreDifferent, definition_types, program_part_types, token_in, tokens_of_enumerations, HasFew, constants_among}
 use Rattle.cp_resolved.proofs.agreeing.Agreeing.{same_number, other_number}
 use Rattle.cp_resolved.proofs.agreeing.AgreeingTypes.{IsFew}

@@ -1,11 +1,8 @@
 -- In the program around its system types stand constants, types and permanent variables alone.
-use Rattle.std.proofs.Common.{ℕ, suc, List, [], ◌∷◌, ◌++◌}
+use Rattle.cp_resolved.proofs.Words.{ℕ, suc, List, [], ◌∷◌, ◌++◌, Name, Scope, permanent_variable, AreOuter}
 use Rattle.cp_tree.specs.Syntax as syntax
-use Rattle.cp_meaning.specs.Names.{Name}
 use Rattle.cp_meaning.specs.Types.{Base, enumerated, Ty}
-use Rattle.cp_meaning.specs.Scopes.{Scope, permanent_variable}
 use Rattle.cp_meaning.specs.Declarations.{with_constants, simple_in, type_in, fields_in, names_of, constants_in, with_names, Block, named_variables, variables_in}
-use Rattle.cp_resolved.specs.InStep.{AreOuter}
 
 outer_counted : (b : Base) (n : ℕ) (xs : List Name) (s : Scope) → AreOuter s → AreOuter (with_constants b n xs s)
 outer_counted b n [] s h = h

@@ -1,35 +1,23 @@
 -- Under which names a routine is seen, while declarations are laid out and checked side by side.
 use Rattle.std.proofs.Common.{◌≡◌, ℕ, ◌+◌, Bool, true, false, if◌then◌else◌, List, [], ◌∷◌, ◌++◌, Option, Some, None, Ok, Err, is_some, pos, refl, sym, subst, ◌∙◌}
-use Rattle.std.specs.Str.{bytes_eq}
-use Rattle.std.proofs.lemmas.Slice.Eq.{bytes_eq-Decides}
-use Rattle.cp_tree.specs.declared.constant.Identifier.{Identifier}
-use Rattle.cp_tree.specs.declared.declaration.SystemKind.{SystemKind}
+use Rattle.cp_resolved.proofs.Words.{bytes_eq, bytes_eq-Decides, Identifier, SystemKind, C2, ArrayShape, Judged, Spot, Step, nothing, typed, CellBase}
+use Rattle.cp_resolved.proofs.Words.{CellType, Contained, LayoutMeaning, as_integer}
 use Rattle.cp_tree.specs.Syntax as syntax
 use Rattle.cp_tree.specs.Syntax.{ConstantDefinition, TypeDefinition, VariableGroup, Part, Group, ParameterGroup, RoutineKind}
 use Rattle.cp_scope.specs.declared.fault.CheckFault.TheVariants as check_fault
-use Rattle.cp_scope.specs.declared.fault.Rule.TheVariants.{C2}
 use Rattle.cp_scope.specs.declared.types.Base as checked_base
 use Rattle.cp_scope.specs.declared.types.Meaning as checked
 use Rattle.cp_scope.specs.declared.types.Meaning.TheVariants as checked_meaning
-use Rattle.cp_scope.specs.declared.shape.ArrayShape.{ArrayShape}
-use Rattle.cp_scope.specs.Judged.{Judged}
 use Rattle.cp_scope.specs.Scopes as scopes
 use Rattle.cp_scope.specs.Scopes.{Names, Scope, Scopes, Shape, is_declared, with_name, add, settle, keep}
-use Rattle.cp_check.specs.declared.types.Spot.{Spot}
 use Rattle.cp_check.specs.declared.types.Spot.TheVariants as spot
 use Rattle.cp_check.specs.Types as typing
-use Rattle.cp_check.specs.Types.{Step, nothing, typed}
 use Rattle.cp_check.specs.Declarations.{reserve_name, reserve_names, add_names, add_all, add_one, constant_step, constant_steps, type_step, type_steps, variable_step, variable_steps, part_step, part_steps}
 use Rattle.cp_check.specs.Headings as headings
 use Rattle.cp_check.specs.Systems as systems
-use Rattle.cp_layout.specs.declared.kinds.CellBase.{CellBase}
-use Rattle.cp_layout.specs.declared.kinds.CellType.{CellType}
 use Rattle.cp_layout.specs.declared.kinds.CellType.TheVariants as types
-use Rattle.cp_layout.specs.declared.layer.Contained.{Contained}
-use Rattle.cp_layout.specs.declared.names.LayoutMeaning.{LayoutMeaning}
 use Rattle.cp_layout.specs.declared.names.LayoutMeaning.TheVariants as meaning
 use Rattle.cp_layout.specs.Kinds.{Fields, no_fields}
-use Rattle.cp_layout.specs.LaidExpressions.{as_integer}
 use Rattle.cp_layout.specs.Layers as layers
 use Rattle.cp_layout.specs.Layers.{Layer, find}
 use Rattle.cp_layout.specs.LaidTypes.{with_constant, enumerated, simple_type, written_type, field_groups, field_group, named_type}

@@ -1,29 +1,19 @@
 -- The routines and initial statements of a program that breaks no rule, by their numbers.
 use Rattle.std.proofs.Common.{◌≡◌, ℕ, true, List, [], ◌∷◌, ◌++◌, length, None, Ok, inr, refl, sym, subst}
 use Rattle.cp_tree.specs.Syntax.{Program, System, Definition, type_definition, system_definition, SystemDefinition, ProgramPart, program_constants, program_types, program_variables, Tree}
-use Rattle.cp_scope.specs.declared.count.Use.{Use}
-use Rattle.cp_scope.specs.Counts.{no_use}
-use Rattle.cp_scope.specs.Judged.{Judged, ◌>>=◌, faults}
-use Rattle.cp_scope.specs.Scopes.{Scopes, parameters_in, enter, start}
-use Rattle.cp_check.specs.Types.{Step, Typed}
-use Rattle.cp_check.specs.Declarations.{to_kind, reserve_name}
-use Rattle.cp_check.specs.Routines.{routine_steps}
+use Rattle.cp_resolved.proofs.Words.{Use, no_use, Judged, ◌>>=◌, faults, Scopes, parameters_in, enter, start, Step, Typed, to_kind, reserve_name}
+use Rattle.cp_resolved.proofs.Words.{routine_steps, IsAccepted, predeclared, seen_inside, in_routine, in_definition, in_program_part, each_in}
+use Rattle.cp_resolved.proofs.Words.{enumerations_of, nothing_declared, IsRead, Each, IsSmallDefinition, IsSmallProgramPart, IsSmallProgram, Tokens}
+use Rattle.cp_resolved.proofs.Words.{none_first, none_before}
 use Rattle.cp_check.specs.Statements.{statements}
 use Rattle.cp_check.specs.Systems as systems_of
 use Rattle.cp_check.specs.Systems.{definition_step, definition_steps, program_part_step, program_part_steps}
 use Rattle.cp_check.specs.Faults.{declarations, program_context, opened, faults_of}
-use Rattle.cp_lawful.specs.Accepted.{IsAccepted}
 use Rattle.cp_meaning.specs.Scopes as scopes
-use Rattle.cp_meaning.specs.Scopes.{predeclared, seen_inside}
 use Rattle.cp_meaning.specs.Systems.{SystemMeaning, system_in, Declared, definition_in, definitions_in, program_part_in, program_parts_in, declared, program_system, own_meaning, system_of}
-use Rattle.cp_resolved.specs.Enumerations.{in_routine, in_definition, in_program_part, each_in, enumerations_of}
-use Rattle.cp_resolved.specs.Fit.{nothing_declared}
 use Rattle.cp_resolved.specs.Judging.{Place, definition_places, definitions_places, part_places, parts_places, routine_places, places_of, tokens_of}
 use Rattle.cp_resolved.specs.Openings.{Opening, parts_scope, definition_openings, definitions_openings, part_openings, parts_openings, routine_openings, initial_opening, openings_of}
-use Rattle.cp_tree.specs.Read.{IsRead}
-use Rattle.cp_resolved.specs.Small.{Each, IsSmallDefinition, IsSmallProgramPart, IsSmallProgram}
 use Rattle.cp_resolved.specs.Tokens.{AreDifferent, all_tokens, routine_tokens, definition_tokens, program_part_tokens, program_tokens, token_of_type}
-use Rattle.cp_resolved.specs.Typed.{Tokens}
 use Rattle.cp_resolved.proofs.agreeing.Agreeing.{none_left, none_right}
 use Rattle.cp_resolved.proofs.agreeing.AgreeingNames.{Agree}
 use Rattle.cp_resolved.proofs.agreeing.AgreeingTypes.{IsFew}
@@ -38,7 +28,6 @@ use Rattle.cp_resolved.proofs.declarations.EnumerationsRead.{read_few, read_diff
 use Rattle.cp_resolved.proofs.agreeing.RoutinesSeen.{written, constants, variables}
 use Rattle.cp_resolved.proofs.statements.RoutinesNoted.{AreNoRoutines, one_more, none_inside, none_found, AreListed, listed_left, listed_right, all_listed, AreNoted, noted_both, RoutinesNoted, routines_noted, SystemNumbered, done_numbered, initial_numbered, system_noted}
 use Rattle.cp_resolved.proofs.declarations.SmallTexts.{read_small}
-use Rattle.cp_lawful.proofs.Once.{no_first as none_first, none_before}
 
 module _ (tokens : Tokens) (p : Program) where
   -- ---- no routine stands around a system type

@@ -1,20 +1,12 @@
 -- Types of the language that the checker has as one are one.
-use Rattle.std.proofs.Common.{◌≡◌, true, [], ◌∷◌, Option, Some, ℕ, ℤ, refl, sym, ap, subst, ◌∙◌}
-use Rattle.cp_tree.specs.declared.declaration.SystemKind.{SystemKind}
+use Rattle.cp_resolved.proofs.Words.{◌≡◌, true, [], ◌∷◌, Option, Some, ℕ, ℤ, refl, sym, ap, subst, ◌∙◌, SystemKind, Range, ValueType, Meaning, ArrayShape}
+use Rattle.cp_resolved.proofs.Words.{same_base, Name, Ty, FieldTypes, cells_in}
 use Rattle.cp_scope.specs.declared.types.Base as check_base
 use Rattle.cp_scope.specs.declared.types.Base.TheVariants as base
-use Rattle.cp_scope.specs.declared.types.Range.{Range}
-use Rattle.cp_scope.specs.declared.types.ValueType.{ValueType}
 use Rattle.cp_scope.specs.declared.types.ValueType.TheVariants as types
-use Rattle.cp_scope.specs.declared.types.Meaning.{Meaning}
 use Rattle.cp_scope.specs.declared.types.Meaning.TheVariants as meaning
-use Rattle.cp_scope.specs.declared.shape.ArrayShape.{ArrayShape}
-use Rattle.cp_scope.specs.Types.{same_base}
 use Rattle.cp_scope.specs.Scopes.{Names, Scope, record_shape, shape_in, as_array}
-use Rattle.cp_meaning.specs.Names.{Name}
 use Rattle.cp_meaning.specs.Types as named
-use Rattle.cp_meaning.specs.Types.{Ty, FieldTypes}
-use Rattle.cp_resolved.specs.Layouts.{cells_in}
 use Rattle.cp_resolved.specs.Typed.{Tokens, Written, BaseIs, RangeIs, TypeIs, FieldsAre}
 use Rattle.cp_resolved.proofs.agreeing.Agreeing.{same_number}
 use Rattle.cp_resolved.proofs.agreeing.AgreeingConstants.{base_same}

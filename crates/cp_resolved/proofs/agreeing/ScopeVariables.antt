@@ -1,16 +1,10 @@
 -- The variables that are visible in a scope are those that were declared.
 use Rattle.std.proofs.Common.{◌≡◌, ℕ, suc, Bool, true, false, if◌then◌else◌, List, [], ◌∷◌, ◌++◌, Some, None, refl, sym, ap, subst, ◌∙◌, ◌⊎◌, inl, inr, append_assoc, append-nil}
-use Rattle.std.proofs.lemmas.Option.{none-some, same_Some}
+use Rattle.cp_resolved.proofs.Words.{none-some, same_Some, Name, same_name, parameter_variables, AreDifferent, look, Each, components_among}
 use Rattle.cp_tree.specs.Syntax as syntax
-use Rattle.cp_meaning.specs.Names.{Name, same_name}
 use Rattle.cp_meaning.specs.Types.{Base, enumerated, Ty, has_components}
 use Rattle.cp_meaning.specs.Scopes.{Meaning, constant_meaning, type_meaning, local_variable, permanent_variable, routine_meaning, standard_meaning, Scope, find, seen_inside}
 use Rattle.cp_meaning.specs.Declarations.{Variable, Block, Heading, names_of, named_variables, parameters_named, with_names, with_constants, simple_in, type_in, fields_in, constants_in, types_in, variables_in, part_in, parts_in, with_group, with_groups, with_parameter_groups, type_named}
-use Rattle.cp_meaning.specs.Steps.{parameter_variables}
-use Rattle.cp_resolved.specs.Framed.{AreDifferent}
-use Rattle.cp_resolved.specs.Layouts.{look}
-use Rattle.cp_resolved.specs.Small.{Each}
-use Rattle.cp_resolved.specs.TreeLayouts.{components_among}
 use Rattle.cp_resolved.proofs.frames.FrameCells.{itself, same_is}
 use Rattle.cp_resolved.proofs.frames.FrameSteps.{one_variable}
 use Rattle.cp_resolved.proofs.frames.FramesBegun.{variables_append, named_parameters}

@@ -1,14 +1,8 @@
 -- The checker's scopes agree at all statements of a tree that was read and breaks no rule.
-use Rattle.std.proofs.Common.{◌≡◌, ℕ, zero, suc, List, [], ◌∷◌, slice_get, refl}
-use Rattle.cp_tree.specs.Syntax.{Program, Tree}
-use Rattle.cp_check.specs.Faults.{faults_of}
-use Rattle.cp_meaning.specs.Systems.{SystemMeaning, declared, own_meaning, or_own, system_of}
-use Rattle.cp_resolved.specs.Enumerations.{enumerations_of}
+use Rattle.cp_resolved.proofs.Words.{◌≡◌, ℕ, zero, suc, List, [], ◌∷◌, slice_get, refl, Program, Tree, faults_of, SystemMeaning, declared, own_meaning}
+use Rattle.cp_resolved.proofs.Words.{or_own, system_of, enumerations_of, Each, IsSmallProgram, IsStandingVariable, IsStandingParameter, IsSystemParameter}
 use Rattle.cp_resolved.specs.Judging.{tokens_of, ScopesAre, ScopesLaw}
-use Rattle.cp_resolved.specs.Small.{Each, IsSmallProgram}
-use Rattle.cp_resolved.specs.Standing.{IsStandingVariable, IsStandingParameter}
 use Rattle.cp_resolved.specs.Tokens.{AreDifferent, program_tokens, token_of_type, tokens_of_enumerations, HasFew}
-use Rattle.cp_resolved.specs.Typed.{IsSystemParameter}
 use Rattle.cp_resolved.proofs.agreeing.AgreeingProgram.{ProgramResult, program_agrees}
 use Rattle.cp_resolved.proofs.agreeing.DifferentIndexed.{tokens_different}
 use Rattle.cp_resolved.proofs.agreeing.DifferentTokens.{all_numbered, all_few}

@@ -1,27 +1,16 @@
 -- Each declaration writes shapes at tokens of its own, and leaves what is written at others.
 use Rattle.std.proofs.Common.{◌≡◌, ℕ, ◌+◌, ◌<◌, ◌≤◌, ◌∙◌, Bool, true, false, if◌then◌else◌, List, [], ◌∷◌, ◌++◌, length, Option, Some, None, Ok, Err, is_some, pos, refl, ap, arith}
-use Rattle.std.specs.Prelude.{nat_eq}
-use Rattle.std.proofs.lemmas.Bool.{eqb-false}
-use Rattle.cp_text.specs.declared.token.Kind.{Kind}
+use Rattle.cp_resolved.proofs.Words.{nat_eq, eqb-false, Kind, Identifier, SystemKind, C2, Meaning, ValueType, ArrayShape, Use, Judged, Spot}
 use Rattle.cp_text.specs.declared.token.Kind.TheVariants as kind
 use Rattle.cp_text.specs.declared.token.Mark.TheVariants as mark
-use Rattle.cp_tree.specs.declared.constant.Identifier.{Identifier}
-use Rattle.cp_tree.specs.declared.declaration.SystemKind.{SystemKind}
 use Rattle.cp_tree.specs.Syntax.{Simple, enumeration, TypeTerm, simple, array_of, set_type, record_of, FieldGroups, no_fields, more_fields, FieldGroup, fields, ConstantDefinition, TypeDefinition, VariableGroup, Part, constants, types, variables, Group, ParameterGroup, RoutineKind, procedure, function, Routine, System, Definition, type_definition, system_definition, SystemDefinition, ProgramPart, program_constants, program_types, program_variables}
 use Rattle.cp_tree.specs.Spelling.{put_optional, put_all, put_type, put_field_groups, put_more_field_groups, put_field_group, put_type_definition, put_variable_group, put_part, put_group, put_identifier, put_body, put_routine_kind, put_routine, put_system, put_definition, put_system_definition, put_program_part}
 use Rattle.cp_tree.specs.SpellingIndexed.{AreAllIndexed, AreSomeIndexed, IsIndexedType, AreIndexedFieldGroups, AreIndexedMoreFieldGroups, IsIndexedFieldGroup, IsIndexedTypeDefinition, IsIndexedVariableGroup, IsIndexedPart, IsIndexedRoutine, IsIndexedSystem, IsIndexedDefinition, IsIndexedSystemDefinition, IsIndexedProgramPart}
 use Rattle.cp_tree.proofs.Grows.{grows_optional, grows_all, grows_names, grows_simple, grows_type, grows_field_groups, grows_more_field_groups, grows_field_group, grows_type_definition, grows_variable_group, grows_part, grows_group, grows_body, grows_parameters, grows_routine_kind, grows_routine, grows_system_definition}
 use Rattle.cp_scope.specs.declared.fault.CheckFault.TheVariants as check_fault
-use Rattle.cp_scope.specs.declared.fault.Rule.TheVariants.{C2}
 use Rattle.cp_scope.specs.declared.types.Base.{Base}
-use Rattle.cp_scope.specs.declared.types.Meaning.{Meaning}
 use Rattle.cp_scope.specs.declared.types.Meaning.TheVariants as meaning
-use Rattle.cp_scope.specs.declared.types.ValueType.{ValueType}
-use Rattle.cp_scope.specs.declared.shape.ArrayShape.{ArrayShape}
-use Rattle.cp_scope.specs.declared.count.Use.{Use}
-use Rattle.cp_scope.specs.Judged.{Judged}
 use Rattle.cp_scope.specs.Scopes.{Scope, Shape, Shapes, shape_in, with_shape, Scopes, is_declared, add, reserve, settle, enter, leave, add_around, keep}
-use Rattle.cp_check.specs.declared.types.Spot.{Spot}
 use Rattle.cp_check.specs.declared.types.Spot.TheVariants as spot
 use Rattle.cp_check.specs.Types.{Step, nothing, member, members, simple_typed, keep_array, keep_record, typed, groups_typed, group_typed}
 use Rattle.cp_check.specs.Declarations.{reserve_name, reserve_names, add_names, add_all, add_one, constant_step, constant_steps, type_step, type_steps, variable_step, variable_steps, part_step, part_steps}

@@ -1,32 +1,19 @@
 -- Variables that are declared without a fault stand among the checker's names in their order, each with its type; and so what is counted of a system type is counted of its variables.
 use Rattle.std.proofs.Common.{◌≡◌, ◌+◌, ◌<◌, ◌≤◌, ℕ, Bool, true, false, List, [], ◌∷◌, ◌++◌, length, Option, Some, None, refl, sym, ap, subst, ◌∙◌, append_assoc, arith, length-append}
 use Rattle.std.specs.Prelude.{nat_lt}
-use Rattle.std.proofs.lemmas.Bool.{ltb-true, ltb-false}
-use Rattle.cp_tree.specs.declared.constant.Identifier.{Identifier}
+use Rattle.cp_resolved.proofs.Words.{ltb-true, ltb-false, Identifier, ValueType, Meaning, Use, Judged, ◌>>=◌, faults, Spot, Typed, typed, Name, Ty, Variable}
+use Rattle.cp_resolved.proofs.Words.{Block, SystemMeaning, system_in, system_of, in_type, in_part, each_in, Each, IsSmallType, IsSmallPart, all_tokens}
+use Rattle.cp_resolved.proofs.Words.{type_tokens, part_tokens, Tokens, SystemThere, none_first}
 use Rattle.cp_tree.specs.Syntax as syntax
 use Rattle.cp_tree.specs.Syntax.{Program, VariableGroup, Part, System}
-use Rattle.cp_scope.specs.declared.types.ValueType.{ValueType}
-use Rattle.cp_scope.specs.declared.types.Meaning.{Meaning}
 use Rattle.cp_scope.specs.declared.types.Meaning.TheVariants as meaning
-use Rattle.cp_scope.specs.declared.count.Use.{Use}
-use Rattle.cp_scope.specs.Judged.{Judged, ◌>>=◌, faults}
 use Rattle.cp_scope.specs.Scopes.{Names, Scopes, Shapes, Shape, system_shape, shape_in, with_shape, settle, leave, keep, census}
-use Rattle.cp_check.specs.declared.types.Spot.{Spot}
 use Rattle.cp_check.specs.declared.types.Spot.TheVariants as spot
-use Rattle.cp_check.specs.Types.{Typed, typed}
 use Rattle.cp_check.specs.Declarations.{as_declared, to_variable, reserve_names, add_names, add_all, variable_step, variable_steps, part_step, part_steps}
 use Rattle.cp_check.specs.Routines.{need_of}
 use Rattle.cp_check.specs.Systems.{system_heading, closed}
-use Rattle.cp_meaning.specs.Names.{Name}
-use Rattle.cp_meaning.specs.Types.{Ty}
 use Rattle.cp_meaning.specs.Scopes as scopes
 use Rattle.cp_meaning.specs.Declarations as meant
-use Rattle.cp_meaning.specs.Declarations.{Variable, Block}
-use Rattle.cp_meaning.specs.Systems.{SystemMeaning, system_in, system_of}
-use Rattle.cp_resolved.specs.Enumerations.{in_type, in_part, each_in}
-use Rattle.cp_resolved.specs.Small.{Each, IsSmallType, IsSmallPart}
-use Rattle.cp_resolved.specs.Tokens.{all_tokens, type_tokens, part_tokens}
-use Rattle.cp_resolved.specs.Typed.{Tokens, SystemThere}
 use Rattle.cp_resolved.proofs.agreeing.Agreeing.{Appends, none_left, none_right, More, more_trans, with_more, with_there}
 use Rattle.cp_resolved.proofs.agreeing.AgreeingNames.{type_more, Agree}
 use Rattle.cp_resolved.proofs.agreeing.AgreeingTypes.{IsFew, TypedAs}
@@ -34,7 +21,6 @@ use Rattle.cp_resolved.proofs.agreeing.AgreeingWritten.{each_left, each_right}
 use Rattle.cp_resolved.proofs.agreeing.AgreeingParameters.{shapes_added}
 use Rattle.cp_resolved.proofs.agreeing.AgreeingParts.{StepResult, names_result, all_named, constants_agree, type_reached, types_agree, Kind, variable_agrees, part_agrees}
 use Rattle.cp_resolved.proofs.declarations.Reserving.{named_all}
-use Rattle.cp_lawful.proofs.Once.{no_first as none_first}
 
 -- a variable among names, with those before it and those after it
 pub record StandsAmong (Is : ValueType → Type 0) (Rest : Names → Type 0) (x : Name) (ds : Names) : Type 0 where

@@ -1,7 +1,5 @@
 -- Where something is judged without a fault, so are its parts.
-use Rattle.std.proofs.Common.{◌≡◌, Bool, true, false, if◌then◌else◌, List, ◌∷◌, Ok, Err, refl, ap}
-use Rattle.cp_scope.specs.declared.fault.CheckFault.{CheckFault}
-use Rattle.cp_scope.specs.Judged.{Judged, both, ◌>>=◌}
+use Rattle.cp_resolved.proofs.Words.{◌≡◌, Bool, true, false, if◌then◌else◌, List, ◌∷◌, Ok, Err, refl, ap, CheckFault, Judged, both, ◌>>=◌}
 
 pub ok_same : {A : Type 0} (x y : A) → (let j : Judged A = Ok x in j) ≡ Ok y → x ≡ y
 ok_same x y e = cc

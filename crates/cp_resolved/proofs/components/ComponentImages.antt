@@ -1,35 +1,16 @@
 -- The permanent cells of each component begin with the first values of its system type.
 use Rattle.std.proofs.Common.{◌≡◌, ℕ, ◌+◌, ℤ, pos, Bool, true, false, ◌&&◌, if◌then◌else◌, List, [], ◌∷◌, ◌++◌, length, Some, refl, sym, ap, subst, ◌∙◌, inl, inr, ◌⊎◌, append_assoc, arith, length-append}
-use Rattle.std.specs.Prelude.{min}
-use Rattle.std.proofs.lemmas.Option.{none-some, same_Some}
-use Rattle.std.proofs.lemmas.Slice.Eq.{bytes_eq-Decides}
-use Rattle.cp_layout.specs.declared.layer.Content.{Content}
+use Rattle.cp_resolved.proofs.Words.{min, none-some, same_Some, bytes_eq-Decides, Content, LayoutMeaning, Compounds, most, plus, Layer, Owned, contents_least}
+use Rattle.cp_resolved.proofs.Words.{Name, same_name, Ty, FieldTypes, has_components, find, permanent_variable, Variable, SystemMeaning, holds, content_of}
+use Rattle.cp_resolved.proofs.Words.{value_held, least_of, parameter_variables, encode, Numbering, CellsAre, PartsAre, BoundIs, cells_in, look, StandsAt}
+use Rattle.cp_resolved.proofs.Words.{first_permanent, Each, slot_in, components_among}
 use Rattle.cp_layout.specs.declared.layer.Content.TheVariants as content
-use Rattle.cp_layout.specs.declared.names.LayoutMeaning.{LayoutMeaning}
 use Rattle.cp_layout.specs.Kinds as kinds
-use Rattle.cp_layout.specs.Kinds.{Compounds, most, plus}
 use Rattle.cp_layout.specs.Layers as layers
-use Rattle.cp_layout.specs.Layers.{Layer, Owned}
-use Rattle.cp_layout.specs.LaidComponents.{contents_least}
-use Rattle.cp_meaning.specs.Names.{Name, same_name}
 use Rattle.cp_meaning.specs.Types as named
-use Rattle.cp_meaning.specs.Types.{Ty, FieldTypes, has_components}
 use Rattle.cp_meaning.specs.Values as values
-use Rattle.cp_meaning.specs.Scopes.{find, permanent_variable}
-use Rattle.cp_meaning.specs.Declarations.{Variable}
-use Rattle.cp_meaning.specs.Systems.{SystemMeaning}
-use Rattle.cp_meaning.specs.State.{holds}
-use Rattle.cp_meaning.specs.Places.{content_of, value_held}
-use Rattle.cp_meaning.specs.Calls.{least_of}
-use Rattle.cp_meaning.specs.Steps.{parameter_variables}
 use Rattle.cp_resolved.specs.Declared.{own_variables, IsVisible}
-use Rattle.cp_resolved.specs.Encoded.{encode}
-use Rattle.cp_resolved.specs.InStep.{Numbering, CellsAre, PartsAre, BoundIs}
-use Rattle.cp_resolved.specs.Layouts.{cells_in, look}
-use Rattle.cp_resolved.specs.Resolved.{StandsAt, first_permanent}
-use Rattle.cp_resolved.specs.Small.{Each}
 use Rattle.cp_resolved.specs.Standing.{are_few, is_indexed, is_free, are_free, is_standing, IsStandingVariable}
-use Rattle.cp_resolved.specs.TreeLayouts.{slot_in, components_among}
 use Rattle.cp_resolved.proofs.frames.EncodedCells.{HoldEarlier, IsValued, AreValued, least_encoded, least_counted}
 use Rattle.cp_resolved.proofs.systems.OwnedParts.{cells_after, SlotIs, ContentIs}
 use Rattle.cp_resolved.proofs.systems.SystemsLaid.{PermanentIs, OwnIs}

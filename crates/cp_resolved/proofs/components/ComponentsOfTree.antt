@@ -1,21 +1,11 @@
 -- The tables of a tree list its components and processes.
 use Rattle.std.proofs.Common.{◌≡◌, ℕ, suc, ◌<◌, ◌≤◌, List, [], ◌∷◌, length, Option, Some, None, slice_get, refl, sym, ap, subst, ◌∙◌, arith}
 use Rattle.std.specs.Prelude.{◌-◌}
-use Rattle.std.proofs.lemmas.Option.{slice_get_within}
+use Rattle.cp_resolved.proofs.Words.{slice_get_within, Program, Tree, Contained, plain, laid, program_parts, Listing, nothing_listed, Layer, Owned, System}
+use Rattle.cp_resolved.proofs.Words.{nothing_laid, Tables, Numbering, IsPlain, numbering_of, program_parts_parts, layer_or, parts_at, whole_laid}
 use Rattle.cp_tree.specs.declared.declaration.SystemKind.TheVariants as system_kind
-use Rattle.cp_tree.specs.Syntax.{Program, Tree}
-use Rattle.cp_layout.specs.declared.layer.Contained.{Contained}
-use Rattle.cp_layout.specs.Laid.{plain, laid}
-use Rattle.cp_layout.specs.LaidDeclarations.{program_parts}
-use Rattle.cp_layout.specs.LaidComponents.{Listing, nothing_listed}
-use Rattle.cp_layout.specs.Layers.{Layer, Owned, System, nothing_laid}
-use Rattle.cp_slots.specs.Tables.{Tables}
 use Rattle.cp_meaning.specs.Components.{listed, components_of}
 use Rattle.cp_meaning.specs.Systems.{SystemMeaning, declared, program_system, own_meaning, or_own, system_of}
-use Rattle.cp_resolved.specs.InStep.{Numbering}
-use Rattle.cp_resolved.specs.Names.{IsPlain}
-use Rattle.cp_resolved.specs.Openings.{numbering_of}
-use Rattle.cp_resolved.specs.TreeLayouts.{program_parts_parts, layer_or, parts_at, whole_laid}
 use Rattle.cp_resolved.proofs.components.ComponentOrder.{owned_in, steps, IsMeant, program_same}
 use Rattle.cp_resolved.proofs.components.ComponentsStand.{AreListed}
 use Rattle.cp_resolved.proofs.laid.EarlierTypes.{program_earlier}

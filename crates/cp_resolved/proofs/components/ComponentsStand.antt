@@ -1,19 +1,10 @@
 -- Each component of the tables has the system type of that of the program, and its kind with its own number; and there are as many processes and monitors.
 use Rattle.std.proofs.Common.{◌≡◌, ℕ, zero, suc, ◌+◌, ◌<◌, ◌≤◌, ℤ, List, [], ◌∷◌, ◌++◌, map, length, Some, slice_get, slice_index_or, refl, sym, ap, subst, ◌∙◌, append_assoc, append-nil, arith, length-append}
-use Rattle.std.specs.Prelude.{min}
-use Rattle.std.proofs.lemmas.List.{length-map}
-use Rattle.std.proofs.lemmas.Option.{none-some, same_Some}
-use Rattle.cp_tree.specs.declared.declaration.SystemKind.{SystemKind}
+use Rattle.cp_resolved.proofs.Words.{min, length-map, none-some, same_Some, SystemKind, Program, Component, Process, Compounds, Owned, System, Tables}
+use Rattle.cp_resolved.proofs.Words.{component_at, no_component, SystemMeaning, system_of, program_system}
 use Rattle.cp_tree.specs.declared.declaration.SystemKind.TheVariants as system_kind
-use Rattle.cp_tree.specs.Syntax.{Program}
-use Rattle.cp_slots.specs.declared.tables.Component.{Component}
-use Rattle.cp_slots.specs.declared.tables.Process.{Process}
-use Rattle.cp_layout.specs.Kinds.{Compounds}
-use Rattle.cp_layout.specs.Layers.{Owned, System}
 use Rattle.cp_layout.specs.LaidComponents.{Listing, nothing_listed, byte, process_at, next_kind, component_with, with_component}
 use Rattle.cp_slots.specs.Tables as tables
-use Rattle.cp_slots.specs.Tables.{Tables, component_at, no_component}
-use Rattle.cp_meaning.specs.Systems.{SystemMeaning, system_of, program_system}
 use Rattle.cp_meaning.specs.Components.{Listed, components_of, listed_variables, listed}
 use Rattle.cp_meaning.specs.Kernel.{begun}
 use Rattle.cp_meaning.specs.Readings.{monitor_first, monitors_from, monitors_of}

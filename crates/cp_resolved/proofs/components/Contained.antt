@@ -1,24 +1,11 @@
 -- Where the components of a variable, or the elements of an array of them, stand in the list of all components.
 use Rattle.std.proofs.Common.{◌≡◌, ℕ, zero, suc, ◌+◌, ◌*◌, ◌<◌, ◌≤◌, ◌&&◌, Bool, true, false, if◌then◌else◌, List, [], ◌∷◌, ◌++◌, map, length, Option, Some, None, slice_get, refl, sym, ap, ap₂, subst, ◌∙◌, append_assoc, arith, length-append}
-use Rattle.std.specs.Prelude.{min}
-use Rattle.std.proofs.lemmas.Bool.{eqb-true, eq-eqb}
-use Rattle.std.proofs.lemmas.List.{length-map}
-use Rattle.std.proofs.lemmas.Option.{none-some, same_Some, slice_get_within}
-use Rattle.std.proofs.lemmas.Slice.Eq.{bytes_eq-Decides}
-use Rattle.cp_tree.specs.Syntax.{Program}
-use Rattle.cp_layout.specs.declared.layer.Contained.{Contained}
-use Rattle.cp_layout.specs.Kinds.{most}
-use Rattle.cp_layout.specs.Layers.{System}
-use Rattle.cp_layout.specs.LaidExpressions.{count_in}
-use Rattle.cp_meaning.specs.Names.{Name, same_name}
+use Rattle.cp_resolved.proofs.Words.{min, eqb-true, eq-eqb, length-map, none-some, same_Some, slice_get_within, bytes_eq-Decides, Program, Contained, most}
+use Rattle.cp_resolved.proofs.Words.{System, count_in, Name, same_name, Variable, program_system, component_with, first_component, first_components}
+use Rattle.cp_resolved.proofs.Words.{system_of}
 use Rattle.cp_meaning.specs.Types.{Range, array_over, component_of, length_of_range}
-use Rattle.cp_meaning.specs.Declarations.{Variable}
-use Rattle.cp_meaning.specs.Systems.{program_system}
 use Rattle.cp_meaning.specs.Components.{PathStep, Path, Listed, step_down, same_element, same_path, listed_elements, listed_variable, listed_variables, listed, components_of}
 use Rattle.cp_meaning.specs.State.{Component, component_at, no_component}
-use Rattle.cp_meaning.specs.Places.{component_with}
-use Rattle.cp_meaning.specs.Steps.{first_component, first_components}
-use Rattle.cp_meaning.specs.Systems.{system_of}
 use Rattle.cp_resolved.proofs.components.ComponentsStand.{map_there}
 use Rattle.cp_resolved.proofs.names.Entries.{entry_at, still_there}
 use Rattle.cp_resolved.proofs.systems.OwnedParts.{contained_of, all_contained, AreLow, count_after, FirstIs, contained_append}

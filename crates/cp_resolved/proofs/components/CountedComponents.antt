@@ -1,29 +1,17 @@
 -- How many components there are of each system type, and that what the checker counts is no less, as long as it is few.
 use Rattle.std.proofs.Common.{◌≡◌, ◌+◌, ◌*◌, ◌<◌, ◌≤◌, ℕ, zero, suc, ℤ, pos, negsuc, List, [], ◌∷◌, ◌++◌, Some, None, refl, sym, ap, ◌∙◌, arith}
 use Rattle.std.specs.Prelude.{min, ◌+ℤ◌, ◌-ℤ◌, unsigned_abs}
-use Rattle.std.proofs.lemmas.Nat.{mul-le}
+use Rattle.cp_resolved.proofs.Words.{mul-le, SystemKind, Program, Range, ValueType, Census, Spot, Contained, Name, Ty, natural_of, length_of_range, Variable}
+use Rattle.cp_resolved.proofs.Words.{system_of, Each, Tokens, RangeIs, TypeIs, SystemThere}
 use Rattle.std.proofs.Math.IntN.{+ℤ_one}
 use Rattle.std.proofs.Math.Nat.{le-mul_of_pos_right, suc-mul, one-mul}
-use Rattle.cp_tree.specs.declared.declaration.SystemKind.{SystemKind}
 use Rattle.cp_tree.specs.declared.declaration.SystemKind.TheVariants as system_kind
-use Rattle.cp_tree.specs.Syntax.{Program}
-use Rattle.cp_scope.specs.declared.types.Range.{Range}
-use Rattle.cp_scope.specs.declared.types.ValueType.{ValueType}
 use Rattle.cp_scope.specs.declared.types.Meaning.TheVariants as meaning
-use Rattle.cp_scope.specs.declared.shape.Census.{Census}
 use Rattle.cp_scope.specs.Counts.{plus, times}
 use Rattle.cp_scope.specs.Scopes.{Names, Scope, Heading, Shapes, system_shape, count_of, both_census, component_census, element_census, array_census, variable_census, census_of, census_from, census, no_census}
-use Rattle.cp_check.specs.declared.types.Spot.{Spot}
 use Rattle.cp_check.specs.declared.types.Spot.TheVariants as spot
-use Rattle.cp_layout.specs.declared.layer.Contained.{Contained}
-use Rattle.cp_meaning.specs.Names.{Name}
 use Rattle.cp_meaning.specs.Types as named
-use Rattle.cp_meaning.specs.Types.{Ty, natural_of, length_of_range}
-use Rattle.cp_meaning.specs.Declarations.{Variable}
-use Rattle.cp_meaning.specs.Systems.{system_of}
 use Rattle.cp_meaning.specs.Components.{Path, Listed, step_down, listed_elements, listed_variable, listed_variables, listed}
-use Rattle.cp_resolved.specs.Small.{Each}
-use Rattle.cp_resolved.specs.Typed.{Tokens, RangeIs, TypeIs, SystemThere}
 use Rattle.cp_resolved.proofs.agreeing.AgreeingNames.{W}
 use Rattle.cp_resolved.proofs.agreeing.AgreeingTypes.{TypedAs}
 use Rattle.cp_resolved.proofs.agreeing.AgreeingWritten.{each_left, each_right}

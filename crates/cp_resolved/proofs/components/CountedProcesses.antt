@@ -1,27 +1,13 @@
 -- How many of the components are processes, and that what the checker counts is no less, as long as it is few: only the program has process variables.
 use Rattle.std.proofs.Common.{◌≡◌, ◌+◌, ◌*◌, ◌<◌, ◌≤◌, ℕ, zero, suc, true, false, List, [], ◌∷◌, length, Some, None, refl, ap, ◌∙◌, arith, length-append}
-use Rattle.std.specs.Prelude.{min}
-use Rattle.std.proofs.lemmas.Nat.{mul-le}
+use Rattle.cp_resolved.proofs.Words.{min, mul-le, SystemKind, Program, ValueType, Census, Contained, Compounds, Listing, process_at, next_kind}
+use Rattle.cp_resolved.proofs.Words.{with_component, Owned, System, Ty, length_of_range, Variable, system_of, Listed, Each, Tokens, TypeIs, SystemThere}
 use Rattle.std.proofs.Math.Nat.{one-mul}
-use Rattle.cp_tree.specs.declared.declaration.SystemKind.{SystemKind}
 use Rattle.cp_tree.specs.declared.declaration.SystemKind.TheVariants as system_kind
-use Rattle.cp_tree.specs.Syntax.{Program}
-use Rattle.cp_scope.specs.declared.types.ValueType.{ValueType}
-use Rattle.cp_scope.specs.declared.shape.Census.{Census}
 use Rattle.cp_scope.specs.Scopes.{Names, Scope, Heading, Shapes, system_shape, count_of, component_census, element_census, array_census, variable_census, census, no_census}
 use Rattle.cp_check.specs.declared.types.Spot.TheVariants as spot
 use Rattle.cp_check.specs.Types.{may_own}
-use Rattle.cp_layout.specs.declared.layer.Contained.{Contained}
-use Rattle.cp_layout.specs.Kinds.{Compounds}
-use Rattle.cp_layout.specs.LaidComponents.{Listing, process_at, next_kind, with_component}
-use Rattle.cp_layout.specs.Layers.{Owned, System}
 use Rattle.cp_meaning.specs.Types as named
-use Rattle.cp_meaning.specs.Types.{Ty, length_of_range}
-use Rattle.cp_meaning.specs.Declarations.{Variable}
-use Rattle.cp_meaning.specs.Systems.{system_of}
-use Rattle.cp_meaning.specs.Components.{Listed}
-use Rattle.cp_resolved.specs.Small.{Each}
-use Rattle.cp_resolved.specs.Typed.{Tokens, TypeIs, SystemThere}
 use Rattle.cp_resolved.proofs.agreeing.AgreeingNames.{W}
 use Rattle.cp_resolved.proofs.agreeing.AgreeingTypes.{OwnedAt}
 use Rattle.cp_resolved.proofs.agreeing.AgreeingWritten.{each_left, each_right}

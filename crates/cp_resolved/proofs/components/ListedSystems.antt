@@ -1,20 +1,10 @@
 -- Each component of a program is of one of its system types.
 use Rattle.std.proofs.Common.{◌≡◌, ◌+◌, ◌<◌, ◌≤◌, ℕ, zero, suc, List, [], ◌∷◌, ◌++◌, length, Some, None, slice_get, ap, ◌∙◌, ◌⊎◌, inl, inr, arith}
-use Rattle.std.proofs.lemmas.List.{length-map}
-use Rattle.std.proofs.lemmas.Option.{none-some, same_Some}
-use Rattle.cp_tree.specs.Syntax.{Program, Tree}
-use Rattle.cp_slots.specs.Tables.{Tables, component_at}
+use Rattle.cp_resolved.proofs.Words.{length-map, none-some, same_Some, Program, Tree, Tables, component_at, Name, Ty, array_over, component_of}
+use Rattle.cp_resolved.proofs.Words.{length_of_range, Variable, program_system, system_of, first_component, first_components, ground_of, Stands, layouts_of}
 use Rattle.cp_lawful.proofs.Earlier.{TyBelow, VariablesBelow, systems_below}
-use Rattle.cp_meaning.specs.Names.{Name}
-use Rattle.cp_meaning.specs.Types.{Ty, array_over, component_of, length_of_range}
-use Rattle.cp_meaning.specs.Declarations.{Variable}
-use Rattle.cp_meaning.specs.Systems.{program_system, system_of}
 use Rattle.cp_meaning.specs.Components.{Path, Listed, step_down, listed_elements, listed_variable, listed_variables, listed, components_of}
 use Rattle.cp_meaning.specs.State as named
-use Rattle.cp_meaning.specs.Steps.{first_component, first_components}
-use Rattle.cp_resolved.specs.BodiesStand.{ground_of}
-use Rattle.cp_resolved.specs.Resolved.{Stands}
-use Rattle.cp_resolved.specs.TreeLayouts.{layouts_of}
 use Rattle.cp_resolved.proofs.components.ComponentsStand.{map_there}
 use Rattle.cp_resolved.proofs.names.Entries.{there, entry_at}
 use Rattle.cp_resolved.proofs.components.Subtrees.{either_place}

@@ -1,15 +1,8 @@
 -- The listing of components: each has the cells of its system type, apart from those of the others, and processes and monitors have their numbers.
 use Rattle.std.proofs.Common.{◌≡◌, ℕ, zero, suc, ◌+◌, ◌<◌, ◌≤◌, ◌==◌, ℤ, Bool, true, false, if◌then◌else◌, List, [], ◌∷◌, ◌++◌, length, Option, Some, None, slice_get, refl, sym, ◌⊎◌, inl, inr, append-nil, arith, length-append}
-use Rattle.std.proofs.lemmas.Option.{none-some, slice_get_within}
-use Rattle.cp_tree.specs.declared.declaration.SystemKind.{SystemKind}
+use Rattle.cp_resolved.proofs.Words.{none-some, slice_get_within, SystemKind, Component, ComponentKind, Process, Contained, Compounds, Owned, System}
 use Rattle.cp_tree.specs.declared.declaration.SystemKind.TheVariants as system_kind
-use Rattle.cp_slots.specs.declared.tables.Component.{Component}
-use Rattle.cp_slots.specs.declared.tables.ComponentKind.{ComponentKind}
 use Rattle.cp_slots.specs.declared.tables.ComponentKind.TheVariants as kind
-use Rattle.cp_slots.specs.declared.tables.Process.{Process}
-use Rattle.cp_layout.specs.declared.layer.Contained.{Contained}
-use Rattle.cp_layout.specs.Kinds.{Compounds}
-use Rattle.cp_layout.specs.Layers.{Owned, System}
 use Rattle.cp_layout.specs.LaidComponents.{Listing, nothing_listed, contents_least, byte, process_at, next_kind, component_with, with_component, again_and_again, contained_by, system_by, listed_below, program_listed}
 use Rattle.cp_resolved.proofs.names.Entries.{still_there, last_entry, last_or_before}
 

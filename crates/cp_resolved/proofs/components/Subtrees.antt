@@ -1,16 +1,7 @@
 -- Where a component stands in the list of all, those that it contains follow it; and how many these are.
 use Rattle.std.proofs.Common.{◌≡◌, ℕ, zero, suc, ◌+◌, ◌*◌, ◌<◌, ◌≤◌, List, [], ◌∷◌, ◌++◌, length, Some, None, slice_get, refl, sym, ap, subst, ◌∙◌, ◌⊎◌, inl, inr, append_assoc, append-nil, arith, length-append}
-use Rattle.std.specs.Prelude.{min}
-use Rattle.std.proofs.lemmas.Option.{none-some, same_Some}
-use Rattle.cp_tree.specs.Syntax.{Program}
-use Rattle.cp_layout.specs.declared.layer.Contained.{Contained}
-use Rattle.cp_layout.specs.Kinds.{most, plus, times}
-use Rattle.cp_layout.specs.Layers.{System}
-use Rattle.cp_layout.specs.LaidExpressions.{count_in}
-use Rattle.cp_meaning.specs.Names.{Name}
-use Rattle.cp_meaning.specs.Types.{Ty, array_over, component_of, length_of_range}
-use Rattle.cp_meaning.specs.Declarations.{Variable}
-use Rattle.cp_meaning.specs.Systems.{system_of}
+use Rattle.cp_resolved.proofs.Words.{min, none-some, same_Some, Program, Contained, most, plus, times, System, count_in, Name, Ty, array_over, component_of}
+use Rattle.cp_resolved.proofs.Words.{length_of_range, Variable, system_of}
 use Rattle.cp_meaning.specs.Components.{Path, Listed, step_down, listed_elements, listed_variable, listed_variables, listed}
 use Rattle.cp_resolved.proofs.names.Entries.{there}
 use Rattle.cp_resolved.proofs.frames.EncodedCells.{times_stopped}

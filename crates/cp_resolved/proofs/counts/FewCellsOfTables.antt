@@ -1,22 +1,11 @@
 -- In the tables of an accepted program routines, system types and processes have few cells.
 use Rattle.std.proofs.Common.{◌≡◌, ℕ, zero, suc, ◌+◌, ◌*◌, ◌<◌, ◌≤◌, List, [], ◌∷◌, ◌++◌, ◌∙◌, length, Some, slice_get, slice_index_or, ap, sym, subst, refl, arith, le_trans}
-use Rattle.cp_tree.specs.Spelling.{spell}
-use Rattle.cp_tree.specs.Syntax.{Program, Tree}
-use Rattle.cp_layout.specs.Kinds.{Compounds}
+use Rattle.cp_resolved.proofs.Words.{spell, Program, Tree, Compounds, contents_least, Layer, Owned, System, RoutineView, no_routine, SystemView, no_system}
+use Rattle.cp_resolved.proofs.Words.{IsAccepted, all_begun, Numbering, InStep, Place, places_of, AreAgreed, tokens_of, Opening, openings_of, numbering_of}
+use Rattle.cp_resolved.proofs.Words.{IsRead, Each, Tokens}
 use Rattle.cp_layout.specs.Laid.{PlainTables, laid, tables_laid, no_room, room_from, system_type, types_of, system_types}
-use Rattle.cp_layout.specs.LaidComponents.{contents_least}
-use Rattle.cp_layout.specs.Layers.{Layer, Owned, System}
-use Rattle.cp_slots.specs.Tables.{RoutineView, no_routine, SystemView, no_system}
-use Rattle.cp_lawful.specs.Accepted.{IsAccepted}
-use Rattle.cp_resolved.specs.Begun.{all_begun}
 use Rattle.cp_resolved.specs.Held.{FewCellsLaw}
-use Rattle.cp_resolved.specs.InStep.{Numbering, InStep}
-use Rattle.cp_resolved.specs.Judging.{Place, places_of, AreAgreed, tokens_of}
 use Rattle.cp_resolved.specs.Names.{AreInStep}
-use Rattle.cp_resolved.specs.Openings.{Opening, openings_of, numbering_of}
-use Rattle.cp_tree.specs.Read.{IsRead}
-use Rattle.cp_resolved.specs.Small.{Each}
-use Rattle.cp_resolved.specs.Typed.{Tokens}
 use Rattle.cp_resolved.proofs.names.BegunWithin.{all_within}
 use Rattle.cp_resolved.proofs.laid.Extends.{Longer}
 use Rattle.cp_resolved.proofs.counts.FewContents.{Holds, program_holds}

@@ -1,43 +1,19 @@
 -- The tables of an accepted program have few processes, monitors, components and permanent cells.
 use Rattle.std.proofs.Common.{◌≡◌, ℕ, suc, ◌+◌, ◌*◌, ◌<◌, ◌≤◌, ℤ, Bool, true, false, ◌||◌, if◌then◌else◌, List, [], ◌∷◌, ◌++◌, length, None, refl, sym, ap, subst, ◌∙◌, arith, length-append}
 use Rattle.std.specs.Prelude.{nat_lt, ◌-◌, Ok}
-use Rattle.std.proofs.lemmas.Bool.{ltb-false}
-use Rattle.std.proofs.lemmas.List.{length-map}
-use Rattle.cp_tree.specs.declared.declaration.SystemKind.{SystemKind}
+use Rattle.cp_resolved.proofs.Words.{ltb-false, length-map, SystemKind, Program, Tree, CheckFault, Use, Census, no_use, Judged, faults, Scopes, census, start}
+use Rattle.cp_resolved.proofs.Words.{Step, after_faults, Component, Process, most, plain, laid, Layer, System, Tables, statements_loud, IsAccepted}
+use Rattle.cp_resolved.proofs.Words.{SystemMeaning, declared, program_system, system_of, first_component, first_components, AreFew, enumerations_of}
+use Rattle.cp_resolved.proofs.Words.{tokens_of, IsPlain, IsRead, token_of_type}
 use Rattle.cp_tree.specs.declared.declaration.SystemKind.TheVariants as system_kind
-use Rattle.cp_tree.specs.Syntax.{Program, Tree}
-use Rattle.cp_scope.specs.declared.fault.CheckFault.{CheckFault}
 use Rattle.cp_scope.specs.declared.fault.CheckFault.TheVariants as check_fault
 use Rattle.cp_scope.specs.declared.fault.Rule.TheVariants.{C20}
-use Rattle.cp_scope.specs.declared.count.Use.{Use}
-use Rattle.cp_scope.specs.declared.shape.Census.{Census}
-use Rattle.cp_scope.specs.Counts.{no_use}
-use Rattle.cp_scope.specs.Judged.{Judged, faults}
-use Rattle.cp_scope.specs.Scopes.{Scopes, census, start}
 use Rattle.cp_check.specs.declared.types.Spot.TheVariants as spot
-use Rattle.cp_check.specs.Types.{Step}
 use Rattle.cp_check.specs.Statements.{statements}
-use Rattle.cp_check.specs.Headings.{after_faults}
 use Rattle.cp_check.specs.Routines.{need_of}
 use Rattle.cp_check.specs.Faults.{declarations, program_context, opened, is_too_large, limit_faults, faults_of}
-use Rattle.cp_slots.specs.declared.tables.Component.{Component}
-use Rattle.cp_slots.specs.declared.tables.Process.{Process}
-use Rattle.cp_layout.specs.Kinds.{most}
-use Rattle.cp_layout.specs.Laid.{plain, laid}
 use Rattle.cp_layout.specs.LaidComponents.{Listing, nothing_listed, process_at, next_kind, component_with, with_component, contents_least}
-use Rattle.cp_layout.specs.Layers.{Layer, System}
-use Rattle.cp_slots.specs.Tables.{Tables}
-use Rattle.cp_lawful.proofs.Loud.{statements_loud}
-use Rattle.cp_lawful.specs.Accepted.{IsAccepted}
-use Rattle.cp_meaning.specs.Systems.{SystemMeaning, declared, program_system, system_of}
 use Rattle.cp_meaning.specs.Components.{Listed, components_of}
-use Rattle.cp_meaning.specs.Steps.{first_component, first_components}
-use Rattle.cp_resolved.specs.Declared.{AreFew}
-use Rattle.cp_resolved.specs.Enumerations.{enumerations_of}
-use Rattle.cp_resolved.specs.Judging.{tokens_of}
-use Rattle.cp_resolved.specs.Names.{IsPlain}
-use Rattle.cp_tree.specs.Read.{IsRead}
-use Rattle.cp_resolved.specs.Tokens.{token_of_type}
 use Rattle.cp_resolved.proofs.agreeing.AgreeingBodies.{Uses, loud_uses}
 use Rattle.cp_resolved.proofs.agreeing.AgreeingProgram.{ProgramResult, program_agrees}
 use Rattle.cp_resolved.proofs.agreeing.AgreeingRoutines.{none_after}

@@ -1,25 +1,17 @@
 -- The permanent variables of a system type begin with few cells, where each of them has few.
 use Rattle.std.proofs.Common.{◌≡◌, ℕ, ◌+◌, ◌*◌, ◌≤◌, List, [], ◌∷◌, ◌++◌, length, Option, Some, None, refl, sym, ap, subst, ◌∙◌, arith, length-append, append_assoc}
-use Rattle.cp_text.specs.declared.token.Kind.{Kind}
+use Rattle.cp_resolved.proofs.Words.{Kind, Identifier, CellType, Contained, Content, Compounds, least, Names, Layer, Owned, System, nothing_laid}
+use Rattle.cp_resolved.proofs.Words.{written_type, named_type, Numbering, Each}
 use Rattle.cp_text.specs.declared.token.Kind.TheVariants as kind
 use Rattle.cp_text.specs.declared.token.Mark.TheVariants as mark
-use Rattle.cp_tree.specs.declared.constant.Identifier.{Identifier}
 use Rattle.cp_tree.specs.Syntax as syntax
 use Rattle.cp_tree.specs.Spelling.{put_optional, put_behind, put_all, put_parameters, put_identifier, put_constant_definition, put_type_definition, put_variable_group, put_type, put_part, put_group, put_body, put_routine, put_system, put_definition, put_system_definition, put_program_part, spell}
 use Rattle.cp_tree.proofs.Grows.{grows_all, grows_optional, grows_type, grows_constant_definition, grows_type_definition, grows_definition}
-use Rattle.cp_layout.specs.declared.kinds.CellType.{CellType}
 use Rattle.cp_layout.specs.declared.kinds.CellType.TheVariants as types
-use Rattle.cp_layout.specs.declared.layer.Contained.{Contained}
-use Rattle.cp_layout.specs.declared.layer.Content.{Content}
 use Rattle.cp_layout.specs.declared.layer.Content.TheVariants as content
-use Rattle.cp_layout.specs.Kinds.{Compounds, least}
 use Rattle.cp_layout.specs.LaidComponents.{content_least, contents_least}
-use Rattle.cp_layout.specs.Layers.{Names, Layer, Owned, System, nothing_laid}
-use Rattle.cp_layout.specs.LaidTypes.{written_type, named_type}
 use Rattle.cp_layout.specs.LaidDeclarations.{constants, type_definitions, components_of, variable, variable_with, variables_of, variable_group, variables, permanent_part, permanent_parts, Parameters, system_parameter, system_parameters_of, system_group, system_groups, heading_with, with_heading, with_new_frame, initial_statement, entered, routine, routines, system, definition, system_definition, system_definitions, program_part, program_parts, program}
-use Rattle.cp_resolved.specs.InStep.{Numbering}
 use Rattle.cp_resolved.specs.Begun.{routines_begun, initial_begun, parameters_of, parts_begun, system_begun, definition_begun, definitions_begun, part_begun, program_parts_begun, all_begun}
-use Rattle.cp_resolved.specs.Small.{Each}
 use Rattle.cp_resolved.proofs.agreeing.AgreeingWritten.{each_left, each_right}
 use Rattle.cp_resolved.proofs.laid.Declares.{Declares, type_declares, constants_declare, variables_of_declare, variables_declare, permanent_parts_declare, system_parameters_declare, system_groups_declare}
 use Rattle.cp_resolved.proofs.laid.Extends.{routine_names}

@@ -1,9 +1,6 @@
 -- The tables of a program that was read have at most 20,000 items.
-use Rattle.std.proofs.Common.{◌≡◌, List, ◌∙◌, map, length, ap, arith}
+use Rattle.cp_resolved.proofs.Words.{◌≡◌, List, ◌∙◌, map, length, ap, arith, PlainTables, program, nothing_laid}
 use Rattle.cp_slots.specs.Code.{Item, item_seen}
-use Rattle.cp_layout.specs.Laid.{PlainTables}
-use Rattle.cp_layout.specs.LaidDeclarations.{program}
-use Rattle.cp_layout.specs.Layers.{nothing_laid}
 use Rattle.cp_resolved.specs.Held.{FewItemsLaw}
 use Rattle.cp_resolved.proofs.counts.FewItems.{program_few}
 use Rattle.cp_resolved.proofs.sound.OwnCallsOfTables.{laid_items}

@@ -1,22 +1,14 @@
 -- The cells of open calls stay few, where the variables have few: each routine calls earlier ones alone, and each of its cells stands for a token.
 use Rattle.std.proofs.Common.{◌≡◌, ℕ, ◌+◌, ◌*◌, ◌≤◌, List, [], ◌∷◌, ◌++◌, length, Option, Some, None, slice_get, refl, sym, ap, subst, ◌∙◌, arith, length-append}
-use Rattle.cp_text.specs.declared.token.Kind.{Kind}
+use Rattle.cp_resolved.proofs.Words.{Kind, Process, Action, RoutineView, room_for, room_from, with_count, statements, written_type, Each}
 use Rattle.cp_text.specs.declared.token.Kind.TheVariants as kind
 use Rattle.cp_text.specs.declared.token.Mark.TheVariants as mark
 use Rattle.cp_tree.specs.Syntax as syntax
 use Rattle.cp_tree.specs.Spelling.{put_optional, put_all, put_identifier, put_constant_definition, put_variable_group, put_part, put_group, put_body, put_routine_kind, put_routine, put_system, put_definition, put_system_definition, put_program_part, spell}
 use Rattle.cp_tree.proofs.Grows.{grows_all, grows_optional, grows_type, grows_constant_definition, grows_variable_group, grows_part, grows_group, grows_parameters, grows_body, grows_routine, grows_definition, grows_program_part}
-use Rattle.cp_slots.specs.declared.tables.Process.{Process}
-use Rattle.cp_slots.specs.Code.{Action}
-use Rattle.cp_slots.specs.Tables.{RoutineView}
 use Rattle.cp_layout.specs.Layers.{Layer, frame_with, with_cell, with_room, settled, without_pending, added, routine_of, nothing_laid}
-use Rattle.cp_layout.specs.Laid.{room_for, room_from}
-use Rattle.cp_layout.specs.LaidExpressions.{with_count}
-use Rattle.cp_layout.specs.LaidStatements.{statements}
-use Rattle.cp_layout.specs.LaidTypes.{written_type}
 use Rattle.cp_layout.specs.LaidDeclarations.{constants, variables, Parameters, body, heading, heading_with, with_heading, with_new_frame, opened, local_parts, permanent_parts, routine, routines, initial_statement, system_groups, entered, system, definition, system_definition, system_definitions, program_part, program_parts, program}
 use Rattle.cp_resolved.specs.Begun.{routine_begun, routines_begun, initial_begun, parameters_of, system_begun, definition_begun, definitions_begun, part_begun, program_parts_begun, all_begun}
-use Rattle.cp_resolved.specs.Small.{Each}
 use Rattle.cp_resolved.proofs.agreeing.AgreeingWritten.{each_left, each_right}
 use Rattle.cp_resolved.proofs.laid.Declares.{Declares, type_declares, constants_declare, variables_declare, permanent_parts_declare, local_parts_declare, heading_declares, system_groups_declare}
 use Rattle.cp_resolved.proofs.counts.FewItems.{count, added_one, settled_same, body_few}

@@ -1,10 +1,5 @@
 -- The tables of an accepted program that was read are modest: the program is inside its limits, and no count of it has stopped.
-use Rattle.std.proofs.Common.{◌≡◌, arith}
-use Rattle.cp_tree.specs.Syntax.{Tree}
-use Rattle.cp_layout.specs.Laid.{plain, laid}
-use Rattle.cp_slots.specs.Tables.{Tables}
-use Rattle.cp_lawful.specs.Accepted.{IsAccepted}
-use Rattle.cp_tree.specs.Read.{IsRead}
+use Rattle.cp_resolved.proofs.Words.{◌≡◌, arith, Tree, plain, laid, Tables, IsAccepted, IsRead}
 use Rattle.cp_resolved.specs.Soundness.{IsModest}
 use Rattle.cp_resolved.proofs.counts.FewCellsOfTables.{few_cells_law}
 use Rattle.cp_resolved.proofs.counts.FewComponents.{components_few, cells_few, accepted_few}

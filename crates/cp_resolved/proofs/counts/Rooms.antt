@@ -1,11 +1,6 @@
 -- What is reserved for a process is enough for each.
 use Rattle.std.proofs.Common.{◌≡◌, ℕ, zero, suc, ◌≤◌, List, [], ◌∷◌, Option, Some, None, slice_get, sym, subst, arith}
-use Rattle.std.proofs.lemmas.Option.{none-some, same_Some}
-use Rattle.cp_slots.specs.declared.tables.Process.{Process}
-use Rattle.cp_layout.specs.Kinds.{plus}
-use Rattle.cp_slots.specs.Tables.{RoutineView}
-use Rattle.cp_layout.specs.Layers.{Layer, need_of}
-use Rattle.cp_layout.specs.Laid.{no_room, room_for, room_from}
+use Rattle.cp_resolved.proofs.Words.{none-some, same_Some, Process, plus, RoutineView, Layer, need_of, no_room, room_for, room_from}
 
 abbrev type_of : {X : Type 0} → X → Type 0
 type_of {X} x = X

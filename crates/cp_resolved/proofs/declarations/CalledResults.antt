@@ -1,27 +1,15 @@
 -- In a tree that was read and breaks no rule each function has an ordinal result (C5), and so has each function call.
 use Rattle.std.proofs.Common.{◌≡◌, ℕ, zero, suc, Bool, true, false, if◌then◌else◌, List, [], ◌∷◌, ◌++◌, length, Option, Some, None, slice_get, refl, subst}
-use Rattle.std.proofs.lemmas.Option.{none-some, same_Some}
+use Rattle.cp_resolved.proofs.Words.{none-some, same_Some, IsAccepted, Name, same_name, Ty, array_over, component_of, RoutineMeaning, with_groups, heading_of}
+use Rattle.cp_resolved.proofs.Words.{routine_in, last_field, result_type, all_calls_laid, nothing_declared, Place, AreAgreed, places_of, tokens_of, IsRead}
+use Rattle.cp_resolved.proofs.Words.{initial_meaning, Each, call_variables, Tokens}
 use Rattle.cp_tree.specs.Syntax.{Routine, Designator, designator, Definition, type_definition, system_definition, SystemDefinition, ProgramPart, program_constants, program_types, program_variables, Program, Tree}
-use Rattle.cp_lawful.specs.Accepted.{IsAccepted}
-use Rattle.cp_meaning.specs.Names.{Name, same_name}
-use Rattle.cp_meaning.specs.Types.{Ty, array_over, component_of}
 use Rattle.cp_meaning.specs.Scopes.{Meaning, local_variable, permanent_variable, routine_meaning, Scope, find, since, is_seen, seen_inside}
-use Rattle.cp_meaning.specs.Declarations.{RoutineMeaning, with_groups, heading_of, routine_in}
 use Rattle.cp_meaning.specs.Expressions.{routine_of_system, routine_of_type, routine_meant, routine_called, result_called}
-use Rattle.cp_meaning.specs.Lifting.{last_field}
-use Rattle.cp_meaning.specs.Places.{result_type}
 use Rattle.cp_meaning.specs.State.{Item, statement_item, function_call, start_item, until, successor, return, init_end, end}
 use Rattle.cp_meaning.specs.Systems.{SystemMeaning, with_routines, system_in, Declared, definition_in, definitions_in, program_part_in, program_parts_in, declared, program_system, own_meaning, or_own, system_of}
-use Rattle.cp_resolved.specs.Calls.{all_calls_laid}
-use Rattle.cp_resolved.specs.Fit.{nothing_declared}
 use Rattle.cp_resolved.specs.Framed.{IsOrdinal, IsOrdinalResult}
-use Rattle.cp_resolved.specs.Judging.{Place, AreAgreed, places_of, tokens_of}
 use Rattle.cp_resolved.specs.Openings.{Opening, with_routine, parts_scope, routine_openings, initial_opening, definition_openings, definitions_openings, part_openings, parts_openings, openings_of, meaning_at}
-use Rattle.cp_tree.specs.Read.{IsRead}
-use Rattle.cp_resolved.specs.Resolved.{initial_meaning}
-use Rattle.cp_resolved.specs.Small.{Each}
-use Rattle.cp_resolved.specs.TreeLayouts.{call_variables}
-use Rattle.cp_resolved.specs.Typed.{Tokens}
 use Rattle.cp_resolved.proofs.agreeing.KeptScopes.{IsNoRoutine, type_kept, definitions_of_constants, variables_kept, parts_kept, groups_kept, heading_kept}
 use Rattle.cp_resolved.proofs.declarations.RoutineVariables.{meaning_holds}
 use Rattle.cp_resolved.proofs.agreeing.ScopesOfTrees.{scopes_law}

@@ -1,15 +1,10 @@
 -- In a program that was read, the function calls of each routine and of each initial statement are at different tokens.
-use Rattle.std.proofs.Common.{ℕ, List, [], ◌∷◌, length}
-use Rattle.cp_text.specs.declared.token.Kind.{Kind}
+use Rattle.cp_resolved.proofs.Words.{ℕ, List, [], ◌∷◌, length, Kind, Scope, all_calls_laid, AreApart, meaning_at, Each}
 use Rattle.cp_text.specs.declared.token.Kind.TheVariants as kind
 use Rattle.cp_text.specs.declared.token.Mark.TheVariants as mark
 use Rattle.cp_tree.specs.Syntax.{Statements, Body, Routine, System, Definition, type_definition, system_definition, SystemDefinition, ProgramPart, program_types, Program}
 use Rattle.cp_tree.specs.Spelling.{put_all, put_routine, put_body, put_system_definition, put_program_part, spell}
 use Rattle.cp_tree.specs.SpellingIndexed.{AreAllIndexed, AreSomeIndexed, IsIndexedBody, IsIndexedRoutine, IsIndexedSystem, IsIndexedDefinition, IsIndexedSystemDefinition, IsIndexedProgramPart, IsIndexed}
-use Rattle.cp_meaning.specs.Scopes.{Scope}
-use Rattle.cp_resolved.specs.Calls.{all_calls_laid, AreApart}
-use Rattle.cp_resolved.specs.Openings.{meaning_at}
-use Rattle.cp_resolved.specs.Small.{Each}
 use Rattle.cp_resolved.proofs.declarations.CallsSpread.{statements_spread}
 use Rattle.cp_resolved.proofs.agreeing.OpeningsBodies.{OfRoutine, OfSystem, OfDefinition, OfPart, body_at}
 

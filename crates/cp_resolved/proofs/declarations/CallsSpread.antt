@@ -1,20 +1,15 @@
 -- In what spells tokens, the function calls of expressions and statements are at different tokens.
 use Rattle.std.proofs.Common.{◌≡◌, ◌==◌, ◌+◌, ◌<◌, ◌≤◌, ℕ, Bool, true, false, List, [], ◌∷◌, ◌++◌, length, Option, Some, None, refl, subst, inl, inr, arith}
 use Rattle.std.specs.Prelude.{◌⊎◌}
-use Rattle.std.proofs.lemmas.Bool.Decides.{Decides-eqb}
-use Rattle.cp_text.specs.declared.token.Kind.{Kind}
+use Rattle.cp_resolved.proofs.Words.{Decides-eqb, Kind, Sign, Scope, Item, function_call, Each}
 use Rattle.cp_text.specs.declared.token.Kind.TheVariants as kind
 use Rattle.cp_text.specs.declared.token.Mark.TheVariants as mark
-use Rattle.cp_tree.specs.declared.constant.Sign.{Sign}
 use Rattle.cp_tree.specs.Syntax.{Expression, alone, related, Sum, sum, Terms, no_terms, more_terms, Term, term, Factors, no_factors, more_factors, Factor, number, character, named, group, negated, set_of, Expressions, no_expressions, more_expressions, Designator, designator, Selectors, no_selectors, more_selectors, Selector, field, index, Start, Statement, empty, assign, invoke, block, if_then, if_else, case_of, while_do, repeat_until, for_do, cycle, init, Statements, no_statements, more_statements, Arms, no_arms, more_arms, Arm, arm}
 use Rattle.cp_tree.specs.Spelling.{relation_mark, direction_mark, put_optional, put_behind, put_all, put_separated, put_sign, put_constant, put_expression, put_sum, put_terms, put_term, put_factors, put_factor, put_arguments, put_expressions, put_more_expressions, put_designator, put_selectors, put_selector, put_start, put_statement, put_statements, put_more_statements, put_arms, put_more_arms, put_arm}
 use Rattle.cp_tree.specs.SpellingIndexed.{AreAllIndexed, AreSeparatedIndexed, IsIndexedExpression, IsIndexedSum, AreIndexedTerms, IsIndexedTerm, AreIndexedFactors, IsIndexedFactor, AreIndexedArguments, AreIndexedExpressions, AreIndexedMoreExpressions, IsIndexedDesignator, AreIndexedSelectors, IsIndexedSelector, IsIndexedStart, IsIndexedStatement, AreIndexedStatements, AreIndexedMoreStatements, AreIndexedArms, AreIndexedMoreArms, IsIndexedArm}
 use Rattle.cp_tree.proofs.Grows.{grows_optional, grows_all, grows_behind, grows_separated, grows_constant, grows_expression, grows_sum, grows_terms, grows_term, grows_factors, grows_factor, grows_arguments, grows_more_expressions, grows_designator, grows_selectors, grows_selector, grows_start, grows_statement, grows_statements, grows_more_statements, grows_arms, grows_more_arms, grows_arm}
-use Rattle.cp_meaning.specs.Scopes.{Scope}
-use Rattle.cp_meaning.specs.State.{Item, function_call}
 use Rattle.cp_meaning.specs.Lifting.{is_call, own_call, expression_calls, sum_calls, terms_calls, term_calls, factors_calls, factor_calls, expressions_calls, designator_calls, selectors_calls, selector_calls}
 use Rattle.cp_resolved.specs.Calls.{starts_calls, calls_laid, all_calls_laid, arms_calls_laid, arm_calls_laid, is_at, IsAmong, IsApart, AreApart}
-use Rattle.cp_resolved.specs.Small.{Each}
 use Rattle.cp_resolved.proofs.frames.LeastCells.{same_number as same_token}
 
 -- ---- lists of calls

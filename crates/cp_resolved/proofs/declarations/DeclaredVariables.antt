@@ -1,26 +1,17 @@
 -- Variables that are declared without breaking a rule have different names, each of them visible after the declarations (C2).
 use Rattle.std.proofs.Common.{◌≡◌, Bool, true, false, ◌||◌, if◌then◌else◌, List, [], ◌∷◌, ◌++◌, Option, Some, None, is_some, refl, sym, ap, subst, ◌∙◌, inr, append_assoc}
-use Rattle.cp_tree.specs.declared.constant.Identifier.{Identifier}
+use Rattle.cp_resolved.proofs.Words.{Identifier, C2, ◌>>=◌, faults, Spot, Step, nothing, Typed, typed, Name, same_name, Ty, IsOther, AreDeclared, look, Each}
+use Rattle.cp_resolved.proofs.Words.{none_first}
 use Rattle.cp_tree.specs.Syntax as syntax
 use Rattle.cp_scope.specs.declared.fault.CheckFault.TheVariants as check_fault
-use Rattle.cp_scope.specs.declared.fault.Rule.TheVariants.{C2}
 use Rattle.cp_scope.specs.declared.types.Meaning as check_meaning
-use Rattle.cp_scope.specs.Judged.{◌>>=◌, faults}
 use Rattle.cp_scope.specs.Scopes.{Names, Scope, Scopes, is_among, is_declared, is_declared_in, with_pending, add, reserve, settle}
 use Rattle.cp_scope.specs.Scopes as checker
-use Rattle.cp_check.specs.declared.types.Spot.{Spot}
-use Rattle.cp_check.specs.Types.{Step, nothing, Typed, typed}
 use Rattle.cp_check.specs.Declarations.{as_declared, reserve_name, reserve_names, add_names, add_all, to_variable, constant_steps, type_steps, variable_step, variable_steps, part_step, part_steps}
 use Rattle.cp_lawful.proofs.Kept.{names_added, all_added}
-use Rattle.cp_meaning.specs.Names.{Name, same_name}
-use Rattle.cp_meaning.specs.Types.{Ty}
 use Rattle.cp_meaning.specs.Scopes.{Meaning, find}
 use Rattle.cp_meaning.specs.Scopes as scopes
 use Rattle.cp_meaning.specs.Declarations.{Variable, Block, names_of, named_variables, with_names, type_in, constants_in, types_in, variables_in, part_in, parts_in}
-use Rattle.cp_resolved.specs.Distinct.{IsOther}
-use Rattle.cp_resolved.specs.Framed.{AreDeclared}
-use Rattle.cp_resolved.specs.Layouts.{look}
-use Rattle.cp_resolved.specs.Small.{Each}
 use Rattle.cp_resolved.proofs.agreeing.Agreeing.{none_left, none_right}
 use Rattle.cp_resolved.proofs.frames.FrameCells.{itself, same_is, each_both}
 use Rattle.cp_resolved.proofs.declarations.OnceRoutines.{IsKnown, still_known, known_named}
@@ -30,7 +21,6 @@ use Rattle.cp_resolved.proofs.declarations.HiddenByNone.{Stays, stays_then, stay
 use Rattle.cp_resolved.proofs.names.PermanentNames.{left_true as or_first}
 use Rattle.cp_meaning.proofs.Good.{or_right as or_last}
 use Rattle.cp_resolved.proofs.declarations.OwnVariables.{among_before as among_more, among_last, different_both as both_different, named_different, others_look as no_name}
-use Rattle.cp_lawful.proofs.Once.{no_first as none_first}
 use Rattle.cp_resolved.proofs.declarations.OtherNames.{together_distinct as distinct_names}
 
 -- ---- names that are being declared

@@ -1,36 +1,20 @@
 -- In a tree that was read and breaks no rule, parameters have names of their own, and no parameter of a routine is a component.
 use Rattle.std.proofs.Common.{◌≡◌, ℕ, zero, suc, false, true, List, [], ◌∷◌, ◌++◌, Option, Some, None, Ok, Err, slice_get, refl, inr}
-use Rattle.cp_tree.specs.declared.constant.Identifier.{Identifier}
-use Rattle.cp_tree.specs.declared.declaration.SystemKind.{SystemKind}
+use Rattle.cp_resolved.proofs.Words.{Identifier, SystemKind, ValueType, Meaning, Judged, faults, Scopes, add, settle, enter, add_around, keep, start, Spot}
+use Rattle.cp_resolved.proofs.Words.{reserve_name, reserve_names, add_names, add_all, part_steps, declarations, routine_step, routine_steps, Name, same_name}
+use Rattle.cp_resolved.proofs.Words.{Ty, component_of, names_of, Parameter, declared, own_meaning, Place, places_of, AreAgreed, tokens_of, Opening}
+use Rattle.cp_resolved.proofs.Words.{openings_of, meaning_in, initial_meaning, Each, is_free, IsFreeParameter, Tokens}
 use Rattle.cp_tree.specs.Syntax.{Group, ParameterGroup, RoutineKind, procedure, function, Routine, System, Definition, type_definition, system_definition, SystemDefinition, Part, ProgramPart, program_types, Program}
-use Rattle.cp_scope.specs.declared.types.ValueType.{ValueType}
-use Rattle.cp_scope.specs.declared.types.Meaning.{Meaning}
-use Rattle.cp_scope.specs.Judged.{Judged, faults}
-use Rattle.cp_scope.specs.Scopes.{Scopes, add, settle, enter, add_around, keep, start}
-use Rattle.cp_check.specs.declared.types.Spot.{Spot}
 use Rattle.cp_check.specs.declared.types.Spot.TheVariants as spot
-use Rattle.cp_check.specs.Declarations.{reserve_name, reserve_names, add_names, add_all, part_steps}
-use Rattle.cp_check.specs.Faults.{declarations}
 use Rattle.cp_check.specs.Headings as headings
 use Rattle.cp_check.specs.Headings.{Headed, after_faults, written, ruled, heading, announced, announced_of}
 use Rattle.cp_check.specs.Routines as routines
-use Rattle.cp_check.specs.Routines.{routine_step, routine_steps}
 use Rattle.cp_check.specs.Systems as systems
 use Rattle.cp_lawful.proofs.Kept.{Keeps, same, after, names_reserved, names_added, all_added}
 use Rattle.cp_lawful.proofs.Once.{no_left, no_right, no_first, none_before, inside_sound, defined_sound, declarations_sound, parts_sound}
 use Rattle.cp_lawful.proofs.Told.{none_after}
-use Rattle.cp_meaning.specs.Names.{Name, same_name}
-use Rattle.cp_meaning.specs.Types.{Ty, component_of}
-use Rattle.cp_meaning.specs.Declarations.{names_of, Parameter}
-use Rattle.cp_meaning.specs.Systems.{declared, own_meaning}
 use Rattle.cp_resolved.specs.BodiesFormed.{DistinctLaw}
 use Rattle.cp_resolved.specs.Distinct.{IsOther, AreDistinct, all_names, part_names, kind_names, parameter_names, AreApart, IsDistinctRoutine, IsDistinctSystem, IsDistinctDefinition, IsDistinctPart, IsNoComponent, AreValues}
-use Rattle.cp_resolved.specs.Judging.{Place, places_of, AreAgreed, tokens_of}
-use Rattle.cp_resolved.specs.Openings.{Opening, openings_of, meaning_in}
-use Rattle.cp_resolved.specs.Resolved.{initial_meaning}
-use Rattle.cp_resolved.specs.Small.{Each}
-use Rattle.cp_resolved.specs.Standing.{is_free, IsFreeParameter}
-use Rattle.cp_resolved.specs.Typed.{Tokens}
 use Rattle.cp_resolved.proofs.declarations.OnceRoutines.{IsKnown, known_named}
 use Rattle.cp_resolved.proofs.declarations.OtherNames.{stays_known, names_other, together_distinct, parts_other}
 use Rattle.cp_resolved.proofs.agreeing.ScopesOfTrees.{scopes_law}

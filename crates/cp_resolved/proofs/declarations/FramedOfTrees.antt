@@ -1,8 +1,5 @@
 -- Declarations of a tree that was read and is accepted are as the laws on layouts want them.
-use Rattle.cp_tree.specs.Read.{IsRead}
-use Rattle.cp_tree.specs.Syntax.{Tree}
-use Rattle.cp_lawful.specs.Accepted.{IsAccepted}
-use Rattle.cp_resolved.specs.Framed.{IsFramed}
+use Rattle.cp_resolved.proofs.Words.{IsRead, Tree, IsAccepted, IsFramed}
 use Rattle.cp_resolved.proofs.declarations.CalledResults.{accepted_result, accepted_calls}
 use Rattle.cp_resolved.proofs.declarations.RoutineVariables.{accepted_locals, accepted_free}
 use Rattle.cp_resolved.proofs.declarations.SystemVariables.{accepted_permanents, accepted_standing}

@@ -1,26 +1,20 @@
 -- Declarations that break no rule hide no name of the innermost scope: each name that they declare is another one (C2).
 use Rattle.std.proofs.Common.{◌≡◌, ℕ, suc, ◌+◌, pos, Bool, true, false, if◌then◌else◌, List, [], ◌∷◌, Option, Some, Ok, Err, is_some, refl, sym, ap, subst, ◌∙◌}
-use Rattle.cp_tree.specs.declared.constant.Identifier.{Identifier}
+use Rattle.cp_resolved.proofs.Words.{Identifier, C2, ArrayShape, Judged, both, ◌>>=◌, faults, Spot, Step, nothing, Typed, typed, reserved_names, reserved_new}
+use Rattle.cp_resolved.proofs.Words.{Name, same_name}
 use Rattle.cp_tree.specs.Syntax as syntax
 use Rattle.cp_scope.specs.declared.fault.CheckFault.TheVariants as check_fault
-use Rattle.cp_scope.specs.declared.fault.Rule.TheVariants.{C2}
 use Rattle.cp_scope.specs.declared.types.Base as check_base
 use Rattle.cp_scope.specs.declared.types.Meaning as check_meaning
 use Rattle.cp_scope.specs.declared.types.Meaning.TheVariants as checked
-use Rattle.cp_scope.specs.declared.shape.ArrayShape.{ArrayShape}
-use Rattle.cp_scope.specs.Judged.{Judged, both, ◌>>=◌, faults}
 use Rattle.cp_scope.specs.Scopes.{Scope, Scopes, Shape, new_scope, is_declared, add, keep}
 use Rattle.cp_scope.specs.Scopes as checker
-use Rattle.cp_check.specs.declared.types.Spot.{Spot}
 use Rattle.cp_check.specs.declared.types.Spot.TheVariants as spot
 use Rattle.cp_check.specs.Constants.{constant}
 use Rattle.cp_check.specs.Records.{Fields, reserve_fields, sound}
 use Rattle.cp_check.specs.Types as typing
-use Rattle.cp_check.specs.Types.{Step, nothing, Typed, typed}
 use Rattle.cp_check.specs.Declarations.{as_declared, reserve_name, add_one, to_constant, to_kind, constant_step, constant_steps, type_step, type_steps}
-use Rattle.cp_lawful.proofs.Classes.{reserved_names, reserved_new}
 use Rattle.cp_lawful.proofs.Kept.{added, one_added}
-use Rattle.cp_meaning.specs.Names.{Name, same_name}
 use Rattle.cp_meaning.specs.Types.{Base, enumerated}
 use Rattle.cp_meaning.specs.Scopes.{Meaning, constant_meaning, type_meaning, find}
 use Rattle.cp_meaning.specs.Scopes as scopes

@@ -1,16 +1,13 @@
 -- The enumerations of a program that spells tokens stand at different tokens, one after the other, and have less constants than there are tokens.
 use Rattle.std.proofs.Common.{◌≡◌, ℕ, ◌+◌, ◌<◌, ◌≤◌, ◌==◌, Bool, true, false, if◌then◌else◌, List, [], ◌∷◌, ◌++◌, length, refl, arith}
-use Rattle.std.proofs.lemmas.Bool.{eq-eqb, eqb-true}
-use Rattle.cp_text.specs.declared.token.Kind.{Kind}
+use Rattle.cp_resolved.proofs.Words.{eq-eqb, eqb-true, Kind, Identifier, AreNumbered}
 use Rattle.cp_text.specs.declared.token.Kind.TheVariants as kind
 use Rattle.cp_text.specs.declared.token.Mark.TheVariants as mark
-use Rattle.cp_tree.specs.declared.constant.Identifier.{Identifier}
 use Rattle.cp_tree.specs.Syntax.{type_name, enumeration, subrange, simple, array_of, set_type, record_of, no_fields, more_fields, fields, constants, types, variables, type_definition, system_definition, program_constants, program_types, program_variables, Program}
 use Rattle.cp_tree.specs.Spelling.{put_optional, put_behind, put_all, put_names, put_identifier, put_simple, put_type, put_field_groups, put_more_field_groups, put_field_group, put_constant_definition, put_type_definition, put_variable_group, put_part, put_group, put_body, put_routine_kind, put_routine, put_system, put_definition, put_system_definition, put_program_part, spell}
 use Rattle.cp_tree.specs.SpellingIndexed.{AreAllIndexed, AreSomeIndexed, IsIndexedSimple, IsIndexedType, AreIndexedFieldGroups, AreIndexedMoreFieldGroups, IsIndexedFieldGroup, IsIndexedTypeDefinition, IsIndexedVariableGroup, IsIndexedPart, IsIndexedRoutine, IsIndexedSystem, IsIndexedDefinition, IsIndexedSystemDefinition, IsIndexedProgramPart, IsIndexedProgram, IsIndexed}
 use Rattle.cp_tree.proofs.Grows.{grows_optional, grows_all, grows_names, grows_simple, grows_constant_definition, grows_group, grows_body, grows_parameters, grows_routine_kind, grows_part}
 use Rattle.cp_resolved.specs.Enumerations.{Enumerated, in_simple, in_type, in_groups, in_group, each_in, in_part, in_routine, in_system, in_definition, in_program_part, enumerations_of, before_among, constants_before}
-use Rattle.cp_resolved.specs.Small.{AreNumbered}
 
 -- ---- enumerations in their order, between two counts of the tokens that follow
 

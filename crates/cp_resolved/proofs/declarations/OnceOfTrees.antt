@@ -1,31 +1,19 @@
 -- A tree that breaks no rule declares routines, variables and parameters once.
 use Rattle.std.proofs.Common.{◌≡◌, ℕ, zero, suc, Bool, true, false, ◌||◌, List, [], ◌∷◌, ◌++◌, Option, Some, is_some, slice_get, refl, sym, ap, subst, ◌∙◌, inr}
-use Rattle.std.proofs.lemmas.Slice.Eq.{bytes_eq-Decides}
-use Rattle.cp_tree.specs.declared.constant.Identifier.{Identifier}
-use Rattle.cp_tree.specs.declared.declaration.SystemKind.{SystemKind}
+use Rattle.cp_resolved.proofs.Words.{bytes_eq-Decides, Identifier, SystemKind, faults, Spot, faults_of, reserved_names, reserved_new, no_left, no_right}
+use Rattle.cp_resolved.proofs.Words.{inside_sound, defined_sound, parts_sound, Name, same_name, Ty, seen_inside, nothing_declared, is_parameter}
+use Rattle.cp_resolved.proofs.Words.{IsOnceDefinition, IsOncePart, AreOthers, IsOnce, Each}
 use Rattle.cp_tree.specs.Syntax as syntax
 use Rattle.cp_tree.specs.Syntax.{System, Definition, type_definition, system_definition, SystemDefinition, ProgramPart, program_types, Tree}
 use Rattle.cp_scope.specs.declared.types.Meaning as checker
-use Rattle.cp_scope.specs.Judged.{faults}
 use Rattle.cp_scope.specs.Scopes.{Names, Scopes, find, add, settle, enter, start}
-use Rattle.cp_check.specs.declared.types.Spot.{Spot}
 use Rattle.cp_check.specs.declared.types.Spot.TheVariants as spot
 use Rattle.cp_check.specs.Declarations.{reserve_name, reserve_names, add_names, add_all, variable_step, variable_steps, part_step, part_steps}
-use Rattle.cp_check.specs.Faults.{faults_of}
 use Rattle.cp_check.specs.Systems as systems
-use Rattle.cp_lawful.proofs.Classes.{reserved_names, reserved_new}
 use Rattle.cp_lawful.proofs.Kept.{Keeps, names_added, variable_kept, constants_kept, types_kept, system_group_kept}
-use Rattle.cp_lawful.proofs.Once.{no_left, no_right, inside_sound, defined_sound, parts_sound}
-use Rattle.cp_meaning.specs.Names.{Name, same_name}
-use Rattle.cp_meaning.specs.Types.{Ty}
 use Rattle.cp_meaning.specs.Scopes as scopes
-use Rattle.cp_meaning.specs.Scopes.{seen_inside}
 use Rattle.cp_meaning.specs.Declarations.{Variable, Parameter, Block, Heading, names_of, named_variables, parameters_named, type_in, with_names, variables_in, part_in, parts_in, with_group, with_groups, type_named}
 use Rattle.cp_meaning.specs.Systems.{SystemMeaning, system_in, Declared, definition_in, definitions_in, program_part_in, program_parts_in, declared, own_meaning, or_own}
-use Rattle.cp_resolved.specs.Fit.{nothing_declared}
-use Rattle.cp_resolved.specs.Layouts.{is_parameter}
-use Rattle.cp_resolved.specs.Once.{IsOnceDefinition, IsOncePart, AreOthers, IsOnce}
-use Rattle.cp_resolved.specs.Small.{Each}
 use Rattle.cp_resolved.proofs.declarations.OnceRoutines.{IsKnown, still_known, known_named, routines_once}
 use Rattle.cp_resolved.proofs.frames.FrameCells.{each_both}
 

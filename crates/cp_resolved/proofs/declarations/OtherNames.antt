@@ -1,27 +1,18 @@
 -- What is declared without a fault has none of the names that are known before it, and names that are declared together are different.
 use Rattle.std.proofs.Common.{◌≡◌, ℕ, ◌+◌, Bool, true, false, ◌||◌, if◌then◌else◌, List, [], ◌∷◌, ◌++◌, Some, is_some, pos, refl, sym, ap, ◌∙◌, inl, inr}
 use Rattle.std.specs.Prelude.{◌⊎◌}
-use Rattle.std.specs.Str.{bytes_eq}
-use Rattle.std.proofs.lemmas.Slice.Eq.{bytes_eq-Decides}
-use Rattle.cp_tree.specs.declared.constant.Identifier.{Identifier}
+use Rattle.cp_resolved.proofs.Words.{bytes_eq, bytes_eq-Decides, Identifier, CheckFault, C2, ValueType, Judged, both, ◌>>=◌, faults, Spot, no_left, no_right}
+use Rattle.cp_resolved.proofs.Words.{no_first, Name, same_name, names_of}
 use Rattle.cp_tree.specs.Syntax.{Simple, enumeration, TypeTerm, simple, array_of, set_type, record_of, FieldGroups, no_fields, more_fields, fields, ConstantDefinition, TypeDefinition, VariableGroup, Part, constants, types, variables}
-use Rattle.cp_scope.specs.declared.fault.CheckFault.{CheckFault}
 use Rattle.cp_scope.specs.declared.fault.CheckFault.TheVariants as check_fault
-use Rattle.cp_scope.specs.declared.fault.Rule.TheVariants.{C2}
 use Rattle.cp_scope.specs.declared.types.Base.{Base}
-use Rattle.cp_scope.specs.declared.types.ValueType.{ValueType}
 use Rattle.cp_scope.specs.declared.types.Meaning.TheVariants as meaning
-use Rattle.cp_scope.specs.Judged.{Judged, both, ◌>>=◌, faults}
 use Rattle.cp_scope.specs.Scopes.{Scope, new_scope, Scopes, find, is_among, is_declared, is_declared_in, with_pending, add, reserve}
-use Rattle.cp_check.specs.declared.types.Spot.{Spot}
 use Rattle.cp_check.specs.declared.types.Spot.TheVariants as spot
 use Rattle.cp_check.specs.Records.{Fields, sound_of, sound, reserve_fields}
 use Rattle.cp_check.specs.Types.{Step, nothing, member, members, unless_type, base_of, simple_typed, arrayed, to_array, set_of, simple_at, shaped, recorded, to_record, typed, groups_typed, group_typed}
 use Rattle.cp_check.specs.Declarations.{reserve_name, reserve_names, to_kind, to_variable, constant_step, constant_steps, type_step, type_steps, variable_step, variable_steps, part_step, part_steps}
 use Rattle.cp_lawful.proofs.Kept.{Keeps, added, name_reserved, names_reserved, constants_kept, type_kept, types_kept, variable_kept, part_kept}
-use Rattle.cp_lawful.proofs.Once.{no_left, no_right, no_first}
-use Rattle.cp_meaning.specs.Names.{Name, same_name}
-use Rattle.cp_meaning.specs.Declarations.{names_of}
 use Rattle.cp_resolved.specs.Distinct.{IsOther, AreDistinct, all_names, simple_names, type_names, groups_names, part_names}
 use Rattle.cp_resolved.proofs.agreeing.Agreeing.{none_of_both}
 use Rattle.cp_resolved.proofs.declarations.OnceRoutines.{IsKnown, still_known}

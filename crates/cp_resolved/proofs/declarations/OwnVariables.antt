@@ -1,33 +1,20 @@
 -- The parameters and variables of each system type that breaks no rule have different names, and each is visible where its initial statement stands.
 use Rattle.std.proofs.Common.{◌≡◌, ℕ, zero, suc, Bool, true, false, if◌then◌else◌, List, [], ◌∷◌, ◌++◌, Some, None, is_some, slice_get, refl, sym, ap, subst, ◌∙◌, append_assoc, append-nil}
-use Rattle.cp_tree.specs.declared.constant.Identifier.{Identifier}
-use Rattle.cp_tree.specs.declared.declaration.SystemKind.{SystemKind}
+use Rattle.cp_resolved.proofs.Words.{Identifier, SystemKind, C2, faults, Spot, faults_of, declarations, routine_steps, Step, nothing, Typed, typed, Name}
+use Rattle.cp_resolved.proofs.Words.{same_name, Ty, parameter_variables, IsOther, AreDistinct, nothing_declared, AreDifferent, AreDeclared, system_variables}
+use Rattle.cp_resolved.proofs.Words.{look, Each}
 use Rattle.cp_tree.specs.Syntax as syntax
 use Rattle.cp_scope.specs.declared.fault.CheckFault.TheVariants as check_fault
-use Rattle.cp_scope.specs.declared.fault.Rule.TheVariants.{C2}
-use Rattle.cp_scope.specs.Judged.{faults}
 use Rattle.cp_scope.specs.Scopes as checked
 use Rattle.cp_scope.specs.Scopes.{Names, Scopes, is_among, is_declared, with_pending, reserve, settle, enter, start}
-use Rattle.cp_check.specs.declared.types.Spot.{Spot}
 use Rattle.cp_check.specs.declared.types.Spot.TheVariants as spot
 use Rattle.cp_check.specs.Declarations.{to_variable, reserve_name, reserve_names, add_all, variable_step, variable_steps, part_step, part_steps}
-use Rattle.cp_check.specs.Faults.{faults_of, declarations}
-use Rattle.cp_check.specs.Routines.{routine_steps}
 use Rattle.cp_check.specs.Systems as systems
-use Rattle.cp_check.specs.Types.{Step, nothing, Typed, typed}
 use Rattle.cp_lawful.proofs.Kept.{Keeps, same, names_reserved, constants_kept, types_kept, variable_kept, system_group_kept, definitions_kept}
 use Rattle.cp_lawful.proofs.Once.{no_left, no_right, no_first, or_right, inside_sound, defined_sound, declarations_sound}
-use Rattle.cp_meaning.specs.Names.{Name, same_name}
-use Rattle.cp_meaning.specs.Types.{Ty}
 use Rattle.cp_meaning.specs.Scopes.{Meaning, permanent_variable, Scope, find, seen_inside}
 use Rattle.cp_meaning.specs.Declarations.{Variable, Block, Heading, names_of, named_variables, parameters_named, type_in, with_names, variables_in, part_in, parts_in, type_named, with_group, with_groups}
-use Rattle.cp_meaning.specs.Steps.{parameter_variables}
 use Rattle.cp_meaning.specs.Systems.{SystemMeaning, system_in, with_routines, Declared, definition_in, definitions_in, program_part_in, program_parts_in, declared, own_meaning, or_own, system_of}
-use Rattle.cp_resolved.specs.Distinct.{IsOther, AreDistinct}
-use Rattle.cp_resolved.specs.Fit.{nothing_declared}
-use Rattle.cp_resolved.specs.Framed.{AreDifferent, AreDeclared, system_variables}
-use Rattle.cp_resolved.specs.Layouts.{look}
-use Rattle.cp_resolved.specs.Small.{Each}
 use Rattle.cp_resolved.proofs.counts.FewReferences.{each_weaker}
 use Rattle.cp_resolved.proofs.frames.FrameCells.{itself, same_is, none_both, each_both}
 use Rattle.cp_resolved.proofs.frames.FramesBegun.{variables_append, named_parameters}

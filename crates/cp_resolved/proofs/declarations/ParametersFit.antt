@@ -1,53 +1,39 @@
 -- In a program that breaks no rule no parameter of a system type is an array of components.
 use Rattle.std.proofs.Common.{◌≡◌, ℕ, suc, ◌+◌, ◌≤◌, ◌∙◌, Bool, true, false, if◌then◌else◌, List, [], ◌∷◌, ◌++◌, length, Option, Some, None, Ok, Err, is_some, pos, refl, sym, ap, subst, arith, inl, inr}
 use Rattle.std.specs.Prelude.{◌⊎◌}
-use Rattle.std.specs.Str.{bytes_eq}
-use Rattle.std.proofs.lemmas.Slice.Eq.{bytes_eq-Decides}
+use Rattle.cp_resolved.proofs.Words.{bytes_eq, bytes_eq-Decides, Identifier, SystemKind, grows_simple, grows_system_definition, grows_program_part, Meaning}
+use Rattle.cp_resolved.proofs.Words.{ValueType, ArrayShape, Judged, broken, both, ◌>>=◌, faults, Spot, Holding, Step, nothing, Typed, typed, faults_of, Name}
+use Rattle.cp_resolved.proofs.Words.{same_name, Declared, definition_in, definitions_in, program_part_in, Loud, IsParameter, AreParameters}
 use Rattle.cp_text.specs.declared.token.Kind.{Kind as Token}
 use Rattle.cp_text.specs.declared.token.Kind.TheVariants as token
 use Rattle.cp_text.specs.declared.token.Mark.TheVariants as mark
-use Rattle.cp_tree.specs.declared.constant.Identifier.{Identifier}
-use Rattle.cp_tree.specs.declared.declaration.SystemKind.{SystemKind}
 use Rattle.cp_tree.specs.Syntax.{Simple, type_name, enumeration, TypeTerm, simple, array_of, set_type, record_of, FieldGroups, no_fields, more_fields, FieldGroup, fields, ConstantDefinition, VariableGroup, Group, System, Definition, type_definition, system_definition, SystemDefinition, ProgramPart, program_constants, program_types, program_variables, Tree}
 use Rattle.cp_tree.specs.Spelling.{put_all, put_type, put_definition, put_system_definition, put_program_part, put_routine, put_body, spell}
 use Rattle.cp_tree.specs.SpellingIndexed.{AreAllIndexed, AreSomeIndexed, IsIndexedType, IsIndexedDefinition, IsIndexedSystemDefinition, IsIndexedProgramPart, IsIndexed}
-use Rattle.cp_tree.proofs.Grows.{grows_simple, grows_system_definition, grows_program_part}
 use Rattle.cp_scope.specs.declared.fault.CheckFault.TheVariants as check_fault
 use Rattle.cp_scope.specs.declared.fault.Rule.{Rule}
 use Rattle.cp_scope.specs.declared.fault.Rule.TheVariants.{C2, C11, C13}
 use Rattle.cp_scope.specs.declared.types.Base as checked_base
-use Rattle.cp_scope.specs.declared.types.Meaning.{Meaning}
 use Rattle.cp_scope.specs.declared.types.Meaning.TheVariants as meaning
 use Rattle.cp_scope.specs.declared.types.Meaning.TheVariants.{Kind}
-use Rattle.cp_scope.specs.declared.types.ValueType.{ValueType}
 use Rattle.cp_scope.specs.declared.types.ValueType.TheVariants as types
 use Rattle.cp_scope.specs.declared.types.ValueType.TheVariants.{Array, Component}
-use Rattle.cp_scope.specs.declared.shape.ArrayShape.{ArrayShape}
-use Rattle.cp_scope.specs.Judged.{Judged, broken, both, ◌>>=◌, faults}
 use Rattle.cp_scope.specs.Scopes.{Scope, Scopes, as_array, with_pending, Shape, Shapes, array_shape, shape_in, find, is_among, is_declared, look, with_name, add, reserve, settle, enter, keep, count_of, cells_of, start}
 use Rattle.cp_scope.specs.Counts.{times}
-use Rattle.cp_check.specs.declared.types.Spot.{Spot}
 use Rattle.cp_check.specs.declared.types.Spot.TheVariants as spot
-use Rattle.cp_check.specs.declared.types.Holding.{Holding}
 use Rattle.cp_check.specs.declared.types.Holding.TheVariants as holds
 use Rattle.cp_check.specs.Names as names
 use Rattle.cp_check.specs.Types as typing
-use Rattle.cp_check.specs.Types.{Step, nothing, Typed, typed}
 use Rattle.cp_check.specs.Declarations.{as_declared, to_kind, reserve_name, reserve_names, add_names, add_all, add_one}
 use Rattle.cp_check.specs.Systems as systems
-use Rattle.cp_check.specs.Faults.{faults_of}
-use Rattle.cp_meaning.specs.Names.{Name, same_name}
 use Rattle.cp_meaning.specs.Types.{Base, Range, Ty, ordinal, queue_type, set_over, array_over, record_with, component_of, has_components, range_of, all_integers}
 use Rattle.cp_meaning.specs.Scopes as meant
 use Rattle.cp_meaning.specs.Scopes.{constant_meaning, type_meaning, permanent_variable, is_seen, seen_inside}
 use Rattle.cp_meaning.specs.Declarations.{type_named, names_of, with_constants, simple_in, type_in, fields_in, group_in, constants_in, with_names, Block, variables_in, Heading, with_group}
-use Rattle.cp_meaning.specs.Systems.{Declared, definition_in, definitions_in, program_part_in}
 use Rattle.cp_lawful.proofs.Classes as classes
 use Rattle.cp_lawful.proofs.Kept.{Keeps, definition_kept, program_part_kept, name_reserved, simple_kept as simple_keeps}
-use Rattle.cp_lawful.proofs.Loud.{Loud}
 use Rattle.cp_lawful.proofs.Once.{no_left, no_right, no_first, inside_sound, defined_sound, parts_sound, or_right}
 use Rattle.cp_lawful.proofs.Told.{Told, heard, add_told, enter_told, names_reserved_told, system_parameter_loud, type_told, name_reserved_told, definition_told, program_part_told, start_told}
-use Rattle.cp_resolved.specs.Small.{IsParameter, AreParameters}
 use Rattle.cp_resolved.specs.Fit.{IsFitDefinition, AreFitDefinitions, IsFitPart, AreFitParts, nothing_declared}
 use Rattle.cp_resolved.proofs.agreeing.ShapesWritten as shapes
 use Rattle.cp_resolved.proofs.agreeing.ShapesWritten.{Writes}

@@ -1,21 +1,13 @@
 -- Constants, types and variables that are declared leave the parameters of a scope as they were, and its routines.
 use Rattle.std.proofs.Common.{◌≡◌, ℕ, ◌+◌, Bool, true, false, if◌then◌else◌, List, [], ◌∷◌, ◌++◌, Option, Some, None, Ok, Err, is_some, pos, refl, sym, ap, ◌∙◌, append_assoc}
-use Rattle.std.specs.Str.{bytes_eq}
+use Rattle.cp_resolved.proofs.Words.{bytes_eq, Identifier, C2, ValueType, Meaning, ArrayShape, Judged, ◌>>=◌, ConstantNumber, Spot}
 use Rattle.std.proofs.lemmas.List.{append-nil}
-use Rattle.cp_tree.specs.declared.constant.Identifier.{Identifier}
 use Rattle.cp_tree.specs.Syntax.{Simple, enumeration, TypeTerm, simple, array_of, set_type, record_of, FieldGroups, no_fields, more_fields, FieldGroup, fields, ConstantDefinition, TypeDefinition, VariableGroup, Part, constants, types, variables}
 use Rattle.cp_scope.specs.declared.fault.CheckFault.TheVariants as check_fault
-use Rattle.cp_scope.specs.declared.fault.Rule.TheVariants.{C2}
 use Rattle.cp_scope.specs.declared.types.Base.{Base}
-use Rattle.cp_scope.specs.declared.types.ValueType.{ValueType}
-use Rattle.cp_scope.specs.declared.types.Meaning.{Meaning}
 use Rattle.cp_scope.specs.declared.types.Meaning.TheVariants as meaning
 use Rattle.cp_scope.specs.declared.types.Parameter.{Parameter}
-use Rattle.cp_scope.specs.declared.shape.ArrayShape.{ArrayShape}
-use Rattle.cp_scope.specs.Judged.{Judged, ◌>>=◌}
 use Rattle.cp_scope.specs.Scopes.{Names, Scope, new_scope, Scopes, Shape, or_else, find, is_declared, parameter_in, parameters_in, with_some, with_name, add, reserve, settle, keep}
-use Rattle.cp_check.specs.declared.constant.ConstantNumber.{ConstantNumber}
-use Rattle.cp_check.specs.declared.types.Spot.{Spot}
 use Rattle.cp_check.specs.declared.types.Spot.TheVariants as spot
 use Rattle.cp_check.specs.Constants.{constant}
 use Rattle.cp_check.specs.Types.{Step, nothing, member, members, simple_typed, keep_array, keep_record, typed, groups_typed, group_typed}

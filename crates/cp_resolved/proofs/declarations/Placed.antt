@@ -1,19 +1,10 @@
 -- A tree that was read and breaks no rule has what the laws on layouts and on bodies want of it.
-use Rattle.std.proofs.Common.{◌≤◌, ℕ, zero, suc, List, [], ◌∷◌, ◌++◌, Option, Some, slice_get, arith}
-use Rattle.cp_tree.specs.Syntax.{Program}
-use Rattle.cp_layout.specs.Kinds.{most}
+use Rattle.cp_resolved.proofs.Words.{◌≤◌, ℕ, zero, suc, List, [], ◌∷◌, ◌++◌, Option, Some, slice_get, arith, Program, most, declared, own_meaning}
+use Rattle.cp_resolved.proofs.Words.{program_system, nothing_declared, Place, places_of, AreAgreed, tokens_of, ScopesAre, cells_of, IsSizedMeaning, AreSized}
+use Rattle.cp_resolved.proofs.Words.{initial_meaning, Each, IsFit, Tokens}
 use Rattle.cp_meaning.specs.Scopes.{Meaning, local_variable, permanent_variable, find}
-use Rattle.cp_meaning.specs.Systems.{declared, own_meaning, program_system}
-use Rattle.cp_resolved.specs.Fit.{nothing_declared}
-use Rattle.cp_resolved.specs.Judging.{Place, places_of, AreAgreed, tokens_of, ScopesAre}
-use Rattle.cp_resolved.specs.Layouts.{cells_of}
-use Rattle.cp_resolved.specs.Once.{IsSizedMeaning, AreSized}
 use Rattle.cp_resolved.specs.Openings.{Opening, routine_openings, initial_opening, parts_openings, openings_of, meaning_in, meaning_at}
 use Rattle.cp_resolved.specs.Placed.{PlacedLaw}
-use Rattle.cp_resolved.specs.Resolved.{initial_meaning}
-use Rattle.cp_resolved.specs.Small.{Each}
-use Rattle.cp_resolved.specs.Standing.{IsFit}
-use Rattle.cp_resolved.specs.Typed.{Tokens}
 use Rattle.cp_resolved.proofs.declarations.CallsOfTrees.{indexed_apart}
 use Rattle.cp_resolved.proofs.counts.FewCells.{few_free, few_standing, full_free, full_standing}
 use Rattle.cp_resolved.proofs.declarations.OnceOfTrees.{accepted_once}

@@ -1,18 +1,11 @@
 -- Names that are being declared are new and different, where they break no rule.
 use Rattle.std.proofs.Common.{◌≡◌, ℕ, Bool, true, false, ◌||◌, if◌then◌else◌, List, [], ◌∷◌, ◌++◌, map, Option, Some, None, is_some, refl, sym, ap, subst, ◌∙◌, append_assoc}
 use Rattle.std.proofs.lemmas.List.{append-nil}
-use Rattle.std.specs.Str.{bytes_eq}
-use Rattle.cp_tree.specs.declared.constant.Identifier.{Identifier}
-use Rattle.cp_scope.specs.declared.fault.CheckFault.{CheckFault}
+use Rattle.cp_resolved.proofs.Words.{bytes_eq, Identifier, CheckFault, C2, Meaning, Step, nothing, reserve_name, reserve_names, itself, or_left, or_right}
 use Rattle.cp_scope.specs.declared.fault.CheckFault.TheVariants as check_fault
-use Rattle.cp_scope.specs.declared.fault.Rule.TheVariants.{C2}
-use Rattle.cp_scope.specs.declared.types.Meaning.{Meaning}
 use Rattle.cp_scope.specs.Scopes.{Names, Scope, Scopes, find, is_among, or_else, is_declared_in, with_pending, reserve}
-use Rattle.cp_check.specs.Types.{Step, nothing}
 use Rattle.cp_check.specs.Records.{Reserved, reserve_field, reserve_fields, with_fields}
-use Rattle.cp_check.specs.Declarations.{reserve_name, reserve_names}
 use Rattle.cp_resolved.proofs.agreeing.Agreeing.{is_itself, find_last, new_names, none_left, none_right}
-use Rattle.cp_lawful.proofs.Once.{itself, or_left, or_right}
 
 -- ---- one name
 

@@ -1,16 +1,12 @@
 -- The parameters and variables of each routine of a tree that breaks no rule have different names, and each is visible where its statements stand (C2);
 -- and where the tree was read, none of them has queues or components.
 use Rattle.std.proofs.Common.{◌≡◌, ℕ, zero, suc, Bool, true, false, List, [], ◌∷◌, ◌++◌, length, Option, Some, None, Ok, slice_get, sym, ap, subst, ◌∙◌, append-nil}
-use Rattle.cp_tree.specs.declared.declaration.SystemKind.{SystemKind}
+use Rattle.cp_resolved.proofs.Words.{SystemKind, ValueType, no_use, ◌>>=◌, faults, Scopes, enter, start, Step, as_declared, reserve_name, reserve_names}
+use Rattle.cp_resolved.proofs.Words.{part_steps, faults_of, declarations, IsAccepted, Name, Ty, local_variable, seen_inside, parameter_variables}
+use Rattle.cp_resolved.proofs.Words.{nothing_declared, AreDeclared, routine_variables, Place, AreAgreed, places_of, tokens_of, IsRead, initial_meaning, Each}
+use Rattle.cp_resolved.proofs.Words.{IsFreeVariable, IsFreeParameter, Tokens}
 use Rattle.cp_tree.specs.Syntax.{Group, ParameterGroup, RoutineKind, procedure, function, Routine, Definition, type_definition, system_definition, SystemDefinition, ProgramPart, program_types, Program, Tree}
-use Rattle.cp_scope.specs.declared.types.ValueType.{ValueType}
-use Rattle.cp_scope.specs.Counts.{no_use}
-use Rattle.cp_scope.specs.Judged.{◌>>=◌, faults}
-use Rattle.cp_scope.specs.Scopes.{Scopes, enter, start}
 use Rattle.cp_check.specs.declared.types.Spot.TheVariants as spot
-use Rattle.cp_check.specs.Types.{Step}
-use Rattle.cp_check.specs.Declarations.{as_declared, reserve_name, reserve_names, part_steps}
-use Rattle.cp_check.specs.Faults.{faults_of, declarations}
 use Rattle.cp_check.specs.Headings as headings
 use Rattle.cp_check.specs.Headings.{after_faults, Headed, written, heading, announced_of}
 use Rattle.cp_check.specs.Routines as routines
@@ -18,23 +14,10 @@ use Rattle.cp_check.specs.Routines.{routine_context, routine_step, routine_steps
 use Rattle.cp_check.specs.Statements.{statements}
 use Rattle.cp_check.specs.Systems as systems
 use Rattle.cp_lawful.proofs.Once.{inside_sound, defined_sound, parts_sound, declarations_sound, no_first as none_first, none_before}
-use Rattle.cp_lawful.specs.Accepted.{IsAccepted}
-use Rattle.cp_meaning.specs.Names.{Name}
-use Rattle.cp_meaning.specs.Types.{Ty}
 use Rattle.cp_meaning.specs.Scopes as scopes
-use Rattle.cp_meaning.specs.Scopes.{local_variable, seen_inside}
 use Rattle.cp_meaning.specs.Declarations.{Variable, Parameter, Heading, RoutineMeaning, names_of, type_named, parameters_named, with_group, with_groups, with_parameter_groups, heading_of, routine_in}
-use Rattle.cp_meaning.specs.Steps.{parameter_variables}
 use Rattle.cp_meaning.specs.Systems.{system_in, Declared, definition_in, program_part_in, declared, program_system, own_meaning}
-use Rattle.cp_resolved.specs.Fit.{nothing_declared}
-use Rattle.cp_resolved.specs.Framed.{AreDeclared, routine_variables}
-use Rattle.cp_resolved.specs.Judging.{Place, AreAgreed, places_of, tokens_of}
 use Rattle.cp_resolved.specs.Openings.{Opening, with_routine, parts_scope, routine_openings, initial_opening, definition_openings, definitions_openings, part_openings, parts_openings, openings_of, meaning_in, meaning_at}
-use Rattle.cp_tree.specs.Read.{IsRead}
-use Rattle.cp_resolved.specs.Resolved.{initial_meaning}
-use Rattle.cp_resolved.specs.Small.{Each}
-use Rattle.cp_resolved.specs.Standing.{IsFreeVariable, IsFreeParameter}
-use Rattle.cp_resolved.specs.Typed.{Tokens}
 use Rattle.cp_resolved.proofs.agreeing.Agreeing.{none_left, none_right}
 use Rattle.cp_resolved.proofs.agreeing.AgreeingRoutines.{none_after}
 use Rattle.cp_resolved.proofs.declarations.DeclaredVariables.{Seen, none_seen, seen_stays, group_seen, parts_seen}

@@ -1,10 +1,7 @@
 -- Where the tokens of expressions and statements and all after them are as a text has them, so are those after them.
-use Rattle.std.proofs.Common.{List, [], ◌∷◌, Option, Some, None}
-use Rattle.cp_text.specs.declared.token.Kind.{Kind}
+use Rattle.cp_resolved.proofs.Words.{List, [], ◌∷◌, Option, Some, None, Kind, Constant, Sign}
 use Rattle.cp_text.specs.declared.token.Kind.TheVariants as kind
 use Rattle.cp_text.specs.declared.token.Mark.TheVariants as mark
-use Rattle.cp_tree.specs.declared.constant.Constant.{Constant}
-use Rattle.cp_tree.specs.declared.constant.Sign.{Sign}
 use Rattle.cp_tree.specs.Syntax.{Expression, alone, related, Sum, sum, Terms, no_terms, more_terms, Term, term, Factors, no_factors, more_factors, Factor, named, group, negated, set_of, Expressions, no_expressions, more_expressions, Designator, designator, Selectors, no_selectors, more_selectors, Selector, field, index, Start, Statement, empty, assign, invoke, block, if_then, if_else, case_of, while_do, repeat_until, for_do, cycle, init, Statements, no_statements, more_statements, Arms, no_arms, more_arms, Arm, arm}
 use Rattle.cp_tree.specs.Spelling.{put_behind, put_all, put_separated, put_sign, put_constant, put_optional, put_expression, put_sum, put_terms, put_term, put_factors, put_factor, put_arguments, put_expressions, put_more_expressions, put_designator, put_selectors, put_selector, put_start, put_statement, put_statements, put_more_statements, put_arms, put_more_arms, put_arm, relation_mark, direction_mark}
 use Rattle.cp_resolved.proofs.declarations.SmallTokens.{AreScanned, optional_small, constant_small}

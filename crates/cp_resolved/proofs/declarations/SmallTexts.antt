@@ -1,10 +1,9 @@
 -- The numbers and characters of a text's tokens are small and its names begin with letters, and so it is in a program that was read.
 use Rattle.std.proofs.Common.{◌≡◌, ℕ, zero, suc, ◌+◌, ◌≤◌, Bool, true, false, List, [], ◌∷◌, length, Option, Some, None, refl, ap, sym, subst, arith, ◌∙◌}
 use Rattle.std.specs.Prelude.{◌&&◌, nat_le, nat_lt, cond}
-use Rattle.std.proofs.lemmas.Bool.{leb-true}
+use Rattle.cp_resolved.proofs.Words.{leb-true, Kind, spell, Program, enumerations_of, constants_before, IsWord, IsRead, IsSmallProgram, AreNumbered}
 use Rattle.cp_text.specs.declared.piece.Shape.{Shape}
 use Rattle.cp_text.specs.declared.piece.Shape.TheVariants as shape
-use Rattle.cp_text.specs.declared.token.Kind.{Kind}
 use Rattle.cp_text.specs.declared.token.Mark.{Mark}
 use Rattle.cp_text.specs.declared.token.Token.{Token}
 use Rattle.cp_text.specs.Bytes.{is_letter, line_feeds}
@@ -13,12 +12,6 @@ use Rattle.cp_text.specs.Reading as reading
 use Rattle.cp_text.specs.Reading.{Has, AreCut, IsCode, printable, numbered, IsLexeme, Part, AreTokens, no_more, blank, lexeme}
 use Rattle.cp_text.specs.Values.{named, lower_case}
 use Rattle.cp_text.specs.Words.{reserved}
-use Rattle.cp_tree.specs.Spelling.{spell}
-use Rattle.cp_tree.specs.Syntax.{Program}
-use Rattle.cp_resolved.specs.Enumerations.{enumerations_of, constants_before}
-use Rattle.cp_resolved.specs.Once.{IsWord}
-use Rattle.cp_tree.specs.Read.{IsRead}
-use Rattle.cp_resolved.specs.Small.{IsSmallProgram, AreNumbered}
 use Rattle.cp_resolved.proofs.declarations.Numbered.{program_numbered}
 use Rattle.cp_resolved.proofs.declarations.SmallPrograms.{program_small}
 use Rattle.cp_resolved.proofs.declarations.SmallTokens.{IsScanned, AreScanned}

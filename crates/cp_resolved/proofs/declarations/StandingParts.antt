@@ -1,13 +1,10 @@
 -- Parts of variables whose types stand: ordinals are within their bases, and no variable has both ordinals and queues.
 use Rattle.std.proofs.Common.{◌≡◌, ℕ, ◌+◌, ◌*◌, ℤ, Bool, true, false, ◌&&◌, if◌then◌else◌, List, [], ◌∷◌, Option, Some, None, inl, inr, refl, sym, ap, subst, arith, ◌∙◌}
 use Rattle.std.specs.Prelude.{◌⊎◌, int_le, nat_lt}
-use Rattle.cp_meaning.specs.Names.{Name, same_name}
+use Rattle.cp_resolved.proofs.Words.{Name, same_name, range_of_base, cells_of, cells_in, is_bounded, are_few, is_indexed, is_free, are_free, is_standing}
 use Rattle.cp_meaning.specs.Types.{Range, Ty, ordinal, queue_type, array_over, record_with, component_of, FieldTypes, no_field_types, more_field_types, length_of_range, is_within}
-use Rattle.cp_meaning.specs.Operations.{range_of_base}
 use Rattle.cp_meaning.specs.Values.{Choice, the_field, the_element, number_value}
 use Rattle.cp_resolved.specs.Encoded.{Chosen, further_chosen, field_chosen, one_chosen, then_chosen, chosen_at, HasType}
-use Rattle.cp_resolved.specs.Layouts.{cells_of, cells_in}
-use Rattle.cp_resolved.specs.Standing.{is_bounded, are_few, is_indexed, is_free, are_free, is_standing}
 use Rattle.cp_resolved.proofs.names.Alike.{same_inside as some_same}
 use Rattle.cp_resolved.proofs.frames.LeastCells.{right_true as second_true}
 use Rattle.cp_resolved.proofs.counts.FewCells.{left_of as first_true}

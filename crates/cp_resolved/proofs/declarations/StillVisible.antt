@@ -1,33 +1,22 @@
 -- What is declared without a fault has a name that is new, so each name that was declared before it in the same scope stands for what it did.
 use Rattle.std.proofs.Common.{◌≡◌, ℕ, suc, ◌+◌, Bool, true, false, if◌then◌else◌, List, [], ◌∷◌, ◌++◌, Option, Some, Ok, Err, is_some, pos, refl, ap, ◌∙◌, inl}
-use Rattle.cp_tree.specs.declared.constant.Identifier.{Identifier}
-use Rattle.cp_tree.specs.declared.declaration.SystemKind.{SystemKind}
+use Rattle.cp_resolved.proofs.Words.{Identifier, SystemKind, CheckFault, C2, ValueType, Judged, both, faults, ◌>>=◌, Scopes, is_among, is_declared, add}
+use Rattle.cp_resolved.proofs.Words.{new_scope, Spot, routine_step, routine_steps, Step, nothing, Typed, typed, reserved_new, no_left, no_right, no_first}
+use Rattle.cp_resolved.proofs.Words.{or_left, Name, with_routines, Declared, definition_in, definitions_in}
 use Rattle.cp_tree.specs.Syntax as syntax
-use Rattle.cp_scope.specs.declared.fault.CheckFault.{CheckFault}
 use Rattle.cp_scope.specs.declared.fault.CheckFault.TheVariants as check_fault
-use Rattle.cp_scope.specs.declared.fault.Rule.TheVariants.{C2}
 use Rattle.cp_scope.specs.declared.types.Base as checked_base
 use Rattle.cp_scope.specs.declared.types.Meaning.TheVariants as checked_meaning
-use Rattle.cp_scope.specs.declared.types.ValueType.{ValueType}
-use Rattle.cp_scope.specs.Judged.{Judged, both, faults, ◌>>=◌}
 use Rattle.cp_scope.specs.Scopes as checked
-use Rattle.cp_scope.specs.Scopes.{Scopes, is_among, is_declared, add, new_scope}
-use Rattle.cp_check.specs.declared.types.Spot.{Spot}
 use Rattle.cp_check.specs.declared.types.Spot.TheVariants as spot
 use Rattle.cp_check.specs.Declarations.{to_kind, reserve_name, constant_step, constant_steps, type_step, type_steps}
 use Rattle.cp_check.specs.Records.{Fields, sound_of, reserve_fields}
-use Rattle.cp_check.specs.Routines.{routine_step, routine_steps}
 use Rattle.cp_check.specs.Systems as systems
 use Rattle.cp_check.specs.Types as typing
-use Rattle.cp_check.specs.Types.{Step, nothing, Typed, typed}
-use Rattle.cp_lawful.proofs.Classes.{reserved_new}
 use Rattle.cp_lawful.proofs.Kept.{Keeps, added, name_reserved, type_kept, constants_kept, types_kept, definition_kept}
-use Rattle.cp_lawful.proofs.Once.{no_left, no_right, no_first, or_left}
-use Rattle.cp_meaning.specs.Names.{Name}
 use Rattle.cp_meaning.specs.Types.{Base, Ty, enumerated}
 use Rattle.cp_meaning.specs.Scopes.{Meaning, constant_meaning, type_meaning, routine_meaning, Scope, find}
 use Rattle.cp_meaning.specs.Declarations.{names_of, constant_of, with_constants, simple_in, type_in, fields_in, constants_in, types_in}
-use Rattle.cp_meaning.specs.Systems.{with_routines, Declared, definition_in, definitions_in}
 use Rattle.cp_resolved.proofs.declarations.OnceRoutines.{IsKnown, still_known, known_other, routine_new, routine_known}
 
 -- each name that the checker has in its innermost scope stands for the same in two scopes

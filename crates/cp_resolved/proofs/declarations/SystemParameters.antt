@@ -1,20 +1,7 @@
 -- The parameters of the system types of an accepted tree: none is a `var` parameter, and none has a queue.
 use Rattle.std.proofs.Common.{◌≡◌, ℕ, Bool, true, false, List, [], ◌∷◌, Some, sym, subst, ◌∙◌, inl, inr}
-use Rattle.std.proofs.lemmas.Option.{same_Some}
-use Rattle.cp_tree.specs.Syntax.{Tree}
-use Rattle.cp_lawful.specs.Accepted.{IsAccepted}
-use Rattle.cp_meaning.specs.Declarations.{Parameter, Variable}
-use Rattle.cp_meaning.specs.Names.{Name}
-use Rattle.cp_meaning.specs.Steps.{parameter_variables}
-use Rattle.cp_meaning.specs.Systems.{system_of}
-use Rattle.cp_meaning.specs.Types.{Ty, ordinal, component_of, has_components}
-use Rattle.cp_resolved.specs.Framed.{system_variables}
-use Rattle.cp_resolved.specs.Layouts.{look}
-use Rattle.cp_tree.specs.Read.{IsRead}
-use Rattle.cp_resolved.specs.Small.{Each}
-use Rattle.cp_resolved.specs.Standing.{is_free}
-use Rattle.cp_resolved.specs.TreeLayouts.{components_among, layouts_of}
-use Rattle.cp_resolved.specs.Typed.{IsHanded, IsSystemParameter}
+use Rattle.cp_resolved.proofs.Words.{same_Some, Tree, IsAccepted, Parameter, Variable, Name, parameter_variables, system_of, Ty, ordinal, component_of}
+use Rattle.cp_resolved.proofs.Words.{has_components, system_variables, look, IsRead, Each, is_free, components_among, layouts_of, IsHanded, IsSystemParameter}
 use Rattle.cp_resolved.proofs.counts.FewReferences.{each_weaker}
 use Rattle.cp_resolved.proofs.frames.FrameCells.{look_left}
 use Rattle.cp_resolved.proofs.agreeing.ScopeVariables.{Among, look_among, among_look, among_all}

@@ -1,19 +1,10 @@
 -- What is wanted of the variables and parameters of the system types of an accepted tree that was read, so that its components stand.
 use Rattle.std.specs.Prelude.{ℕ, List, [], ◌∷◌}
-use Rattle.cp_tree.specs.Syntax.{Tree}
-use Rattle.cp_lawful.specs.Accepted.{IsAccepted}
+use Rattle.cp_resolved.proofs.Words.{Tree, IsAccepted, Parameter, permanent_variable, parameter_variables, system_of, AreDeclared, system_variables}
+use Rattle.cp_resolved.proofs.Words.{ScopesAre, IsRead, Each, IsStandingVariable, IsStandingParameter}
 use Rattle.cp_lawful.proofs.Accepting.{well_formed}
-use Rattle.cp_meaning.specs.Declarations.{Parameter}
-use Rattle.cp_meaning.specs.Scopes.{permanent_variable}
-use Rattle.cp_meaning.specs.Steps.{parameter_variables}
-use Rattle.cp_meaning.specs.Systems.{system_of}
 use Rattle.cp_resolved.specs.ComponentsAre.{HasComponents}
 use Rattle.cp_resolved.specs.Declared.{AreOwn}
-use Rattle.cp_resolved.specs.Framed.{AreDeclared, system_variables}
-use Rattle.cp_resolved.specs.Judging.{ScopesAre}
-use Rattle.cp_tree.specs.Read.{IsRead}
-use Rattle.cp_resolved.specs.Small.{Each}
-use Rattle.cp_resolved.specs.Standing.{IsStandingVariable, IsStandingParameter}
 use Rattle.cp_resolved.proofs.frames.FrameCells.{each_both}
 use Rattle.cp_resolved.proofs.declarations.OwnVariables.{accepted_declares}
 use Rattle.cp_resolved.proofs.declarations.Plain.{plain_law}

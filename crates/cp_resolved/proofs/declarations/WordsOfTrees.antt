@@ -1,22 +1,15 @@
 -- No name that is visible where the statements of a program that was read begin has the code 0 at its front.
 use Rattle.std.proofs.Common.{ℕ, zero, suc, pos, Bool, true, false, if◌then◌else◌, List, [], ◌∷◌, ◌++◌, length, slice_get}
-use Rattle.cp_text.specs.declared.token.Kind.{Kind}
+use Rattle.cp_resolved.proofs.Words.{Kind, Identifier, Name, nothing_declared, IsWord, AreWords, IsRead, initial_meaning, Each, IsSmallPart}
 use Rattle.cp_text.specs.declared.token.Kind.TheVariants as kind
 use Rattle.cp_text.specs.declared.token.Mark.TheVariants as mark
-use Rattle.cp_tree.specs.declared.constant.Identifier.{Identifier}
 use Rattle.cp_tree.specs.Syntax.{Simple, type_name, enumeration, TypeTerm, simple, array_of, set_type, record_of, FieldGroups, no_fields, more_fields, fields, ConstantDefinition, TypeDefinition, VariableGroup, Part, constants, types, variables, Group, ParameterGroup, RoutineKind, procedure, function, Routine, System, Definition, type_definition, system_definition, SystemDefinition, ProgramPart, program_constants, program_types, program_variables, Program}
 use Rattle.cp_tree.specs.Spelling.{put_identifier, put_optional, put_behind, put_all, put_names, put_simple, put_type, put_field_groups, put_more_field_groups, put_constant_definition, put_type_definition, put_variable_group, put_part, put_group, put_parameter_group, put_parameters, put_body, put_routine_kind, put_routine, put_system, put_definition, put_system_definition, put_program_part, spell}
-use Rattle.cp_meaning.specs.Names.{Name}
 use Rattle.cp_meaning.specs.Types.{Base, Ty, enumerated}
 use Rattle.cp_meaning.specs.Scopes.{Meaning, constant_meaning, type_meaning, local_variable, permanent_variable, Scope, is_seen, seen_inside}
 use Rattle.cp_meaning.specs.Declarations.{names_of, with_constants, simple_in, type_in, fields_in, Block, constant_of, constants_in, types_in, named_variables, with_names, variables_in, part_in, parts_in, Heading, with_group, with_groups, with_parameter_groups, heading_of, routine_in, type_named}
 use Rattle.cp_meaning.specs.Systems.{with_routines, system_in, Declared, definition_in, definitions_in, program_part_in, program_parts_in, declared, program_system, own_meaning}
-use Rattle.cp_resolved.specs.Fit.{nothing_declared}
-use Rattle.cp_resolved.specs.Once.{IsWord, AreWords}
 use Rattle.cp_resolved.specs.Openings.{Opening, with_routine, routine_openings, parts_scope, initial_opening, definition_openings, definitions_openings, part_openings, parts_openings, openings_of, meaning_in, meaning_at}
-use Rattle.cp_tree.specs.Read.{IsRead}
-use Rattle.cp_resolved.specs.Resolved.{initial_meaning}
-use Rattle.cp_resolved.specs.Small.{Each, IsSmallPart}
 use Rattle.cp_resolved.proofs.declarations.SmallPrograms.{parameters_after, each_small, group_after, parameter_group_after, kind_after, routine_small, definition_small, program_part_small}
 use Rattle.cp_resolved.proofs.declarations.SmallTexts.{read_scanned}
 use Rattle.cp_resolved.proofs.declarations.SmallTokens.{AreScanned, names_small, optional_small, constant_small, simple_small, type_small, part_small}

@@ -7,11 +7,8 @@ use Rattle.cp_layout.specs.Values.{Value, ordinal_value, applied}
 use Rattle.cp_meaning.specs.Types as named
 use Rattle.cp_meaning.specs.Types.{Base, Range, Ty, ordinal, all_integers, all_booleans, all_characters, is_within}
 use Rattle.cp_meaning.specs.Scopes as scopes
-use Rattle.cp_meaning.specs.Scopes.{Standard}
-use Rattle.cp_meaning.specs.Operations.{range_of_base}
+use Rattle.cp_resolved.proofs.Words.{Standard, range_of_base, Numbering, base_of, predeclared_as, FormIs, ValueIs}
 use Rattle.cp_resolved.specs.Compiled.{Form, as_ordinal, as_place, Formed, integer_form, applied_ordinal, applied_place, applied_form_of, applied_form, is_integer}
-use Rattle.cp_resolved.specs.InStep.{Numbering, base_of, predeclared_as}
-use Rattle.cp_resolved.specs.Valued.{FormIs, ValueIs}
 use Rattle.cp_resolved.proofs.names.Alike.{same_inside}
 use Rattle.cp_resolved.proofs.forms.Operations.{as_integer}
 

@@ -1,32 +1,19 @@
 -- Where an expression that breaks no rule is a variable that may be assigned to, its form is the value of that variable.
 use Rattle.std.proofs.Common.{◌≡◌, ℕ, Bool, true, false, ◌&&◌, if◌then◌else◌, List, [], ◌∷◌, Option, Some, None, Ok, Err, refl, sym, ap, subst, ◌∙◌}
-use Rattle.cp_tree.specs.declared.constant.Identifier.{Identifier}
+use Rattle.cp_resolved.proofs.Words.{Identifier, ValueType, Use, values_of, Judged, both, ◌>>=◌, Scopes, Context, Operand, Named, value, is_assignable, Name}
+use Rattle.cp_resolved.proofs.Words.{Ty, find, last_field, is_call_meant, Here}
 use Rattle.cp_tree.specs.Syntax.{Expression, alone, related, Sum, sum, no_terms, more_terms as terms_more, Term, term, no_factors, more_factors as factors_more, Factor, named as factor_named, group, negated, set_of, designator as name_with, Selectors}
-use Rattle.cp_scope.specs.declared.types.ValueType.{ValueType}
 use Rattle.cp_scope.specs.declared.types.ValueType.TheVariants as types
-use Rattle.cp_scope.specs.declared.count.Use.{Use}
-use Rattle.cp_scope.specs.Types.{values_of}
-use Rattle.cp_scope.specs.Judged.{Judged, both, ◌>>=◌}
-use Rattle.cp_scope.specs.Scopes.{Scopes}
-use Rattle.cp_check.specs.declared.operand.Context.{Context}
-use Rattle.cp_check.specs.declared.operand.Operand.{Operand}
 use Rattle.cp_check.specs.declared.operand.OperandUse.TheVariants as place
 use Rattle.cp_check.specs.declared.operand.DesignatedName as check_designated
-use Rattle.cp_check.specs.declared.operand.Named.{Named}
 use Rattle.cp_check.specs.declared.operand.Named.TheVariants as name
-use Rattle.cp_check.specs.Operands.{value, is_assignable}
 use Rattle.cp_check.specs.Operations as operations
 use Rattle.cp_check.specs.Calls as calls
 use Rattle.cp_check.specs.Expressions.{expression, sum_value, more_terms, term_value, more_factors, factor, designator, arguments, constructed}
 use Rattle.cp_check.specs.Expressions as expressions
 use Rattle.cp_slots.specs.Code as code
-use Rattle.cp_meaning.specs.Names.{Name}
 use Rattle.cp_meaning.specs.Types as named
-use Rattle.cp_meaning.specs.Types.{Ty}
 use Rattle.cp_meaning.specs.Scopes as scopes
-use Rattle.cp_meaning.specs.Scopes.{find}
-use Rattle.cp_meaning.specs.Lifting.{last_field, is_call_meant}
-use Rattle.cp_resolved.specs.Layouts.{Here}
 use Rattle.cp_resolved.specs.Compiled.{Formed, Designated, a_variable, some_components, a_component, then_form, loaded_form, valued_form, signed_form, named_form, expression_form, sum_form, term_form, factor_form, designator_form}
 use Rattle.cp_resolved.specs.Typed.{Tokens, Written, TypeIs, is_plain, ScopesAgree, IsSmallExpression, IsSmallSum, IsSmallTerm, IsSmallFactor}
 use Rattle.cp_resolved.proofs.forms.MadeValues.{IsMade, agreed_made, sum_made, product_made, signed_made, related_made, negated_made, group_made, constructed_made, applied_made, alone_made, call_made, terms_made, factors_made}

@@ -1,16 +1,9 @@
 -- A tree that was read and breaks no rule has what the laws on headings and on bodies want of it.
-use Rattle.std.proofs.Common.{◌≡◌, ℕ, Some, slice_get}
-use Rattle.std.proofs.lemmas.Option.{slice_get_within}
-use Rattle.cp_tree.specs.Syntax.{Tree}
-use Rattle.cp_layout.specs.Layers.{Layer}
-use Rattle.cp_lawful.specs.Accepted.{IsAccepted}
-use Rattle.cp_resolved.specs.Begun.{all_begun}
+use Rattle.cp_resolved.proofs.Words.{◌≡◌, ℕ, Some, slice_get, slice_get_within, Tree, Layer, IsAccepted, all_begun, IsPlaced, openings_of, numbering_of}
+use Rattle.cp_resolved.proofs.Words.{IsRead}
 use Rattle.cp_resolved.specs.BodiesFormed.{BodiesFormedLaw}
 use Rattle.cp_resolved.specs.FormedBodies.{IsFormedAt}
 use Rattle.cp_resolved.specs.HeadingsKnow.{HeadingsKnown}
-use Rattle.cp_resolved.specs.LayoutsKnow.{IsPlaced}
-use Rattle.cp_resolved.specs.Openings.{openings_of, numbering_of}
-use Rattle.cp_tree.specs.Read.{IsRead}
 use Rattle.cp_resolved.proofs.declarations.DistinctOfTrees.{accepted_distinct}
 use Rattle.cp_resolved.proofs.forms.FormedOfTrees.{formed_law}
 use Rattle.cp_resolved.proofs.names.HeadingsKnown.{headings_law}

@@ -2,28 +2,20 @@
 use Rattle.std.proofs.Common.{◌≡◌, ◌+◌, ◌≤◌, ℕ, true, false, Option, Some, None, refl, sym, ap, subst, ◌∙◌, arith, inl, inr}
 use Rattle.std.specs.Prelude.{◌⊎◌}
 use Rattle.cp_slots.specs.declared.place.PlaceOrigin.TheVariants as origin
-use Rattle.cp_layout.specs.declared.kinds.CellType.{CellType}
+use Rattle.cp_resolved.proofs.Words.{CellType, LayoutMeaning, place_at, Layer, Name, Ty, has_components, system_of, cells_of, Here, system_here, frame_here}
+use Rattle.cp_resolved.proofs.Words.{is_parameter, PlaceIs, DesignatedIs, Knows}
 use Rattle.cp_layout.specs.declared.kinds.CellType.TheVariants as types
-use Rattle.cp_layout.specs.declared.names.LayoutMeaning.{LayoutMeaning}
 use Rattle.cp_layout.specs.declared.names.LayoutMeaning.TheVariants as meaning
 use Rattle.cp_layout.specs.Kinds as kinds
 use Rattle.cp_layout.specs.Kinds.{as_array, array_of, most}
 use Rattle.cp_slots.specs.Code as code
 use Rattle.cp_layout.specs.Values as values
-use Rattle.cp_layout.specs.Values.{place_at}
 use Rattle.cp_layout.specs.Layers as layers
-use Rattle.cp_layout.specs.Layers.{Layer}
 use Rattle.cp_layout.specs.LaidExpressions.{begun_as, begun, component_found, component_of_array, element_selected, field_selected}
-use Rattle.cp_meaning.specs.Names.{Name}
 use Rattle.cp_meaning.specs.Types as named
-use Rattle.cp_meaning.specs.Types.{Ty, has_components}
 use Rattle.cp_meaning.specs.Scopes as scopes
-use Rattle.cp_meaning.specs.Systems.{system_of}
 use Rattle.cp_resolved.specs.InStep.{Numbering, range_on, TypeIs, VariableIs, CellsAre, PartsAre, BoundIs, FoundIs}
-use Rattle.cp_resolved.specs.Layouts.{cells_of, Here, system_here, frame_here, is_parameter}
 use Rattle.cp_resolved.specs.Compiled.{Designated, a_variable, some_components, a_component, component_begun, permanent_begun, begun_form, with_field_form, with_element_form}
-use Rattle.cp_resolved.specs.Valued.{PlaceIs, DesignatedIs}
-use Rattle.cp_resolved.specs.Knows.{Knows}
 use Rattle.cp_resolved.proofs.names.Alike.{same_inside}
 use Rattle.cp_resolved.proofs.names.Steps.{found_in}
 use Rattle.cp_resolved.proofs.forms.Selecting.{field_selected_same, element_selected_same}

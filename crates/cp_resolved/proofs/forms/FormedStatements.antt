@@ -1,55 +1,33 @@
 -- Statements that break no rule have the forms that they want.
 use Rattle.std.proofs.Common.{◌≡◌, ℕ, Bool, true, false, ◌&&◌, if◌then◌else◌, List, [], ◌∷◌, Option, Some, None, Ok, Err, refl, sym, ap, subst, ◌∙◌}
-use Rattle.std.proofs.lemmas.Bool.Decides.{Decides-eqb}
-use Rattle.cp_tree.specs.declared.constant.Identifier.{Identifier}
-use Rattle.cp_tree.specs.declared.declaration.SystemKind.{SystemKind}
+use Rattle.cp_resolved.proofs.Words.{Decides-eqb, Identifier, SystemKind, CheckFault, Range, ValueType, Predeclared, Use, no_use, both_uses, agree, is_of}
+use Rattle.cp_resolved.proofs.Words.{is_ordinal, Judged, both, ◌>>=◌, faults, Context, Operand, OperandUse, Named, Label, is_queue_in, is_assignable}
+use Rattle.cp_resolved.proofs.Words.{expression, designator, arguments, Name, Ty, find, since, routine_in, last_field, Here, Each, none_first}
 use Rattle.cp_tree.specs.Syntax.{Expression, Expressions, no_expressions, more_expressions, Designator, designator as name_with, Selectors, Start, Statement, empty, assign, invoke, block, if_then, if_else, case_of, while_do, repeat_until, for_do, cycle, init, Statements, no_statements, more_statements, Arms, no_arms, more_arms, Arm, arm}
-use Rattle.cp_scope.specs.declared.fault.CheckFault.{CheckFault}
 use Rattle.cp_scope.specs.declared.types.Base.TheVariants as base
-use Rattle.cp_scope.specs.declared.types.Range.{Range}
-use Rattle.cp_scope.specs.declared.types.ValueType.{ValueType}
 use Rattle.cp_scope.specs.declared.types.ValueType.TheVariants as types
-use Rattle.cp_scope.specs.declared.types.Predeclared.{Predeclared}
 use Rattle.cp_scope.specs.declared.types.Predeclared.TheVariants as predeclared
-use Rattle.cp_scope.specs.declared.count.Use.{Use}
-use Rattle.cp_scope.specs.Counts.{no_use, both_uses}
-use Rattle.cp_scope.specs.Types.{agree, is_of, is_ordinal}
-use Rattle.cp_scope.specs.Judged.{Judged, both, ◌>>=◌, faults}
 use Rattle.cp_scope.specs.Scopes.{Heading, Scopes, heading_at}
-use Rattle.cp_check.specs.declared.operand.Context.{Context}
-use Rattle.cp_check.specs.declared.operand.Operand.{Operand}
-use Rattle.cp_check.specs.declared.operand.OperandUse.{OperandUse}
 use Rattle.cp_check.specs.declared.operand.OperandUse.TheVariants as place
 use Rattle.cp_check.specs.Operations as operations
 use Rattle.cp_check.specs.Expressions as expressions
 use Rattle.cp_scope.specs.declared.fault.Rule.TheVariants.{C5, C21}
 use Rattle.cp_check.specs.declared.operand.DesignatedName as check_designated
-use Rattle.cp_check.specs.declared.operand.Named.{Named}
 use Rattle.cp_check.specs.declared.operand.Named.TheVariants as name
-use Rattle.cp_check.specs.declared.case.Label.{Label}
 use Rattle.cp_check.specs.declared.statement.Target.{Target}
 use Rattle.cp_check.specs.declared.statement.Target.TheVariants as target
-use Rattle.cp_check.specs.Operands.{is_queue_in, is_assignable}
 use Rattle.cp_check.specs.Names as names
 use Rattle.cp_check.specs.Calls as calls
 use Rattle.cp_check.specs.Calls.{is_fixed, is_fixed_array, place_of, unless}
 use Rattle.cp_check.specs.Cases as cases
-use Rattle.cp_check.specs.Expressions.{expression, designator, arguments}
 use Rattle.cp_check.specs.Statements as statements
 use Rattle.cp_check.specs.Statements.{statement, target_of}
 use Rattle.cp_lawful.proofs.Loud.{Loud, Heard, loud_both, loud_then, begun_loud, expression_loud, designator_loud, arguments_loud, statement_loud, statements_loud, arms_loud}
-use Rattle.cp_meaning.specs.Names.{Name}
 use Rattle.cp_meaning.specs.Types as named
-use Rattle.cp_meaning.specs.Types.{Ty}
 use Rattle.cp_meaning.specs.Scopes as scopes
-use Rattle.cp_meaning.specs.Scopes.{find, since}
-use Rattle.cp_meaning.specs.Declarations.{routine_in}
-use Rattle.cp_meaning.specs.Lifting.{last_field}
 use Rattle.cp_slots.specs.Code as code
-use Rattle.cp_resolved.specs.Layouts.{Here}
 use Rattle.cp_resolved.specs.Compiled.{Form, as_place, Formed, Designated, a_variable, some_components, a_component, begun_form, expression_form, designator_form}
 use Rattle.cp_resolved.specs.Formed.{HasTest, HasOrdinal, HasQueue, HasValueFor, IsAssigned, IsCounter, Counts, IsPerformed, IsInvoked, IsStarted, IsFormed, AreFormed, AreArmsFormed, IsArmFormed}
-use Rattle.cp_resolved.specs.Small.{Each}
 use Rattle.cp_resolved.specs.SmallStatements.{IsSmallStart, IsSmallStatement, AreSmallStatements, AreSmallArms, IsSmallArm}
 use Rattle.cp_resolved.specs.Typed.{Tokens, Written, TypeIs, IsOrdinalResult, ResultIs, RoutineIs, predeclared_of, ScopesAgree, FormIs, Expressed, HasForm, IsSmallExpression, AreSmallExpressions, IsSmallDesignator}
 use Rattle.cp_resolved.proofs.forms.Typing.{formed, OrdinalForm, ordinal_found, SetForm, set_found, QueueForm, queue_found}
@@ -57,7 +35,6 @@ use Rattle.cp_resolved.proofs.forms.TypingOperations.{boolean_found}
 use Rattle.cp_resolved.proofs.forms.TypingNames.{Holds, NamedIs, HasDesignated, written, begun_typed}
 use Rattle.cp_resolved.proofs.forms.TypingExpressions.{expression_typed, designator_typed}
 use Rattle.cp_resolved.proofs.agreeing.Agreeing.{none_of_both, none_left}
-use Rattle.cp_lawful.proofs.Once.{no_first as none_first}
 
 -- ---- what has no fault
 

@@ -1,51 +1,31 @@
 -- What is assigned to, and what an assigned value is, where no rule is broken.
 use Rattle.std.proofs.Common.{◌≡◌, ℕ, Bool, true, false, if◌then◌else◌, Option, Some, None, Ok, refl, sym, ap, subst, ◌∙◌}
-use Rattle.std.proofs.lemmas.Bool.Decides.{Decides-eqb}
-use Rattle.cp_tree.specs.declared.constant.Identifier.{Identifier}
+use Rattle.cp_resolved.proofs.Words.{Decides-eqb, Identifier, ValueType, Meaning, ◌>>=◌, Context, OperandUse, Predeclared, Named, is_assignable, expression}
+use Rattle.cp_resolved.proofs.Words.{designator, PlaceOrigin, Permanent, Name, result_name, Ty, natural_of, find, last_field, result_type, IsTarget, Here}
+use Rattle.cp_resolved.proofs.Words.{frame_here, system_here, cells_of, is_own, is_parameter, AssignedBy, IsBare, HasResult, system_of}
 use Rattle.cp_tree.specs.Syntax.{Designator, designator as name_with, Selectors, no_selectors, more_selectors}
-use Rattle.cp_scope.specs.declared.types.ValueType.{ValueType}
-use Rattle.cp_scope.specs.declared.types.Meaning.{Meaning}
 use Rattle.cp_scope.specs.declared.types.Meaning.TheVariants as meaning
-use Rattle.cp_scope.specs.Judged.{◌>>=◌}
 use Rattle.cp_scope.specs.Scopes.{Scopes, look, heading_at}
-use Rattle.cp_check.specs.declared.operand.Context.{Context}
-use Rattle.cp_check.specs.declared.operand.OperandUse.{OperandUse}
 use Rattle.cp_check.specs.declared.operand.OperandUse.TheVariants as place
-use Rattle.cp_scope.specs.declared.types.Predeclared.{Predeclared}
 use Rattle.cp_check.specs.declared.operand.DesignatedName as check_designated
-use Rattle.cp_check.specs.declared.operand.Named.{Named}
 use Rattle.cp_check.specs.declared.operand.Named.TheVariants as name
 use Rattle.cp_check.specs.declared.statement.Target.TheVariants as target
-use Rattle.cp_check.specs.Operands.{is_assignable}
 use Rattle.cp_check.specs.Operations as operations
 use Rattle.cp_check.specs.Names as names
 use Rattle.cp_check.specs.Calls as calls
-use Rattle.cp_check.specs.Expressions.{expression, designator}
 use Rattle.cp_check.specs.Statements as statements
 use Rattle.cp_check.specs.Statements.{target_of}
-use Rattle.cp_slots.specs.declared.place.PlaceOrigin.{PlaceOrigin}
-use Rattle.cp_slots.specs.declared.place.PlaceOrigin.TheVariants.{Permanent}
 use Rattle.cp_slots.specs.Code as code
-use Rattle.cp_meaning.specs.Names.{Name, result_name}
 use Rattle.cp_meaning.specs.Types as named
-use Rattle.cp_meaning.specs.Types.{Ty, natural_of}
 use Rattle.cp_meaning.specs.Scopes as scopes
-use Rattle.cp_meaning.specs.Scopes.{find}
-use Rattle.cp_meaning.specs.Lifting.{last_field}
-use Rattle.cp_meaning.specs.Places.{result_type}
 use Rattle.cp_resolved.specs.Compiled.{as_ordinal, as_set, as_place, Formed, Designated, a_variable, some_components, a_component, then_form, result_begun, component_begun, permanent_begun, begun_form, designator_form}
-use Rattle.cp_resolved.specs.FormedStatements.{IsTarget}
-use Rattle.cp_resolved.specs.Layouts.{Here, frame_here, system_here, cells_of, is_own, is_parameter}
-use Rattle.cp_resolved.specs.Stands.{AssignedBy}
 use Rattle.cp_resolved.specs.Typed.{Tokens, Written, OrdinalIs, TypeIs, is_plain, IsOrdinalResult, ResultIs, RoutineIs, HeadingIs, ScopesAgree}
-use Rattle.cp_resolved.specs.Used.{IsBare, HasResult}
 use Rattle.cp_resolved.proofs.forms.AssignableForms.{free_place, components_fixed}
 use Rattle.cp_resolved.proofs.forms.HandedOver.{Fits, IsWhole}
 use Rattle.cp_resolved.proofs.forms.Typing.{formed}
 use Rattle.cp_resolved.proofs.forms.TypingNames.{IsPlainMeaning, Holds, written, NamedIs}
 use Rattle.cp_resolved.proofs.forms.UsedNames.{IsVariableMeaning, known_is, other_bare}
 use Rattle.cp_resolved.proofs.agreeing.WithoutFaults.{ok_same, Then, then_of}
-use Rattle.cp_meaning.specs.Systems.{system_of}
 
 -- ---- values
 

@@ -1,10 +1,7 @@
 -- All statements of a tree that was read and breaks no rule have the forms that they want.
-use Rattle.std.proofs.Common.{◌≡◌, Option, Some, None, refl}
-use Rattle.cp_scope.specs.declared.types.Meaning.{Meaning}
+use Rattle.cp_resolved.proofs.Words.{◌≡◌, Option, Some, None, refl, Meaning, Loud, Heard, Name}
 use Rattle.cp_scope.specs.Scopes.{Scopes, look}
 use Rattle.cp_check.specs.Names as names
-use Rattle.cp_lawful.proofs.Loud.{Loud, Heard}
-use Rattle.cp_meaning.specs.Names.{Name}
 
 pub all_heard : (s : Scopes) → ((y : Name) → look y s ≡ Some None → ⊥) → Heard s
 unfolding names.visible

@@ -1,35 +1,20 @@
 -- Arguments that break no rule can be handed over to the parameters of what is called or started.
 use Rattle.std.proofs.Common.{◌≡◌, ℕ, suc, ◌+◌, Bool, true, false, ◌&&◌, if◌then◌else◌, List, [], ◌∷◌, ◌++◌, length, Option, Some, None, Ok, slice_get, refl, sym, ap, subst, ◌∙◌, arith}
-use Rattle.std.specs.Prelude.{nat_eq, not}
-use Rattle.std.proofs.lemmas.Bool.Decides.{Decides-eqb}
-use Rattle.cp_tree.specs.Syntax.{Expression, Expressions, no_expressions, more_expressions, Designator}
-use Rattle.cp_scope.specs.declared.fault.CheckFault.{CheckFault}
+use Rattle.cp_resolved.proofs.Words.{nat_eq, not, Decides-eqb, Expression, Expressions, no_expressions, more_expressions, Designator, CheckFault, Use}
+use Rattle.cp_resolved.proofs.Words.{both_uses, Judged, both, ◌>>=◌, Scopes, heading_at, body_at, Context, Operand, OperandUse, is_assignable, is_function}
+use Rattle.cp_resolved.proofs.Words.{expression, arguments, is_var_at, Ty, natural_of, Parameter, RoutineMeaning, routine_called, Here, cells_of, is_free}
+use Rattle.cp_resolved.proofs.Words.{ValueGiven, PlaceGiven, GivenBy}
 use Rattle.cp_scope.specs.declared.fault.Rule.TheVariants.{C5, C6, C7}
 use Rattle.cp_scope.specs.declared.types.Parameter as check_parameter
-use Rattle.cp_scope.specs.declared.count.Use.{Use}
-use Rattle.cp_scope.specs.Counts.{both_uses}
 use Rattle.cp_scope.specs.Types.{agree, same}
-use Rattle.cp_scope.specs.Judged.{Judged, both, ◌>>=◌}
-use Rattle.cp_scope.specs.Scopes.{Scopes, heading_at, body_at}
-use Rattle.cp_check.specs.declared.operand.Context.{Context}
-use Rattle.cp_check.specs.declared.operand.Operand.{Operand}
-use Rattle.cp_check.specs.declared.operand.OperandUse.{OperandUse}
 use Rattle.cp_check.specs.declared.operand.OperandUse.TheVariants as place
-use Rattle.cp_check.specs.Operands.{is_assignable, is_function}
 use Rattle.cp_check.specs.Calls as calls
 use Rattle.cp_check.specs.Calls.{fits, all_fit, fit_faults, fault, variable_faults, all_variable_faults, assignable_faults, unless}
 use Rattle.cp_check.specs.Expressions as expressions
-use Rattle.cp_check.specs.Expressions.{expression, arguments, is_var_at}
 use Rattle.cp_slots.specs.Code as code
 use Rattle.cp_meaning.specs.Types as named
-use Rattle.cp_meaning.specs.Types.{Ty, natural_of}
-use Rattle.cp_meaning.specs.Declarations.{Parameter, RoutineMeaning}
-use Rattle.cp_meaning.specs.Expressions.{routine_called}
-use Rattle.cp_resolved.specs.Layouts.{Here, cells_of}
 use Rattle.cp_resolved.specs.Compiled.{as_ordinal, as_set, as_place, as_component, Formed, place_form, loaded_form, expression_form}
 use Rattle.cp_resolved.specs.FormedParts.{CanGive, CanGiveAll, CallFormed}
-use Rattle.cp_resolved.specs.Standing.{is_free}
-use Rattle.cp_resolved.specs.Stands.{ValueGiven, PlaceGiven, GivenBy}
 use Rattle.cp_resolved.specs.Typed.{Tokens, Written, IsHanded, ParameterIs, AreParameters, HeadingIs, ScopesAgree, Expressed, HasForm, IsSmallExpression, AreSmallExpressions}
 use Rattle.cp_resolved.proofs.agreeing.Agreeing.{none_left, none_right}
 use Rattle.cp_resolved.proofs.agreeing.AgreeingParts.{free_plain}

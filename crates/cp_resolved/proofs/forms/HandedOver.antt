@@ -2,15 +2,11 @@
 use Rattle.std.proofs.Common.{◌≡◌, ℕ, ℤ, true, false, ◌&&◌, Option, Some, None, refl, sym, ap, subst, ◌∙◌}
 use Rattle.std.specs.Ordering.{int_eq}
 use Rattle.std.proofs.lemmas.Bool.Decides.{Decides-eqb, Decides-int_eq}
-use Rattle.cp_tree.specs.declared.declaration.SystemKind.{SystemKind}
-use Rattle.cp_scope.specs.declared.types.Range.{Range}
-use Rattle.cp_scope.specs.declared.types.ValueType.{ValueType}
+use Rattle.cp_resolved.proofs.Words.{SystemKind, Range, ValueType, Ty, range_of, Form, as_ordinal, as_place, as_component, Formed}
 use Rattle.cp_scope.specs.declared.types.ValueType.TheVariants as types
 use Rattle.cp_scope.specs.Types.{agree, same, same_base, same_range}
 use Rattle.cp_slots.specs.Code as code
 use Rattle.cp_meaning.specs.Types as named
-use Rattle.cp_meaning.specs.Types.{Ty, range_of}
-use Rattle.cp_resolved.specs.Compiled.{Form, as_ordinal, as_place, as_component, Formed}
 use Rattle.cp_resolved.specs.Typed.{Written, RangeIs, TypeIs, is_plain, FormIs, Expressed}
 use Rattle.cp_resolved.proofs.agreeing.AgreeingConstants.{base_same}
 use Rattle.cp_resolved.proofs.agreeing.AgreeingTypes.{IsOrdinal, ordinal_of}

@@ -1,28 +1,14 @@
 -- What operands are values, and no variables: all that is made by an operation, a call or a constant.
 use Rattle.std.proofs.Common.{◌≡◌, ℕ, Bool, true, false, ◌&&◌, if◌then◌else◌, List, [], ◌∷◌, Option, Some, None, Ok, Err, refl}
-use Rattle.std.specs.Option.{option_or}
-use Rattle.cp_tree.specs.declared.constant.Sign.{Sign}
-use Rattle.cp_tree.specs.declared.expression.Addition.{Addition}
+use Rattle.cp_resolved.proofs.Words.{option_or, Sign, Addition, Multiplication, Relation, C5, ValueType, Predeclared, Use, agree, is_of, values_of, whole}
+use Rattle.cp_resolved.proofs.Words.{both_uses, Judged, broken, both, ◌>>=◌, Scopes, heading_at, Context, Operand, value, is_queue_in}
 use Rattle.cp_tree.specs.declared.expression.Addition.TheVariants as addition
-use Rattle.cp_tree.specs.declared.expression.Multiplication.{Multiplication}
 use Rattle.cp_tree.specs.declared.expression.Multiplication.TheVariants as multiplication
-use Rattle.cp_tree.specs.declared.expression.Relation.{Relation}
 use Rattle.cp_tree.specs.Syntax.{Terms, no_terms, more_terms as terms_more, Factors, no_factors, more_factors as factors_more}
-use Rattle.cp_scope.specs.declared.fault.Rule.TheVariants.{C5}
 use Rattle.cp_scope.specs.declared.types.Base.TheVariants as base
-use Rattle.cp_scope.specs.declared.types.ValueType.{ValueType}
 use Rattle.cp_scope.specs.declared.types.ValueType.TheVariants as types
-use Rattle.cp_scope.specs.declared.types.Predeclared.{Predeclared}
 use Rattle.cp_scope.specs.declared.types.Predeclared.TheVariants as predeclared
-use Rattle.cp_scope.specs.declared.count.Use.{Use}
-use Rattle.cp_scope.specs.Types.{agree, is_of, values_of, whole}
-use Rattle.cp_scope.specs.Counts.{both_uses}
-use Rattle.cp_scope.specs.Judged.{Judged, broken, both, ◌>>=◌}
-use Rattle.cp_scope.specs.Scopes.{Scopes, heading_at}
-use Rattle.cp_check.specs.declared.operand.Context.{Context}
-use Rattle.cp_check.specs.declared.operand.Operand.{Operand}
 use Rattle.cp_check.specs.declared.operand.OperandUse.TheVariants as place
-use Rattle.cp_check.specs.Operands.{value, is_queue_in}
 use Rattle.cp_check.specs.Operations as operations
 use Rattle.cp_check.specs.Calls as calls
 use Rattle.cp_check.specs.Expressions.{expression, more_terms, term_value, more_factors, factor, constructed, set_like, are_elements}

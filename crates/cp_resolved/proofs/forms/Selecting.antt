@@ -1,8 +1,7 @@
 -- Fields and elements of what a name stands for, and its value, are those of its form.
 use Rattle.std.proofs.Common.{◌≡◌, ◌+◌, ◌*◌, ◌≤◌, ℕ, zero, suc, Bool, true, false, if◌then◌else◌, List, Option, Some, None, refl, sym, ap, subst, ◌∙◌, arith}
-use Rattle.std.specs.Str.{bytes_eq}
-use Rattle.cp_slots.specs.declared.place.PlaceOrigin.{PlaceOrigin}
-use Rattle.cp_layout.specs.declared.kinds.CellType.{CellType}
+use Rattle.cp_resolved.proofs.Words.{bytes_eq, PlaceOrigin, CellType, Ty, FieldTypes, length_of_range, cells_of, cells_in, Chosen, field_chosen}
+use Rattle.cp_resolved.proofs.Words.{further_chosen}
 use Rattle.cp_layout.specs.declared.kinds.CellType.TheVariants as types
 use Rattle.cp_layout.specs.Kinds as kinds
 use Rattle.cp_layout.specs.Kinds.{Compounds, as_field, field_of, as_array, array_of, most, plus}
@@ -11,10 +10,7 @@ use Rattle.cp_layout.specs.Values as values
 use Rattle.cp_layout.specs.Values.{loaded}
 use Rattle.cp_layout.specs.LaidExpressions.{with_last, with_offset, field_found, element_found}
 use Rattle.cp_meaning.specs.Types as named
-use Rattle.cp_meaning.specs.Types.{Ty, FieldTypes, length_of_range}
 use Rattle.cp_resolved.specs.InStep.{Numbering, range_on, TypeIs}
-use Rattle.cp_resolved.specs.Layouts.{cells_of, cells_in}
-use Rattle.cp_resolved.specs.Encoded.{Chosen, field_chosen, further_chosen}
 use Rattle.cp_resolved.specs.Compiled.{Designated, a_variable, loaded_form, with_index, then_form, part_of_form, field_of_form, element_of_form}
 use Rattle.cp_resolved.specs.Valued.{ValueIs, IsFull, AreFull, Ends, PlaceIs, DesignatedIs}
 use Rattle.cp_resolved.proofs.names.Alike.{same_inside}

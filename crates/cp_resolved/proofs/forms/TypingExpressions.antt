@@ -1,34 +1,19 @@
 -- An expression that breaks no rule has a form, and their types belong together.
 use Rattle.std.proofs.Common.{◌≡◌, ◌≤◌, ℕ, ◌+◌, pos, if◌then◌else◌, arith, Bool, true, false, List, [], ◌∷◌, Option, Some, None, Ok, Err, refl, sym, ap, subst, ◌∙◌}
-use Rattle.cp_tree.specs.declared.constant.Identifier.{Identifier}
+use Rattle.cp_resolved.proofs.Words.{Identifier, C5, no_use, value, Range, ValueType, is_of, whole, Judged, broken, both, ◌>>=◌, Scopes, Context, Operand}
+use Rattle.cp_resolved.proofs.Words.{Name, is_within, range_of_base, find, last_field, Here}
 use Rattle.cp_tree.specs.Syntax.{Expression, alone, related, Sum, sum, Terms, no_terms, more_terms as terms_more, Term, term, Factors, no_factors, more_factors as factors_more, Factor, number, character, named as factor_named, group, negated, set_of, Expressions, no_expressions, more_expressions, designator as name_with, Selectors, no_selectors, more_selectors, field, index}
-use Rattle.cp_scope.specs.declared.fault.Rule.TheVariants.{C5}
 use Rattle.cp_scope.specs.declared.types.Base as check_base
 use Rattle.cp_scope.specs.declared.types.Base.TheVariants as base
-use Rattle.cp_scope.specs.Counts.{no_use}
-use Rattle.cp_check.specs.Operands.{value}
 use Rattle.cp_check.specs.Calls.{total_use}
-use Rattle.cp_scope.specs.declared.types.Range.{Range}
-use Rattle.cp_scope.specs.declared.types.ValueType.{ValueType}
 use Rattle.cp_scope.specs.declared.types.ValueType.TheVariants as types
-use Rattle.cp_scope.specs.Types.{is_of, whole}
-use Rattle.cp_scope.specs.Judged.{Judged, broken, both, ◌>>=◌}
-use Rattle.cp_scope.specs.Scopes.{Scopes}
-use Rattle.cp_check.specs.declared.operand.Context.{Context}
-use Rattle.cp_check.specs.declared.operand.Operand.{Operand}
 use Rattle.cp_check.specs.declared.operand.DesignatedName as check_designated
 use Rattle.cp_check.specs.Names as names
 use Rattle.cp_check.specs.Expressions.{expression, sum_value, more_terms, term_value, more_factors, factor, designator, selectors, arguments, constructed, set_like, are_elements}
 use Rattle.cp_check.specs.Expressions as expressions
 use Rattle.cp_slots.specs.Code as code
-use Rattle.cp_meaning.specs.Names.{Name}
 use Rattle.cp_meaning.specs.Types as named
-use Rattle.cp_meaning.specs.Types.{is_within}
-use Rattle.cp_meaning.specs.Operations.{range_of_base}
 use Rattle.cp_meaning.specs.Scopes as scopes
-use Rattle.cp_meaning.specs.Scopes.{find}
-use Rattle.cp_meaning.specs.Lifting.{last_field}
-use Rattle.cp_resolved.specs.Layouts.{Here}
 use Rattle.cp_resolved.specs.Compiled.{Formed, Designated as FormDesignated, then_form, set_form, signed_form, added_forms, multiplied_forms, with_member_form, begun_form, expression_form, sum_form, terms_form, term_form, factors_form, factor_form, members_form, first_form, designator_form, selected_form, chosen_form}
 use Rattle.cp_resolved.specs.Typed.{Tokens, Written, ScopesAgree, Expressed, HasForm, IsSmallExpression, IsSmallSum, AreSmallTerms, IsSmallTerm, AreSmallFactors, IsSmallFactor, AreSmallExpressions, AreSmallSelectors}
 use Rattle.cp_resolved.proofs.forms.Typing.{OrdinalForm, ordinal_found, a_set}

@@ -1,38 +1,20 @@
 -- Names with selectors that break no rule stand for what their forms stand for.
 use Rattle.std.proofs.Common.{◌≡◌, ◌+◌, ℕ, ℤ, Bool, true, false, if◌then◌else◌, [], Option, Some, None, Ok, Err, refl, sym, ap, subst, ◌∙◌}
-use Rattle.std.specs.Str.{bytes_eq}
-use Rattle.cp_tree.specs.declared.constant.Identifier.{Identifier}
-use Rattle.cp_tree.specs.declared.declaration.SystemKind.{SystemKind}
-use Rattle.cp_scope.specs.declared.types.Range.{Range}
-use Rattle.cp_scope.specs.declared.types.ValueType.{ValueType}
-use Rattle.cp_scope.specs.declared.count.Use.{Use}
+use Rattle.cp_resolved.proofs.Words.{bytes_eq, Identifier, SystemKind, Range, ValueType, Use, Meaning, ArrayShape, agree, Judged, both, ◌>>=◌, Operand, Named}
+use Rattle.cp_resolved.proofs.Words.{Selectors, no_selectors, more_selectors, field, index, Name, Ty, FieldTypes, find, last_field, is_call_meant}
+use Rattle.cp_resolved.proofs.Words.{routine_meant, Here, cells_of, is_parameter, Chosen, field_chosen, further_chosen, system_of}
 use Rattle.cp_scope.specs.declared.types.ValueType.TheVariants as types
-use Rattle.cp_scope.specs.declared.types.Meaning.{Meaning}
 use Rattle.cp_scope.specs.declared.types.Meaning.TheVariants as meaning
-use Rattle.cp_scope.specs.declared.shape.ArrayShape.{ArrayShape}
-use Rattle.cp_scope.specs.Types.{agree}
-use Rattle.cp_scope.specs.Judged.{Judged, both, ◌>>=◌}
 use Rattle.cp_scope.specs.Scopes.{Names, Scope, as_field, Scopes, look, look_in, field_at, array_at, member_at, heading_at}
 use Rattle.cp_scope.specs.Scopes as scope
-use Rattle.cp_check.specs.declared.operand.Operand.{Operand}
 use Rattle.cp_check.specs.declared.operand.DesignatedName as check_designated
-use Rattle.cp_check.specs.declared.operand.Named.{Named}
 use Rattle.cp_check.specs.declared.operand.Named.TheVariants as name
 use Rattle.cp_check.specs.Names as names
 use Rattle.cp_check.specs.Expressions as expressions
 use Rattle.cp_slots.specs.Code as code
-use Rattle.cp_tree.specs.Syntax.{Selectors, no_selectors, more_selectors, field, index}
-use Rattle.cp_meaning.specs.Names.{Name}
 use Rattle.cp_meaning.specs.Types as named
-use Rattle.cp_meaning.specs.Types.{Ty, FieldTypes}
 use Rattle.cp_meaning.specs.Scopes as scopes
-use Rattle.cp_meaning.specs.Scopes.{find}
-use Rattle.cp_meaning.specs.Lifting.{last_field, is_call_meant}
-use Rattle.cp_meaning.specs.Expressions.{routine_meant}
-use Rattle.cp_resolved.specs.Layouts.{Here, cells_of, is_parameter}
-use Rattle.cp_resolved.specs.Encoded.{Chosen, field_chosen, further_chosen}
 use Rattle.cp_resolved.specs.Compiled.{as_ordinal, Formed, Designated, a_variable, some_components, a_component, then_form, component_begun, permanent_begun, begun_form, part_of_form, with_field_form, element_of_form, with_index_form}
-use Rattle.cp_meaning.specs.Systems.{system_of}
 use Rattle.cp_resolved.specs.Typed.{Tokens, Written, ComponentIs, TypeIs, FieldsAre, is_plain, are_plain, MayStand, HeadingIs, VariableIs, ConstantIs, RoutineIs, StandardIs, MeaningIs, ScopesAgree, Expressed, HasForm}
 use Rattle.cp_resolved.proofs.forms.Typing.{formed, OrdinalForm, ordinal_found}
 use Rattle.cp_resolved.proofs.frames.LeastCells.{right_true as second_true}

@@ -1,33 +1,20 @@
 -- Operands that break no rule have forms, and so has what an operation makes of them.
 use Rattle.std.proofs.Common.{◌≡◌, ℕ, Bool, true, false, if◌then◌else◌, Option, Some, None, Ok, Err, refl, sym, subst, ◌∙◌}
 use Rattle.std.specs.Prelude.{◌&&◌}
-use Rattle.std.specs.Option.{option_or}
-use Rattle.cp_tree.specs.declared.constant.Sign.{Sign}
+use Rattle.cp_resolved.proofs.Words.{option_or, Sign, Relation, Addition, Multiplication, Range, ValueType, Use, both_uses, agree, is_of, values_of, Judged}
+use Rattle.cp_resolved.proofs.Words.{broken, both, ◌>>=◌, Operand, value, Ty, Written, Expressed, HasForm}
 use Rattle.cp_tree.specs.declared.constant.Sign.TheVariants as sign
-use Rattle.cp_tree.specs.declared.expression.Relation.{Relation}
 use Rattle.cp_tree.specs.declared.expression.Relation.TheVariants as relation
-use Rattle.cp_tree.specs.declared.expression.Addition.{Addition}
 use Rattle.cp_tree.specs.declared.expression.Addition.TheVariants as addition
-use Rattle.cp_tree.specs.declared.expression.Multiplication.{Multiplication}
 use Rattle.cp_tree.specs.declared.expression.Multiplication.TheVariants as multiplication
 use Rattle.cp_scope.specs.declared.fault.Rule.{Rule}
 use Rattle.cp_scope.specs.declared.types.Base.TheVariants as base
-use Rattle.cp_scope.specs.declared.types.Range.{Range}
-use Rattle.cp_scope.specs.declared.types.ValueType.{ValueType}
 use Rattle.cp_scope.specs.declared.types.ValueType.TheVariants as types
-use Rattle.cp_scope.specs.declared.count.Use.{Use}
-use Rattle.cp_scope.specs.Counts.{both_uses}
-use Rattle.cp_scope.specs.Types.{agree, is_of, values_of}
-use Rattle.cp_scope.specs.Judged.{Judged, broken, both, ◌>>=◌}
-use Rattle.cp_check.specs.declared.operand.Operand.{Operand}
-use Rattle.cp_check.specs.Operands.{value}
 use Rattle.cp_check.specs.Operations as operations
 use Rattle.cp_check.specs.Expressions as expressions
 use Rattle.cp_slots.specs.Code as code
 use Rattle.cp_meaning.specs.Types as named
-use Rattle.cp_meaning.specs.Types.{Ty}
 use Rattle.cp_resolved.specs.Compiled.{as_ordinal, as_set, Formed, then_form, is_integer_base, is_boolean_base, compared_forms, added_ordinals, added_forms, multiplied_ordinals, multiplied_forms, signed_ordinal, signed_form, not_form_of, not_form}
-use Rattle.cp_resolved.specs.Typed.{Written, Expressed, HasForm}
 use Rattle.cp_resolved.proofs.forms.Typing.{formed, integer_base, boolean_base, OrdinalForm, ordinal_found, set_found, an_integer, a_truth, a_set, then_one, then_two, both_true}
 use Rattle.cp_resolved.proofs.frames.LeastCells.{right_true as second_true}
 use Rattle.cp_resolved.proofs.counts.FewCells.{left_of as first_true}

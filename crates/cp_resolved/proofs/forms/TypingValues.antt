@@ -1,40 +1,21 @@
 -- Names that break no rule where they are values have forms: constants, variables, standard functions and calls.
 use Rattle.std.proofs.Common.{◌≡◌, ◌≤◌, ℕ, ℤ, pos, Bool, true, false, if◌then◌else◌, List, [], ◌∷◌, Option, Some, None, Ok, Err, refl, sym, ap, subst, arith}
 use Rattle.std.specs.Prelude.{◌-◌, length}
-use Rattle.cp_tree.specs.declared.constant.Identifier.{Identifier}
-use Rattle.cp_scope.specs.declared.fault.Rule.TheVariants.{C5}
+use Rattle.cp_resolved.proofs.Words.{Identifier, C5, ValueType, Predeclared, Use, is_of, values_of, whole, Judged, broken, both, ◌>>=◌, Scopes, heading_at}
+use Rattle.cp_resolved.proofs.Words.{Context, OperandUse, Operand, Named, value, is_queue_in, Name, Ty, is_within, all_integers, Standard, find}
+use Rattle.cp_resolved.proofs.Words.{RoutineMeaning, range_of_base, last_field, is_call_meant, routine_meant, result_called, result_type, Here}
 use Rattle.cp_scope.specs.declared.types.Base as check_base
 use Rattle.cp_scope.specs.declared.types.Base.TheVariants as base
-use Rattle.cp_scope.specs.declared.types.ValueType.{ValueType}
 use Rattle.cp_scope.specs.declared.types.ValueType.TheVariants as types
-use Rattle.cp_scope.specs.declared.types.Predeclared.{Predeclared}
-use Rattle.cp_scope.specs.declared.count.Use.{Use}
-use Rattle.cp_scope.specs.Types.{is_of, values_of, whole}
-use Rattle.cp_scope.specs.Judged.{Judged, broken, both, ◌>>=◌}
-use Rattle.cp_scope.specs.Scopes.{Scopes, heading_at}
-use Rattle.cp_check.specs.declared.operand.Context.{Context}
-use Rattle.cp_check.specs.declared.operand.OperandUse.{OperandUse}
 use Rattle.cp_check.specs.declared.operand.OperandUse.TheVariants as place
-use Rattle.cp_check.specs.declared.operand.Operand.{Operand}
 use Rattle.cp_check.specs.declared.operand.DesignatedName as check_designated
-use Rattle.cp_check.specs.declared.operand.Named.{Named}
 use Rattle.cp_check.specs.declared.operand.Named.TheVariants as name
-use Rattle.cp_check.specs.Operands.{value, is_queue_in}
 use Rattle.cp_check.specs.Operations as operations
 use Rattle.cp_check.specs.Calls as calls
 use Rattle.cp_slots.specs.Code as code
 use Rattle.cp_tree.specs.Syntax.{Selectors, Designator, designator}
-use Rattle.cp_meaning.specs.Names.{Name}
 use Rattle.cp_meaning.specs.Types as named
-use Rattle.cp_meaning.specs.Types.{Ty, is_within, all_integers}
 use Rattle.cp_meaning.specs.Scopes as scopes
-use Rattle.cp_meaning.specs.Scopes.{Standard, find}
-use Rattle.cp_meaning.specs.Declarations.{RoutineMeaning}
-use Rattle.cp_meaning.specs.Operations.{range_of_base}
-use Rattle.cp_meaning.specs.Lifting.{last_field, is_call_meant}
-use Rattle.cp_meaning.specs.Expressions.{routine_meant, result_called}
-use Rattle.cp_meaning.specs.Places.{result_type}
-use Rattle.cp_resolved.specs.Layouts.{Here}
 use Rattle.cp_resolved.specs.Compiled.{as_ordinal, as_place, Formed, Designated, a_variable, some_components, a_component, then_form, integer_form, applied_ordinal, applied_form, constant_form, call_form, named_form, valued_form, loaded_form}
 use Rattle.cp_resolved.specs.Typed.{Tokens, Written, BaseIs, RangeIs, TypeIs, is_plain, IsOrdinalResult, ResultIs, HeadingIs, ConstantIs, RoutineIs, StandardIs, predeclared_of, FormIs, Expressed, HasForm}
 use Rattle.cp_resolved.proofs.forms.Typing.{formed, OrdinalForm, QueueForm, ordinal_found, queue_found, an_integer, a_truth, a_character, then_one}

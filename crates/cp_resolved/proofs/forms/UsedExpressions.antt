@@ -1,43 +1,24 @@
 -- Expressions that break no rule use names as the rules want it, and the arguments of their function calls fit the parameters.
 use Rattle.std.proofs.Common.{◌≡◌, ℕ, ◌+◌, ℤ, Bool, true, false, ◌&&◌, if◌then◌else◌, List, [], ◌∷◌, ◌++◌, Option, Some, None, Ok, refl, sym, ap, subst, ◌∙◌}
-use Rattle.cp_tree.specs.declared.constant.Identifier.{Identifier}
-use Rattle.cp_tree.specs.declared.constant.Sign.{Sign}
+use Rattle.cp_resolved.proofs.Words.{Identifier, Sign, C5, ValueType, Predeclared, Use, values_of, Judged, broken, both, ◌>>=◌, Context, Operand, Named}
+use Rattle.cp_resolved.proofs.Words.{value, is_function, Name, Ty, find, RoutineMeaning, routine_called, Item, function_call, CallsFormed, Designated}
+use Rattle.cp_resolved.proofs.Words.{a_variable, a_component, designator_form, CanGiveAll, CallFormed, Here}
 use Rattle.cp_tree.specs.Syntax.{Expression, alone, related, Sum, sum, Terms, no_terms, more_terms as terms_more, Term, term, Factors, no_factors, more_factors as factors_more, Factor, named as factor_named, group, negated, set_of, Expressions, no_expressions, more_expressions, Designator, designator as name_with, Selectors, no_selectors, more_selectors, field, index}
-use Rattle.cp_scope.specs.declared.fault.Rule.TheVariants.{C5}
 use Rattle.cp_scope.specs.declared.types.Base as check_base
-use Rattle.cp_scope.specs.declared.types.ValueType.{ValueType}
 use Rattle.cp_scope.specs.declared.types.ValueType.TheVariants as types
-use Rattle.cp_scope.specs.declared.types.Predeclared.{Predeclared}
-use Rattle.cp_scope.specs.declared.count.Use.{Use}
-use Rattle.cp_scope.specs.Types.{values_of}
-use Rattle.cp_scope.specs.Judged.{Judged, broken, both, ◌>>=◌}
 use Rattle.cp_scope.specs.Scopes.{Heading, Scopes, heading_at}
-use Rattle.cp_check.specs.declared.operand.Context.{Context}
-use Rattle.cp_check.specs.declared.operand.Operand.{Operand}
 use Rattle.cp_check.specs.declared.operand.OperandUse.TheVariants as place
 use Rattle.cp_check.specs.declared.operand.DesignatedName as check_designated
-use Rattle.cp_check.specs.declared.operand.Named.{Named}
 use Rattle.cp_check.specs.declared.operand.Named.TheVariants.{Constant, Variable, Parameter, Routine, Entry, Predeclared as Predeclared'}
-use Rattle.cp_check.specs.Operands.{value, is_function}
 use Rattle.cp_check.specs.Operations as operations
 use Rattle.cp_check.specs.Names as names
 use Rattle.cp_check.specs.Calls as calls
 use Rattle.cp_check.specs.Expressions.{expression, sum_value, more_terms, term_value, more_factors, factor, designator, selectors, arguments, is_unsigned, has_no_terms, has_no_factors, has_none}
 use Rattle.cp_check.specs.Expressions as expressions
-use Rattle.cp_meaning.specs.Names.{Name}
 use Rattle.cp_meaning.specs.Types as named
-use Rattle.cp_meaning.specs.Types.{Ty}
 use Rattle.cp_meaning.specs.Scopes as scopes
-use Rattle.cp_meaning.specs.Scopes.{find}
 use Rattle.cp_meaning.specs.Declarations as meant
-use Rattle.cp_meaning.specs.Declarations.{RoutineMeaning}
-use Rattle.cp_meaning.specs.Expressions.{routine_called}
-use Rattle.cp_meaning.specs.State.{Item, function_call}
 use Rattle.cp_meaning.specs.Lifting.{last_field, is_call_meant, own_call, expression_calls, sum_calls, terms_calls, term_calls, factors_calls, factor_calls, expressions_calls, selectors_calls}
-use Rattle.cp_resolved.specs.BodiesStand.{CallsFormed}
-use Rattle.cp_resolved.specs.Compiled.{Designated, a_variable, a_component, designator_form}
-use Rattle.cp_resolved.specs.FormedParts.{CanGiveAll, CallFormed}
-use Rattle.cp_resolved.specs.Layouts.{Here}
 use Rattle.cp_resolved.specs.Typed.{Tokens, IsOrdinalResult, HeadingIs, ResultIs, RoutineIs, ConstantIs, StandardIs, ScopesAgree, IsSmallExpression, IsSmallSum, AreSmallTerms, IsSmallTerm, AreSmallFactors, IsSmallFactor, AreSmallExpressions, AreSmallSelectors}
 use Rattle.cp_resolved.specs.Used.{IsBare, AreNone, IsOne, IsFunction, HasResult, AreFormed, UsedAs, IsUsed, SumUsed, TermsUsed, TermUsed, FactorsUsed, FactorUsed, AreUsed, SelectorsUsed}
 use Rattle.cp_resolved.proofs.forms.GivenArguments.{plain_arguments, call_given}

@@ -1,35 +1,20 @@
 -- How names are used where they break no rule: what is no variable stands bare, and an entry stands after indices.
 use Rattle.std.proofs.Common.{◌≡◌, ℕ, Bool, true, false, if◌then◌else◌, List, [], Option, Some, None, Ok, Err, refl, sym, ap, subst, ◌∙◌}
-use Rattle.cp_tree.specs.declared.constant.Identifier.{Identifier}
-use Rattle.cp_tree.specs.declared.declaration.SystemKind.{SystemKind}
+use Rattle.cp_resolved.proofs.Words.{Identifier, SystemKind, CheckFault, ValueType, Meaning, ArrayShape, no_use, both_uses, agree, Judged, both, ◌>>=◌}
+use Rattle.cp_resolved.proofs.Words.{Context, Operand, Named, Name, find, last_field, is_call_meant, Here, Tokens, TypeIs, ScopesAgree, HasForm}
+use Rattle.cp_resolved.proofs.Words.{AreSmallSelectors, AreEntry, IsBare}
 use Rattle.cp_tree.specs.Syntax.{Expression, designator as name_with, Selectors, no_selectors, more_selectors, Selector, field, index}
-use Rattle.cp_scope.specs.declared.fault.CheckFault.{CheckFault}
-use Rattle.cp_scope.specs.declared.types.ValueType.{ValueType}
 use Rattle.cp_scope.specs.declared.types.ValueType.TheVariants as types
-use Rattle.cp_scope.specs.declared.types.Meaning.{Meaning}
 use Rattle.cp_scope.specs.declared.types.Meaning.TheVariants as meaning
-use Rattle.cp_scope.specs.declared.shape.ArrayShape.{ArrayShape}
-use Rattle.cp_scope.specs.Counts.{no_use, both_uses}
-use Rattle.cp_scope.specs.Types.{agree}
-use Rattle.cp_scope.specs.Judged.{Judged, both, ◌>>=◌}
 use Rattle.cp_scope.specs.Scopes.{Scopes, look, array_at, member_at}
-use Rattle.cp_check.specs.declared.operand.Context.{Context}
-use Rattle.cp_check.specs.declared.operand.Operand.{Operand}
 use Rattle.cp_check.specs.declared.operand.DesignatedName as check_designated
-use Rattle.cp_check.specs.declared.operand.Named.{Named}
 use Rattle.cp_check.specs.declared.operand.Named.TheVariants as name
 use Rattle.cp_check.specs.Names as names
 use Rattle.cp_check.specs.Expressions.{expression, designator, selectors, selector, at_index}
 use Rattle.cp_slots.specs.Code as code
-use Rattle.cp_meaning.specs.Names.{Name}
 use Rattle.cp_meaning.specs.Types as named
 use Rattle.cp_meaning.specs.Scopes as scopes
-use Rattle.cp_meaning.specs.Scopes.{find}
-use Rattle.cp_meaning.specs.Lifting.{last_field, is_call_meant}
-use Rattle.cp_resolved.specs.Layouts.{Here}
 use Rattle.cp_resolved.specs.Compiled.{Formed, Designated, a_variable, some_components, a_component, then_form, with_index_form, begun_form, expression_form, selected_form}
-use Rattle.cp_resolved.specs.Typed.{Tokens, TypeIs, ScopesAgree, HasForm, AreSmallSelectors}
-use Rattle.cp_resolved.specs.Used.{AreEntry, IsBare}
 use Rattle.cp_resolved.proofs.forms.TypingNames.{IsPlainMeaning, IsComponentMeaning, Holds, written, NamedIs, HasDesignated, begun_typed, index_ordinal}
 use Rattle.cp_resolved.proofs.forms.TypingExpressions.{expression_typed}
 use Rattle.cp_resolved.proofs.agreeing.WithoutFaults.{ok_same}

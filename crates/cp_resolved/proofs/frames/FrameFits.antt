@@ -1,19 +1,9 @@
 -- The parameters, the result and the variables of a routine can be laid out one after the other: they have different names, few cells, and no array without elements.
 use Rattle.std.proofs.Common.{◌≡◌, ◌≤◌, false, List, [], ◌∷◌, ◌++◌, Option, Some, None, refl, sym, subst, arith, append_assoc}
-use Rattle.cp_layout.specs.Kinds.{Compounds, most}
-use Rattle.cp_meaning.specs.Names.{Name}
+use Rattle.cp_resolved.proofs.Words.{Compounds, most, Name, Ty, Scope, local_variable, Variable, RoutineMeaning, parameter_variables, Numbering, look, IsWord}
+use Rattle.cp_resolved.proofs.Words.{AreWords, AreSized, Each, IsFreeVariable, result_variables, parameters_by}
 use Rattle.cp_meaning.specs.Types as named
-use Rattle.cp_meaning.specs.Types.{Ty}
-use Rattle.cp_meaning.specs.Scopes.{Scope, local_variable}
-use Rattle.cp_meaning.specs.Declarations.{Variable, RoutineMeaning}
-use Rattle.cp_meaning.specs.Steps.{parameter_variables}
 use Rattle.cp_resolved.specs.Framed.{AreDifferent, AreDeclared, routine_variables, IsOrdinal, IsOrdinalResult}
-use Rattle.cp_resolved.specs.InStep.{Numbering}
-use Rattle.cp_resolved.specs.Layouts.{look}
-use Rattle.cp_resolved.specs.Once.{IsWord, AreWords, AreSized}
-use Rattle.cp_resolved.specs.Small.{Each}
-use Rattle.cp_resolved.specs.Standing.{IsFreeVariable}
-use Rattle.cp_resolved.specs.TreeLayouts.{result_variables, parameters_by}
 use Rattle.cp_resolved.proofs.frames.FrameCells.{none_left, none_right, none_both}
 use Rattle.cp_resolved.proofs.frames.FrameKnown.{word_found, Visible}
 use Rattle.cp_resolved.proofs.frames.FrameStands.{is_result}

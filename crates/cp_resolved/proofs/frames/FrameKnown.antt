@@ -1,25 +1,12 @@
 -- In the frame of a routine each variable has its cells, with its first value, and no two have any in common.
 use Rattle.std.proofs.Common.{◌≡◌, ◌+◌, ◌<◌, ◌==◌, ◌⊎◌, inl, inr, ℕ, zero, suc, ℤ, pos, Bool, true, false, if◌then◌else◌, List, [], ◌∷◌, ◌++◌, length, Option, Some, None, slice_index_or, refl, sym, subst, ◌∙◌, arith}
 use Rattle.std.proofs.Math.Dec.{eqb_refl}
-use Rattle.std.proofs.lemmas.Bool.{eqb-true}
-use Rattle.std.proofs.lemmas.Option.{none-some, same_Some}
+use Rattle.cp_resolved.proofs.Words.{eqb-true, none-some, same_Some, Name, same_name, temporary, Ty, Scope, local_variable, find, Variable, Parameter, Item}
+use Rattle.cp_resolved.proofs.Words.{function_call, result_called, routine_called, parameter_variables, calls_before, IsAmong, AreDifferent, IsOrdinal, look}
+use Rattle.cp_resolved.proofs.Words.{IsWord, AreWords, StandsAt, Each, call_variables, parameters_by}
 use Rattle.cp_tree.specs.Syntax as syntax
-use Rattle.cp_meaning.specs.Names.{Name, same_name, temporary}
-use Rattle.cp_meaning.specs.Types.{Ty}
 use Rattle.cp_meaning.specs.Scopes as scopes
-use Rattle.cp_meaning.specs.Scopes.{Scope, local_variable, find}
-use Rattle.cp_meaning.specs.Declarations.{Variable, Parameter}
-use Rattle.cp_meaning.specs.State.{Item, function_call}
-use Rattle.cp_meaning.specs.Expressions.{result_called, routine_called}
-use Rattle.cp_meaning.specs.Steps.{parameter_variables}
 use Rattle.cp_resolved.specs.Calls as calls
-use Rattle.cp_resolved.specs.Calls.{calls_before, IsAmong}
-use Rattle.cp_resolved.specs.Framed.{AreDifferent, IsOrdinal}
-use Rattle.cp_resolved.specs.Layouts.{look}
-use Rattle.cp_resolved.specs.Once.{IsWord, AreWords}
-use Rattle.cp_resolved.specs.Resolved.{StandsAt}
-use Rattle.cp_resolved.specs.Small.{Each}
-use Rattle.cp_resolved.specs.TreeLayouts.{call_variables, parameters_by}
 use Rattle.cp_resolved.proofs.frames.FrameCells.{same_is, look_each}
 use Rattle.cp_resolved.proofs.agreeing.ScopeVariables.{Among, among_left, among_right, never_missing}
 use Rattle.cp_resolved.proofs.systems.SystemKnown.{among_either}

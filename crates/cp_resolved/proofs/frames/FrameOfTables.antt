@@ -1,29 +1,16 @@
 -- The frame of a routine in the tables is the one that its layout says: what its statements leave of the cells with which they begin.
 use Rattle.std.proofs.Common.{◌≡◌, ◌+◌, ◌<◌, ◌≤◌, ◌⊎◌, inl, inr, ℕ, suc, ℤ, pos, true, false, if◌then◌else◌, List, [], ◌∷◌, ◌++◌, length, Option, Some, None, slice_get, slice_index_or, refl, sym, ap, subst, ◌∙◌, arith, length-append}
-use Rattle.std.proofs.lemmas.Option.{none-some}
+use Rattle.cp_resolved.proofs.Words.{none-some, FunctionResult, Compounds, RoutineView, Name, same_name, temporary, result_name, Ty, Scope, local_variable}
+use Rattle.cp_resolved.proofs.Words.{Variable, RoutineMeaning, parameter_variables, all_calls_laid, calls_before, encode, AreDeclared, routine_variables}
+use Rattle.cp_resolved.proofs.Words.{IsOrdinal, Numbering, InStep, cells_of, look, FrameLayout, cell_named, slot_of, AreWords, Each, call_variables}
+use Rattle.cp_resolved.proofs.Words.{result_variables, parameters_by, frame_layout}
 use Rattle.cp_tree.specs.Syntax as syntax
 use Rattle.cp_slots.specs.declared.place.PlaceOrigin.TheVariants as origin
-use Rattle.cp_layout.specs.declared.layer.FunctionResult.{FunctionResult}
-use Rattle.cp_layout.specs.Kinds.{Compounds}
 use Rattle.cp_layout.specs.Layers.{Layer, Heading, result_in, result_slot, own_result}
-use Rattle.cp_slots.specs.Tables.{RoutineView}
-use Rattle.cp_meaning.specs.Names.{Name, same_name, temporary, result_name}
-use Rattle.cp_meaning.specs.Types.{Ty}
 use Rattle.cp_meaning.specs.Values.{number_value, least}
-use Rattle.cp_meaning.specs.Scopes.{Scope, local_variable}
-use Rattle.cp_meaning.specs.Declarations.{Variable, RoutineMeaning}
 use Rattle.cp_meaning.specs.State.{Item, statement_item, function_call, start_item, until, successor, return, init_end, end}
-use Rattle.cp_meaning.specs.Steps.{parameter_variables}
 use Rattle.cp_resolved.specs.Calls as calls
-use Rattle.cp_resolved.specs.Calls.{all_calls_laid, calls_before}
-use Rattle.cp_resolved.specs.Encoded.{encode}
-use Rattle.cp_resolved.specs.Framed.{AreDeclared, routine_variables, IsOrdinal}
-use Rattle.cp_resolved.specs.InStep.{Numbering, InStep}
-use Rattle.cp_resolved.specs.Layouts.{cells_of, look, FrameLayout, cell_named, slot_of}
-use Rattle.cp_resolved.specs.Once.{AreWords}
 use Rattle.cp_resolved.specs.Resolved.{StandsAt, first_value, ResultIs, FrameIs}
-use Rattle.cp_resolved.specs.Small.{Each}
-use Rattle.cp_resolved.specs.TreeLayouts.{call_variables, result_variables, parameters_by, frame_layout}
 use Rattle.cp_resolved.proofs.names.Entries.{last_entry}
 use Rattle.cp_resolved.proofs.frames.FrameCells.{itself, look_right, none_left, none_right, none_both, total, cells_before, before_left, before_right, stands_left, before_stands, extents, number_among, number_inside, number_different}
 use Rattle.cp_resolved.proofs.frames.FrameKnown.{no_word, IsTemporary, before_all}

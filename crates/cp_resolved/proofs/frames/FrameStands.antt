@@ -1,31 +1,17 @@
 -- The frame of a routine has what its layout says: cells, first values, and the numbers of `var` parameters.
 use Rattle.std.proofs.Common.{◌≡◌, ◌+◌, ◌≤◌, ◌⊎◌, inl, inr, ℕ, zero, suc, pos, Bool, true, false, if◌then◌else◌, List, ◌++◌, length, Option, Some, None, refl, sym, ap, subst, ◌∙◌, arith}
-use Rattle.std.proofs.lemmas.Option.{none-some}
+use Rattle.cp_resolved.proofs.Words.{none-some, PlaceOrigin, LayoutMeaning, Layer, own_result, Name, same_name, temporary, result_name, Ty, number_value}
+use Rattle.cp_resolved.proofs.Words.{Scope, local_variable, find, Variable, RoutineMeaning, Item, parameter_variables, all_calls_laid, calls_before, HasType}
+use Rattle.cp_resolved.proofs.Words.{AreDeclared, routine_variables, IsOrdinal, Numbering, IsInFrame, InStep, FoundIs, cells_of, look, FrameLayout}
+use Rattle.cp_resolved.proofs.Words.{cell_named, slot_of, IsWord, AreWords, Each}
 use Rattle.cp_tree.specs.Syntax as syntax
-use Rattle.cp_slots.specs.declared.place.PlaceOrigin.{PlaceOrigin}
 use Rattle.cp_slots.specs.declared.place.PlaceOrigin.TheVariants as origin
-use Rattle.cp_layout.specs.declared.names.LayoutMeaning.{LayoutMeaning}
 use Rattle.cp_layout.specs.declared.names.LayoutMeaning.TheVariants as meaning
 use Rattle.cp_layout.specs.Layers as layers
-use Rattle.cp_layout.specs.Layers.{Layer, own_result}
-use Rattle.cp_meaning.specs.Names.{Name, same_name, temporary, result_name}
 use Rattle.cp_meaning.specs.Types as named
-use Rattle.cp_meaning.specs.Types.{Ty}
-use Rattle.cp_meaning.specs.Values.{number_value}
 use Rattle.cp_meaning.specs.Scopes as scopes
-use Rattle.cp_meaning.specs.Scopes.{Scope, local_variable, find}
-use Rattle.cp_meaning.specs.Declarations.{Variable, RoutineMeaning}
-use Rattle.cp_meaning.specs.State.{Item}
-use Rattle.cp_meaning.specs.Steps.{parameter_variables}
 use Rattle.cp_resolved.specs.Calls as calls
-use Rattle.cp_resolved.specs.Calls.{all_calls_laid, calls_before}
-use Rattle.cp_resolved.specs.Encoded.{HasType}
-use Rattle.cp_resolved.specs.Framed.{AreDeclared, routine_variables, IsOrdinal}
-use Rattle.cp_resolved.specs.InStep.{Numbering, IsInFrame, InStep, FoundIs}
-use Rattle.cp_resolved.specs.Layouts.{cells_of, look, FrameLayout, cell_named, slot_of}
-use Rattle.cp_resolved.specs.Once.{IsWord, AreWords}
 use Rattle.cp_resolved.specs.Resolved.{AreApart}
-use Rattle.cp_resolved.specs.Small.{Each}
 use Rattle.cp_resolved.specs.TreeLayouts.{call_variables, result_variables, parameters_by, frame_layout, hidden_origin, origin_in}
 use Rattle.cp_resolved.proofs.frames.FrameCells.{itself, same_is, look_left, look_right, look_either, look_each, none_left, none_both, total, cells_before, images_length, before_inside, before_apart, number_among}
 use Rattle.cp_resolved.proofs.frames.FrameSteps.{Lies, Frames}

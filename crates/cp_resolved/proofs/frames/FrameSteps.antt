@@ -1,28 +1,15 @@
 -- One more variable of a routine has its cells after those before it, and no other declaration moves any.
 use Rattle.std.proofs.Common.{◌≡◌, ◌+◌, ◌≤◌, true, if◌then◌else◌, List, [], ◌∷◌, ◌++◌, length, take, Option, Some, None, slice_get, refl, sym, ap, subst, ◌∙◌, ◌⊎◌, inl, inr, arith, append_assoc, append-nil}
-use Rattle.std.specs.Str.{bytes_eq}
-use Rattle.std.proofs.lemmas.Option.{none-some, slice_get_within}
+use Rattle.cp_resolved.proofs.Words.{bytes_eq, none-some, slice_get_within, PlaceOrigin, CellType, LayoutMeaning, Compounds, most, written_type, Name}
+use Rattle.cp_resolved.proofs.Words.{same_name, Ty, Variable, encode, cells_of, look, Each, is_free, IsFreeVariable, IsFull}
 use Rattle.cp_tree.specs.Syntax as syntax
-use Rattle.cp_slots.specs.declared.place.PlaceOrigin.{PlaceOrigin}
 use Rattle.cp_slots.specs.declared.place.PlaceOrigin.TheVariants as origin
-use Rattle.cp_layout.specs.declared.kinds.CellType.{CellType}
-use Rattle.cp_layout.specs.declared.names.LayoutMeaning.{LayoutMeaning}
 use Rattle.cp_layout.specs.declared.names.LayoutMeaning.TheVariants as meaning
 use Rattle.cp_layout.specs.Kinds as kinds
-use Rattle.cp_layout.specs.Kinds.{Compounds, most}
 use Rattle.cp_layout.specs.Layers.{Names, find, Layer}
-use Rattle.cp_layout.specs.LaidTypes.{written_type}
 use Rattle.cp_layout.specs.LaidDeclarations.{constants, type_definitions, with_local, local, Parameters, var_parameter}
-use Rattle.cp_meaning.specs.Names.{Name, same_name}
-use Rattle.cp_meaning.specs.Types.{Ty}
 use Rattle.cp_meaning.specs.Values.{least}
-use Rattle.cp_meaning.specs.Declarations.{Variable}
-use Rattle.cp_resolved.specs.Encoded.{encode}
 use Rattle.cp_resolved.specs.InStep.{Numbering, TypeIs}
-use Rattle.cp_resolved.specs.Layouts.{cells_of, look}
-use Rattle.cp_resolved.specs.Small.{Each}
-use Rattle.cp_resolved.specs.Standing.{is_free, IsFreeVariable}
-use Rattle.cp_resolved.specs.Valued.{IsFull}
 use Rattle.cp_resolved.proofs.frames.Cells.{cells_same}
 use Rattle.cp_resolved.proofs.names.Entries.{still_there}
 use Rattle.cp_resolved.proofs.laid.Extends.{Longer}

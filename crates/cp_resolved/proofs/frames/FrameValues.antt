@@ -1,30 +1,17 @@
 -- The frame of a routine in the tables: first values, `var` parameters, and what is declared.
 use Rattle.std.proofs.Common.{◌≡◌, ◌+◌, ◌<◌, ◌⊎◌, inl, inr, ℕ, ℤ, pos, Bool, true, false, if◌then◌else◌, List, [], ◌∷◌, ◌++◌, length, Option, Some, None, refl, sym, ap, subst, ◌∙◌}
-use Rattle.std.proofs.lemmas.Option.{none-some, same_Some}
+use Rattle.cp_resolved.proofs.Words.{none-some, same_Some, Layer, own_result, Name, same_name, temporary, result_name, Ty, has_components, local_variable}
+use Rattle.cp_resolved.proofs.Words.{find, Variable, Parameter, RoutineMeaning, content_of, value_held, result_called, routine_called, parameter_variables}
+use Rattle.cp_resolved.proofs.Words.{all_calls_laid, encode, HasType, AreDeclared, routine_variables, IsOrdinal, Numbering, InStep, look, FrameLayout, IsWord}
+use Rattle.cp_resolved.proofs.Words.{AreWords, Each, is_free, is_indexed, IsFreeVariable}
 use Rattle.cp_tree.specs.Syntax as syntax
-use Rattle.cp_layout.specs.Layers.{Layer, own_result}
-use Rattle.cp_meaning.specs.Names.{Name, same_name, temporary, result_name}
 use Rattle.cp_meaning.specs.Types as named
-use Rattle.cp_meaning.specs.Types.{Ty, has_components}
 use Rattle.cp_meaning.specs.Values.{number_value, least}
-use Rattle.cp_meaning.specs.Scopes.{local_variable, find}
-use Rattle.cp_meaning.specs.Declarations.{Variable, Parameter, RoutineMeaning}
 use Rattle.cp_meaning.specs.State.{Item, statement_item, function_call, start_item, until, successor, return, init_end, end, holds}
-use Rattle.cp_meaning.specs.Places.{content_of, value_held}
 use Rattle.cp_meaning.specs.Calls.{least_of, least_result}
-use Rattle.cp_meaning.specs.Expressions.{result_called, routine_called}
 use Rattle.cp_resolved.proofs.frames.FrameStands.{zero_has, is_result, all, refs, case_of}
-use Rattle.cp_meaning.specs.Steps.{parameter_variables}
 use Rattle.cp_resolved.specs.Calls as calls
-use Rattle.cp_resolved.specs.Calls.{all_calls_laid}
-use Rattle.cp_resolved.specs.Encoded.{encode, HasType}
-use Rattle.cp_resolved.specs.Framed.{AreDeclared, routine_variables, IsOrdinal}
-use Rattle.cp_resolved.specs.InStep.{Numbering, InStep}
-use Rattle.cp_resolved.specs.Layouts.{look, FrameLayout}
-use Rattle.cp_resolved.specs.Once.{IsWord, AreWords}
 use Rattle.cp_resolved.specs.Resolved.{StandsAt, first_value, ParameterIs, ParametersAre}
-use Rattle.cp_resolved.specs.Small.{Each}
-use Rattle.cp_resolved.specs.Standing.{is_free, is_indexed, IsFreeVariable}
 use Rattle.cp_resolved.specs.TreeLayouts.{call_variables, result_variables, parameters_by, frame_layout, components_among}
 use Rattle.cp_resolved.proofs.frames.FrameCells.{same_is, look_right, look_either, look_each, none_right, cells_before, stands_after}
 use Rattle.cp_resolved.proofs.frames.FrameSteps.{Frames}

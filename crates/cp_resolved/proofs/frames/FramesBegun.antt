@@ -1,29 +1,16 @@
 -- Where the statements of a routine begin, its frame has its parameters, its result and its variables, one after the other.
 use Rattle.std.proofs.Common.{◌≡◌, Bool, true, false, if◌then◌else◌, List, [], ◌∷◌, ◌++◌, length, Option, Some, None, refl, sym, ap, subst, ◌∙◌, append_assoc, append-nil}
-use Rattle.cp_tree.specs.declared.constant.Identifier.{Identifier}
+use Rattle.cp_resolved.proofs.Words.{Identifier, CellType, FunctionResult, Compounds, Layer, written_type, Name, result_name, Ty, Scope, local_variable}
+use Rattle.cp_resolved.proofs.Words.{parameter_variables, routine_begun, Enumerated, each_in, in_type, in_part, in_routine, look, with_routine, Each}
+use Rattle.cp_resolved.proofs.Words.{IsSmallType, IsSmallPart, IsSmallRoutine, AreNumbered, parameters_by, result_variables}
 use Rattle.cp_tree.specs.Syntax as syntax
-use Rattle.cp_layout.specs.declared.kinds.CellType.{CellType}
-use Rattle.cp_layout.specs.declared.layer.FunctionResult.{FunctionResult}
-use Rattle.cp_layout.specs.Kinds.{Compounds}
-use Rattle.cp_layout.specs.Layers.{Layer}
 use Rattle.cp_layout.specs.Layers as layers
 use Rattle.cp_layout.specs.LaidTypes as laid
-use Rattle.cp_layout.specs.LaidTypes.{written_type}
 use Rattle.cp_layout.specs.LaidDeclarations.{local, locals_of, local_group, local_variables, local_part, local_parts, Parameters, constant_parameter, constant_parameters_of, constant_group, constant_groups, var_parameter, var_parameters_of, var_group, parameter_group, parameter_groups, heading, with_heading, opened}
-use Rattle.cp_meaning.specs.Names.{Name, result_name}
-use Rattle.cp_meaning.specs.Types.{Ty}
 use Rattle.cp_meaning.specs.Scopes as scopes
-use Rattle.cp_meaning.specs.Scopes.{Scope, local_variable}
 use Rattle.cp_meaning.specs.Declarations as meant
 use Rattle.cp_meaning.specs.Declarations.{Variable, Parameter, Block, Heading, names_of, named_variables, parameters_named, with_names, routine_in}
-use Rattle.cp_meaning.specs.Steps.{parameter_variables}
-use Rattle.cp_resolved.specs.Begun.{routine_begun}
-use Rattle.cp_resolved.specs.Enumerations.{Enumerated, each_in, in_type, in_part, in_routine}
 use Rattle.cp_resolved.specs.InStep.{Numbering, TypeIs, InStep}
-use Rattle.cp_resolved.specs.Layouts.{look}
-use Rattle.cp_resolved.specs.Openings.{with_routine}
-use Rattle.cp_resolved.specs.Small.{Each, IsSmallType, IsSmallPart, IsSmallRoutine, AreNumbered}
-use Rattle.cp_resolved.specs.TreeLayouts.{parameters_by, result_variables}
 use Rattle.cp_resolved.proofs.laid.Declares.{Declares, locals_of_declare, locals_declare, local_parts_declare, constant_groups_declare, parameter_groups_declare, either_group_declares}
 use Rattle.cp_resolved.proofs.laid.Extends.{Longer, longer_trans, declared_extends}
 use Rattle.cp_resolved.proofs.frames.FrameCells.{none_left, none_right, none_both, total, images_length}

@@ -1,22 +1,17 @@
 -- What a variable of a routine begins with: the cells of the least value of its type, which is a value of the type.
 use Rattle.std.proofs.Common.{◌≡◌, ◌+◌, ◌-◌, ◌*◌, ◌<◌, ◌≤◌, ◌==◌, ℕ, zero, suc, ℤ, pos, negsuc, Bool, true, false, ◌&&◌, if◌then◌else◌, List, [], ◌∷◌, ◌++◌, take, drop, length, Some, None, slice_get, refl, sym, ap, subst, ◌∙◌, ◌⊎◌, inl, inr, arith, length-append, append_assoc, append-nil}
-use Rattle.std.specs.Prelude.{min, int_le, int_lt}
-use Rattle.std.proofs.lemmas.Option.{slice_get_within}
+use Rattle.cp_resolved.proofs.Words.{min, int_le, int_lt, slice_get_within, CellType, range_of_base, cells_of, cells_in, IsFull, AreFull}
 use Rattle.std.proofs.Math.Dec.{T, eqb_refl, leb-zero}
 use Rattle.std.proofs.Math.Nat.{mul_comm}
-use Rattle.cp_layout.specs.declared.kinds.CellType.{CellType}
 use Rattle.cp_layout.specs.declared.kinds.CellType.TheVariants as types
 use Rattle.cp_layout.specs.Kinds as kinds
 use Rattle.cp_layout.specs.Kinds.{array, record_with, Compounds, Field, compound_cells, count_of, most, times, array_type, fields_least, compound_least, compound_below, least_below}
 use Rattle.cp_meaning.specs.Types as named
 use Rattle.cp_meaning.specs.Types.{Base, Range, Ty, FieldTypes, length_of_range, is_within, has_components}
-use Rattle.cp_meaning.specs.Operations.{range_of_base}
 use Rattle.cp_meaning.specs.Values.{Value, number_value, least_number, least, least_fields, copies}
 use Rattle.cp_resolved.specs.Encoded.{encode, encode_all, encode_fields, AllHave, HasType, HaveTypes}
 use Rattle.cp_resolved.specs.InStep.{Numbering, range_on, TypeIs, FieldsAre}
-use Rattle.cp_resolved.specs.Layouts.{cells_of, cells_in}
 use Rattle.cp_resolved.specs.Standing.{is_bounded, is_indexed, are_few, is_free, are_free, is_element, is_standing}
-use Rattle.cp_resolved.specs.Valued.{IsFull, AreFull}
 use Rattle.cp_resolved.proofs.frames.Cells.{capped, count_same, one_more, cells_same, fields_end}
 use Rattle.cp_resolved.proofs.systems.Sizes.{Counted, fields_cells, cells_more, times_more as times_apart}
 use Rattle.cp_layout.proofs.Least.{compound_inside as below_at, compound_outside as below_past}

@@ -1,29 +1,14 @@
 -- The routines and initial statements of the tables of a tree stand for those of the tree.
 use Rattle.std.proofs.Common.{◌≡◌, ◌+◌, ◌<◌, ◌≤◌, ℕ, true, false, List, ◌++◌, length, Option, Some, None, slice_get, refl, sym, ap, subst, ◌∙◌, arith, length-append}
 use Rattle.cp_tree.specs.Syntax as syntax
-use Rattle.cp_layout.specs.declared.names.LayoutMeaning.{LayoutMeaning}
-use Rattle.cp_layout.specs.Kinds.{most}
-use Rattle.cp_layout.specs.Laid.{PlainTables, plain, laid}
+use Rattle.cp_resolved.proofs.Words.{LayoutMeaning, most, PlainTables, plain, laid, Layer, System, nothing_laid, own_result, routine_of, statements, Tables}
+use Rattle.cp_resolved.proofs.Words.{RoutineView, routine_at, no_routine, Name, result_name, Ty, has_components, permanent_variable, find, Variable}
+use Rattle.cp_resolved.proofs.Words.{RoutineMeaning, routine_in, result_type, program_system, system_of, all_begun, ground_of, BodyFormed, all_calls_laid}
+use Rattle.cp_resolved.proofs.Words.{routine_variables, system_variables, IsFramed, Numbering, InStep, FoundIs, look, is_named, IsPlaced, place_of}
+use Rattle.cp_resolved.proofs.Words.{openings_of, meaning_in, meaning_at, numbering_of}
 use Rattle.cp_layout.specs.Layers as layers
-use Rattle.cp_layout.specs.Layers.{Layer, System, nothing_laid, own_result, routine_of}
-use Rattle.cp_layout.specs.LaidStatements.{statements}
-use Rattle.cp_slots.specs.Tables.{Tables, RoutineView, routine_at, no_routine}
-use Rattle.cp_meaning.specs.Names.{Name, result_name}
-use Rattle.cp_meaning.specs.Types.{Ty, has_components}
 use Rattle.cp_meaning.specs.Scopes as scopes
-use Rattle.cp_meaning.specs.Scopes.{permanent_variable, find}
-use Rattle.cp_meaning.specs.Declarations.{Variable, RoutineMeaning, routine_in}
-use Rattle.cp_meaning.specs.Places.{result_type}
-use Rattle.cp_meaning.specs.Systems.{program_system, system_of}
-use Rattle.cp_resolved.specs.Begun.{all_begun}
-use Rattle.cp_resolved.specs.BodiesStand.{ground_of, BodyFormed}
-use Rattle.cp_resolved.specs.Calls.{all_calls_laid}
-use Rattle.cp_resolved.specs.Framed.{routine_variables, system_variables, IsFramed}
-use Rattle.cp_resolved.specs.InStep.{Numbering, InStep, FoundIs}
 use Rattle.cp_resolved.specs.ItemsStand.{AreLaid}
-use Rattle.cp_resolved.specs.Layouts.{look, is_named}
-use Rattle.cp_resolved.specs.LayoutsKnow.{IsPlaced, place_of}
-use Rattle.cp_resolved.specs.Openings.{openings_of, meaning_in, meaning_at, numbering_of}
 use Rattle.cp_resolved.specs.Resolved.{FrameIs, RoutineIs}
 use Rattle.cp_resolved.specs.RoutinesStand.{RoutinesLaw}
 use Rattle.cp_resolved.specs.TreeLayouts.{whole_laid, layer_or, call_variables, result_variables, parameters_by, frame_layout, components_among, owner_in, name_with, name_in, layouts_of}

@@ -2,32 +2,18 @@
 -- For each system type: its initial statement and its cells.
 use Rattle.std.proofs.Common.{◌≡◌, ◌+◌, ◌-◌, inl, inr, ℕ, suc, true, false, List, [], ◌∷◌, ◌++◌, length, Option, Some, None, slice_get, slice_index_or, refl, sym, ap, subst, ◌∙◌, arith, append-nil}
 use Rattle.cp_tree.specs.Syntax as syntax
-use Rattle.cp_slots.specs.declared.place.PlaceOrigin.{PlaceOrigin}
+use Rattle.cp_resolved.proofs.Words.{PlaceOrigin, CellType, LayoutMeaning, Compounds, system_types, Layer, System, Parameters, heading_with, routine}
+use Rattle.cp_resolved.proofs.Words.{routines, no_system, Name, Scope, permanent_variable, local_variable, Variable, Parameter, Heading, routine_in}
+use Rattle.cp_resolved.proofs.Words.{with_group, with_groups, parameter_variables, SystemMeaning, system_in, with_routines, system_of, routine_begun}
+use Rattle.cp_resolved.proofs.Words.{routines_begun, initial_begun, each_in, in_routine, routine_variables, system_variables, Numbering, InStep, FoundIs}
+use Rattle.cp_resolved.proofs.Words.{initial_meaning, Each, IsSmallRoutine, AreNumbered, IsParameter, AreParameters, initial_or, components_among}
+use Rattle.cp_resolved.proofs.Words.{parameters_by}
 use Rattle.cp_slots.specs.declared.place.PlaceOrigin.TheVariants as origin
-use Rattle.cp_layout.specs.declared.kinds.CellType.{CellType}
-use Rattle.cp_layout.specs.declared.names.LayoutMeaning.{LayoutMeaning}
 use Rattle.cp_layout.specs.declared.names.LayoutMeaning.TheVariants as meaning
-use Rattle.cp_layout.specs.Kinds.{Compounds}
-use Rattle.cp_layout.specs.Laid.{system_types}
 use Rattle.cp_layout.specs.Layers as layers
-use Rattle.cp_layout.specs.Layers.{Layer, System}
-use Rattle.cp_layout.specs.LaidDeclarations.{Parameters, heading_with, routine, routines}
-use Rattle.cp_slots.specs.Tables.{no_system}
-use Rattle.cp_meaning.specs.Names.{Name}
 use Rattle.cp_meaning.specs.Scopes as scopes
-use Rattle.cp_meaning.specs.Scopes.{Scope, permanent_variable, local_variable}
 use Rattle.cp_meaning.specs.Declarations as meant
-use Rattle.cp_meaning.specs.Declarations.{Variable, Parameter, Heading, routine_in, with_group, with_groups}
-use Rattle.cp_meaning.specs.Steps.{parameter_variables}
-use Rattle.cp_meaning.specs.Systems.{SystemMeaning, system_in, with_routines, system_of}
-use Rattle.cp_resolved.specs.Begun.{routine_begun, routines_begun, initial_begun}
-use Rattle.cp_resolved.specs.Enumerations.{each_in, in_routine}
-use Rattle.cp_resolved.specs.Framed.{routine_variables, system_variables}
-use Rattle.cp_resolved.specs.InStep.{Numbering, InStep, FoundIs}
 use Rattle.cp_resolved.specs.Openings.{Opening, with_routine, routine_openings, parts_scope, initial_opening, AreOpened}
-use Rattle.cp_resolved.specs.Resolved.{initial_meaning}
-use Rattle.cp_resolved.specs.Small.{Each, IsSmallRoutine, AreNumbered, IsParameter, AreParameters}
-use Rattle.cp_resolved.specs.TreeLayouts.{initial_or, components_among, parameters_by}
 use Rattle.cp_resolved.proofs.laid.Extends.{Longer, longer_trans, routines_extend}
 use Rattle.cp_resolved.proofs.frames.FrameSteps.{AreLying, Lies, Frames}
 use Rattle.cp_resolved.proofs.frames.FramesBegun.{RoutineFits, SlotIs, all_locals, routine_framed, routine_slot}

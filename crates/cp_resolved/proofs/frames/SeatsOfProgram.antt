@@ -2,24 +2,15 @@
 use Rattle.std.proofs.Common.{◌≡◌, ◌+◌, ◌-◌, ℕ, suc, false, List, [], ◌∷◌, ◌++◌, length, None, slice_get, slice_index_or, refl, sym, ap, subst, ◌∙◌, arith, append-nil}
 use Rattle.cp_tree.specs.Syntax as syntax
 use Rattle.cp_layout.specs.declared.names.LayoutMeaning.TheVariants as meaning
-use Rattle.cp_layout.specs.Laid.{system_type, types_of, system_types}
+use Rattle.cp_resolved.proofs.Words.{system_type, types_of, system_types, Layer, System, nothing_laid, written_type, SystemView, no_system}
+use Rattle.cp_resolved.proofs.Words.{permanent_variable, predeclared, Variable, Parameter, parameter_variables, Enumerated, each_in, in_routine}
+use Rattle.cp_resolved.proofs.Words.{in_program_part, enumerations_of, IsFitPart, AreFitParts, nothing_declared, system_variables, Numbering, InStep}
+use Rattle.cp_resolved.proofs.Words.{initial_meaning, Each, IsSmallProgramPart, IsSmallProgram, AreNumbered, IsParameter}
 use Rattle.cp_layout.specs.Layers as layers
-use Rattle.cp_layout.specs.Layers.{Layer, System, nothing_laid}
-use Rattle.cp_layout.specs.LaidTypes.{written_type}
 use Rattle.cp_layout.specs.LaidDeclarations.{routines, system, system_definition, system_definitions, definition, type_named, program_part, program_parts, program, heading_with, with_heading, with_new_frame}
-use Rattle.cp_slots.specs.Tables.{SystemView, no_system}
-use Rattle.cp_meaning.specs.Scopes.{permanent_variable, predeclared}
-use Rattle.cp_meaning.specs.Declarations.{Variable, Parameter}
-use Rattle.cp_meaning.specs.Steps.{parameter_variables}
 use Rattle.cp_meaning.specs.Systems.{SystemMeaning, Declared, definition_in, definitions_in, program_part_in, program_parts_in, declared, program_system, own_meaning, or_own, system_of}
 use Rattle.cp_resolved.specs.Begun.{routines_begun, initial_begun, part_begun, program_parts_begun, all_begun}
-use Rattle.cp_resolved.specs.Enumerations.{Enumerated, each_in, in_routine, in_program_part, enumerations_of}
-use Rattle.cp_resolved.specs.Fit.{IsFitPart, AreFitParts, nothing_declared}
-use Rattle.cp_resolved.specs.Framed.{system_variables}
-use Rattle.cp_resolved.specs.InStep.{Numbering, InStep}
 use Rattle.cp_resolved.specs.Openings.{Opening, routine_openings, initial_opening, part_openings, parts_openings, openings_of, AreOpened}
-use Rattle.cp_resolved.specs.Resolved.{initial_meaning}
-use Rattle.cp_resolved.specs.Small.{Each, IsSmallProgramPart, IsSmallProgram, AreNumbered, IsParameter}
 use Rattle.cp_resolved.specs.TreeLayouts.{part_parts, program_parts_parts, all_parts, whole_laid, initial_or, components_among}
 use Rattle.cp_resolved.proofs.names.Entries.{entry_at, last_entry, past_there}
 use Rattle.cp_resolved.proofs.laid.Extends.{Longer, longer_trans, routines_extend, initial_extends, program_parts_extend}

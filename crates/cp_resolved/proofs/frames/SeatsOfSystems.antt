@@ -1,25 +1,17 @@
 -- The seats of system types and of the whole program.
 use Rattle.std.proofs.Common.{◌≡◌, ◌+◌, ◌-◌, ℕ, zero, suc, false, List, [], ◌∷◌, ◌++◌, length, Some, slice_get, sym, ap, subst, ◌∙◌, arith, append-nil}
 use Rattle.cp_tree.specs.Syntax as syntax
-use Rattle.cp_layout.specs.Laid.{system_type, types_of, system_types}
+use Rattle.cp_resolved.proofs.Words.{system_type, types_of, system_types, Layer, System, SystemView, no_system, Scope, permanent_variable, seen_inside}
+use Rattle.cp_resolved.proofs.Words.{Parameter, Heading, with_groups, parameter_variables, Enumerated, each_in, in_part, in_routine, in_definition}
+use Rattle.cp_resolved.proofs.Words.{IsFitDefinition, AreFitDefinitions, system_variables, Numbering, InStep, initial_meaning, Each, IsSmallSystem}
+use Rattle.cp_resolved.proofs.Words.{IsSmallDefinition, AreNumbered, IsParameter, definition_parts, definitions_parts, initial_or, components_among}
+use Rattle.cp_resolved.proofs.Words.{none-some, same_Some}
 use Rattle.cp_layout.specs.Layers as layers
-use Rattle.cp_layout.specs.Layers.{Layer, System}
 use Rattle.cp_layout.specs.LaidDeclarations as laid
 use Rattle.cp_layout.specs.LaidDeclarations.{Parameters, routines, entered, system_groups, system, initial_statement, system_definition, system_definitions, definition}
-use Rattle.cp_slots.specs.Tables.{SystemView, no_system}
-use Rattle.cp_meaning.specs.Scopes.{Scope, permanent_variable, seen_inside}
-use Rattle.cp_meaning.specs.Declarations.{Parameter, Heading, with_groups}
-use Rattle.cp_meaning.specs.Steps.{parameter_variables}
 use Rattle.cp_meaning.specs.Systems.{SystemMeaning, system_in, Declared, definition_in, definitions_in, system_of}
 use Rattle.cp_resolved.specs.Begun.{routines_begun, initial_begun, parameters_of, parts_begun, system_begun, definition_begun, definitions_begun}
-use Rattle.cp_resolved.specs.Enumerations.{Enumerated, each_in, in_part, in_routine, in_definition}
-use Rattle.cp_resolved.specs.Fit.{IsFitDefinition, AreFitDefinitions}
-use Rattle.cp_resolved.specs.Framed.{system_variables}
-use Rattle.cp_resolved.specs.InStep.{Numbering, InStep}
 use Rattle.cp_resolved.specs.Openings.{Opening, routine_openings, parts_scope, initial_opening, definition_openings, definitions_openings, AreOpened}
-use Rattle.cp_resolved.specs.Resolved.{initial_meaning}
-use Rattle.cp_resolved.specs.Small.{Each, IsSmallSystem, IsSmallDefinition, AreNumbered, IsParameter}
-use Rattle.cp_resolved.specs.TreeLayouts.{definition_parts, definitions_parts, initial_or, components_among}
 use Rattle.cp_resolved.proofs.names.Entries.{entry_at, last_entry, still_there}
 use Rattle.cp_resolved.proofs.laid.Extends.{Longer, longer_trans, system_definitions_extend, initial_extends}
 use Rattle.cp_resolved.proofs.names.KnowingSystems.{begun_many, IsFirst, first_before, first_is, definitions_longer}
@@ -32,7 +24,6 @@ use Rattle.cp_resolved.proofs.names.StepsOfRoutines.{body_systems, routines_syst
 use Rattle.cp_resolved.proofs.names.BegunKnown.{definition_many}
 use Rattle.cp_resolved.proofs.frames.Seats.{nothing_held, system_parts_of, routines_of, parameters_fit, AreSeated, seated_append, initial_number, SystemFits, Settled, AreSettled, settled_append, routines_seated, initial_seated}
 use Rattle.cp_resolved.proofs.systems.Sizes.{Counted}
-use Rattle.std.proofs.lemmas.Option.{none-some, same_Some}
 use Rattle.cp_resolved.proofs.names.StepsOfTypes.{numbered_left, numbered_after}
 use Rattle.cp_resolved.proofs.components.Handed.{body_owned, routines_owned}
 

@@ -1,18 +1,8 @@
 -- Tables that stand for an accepted tree have what the law on items inside wants of them.
 use Rattle.std.specs.Prelude.{◌≡◌, ℕ, Some, slice_get}
-use Rattle.cp_tree.specs.Syntax.{Tree}
-use Rattle.cp_layout.specs.Laid.{plain, laid}
-use Rattle.cp_layout.specs.Layers.{Layer}
-use Rattle.cp_slots.specs.Tables.{Tables}
-use Rattle.cp_lawful.specs.Accepted.{IsAccepted}
+use Rattle.cp_resolved.proofs.Words.{Tree, plain, laid, Layer, Tables, IsAccepted, all_begun, ground_of, BodyFormed, IsFramed, IsPlaced, Stands, layouts_of}
 use Rattle.cp_lawful.proofs.Accepting.{well_formed}
-use Rattle.cp_resolved.specs.Begun.{all_begun}
-use Rattle.cp_resolved.specs.BodiesStand.{ground_of, BodyFormed}
-use Rattle.cp_resolved.specs.Framed.{IsFramed}
 use Rattle.cp_resolved.specs.ItemsInside.{CanHold}
-use Rattle.cp_resolved.specs.LayoutsKnow.{IsPlaced}
-use Rattle.cp_resolved.specs.Resolved.{Stands}
-use Rattle.cp_resolved.specs.TreeLayouts.{layouts_of}
 use Rattle.cp_resolved.proofs.systems.HandedOfTrees.{entrance_fits}
 use Rattle.cp_resolved.proofs.names.HeadingsFit.{heading_fits}
 use Rattle.cp_resolved.proofs.names.LeadingNames.{components_lead}

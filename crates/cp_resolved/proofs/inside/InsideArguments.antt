@@ -3,17 +3,10 @@ use Rattle.std.proofs.Common.{◌≡◌, ℕ, ℤ, ◌+◌, ◌≤◌, ◌==◌,
 use Rattle.cp_tree.specs.Syntax as syntax
 use Rattle.cp_slots.specs.Code as code
 use Rattle.cp_slots.specs.Inside.{has, is_within, binds_on}
-use Rattle.cp_slots.specs.Tables.{Tables, RoutineView}
-use Rattle.cp_meaning.specs.Names.{Name}
+use Rattle.cp_resolved.proofs.Words.{Tables, RoutineView, Name, Ty, Parameter, expression_calls, expressions_calls, Form, as_ordinal, as_set, as_place}
+use Rattle.cp_resolved.proofs.Words.{as_component, Formed, place_form, cells_of, Here, AreHeld, Each}
 use Rattle.cp_meaning.specs.Types as named
-use Rattle.cp_meaning.specs.Types.{Ty}
-use Rattle.cp_meaning.specs.Declarations.{Parameter}
-use Rattle.cp_meaning.specs.Lifting.{expression_calls, expressions_calls}
-use Rattle.cp_resolved.specs.Compiled.{Form, as_ordinal, as_set, as_place, as_component, Formed, place_form}
 use Rattle.cp_resolved.specs.Headed.{IsNoComponent, NumberedBy, AreNumbered, HandedBy, AreHanded}
-use Rattle.cp_resolved.specs.Layouts.{cells_of, Here}
-use Rattle.cp_resolved.specs.Meant.{AreHeld}
-use Rattle.cp_resolved.specs.Small.{Each}
 use Rattle.cp_resolved.specs.Stands.{ValueGiven, PlaceGiven, GivenBy, IsGiven, AreGiven}
 use Rattle.cp_resolved.proofs.inside.InsideExpressions.{VariablesFit, held_first, held_rest, expression_fits}
 use Rattle.cp_resolved.proofs.inside.InsideForms.{FormFits}

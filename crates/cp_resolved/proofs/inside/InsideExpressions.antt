@@ -1,21 +1,14 @@
 -- What has a form reads inside the cells of its routine: expressions, and variables with their selectors.
 use Rattle.std.proofs.Common.{◌≡◌, ℕ, pos, Bool, true, false, List, [], ◌∷◌, ◌++◌, Option, Some, refl, subst, arith}
-use Rattle.cp_tree.specs.declared.constant.Identifier.{Identifier}
+use Rattle.cp_resolved.proofs.Words.{Identifier, Permanent, RoutineView, Name, temporary, result_name, Item, function_call, result_type, routine_called}
+use Rattle.cp_resolved.proofs.Words.{result_called, cells_of, Here, system_here, frame_here, is_own, look, AreHeld}
 use Rattle.cp_tree.specs.Syntax as syntax
-use Rattle.cp_slots.specs.declared.place.PlaceOrigin.TheVariants.{Permanent}
 use Rattle.cp_slots.specs.Code as code
-use Rattle.cp_slots.specs.Tables.{RoutineView}
-use Rattle.cp_meaning.specs.Names.{Name, temporary, result_name}
 use Rattle.cp_meaning.specs.Types as named
 use Rattle.cp_meaning.specs.Types.{Ty, has_components, integers, characters}
 use Rattle.cp_meaning.specs.Scopes as scopes
-use Rattle.cp_meaning.specs.State.{Item, function_call}
-use Rattle.cp_meaning.specs.Places.{result_type}
 use Rattle.cp_meaning.specs.Lifting.{last_field, is_call_meant, own_call, expression_calls, sum_calls, terms_calls, term_calls, factors_calls, factor_calls, expressions_calls, designator_calls, selectors_calls}
-use Rattle.cp_meaning.specs.Expressions.{routine_called, result_called}
 use Rattle.cp_resolved.specs.Compiled.{Form, as_ordinal, Formed, then_form, Designated, a_variable, some_components, a_component, permanent_begun, result_begun, begun_form, with_field_form, with_element_form, ordinal_form, with_index_form, valued_form, signed_form, added_forms, multiplied_forms, compared_forms, not_form, applied_form, with_member_form, set_form, call_form, named_form, expression_form, sum_form, terms_form, term_form, factors_form, factor_form, members_form, first_form, designator_form, selected_form}
-use Rattle.cp_resolved.specs.Layouts.{cells_of, Here, system_here, frame_here, is_own, look}
-use Rattle.cp_resolved.specs.Meant.{AreHeld}
 use Rattle.cp_resolved.proofs.names.Alike.{same_inside}
 use Rattle.cp_resolved.proofs.items.Expressions.{inside}
 use Rattle.cp_resolved.proofs.inside.InsidePlaces.{HasCells, PlaceFits, whole_fits, has_place, VariableFits, field_fits, element_fits}

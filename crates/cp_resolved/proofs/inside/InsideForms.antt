@@ -1,22 +1,15 @@
 -- Operations on forms that are inside give forms that are inside.
 use Rattle.std.proofs.Common.{◌≡◌, ℕ, ℤ, Bool, true, false, ◌&&◌, if◌then◌else◌, Option, Some, None, refl, ap, subst, ◌∙◌, arith}
-use Rattle.cp_tree.specs.declared.constant.Sign.{Sign}
+use Rattle.cp_resolved.proofs.Words.{Sign, Relation, Addition, Multiplication, RoutineView, Ty, is_within, all_integers, Standard, range_of_base, cells_of}
+use Rattle.cp_resolved.proofs.Words.{Here}
 use Rattle.cp_tree.specs.declared.constant.Sign.TheVariants as sign
-use Rattle.cp_tree.specs.declared.expression.Relation.{Relation}
 use Rattle.cp_tree.specs.declared.expression.Relation.TheVariants as relation
-use Rattle.cp_tree.specs.declared.expression.Addition.{Addition}
 use Rattle.cp_tree.specs.declared.expression.Addition.TheVariants as addition
-use Rattle.cp_tree.specs.declared.expression.Multiplication.{Multiplication}
 use Rattle.cp_tree.specs.declared.expression.Multiplication.TheVariants as multiplication
 use Rattle.cp_slots.specs.Code as code
-use Rattle.cp_slots.specs.Tables.{RoutineView}
 use Rattle.cp_meaning.specs.Types as named
-use Rattle.cp_meaning.specs.Types.{Ty, is_within, all_integers}
 use Rattle.cp_meaning.specs.Scopes as scopes
-use Rattle.cp_meaning.specs.Scopes.{Standard}
-use Rattle.cp_meaning.specs.Operations.{range_of_base}
 use Rattle.cp_resolved.specs.Compiled.{Form, as_ordinal, as_set, as_place, as_component, Formed, integer_form, is_integer, is_boolean, loaded_form, Designated, a_variable, some_components, a_component, valued_form, constant_form, compared_forms, added_ordinals, added_forms, multiplied_ordinals, multiplied_forms, signed_ordinal, signed_form, not_form_of, not_form, applied_ordinal, applied_place, applied_form_of, applied_form, with_member_form}
-use Rattle.cp_resolved.specs.Layouts.{cells_of, Here}
 use Rattle.cp_resolved.proofs.names.Alike.{same_inside}
 use Rattle.cp_resolved.proofs.inside.InsidePlaces.{PlaceFits, has_place}
 use Rattle.cp_resolved.proofs.inside.PlainInside.{expression_in, set_in}

@@ -1,38 +1,19 @@
 -- Each item of tables that stand for a tree is inside what it names, and the components that it names are of the types that it wants.
 use Rattle.std.proofs.Common.{◌≡◌, ◌+◌, ◌-◌, ◌<◌, ◌≤◌, ◌-ℤ◌, unsigned_abs, ℕ, zero, suc, nat_lt, Bool, true, false, if◌then◌else◌, List, [], ◌∷◌, ◌++◌, length, Option, Some, None, slice_get, slice_index_or, refl, sym, ap, subst, ◌∙◌, ◌⊎◌, inl, inr, arith, rules}
-use Rattle.std.proofs.lemmas.Option.{same_Some, slice_get_within}
-use Rattle.cp_tree.specs.Syntax.{Tree}
-use Rattle.cp_slots.specs.declared.place.PlaceOrigin.{PlaceOrigin}
+use Rattle.cp_resolved.proofs.Words.{same_Some, slice_get_within, Tree, PlaceOrigin, most, plain, system_types, laid, Layer, statements, ActionNames, Name}
+use Rattle.cp_resolved.proofs.Words.{result_name, Ty, length_of_range, has_components, Parameter, RoutineMeaning, result_type, system_of, program_system}
+use Rattle.cp_resolved.proofs.Words.{all_begun, ground_of, component_begun, place_of, Means, IsSizedMeaning, Opening, openings_of, meaning_in, meaning_at}
+use Rattle.cp_resolved.proofs.Words.{numbering_of, Each, layouts_of, IsFull}
 use Rattle.cp_slots.specs.declared.place.PlaceOrigin.TheVariants as origin
 use Rattle.cp_slots.specs.Code as code
 use Rattle.cp_slots.specs.Inside.{extent_at, room_from}
-use Rattle.cp_layout.specs.Kinds.{most}
-use Rattle.cp_layout.specs.Laid.{plain, system_types, laid}
-use Rattle.cp_layout.specs.Layers.{Layer}
-use Rattle.cp_layout.specs.LaidStatements.{statements}
-use Rattle.cp_slots.specs.Systems.{ActionNames}
 use Rattle.cp_slots.specs.Tables.{Tables, RoutineView, SystemView, item_at, routine_at, system_at, no_system}
-use Rattle.cp_meaning.specs.Names.{Name, result_name}
 use Rattle.cp_meaning.specs.Types as named
-use Rattle.cp_meaning.specs.Types.{Ty, length_of_range, has_components}
 use Rattle.cp_meaning.specs.Scopes as scopes
-use Rattle.cp_meaning.specs.Declarations.{Parameter, RoutineMeaning}
-use Rattle.cp_meaning.specs.Places.{result_type}
-use Rattle.cp_meaning.specs.Systems.{system_of, program_system}
-use Rattle.cp_resolved.specs.Begun.{all_begun}
-use Rattle.cp_resolved.specs.BodiesStand.{ground_of}
-use Rattle.cp_resolved.specs.Compiled.{component_begun}
 use Rattle.cp_resolved.specs.Headed.{IsOrdinalResult, AreNumbered, HeadingFits, EntranceFits}
 use Rattle.cp_resolved.specs.ItemsInside.{CanHold, ItemsInside, InsideLaw}
 use Rattle.cp_resolved.specs.Layouts.{cells_of, FrameLayout, SystemLayout, Here, frame_here, system_here, is_parameter, cell_named, look}
-use Rattle.cp_resolved.specs.LayoutsKnow.{place_of}
-use Rattle.cp_resolved.specs.Meant.{Means}
-use Rattle.cp_resolved.specs.Once.{IsSizedMeaning}
-use Rattle.cp_resolved.specs.Openings.{Opening, openings_of, meaning_in, meaning_at, numbering_of}
 use Rattle.cp_resolved.specs.Resolved.{FrameIs, ParameterIs, ParametersAre, ResultIs, SystemParameterIs, SystemParametersAre, RoutineIs, SystemIs, Stands}
-use Rattle.cp_resolved.specs.Small.{Each}
-use Rattle.cp_resolved.specs.TreeLayouts.{layouts_of}
-use Rattle.cp_resolved.specs.Valued.{IsFull}
 use Rattle.cp_resolved.proofs.items.BodiesStand.{BegunAt, begun_at}
 use Rattle.cp_resolved.proofs.laid.Calling.{ActionFits}
 use Rattle.cp_resolved.proofs.laid.Calling.{Calls as CallsOne}

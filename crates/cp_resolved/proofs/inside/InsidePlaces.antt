@@ -1,17 +1,12 @@
 -- A part of a variable is inside the cells of the variable, whatever its indices are.
 use Rattle.std.proofs.Common.{◌≡◌, ℕ, zero, suc, ◌+◌, ◌*◌, ◌≤◌, ℤ, pos, negsuc, ◌-ℤ◌, unsigned_abs, Bool, true, false, if◌then◌else◌, Option, Some, None, refl, sym, ap, subst, ◌∙◌, arith, rules}
-use Rattle.std.specs.Prelude.{◌+ℤ◌}
-use Rattle.cp_slots.specs.declared.place.PlaceOrigin.{PlaceOrigin}
+use Rattle.cp_resolved.proofs.Words.{◌+ℤ◌, PlaceOrigin, RoutineView, Name, same_name, Chosen, field_chosen, further_chosen, cells_of, cells_in, IsFull}
+use Rattle.cp_resolved.proofs.Words.{AreFull}
 use Rattle.cp_slots.specs.Code as code
 use Rattle.cp_slots.specs.Inside.{has, room_from}
-use Rattle.cp_slots.specs.Tables.{RoutineView}
-use Rattle.cp_meaning.specs.Names.{Name, same_name}
 use Rattle.cp_meaning.specs.Types as named
 use Rattle.cp_meaning.specs.Types.{Ty, FieldTypes, Range, length_of_range, natural_of}
-use Rattle.cp_resolved.specs.Encoded.{Chosen, field_chosen, further_chosen}
 use Rattle.cp_resolved.specs.Compiled.{Designated, a_variable, then_form, with_index, part_of_form, field_of_form, element_of_form}
-use Rattle.cp_resolved.specs.Layouts.{cells_of, cells_in}
-use Rattle.cp_resolved.specs.Valued.{IsFull, AreFull}
 use Rattle.cp_resolved.proofs.names.Alike.{same_inside}
 use Rattle.cp_resolved.proofs.inside.PlainInside.{expression_in, place_in, span, AreIn, within}
 

@@ -1,32 +1,16 @@
 -- The items of each routine and of each initial statement of a tree stand for its statements.
 use Rattle.std.proofs.Common.{◌≡◌, ◌+◌, ◌==◌, ℕ, zero, suc, Bool, true, false, if◌then◌else◌, List, [], ◌∷◌, ◌++◌, length, map, Option, Some, None, slice_get, refl, sym, ap, subst, ◌∙◌, inl, inr, arith}
-use Rattle.std.proofs.lemmas.Option.{none-some, same_Some, slice_get_within}
-use Rattle.std.proofs.lemmas.Slice.Eq.{bytes_eq-Decides}
+use Rattle.cp_resolved.proofs.Words.{none-some, same_Some, slice_get_within, bytes_eq-Decides, Tables, RoutineView, item_at, no_item, routine_at, no_routine}
+use Rattle.cp_resolved.proofs.Words.{Layer, nothing_laid, routine_of, PlainTables, laid, tables_laid, statements, routines, program_parts, program, same_name}
+use Rattle.cp_resolved.proofs.Words.{temporary, Ty, Scope, Variable, RoutineMeaning, Item, function_call, statement_item, result_called, routine_called}
+use Rattle.cp_resolved.proofs.Words.{all_begun, AreReady, Here, frame_here, look, IsPlaced, place_of, KnowsAt, Opening, openings_of, meaning_in, meaning_at}
+use Rattle.cp_resolved.proofs.Words.{numbering_of, OwnAll, call_variables, result_variables, parameters_by, whole_laid, AreNext}
 use Rattle.cp_tree.specs.Syntax as syntax
 use Rattle.cp_slots.specs.declared.item.Item as code_item
 use Rattle.cp_slots.specs.Code as code
-use Rattle.cp_slots.specs.Tables.{Tables, RoutineView, item_at, no_item, routine_at, no_routine}
-use Rattle.cp_layout.specs.Layers.{Layer, nothing_laid, routine_of}
-use Rattle.cp_layout.specs.Laid.{PlainTables, laid, tables_laid}
-use Rattle.cp_layout.specs.LaidStatements.{statements}
-use Rattle.cp_layout.specs.LaidDeclarations.{routines, program_parts, program}
-use Rattle.cp_meaning.specs.Names.{same_name, temporary}
-use Rattle.cp_meaning.specs.Types.{Ty}
-use Rattle.cp_meaning.specs.Scopes.{Scope}
-use Rattle.cp_meaning.specs.Declarations.{Variable, RoutineMeaning}
-use Rattle.cp_meaning.specs.State.{Item, function_call, statement_item}
-use Rattle.cp_meaning.specs.Expressions.{result_called, routine_called}
-use Rattle.cp_resolved.specs.Begun.{all_begun}
 use Rattle.cp_resolved.specs.BodiesStand.{ground_of, CallsFormed, BodyFormed, BodiesLaw}
 use Rattle.cp_resolved.specs.Calls.{all_calls_laid, IsAmong, IsApart, AreApart}
-use Rattle.cp_resolved.specs.FormedParts.{AreReady}
 use Rattle.cp_resolved.specs.ItemsStand.{AreItems, Surroundings, CanStand, AreLaid}
-use Rattle.cp_resolved.specs.Layouts.{Here, frame_here, look}
-use Rattle.cp_resolved.specs.LayoutsKnow.{IsPlaced, place_of, KnowsAt}
-use Rattle.cp_resolved.specs.Openings.{Opening, openings_of, meaning_in, meaning_at, numbering_of}
-use Rattle.cp_resolved.specs.Stands.{OwnAll}
-use Rattle.cp_resolved.specs.TreeLayouts.{call_variables, result_variables, parameters_by, whole_laid}
-use Rattle.cp_resolved.specs.Used.{AreNext}
 use Rattle.cp_resolved.proofs.items.Ended.{Ends, AreEnded, all_end}
 use Rattle.cp_resolved.proofs.names.Entries.{still_there, entry_at}
 use Rattle.cp_resolved.proofs.laid.Extends.{Longer, routines_extend, initial_extends, program_parts_extend}

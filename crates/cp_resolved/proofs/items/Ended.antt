@@ -1,20 +1,15 @@
 -- The items of each routine and of each initial statement stand in the tables of the whole program, and its routine begins with the first of them.
 use Rattle.std.proofs.Common.{◌≡◌, ◌+◌, ℕ, suc, List, [], ◌∷◌, ◌++◌, length, Option, Some, None, slice_get, refl, sym, ap, subst, ◌∙◌, arith, append-nil, length-append}
 use Rattle.cp_tree.specs.Syntax as syntax
-use Rattle.cp_slots.specs.Tables.{RoutineView}
+use Rattle.cp_resolved.proofs.Words.{RoutineView, Scope, seen_inside, nothing_declared, Numbering, routine_in, whole_laid}
 use Rattle.cp_slots.specs.Code as code
 use Rattle.cp_layout.specs.Layers.{Layer, added, settled, without_pending, nothing_laid, routine_of, with_routine}
 use Rattle.cp_layout.specs.LaidStatements.{statements, statement, arms, starts, started, assigned, invoked, chosen, selected, while_item, until_item, for_item, blocked, cycled, token_of}
 use Rattle.cp_layout.specs.LaidDeclarations.{Parameters, heading, with_heading, opened, routine, routines, initial_statement, entered, system_groups, system, definition, system_definition, system_definitions, program_part, program_parts, constants, variables, program}
-use Rattle.cp_meaning.specs.Scopes.{Scope, seen_inside}
 use Rattle.cp_meaning.specs.Systems.{Declared, definition_in, program_part_in, declared, program_system, own_meaning, system_in}
 use Rattle.cp_resolved.specs.Begun.{routine_begun, routines_begun, initial_begun, parameters_of, parts_begun, system_begun, definition_begun, definitions_begun, part_begun, program_parts_begun, all_begun}
-use Rattle.cp_resolved.specs.Fit.{nothing_declared}
-use Rattle.cp_resolved.specs.InStep.{Numbering}
 use Rattle.cp_resolved.specs.Openings.{Opening, routine_openings, parts_scope, initial_opening, definition_openings, definitions_openings, part_openings, parts_openings, openings_of}
 use Rattle.cp_resolved.specs.Openings.{with_routine as with_named}
-use Rattle.cp_meaning.specs.Declarations.{routine_in}
-use Rattle.cp_resolved.specs.TreeLayouts.{whole_laid}
 use Rattle.cp_resolved.proofs.laid.Declares.{Declares, heading_declares, local_parts_declare, permanent_parts_declare, system_groups_declare, type_declares, constants_declare, variables_declare}
 use Rattle.cp_resolved.proofs.names.Entries.{still_there, last_entry}
 use Rattle.cp_resolved.proofs.laid.Extends.{Longer, Extends, routines_extend, initial_extends, system_definitions_extend, program_parts_extend, longer_trans as longer_both}

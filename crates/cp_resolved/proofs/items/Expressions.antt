@@ -1,37 +1,24 @@
 -- Where an expression has a form, the value that is laid out is of this form, and each of its calls takes the next cell of the frame.
 use Rattle.std.proofs.Common.{◌≡◌, ◌+◌, ℕ, suc, nat_le, ℤ, pos, Bool, true, false, if◌then◌else◌, List, [], ◌∷◌, ◌++◌, length, Option, Some, None, slice_get, refl, sym, ap, subst, ◌∙◌, arith}
-use Rattle.cp_tree.specs.declared.constant.Identifier.{Identifier}
+use Rattle.cp_resolved.proofs.Words.{Identifier, LayoutMeaning, FunctionResult, RoutineView, Layer, result_of, Name, temporary, Base, Ty, has_components}
+use Rattle.cp_resolved.proofs.Words.{is_within, Item, function_call, range_of_base, RoutineMeaning, routine_in, result_type, system_of, routine_called}
+use Rattle.cp_resolved.proofs.Words.{routine_meant, routine_of_type, result_called, Here, frame_here, is_parameter, Chosen, field_chosen, FormIs, ValueIs}
+use Rattle.cp_resolved.proofs.Words.{DesignatedIs, Knows}
 use Rattle.cp_tree.specs.Syntax as syntax
 use Rattle.cp_slots.specs.declared.place.PlaceOrigin.TheVariants as origin
 use Rattle.cp_layout.specs.declared.kinds.CellBase.TheVariants as base
-use Rattle.cp_layout.specs.declared.names.LayoutMeaning.{LayoutMeaning}
 use Rattle.cp_layout.specs.declared.names.LayoutMeaning.TheVariants as meaning
-use Rattle.cp_layout.specs.declared.layer.FunctionResult.{FunctionResult}
 use Rattle.cp_slots.specs.Code as code
 use Rattle.cp_layout.specs.Values as values
 use Rattle.cp_layout.specs.Values.{Value, ordinal_value, set_value, number_value, loaded, place_at, ordinal_of}
-use Rattle.cp_slots.specs.Tables.{RoutineView}
 use Rattle.cp_layout.specs.Layers as layers
-use Rattle.cp_layout.specs.Layers.{Layer, result_of}
 use Rattle.cp_layout.specs.LaidExpressions as laid
 use Rattle.cp_layout.specs.LaidExpressions.{begun, begun_as, field_selected, element_selected, entry_of, entry_found, named_as, function_as, called, counted, as_integer, expression, sum, more_terms, term, more_factors, factor, elements, first_value, arguments_from, designator, selectors, selector}
-use Rattle.cp_meaning.specs.Names.{Name, temporary}
 use Rattle.cp_meaning.specs.Types as named
-use Rattle.cp_meaning.specs.Types.{Base, Ty, has_components, is_within}
 use Rattle.cp_meaning.specs.Scopes as scopes
-use Rattle.cp_meaning.specs.State.{Item, function_call}
-use Rattle.cp_meaning.specs.Operations.{range_of_base}
-use Rattle.cp_meaning.specs.Declarations.{RoutineMeaning, routine_in}
-use Rattle.cp_meaning.specs.Places.{result_type}
 use Rattle.cp_meaning.specs.Lifting.{last_field, is_call_meant, own_call, expression_calls, sum_calls, terms_calls, term_calls, factors_calls, factor_calls, expressions_calls, selectors_calls}
-use Rattle.cp_meaning.specs.Systems.{system_of}
-use Rattle.cp_meaning.specs.Expressions.{routine_called, routine_meant, routine_of_type, result_called}
-use Rattle.cp_resolved.specs.Layouts.{Here, frame_here, is_parameter}
-use Rattle.cp_resolved.specs.Encoded.{Chosen, field_chosen}
 use Rattle.cp_resolved.specs.Compiled.{component_begun, element_of_form, field_of_form, part_of_form, Form, as_ordinal, Formed, then_form, Designated, a_variable, some_components, a_component, constant_form, call_form, named_form, valued_form, compared_forms, with_element_form, with_field_form, with_index_form, ordinal_form, permanent_begun, begun_form, signed_form, added_forms, multiplied_forms, not_form, applied_form, with_member_form, set_form, expression_form, sum_form, terms_form, term_form, factors_form, factor_form, members_form, first_form, designator_form, selected_form}
 use Rattle.cp_resolved.specs.InStep.{Numbering, base_of, TypeIs, FoundIs, predeclared_as}
-use Rattle.cp_resolved.specs.Valued.{FormIs, ValueIs, DesignatedIs}
-use Rattle.cp_resolved.specs.Knows.{Knows}
 use Rattle.cp_resolved.specs.Used.{AreNext, AreEntry, IsOne, HasResult, IsFunction, AreFormed, UsedAs, IsUsed, SumUsed, TermsUsed, TermUsed, FactorsUsed, FactorUsed, AreUsed, SelectorsUsed, ResultsAre, system_type, EntryIs, KnowsCalls}
 use Rattle.cp_resolved.proofs.names.Alike.{same_inside}
 use Rattle.cp_resolved.proofs.laid.Kept.{Kept, kept_trans, expression_kept, sum_kept, term_kept, factor_kept, designator_kept}

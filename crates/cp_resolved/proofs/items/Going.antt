@@ -1,38 +1,25 @@
 -- Through an expression: its function calls take the next cells of the frame, and what is laid out of each is an item that stands for the call.
 use Rattle.std.proofs.Common.{◌≡◌, ◌+◌, ℕ, suc, Bool, true, false, List, [], ◌∷◌, ◌++◌, length, Option, Some, None, slice_get, slice_index, refl, sym, ap, subst, ◌∙◌, arith, append_assoc, append-nil, length-append}
 use Rattle.std.specs.Prelude.{pos}
-use Rattle.std.proofs.lemmas.Option.{same_Some}
-use Rattle.cp_tree.specs.declared.constant.Identifier.{Identifier}
+use Rattle.cp_resolved.proofs.Words.{same_Some, Identifier, LayoutMeaning, FunctionResult, RoutineView, Name, temporary, Ty, Item, function_call, Parameter}
+use Rattle.cp_resolved.proofs.Words.{RoutineMeaning, routine_in, result_type, name_of, routine_called, routine_meant, result_called, Here, frame_here}
+use Rattle.cp_resolved.proofs.Words.{cell_named, slot_of, look, Numbering, base_of, FoundIs, predeclared_as, Knows, AreHeld, ValueIs, DesignatedIs}
 use Rattle.cp_tree.specs.Syntax as syntax
-use Rattle.cp_layout.specs.declared.names.LayoutMeaning.{LayoutMeaning}
 use Rattle.cp_layout.specs.declared.names.LayoutMeaning.TheVariants as meaning
-use Rattle.cp_layout.specs.declared.layer.FunctionResult.{FunctionResult}
 use Rattle.cp_layout.specs.declared.layer.ParameterLayout as code_parameter
 use Rattle.cp_slots.specs.Code as code
-use Rattle.cp_slots.specs.Tables.{RoutineView}
 use Rattle.cp_layout.specs.Values as values
 use Rattle.cp_layout.specs.Values.{Value, ordinal_of, number_value}
 use Rattle.cp_layout.specs.Layers as layers
 use Rattle.cp_layout.specs.Layers.{Layer, Pending, parameter_at, parameter_of, result_of}
 use Rattle.cp_layout.specs.LaidExpressions as laid
 use Rattle.cp_layout.specs.LaidExpressions.{begun, element_selected, field_selected, entry_found, passed, named_as, function_as, called, counted, expression, sum, more_terms, term, more_factors, factor, elements, first_value, arguments_from, designator, selectors, selector}
-use Rattle.cp_meaning.specs.Names.{Name, temporary}
-use Rattle.cp_meaning.specs.Types.{Ty}
 use Rattle.cp_meaning.specs.Scopes as scopes
-use Rattle.cp_meaning.specs.State.{Item, function_call}
-use Rattle.cp_meaning.specs.Declarations.{Parameter, RoutineMeaning, routine_in}
-use Rattle.cp_meaning.specs.Places.{result_type}
 use Rattle.cp_meaning.specs.Lifting.{last_field, is_call_meant, own_call, expression_calls, sum_calls, terms_calls, term_calls, factors_calls, factor_calls, expressions_calls, designator_calls, selectors_calls}
-use Rattle.cp_meaning.specs.Expressions.{name_of, routine_called, routine_meant, result_called}
-use Rattle.cp_resolved.specs.Layouts.{Here, frame_here, cell_named, slot_of, look}
 use Rattle.cp_resolved.specs.Compiled.{compared_forms, Formed, then_form, Designated, a_variable, some_components, a_component, named_form, valued_form, with_index_form, with_field_form, permanent_begun, begun_form, signed_form, added_forms, multiplied_forms, not_form, applied_form, with_member_form, set_form, expression_form, sum_form, terms_form, term_form, factors_form, factor_form, members_form, first_form, designator_form, selected_form}
 use Rattle.cp_resolved.specs.FormedParts.{CanGive, CanGiveAll, CallFormed, IsReady, AreReady, PassedBy, ParametersAre, parameters_in, HeadingIs, KnowsHeadings}
-use Rattle.cp_resolved.specs.InStep.{Numbering, base_of, FoundIs, predeclared_as}
-use Rattle.cp_resolved.specs.Knows.{Knows}
-use Rattle.cp_resolved.specs.Meant.{AreHeld}
 use Rattle.cp_resolved.specs.Stands.{AreGiven, IsGiven, CalleeIs, IsCalled, ResultGoes, result_cell}
 use Rattle.cp_resolved.specs.Used.{AreNext, AreEntry, IsOne, HasResult, IsFunction, UsedAs, IsUsed, SumUsed, TermsUsed, TermUsed, FactorsUsed, FactorUsed, AreUsed, SelectorsUsed, ResultsAre, system_type, KnowsCalls}
-use Rattle.cp_resolved.specs.Valued.{ValueIs, DesignatedIs}
 use Rattle.cp_resolved.proofs.forms.Designating.{IsNoRoutine, begun_same}
 use Rattle.cp_resolved.proofs.items.Expressions as known
 use Rattle.cp_resolved.proofs.items.Expressions.{inside, cells, TakesFrom, takes_none, takes_both, NoEntry, regrouped}

@@ -1,20 +1,16 @@
 -- The items that are laid out of statements stand for these statements.
 use Rattle.std.proofs.Common.{◌≡◌, ◌+◌, ◌<◌, ◌≤◌, min, max, ℕ, Bool, true, false, List, [], ◌∷◌, ◌++◌, length, Option, Some, None, slice_get, refl, sym, ap, subst, ◌∙◌, arith, append-nil}
-use Rattle.std.proofs.lemmas.Option.{none-some, same_Some}
-use Rattle.cp_tree.specs.declared.constant.Constant.{Constant}
-use Rattle.cp_tree.specs.declared.constant.Identifier.{Identifier}
-use Rattle.cp_tree.specs.declared.statement.Direction.{Direction}
+use Rattle.cp_resolved.proofs.Words.{none-some, same_Some, Constant, Identifier, Direction, LayoutMeaning, PredeclaredRoutine, most, Name, result_name, Ty}
+use Rattle.cp_resolved.proofs.Words.{Item, system_of, result_type, name_of, routine_of_type, routine_meant, routine_called, Here, frame_here, is_own}
+use Rattle.cp_resolved.proofs.Words.{cell_named, Each, IsSmallConstant, ValueIs, PlaceIs, DesignatedIs}
 use Rattle.cp_tree.specs.declared.statement.Direction.TheVariants as direction
 use Rattle.cp_tree.specs.Syntax as syntax
 use Rattle.cp_slots.specs.declared.place.PlaceOrigin.TheVariants as origin
 use Rattle.cp_slots.specs.declared.item.ShownKind.TheVariants as shown
 use Rattle.cp_layout.specs.declared.kinds.CellType.TheVariants as types
-use Rattle.cp_layout.specs.declared.names.LayoutMeaning.{LayoutMeaning}
 use Rattle.cp_layout.specs.declared.names.LayoutMeaning.TheVariants as meaning
-use Rattle.cp_layout.specs.declared.names.PredeclaredRoutine.{PredeclaredRoutine}
 use Rattle.cp_layout.specs.declared.names.PredeclaredRoutine.TheVariants as predeclared
 use Rattle.cp_slots.specs.Code as code
-use Rattle.cp_layout.specs.Kinds.{most}
 use Rattle.cp_layout.specs.Values as values
 use Rattle.cp_layout.specs.Values.{place_at, place_of, ordinal_of}
 use Rattle.cp_layout.specs.Layers as layers
@@ -23,15 +19,9 @@ use Rattle.cp_layout.specs.LaidTypes as laid_types
 use Rattle.cp_layout.specs.LaidExpressions.{begun_as, begun, entry_found, counted, arguments_from, arguments, expression, designator, selectors, first_value}
 use Rattle.cp_layout.specs.LaidStatements as laid
 use Rattle.cp_layout.specs.LaidStatements.{statement, statements, arms, one_arm, arms_need, chosen, while_item, until_item, selected, for_item, blocked, repeated, assigned, invoked, standard, procedure, begun_component, started, starts, Target, target_of, result_target, low_of, high_of, origin_of, token_of}
-use Rattle.cp_meaning.specs.Names.{Name, result_name}
 use Rattle.cp_meaning.specs.Types as named
-use Rattle.cp_meaning.specs.Types.{Ty}
 use Rattle.cp_meaning.specs.Scopes as scopes
 use Rattle.cp_meaning.specs.Declarations as meant
-use Rattle.cp_meaning.specs.State.{Item}
-use Rattle.cp_meaning.specs.Systems.{system_of}
-use Rattle.cp_meaning.specs.Places.{result_type}
-use Rattle.cp_meaning.specs.Expressions.{name_of, routine_of_type, routine_meant, routine_called}
 use Rattle.cp_meaning.specs.Lifting.{last_field, designator_calls, expression_calls, expressions_calls, selectors_calls}
 use Rattle.cp_meaning.specs.Steps.{at_expression}
 use Rattle.cp_resolved.specs.Calls.{starts_calls, calls_laid, all_calls_laid, arms_calls_laid, arm_calls_laid}
@@ -40,12 +30,9 @@ use Rattle.cp_resolved.specs.FormedParts.{CanGiveAll, CallFormed, AreReady, para
 use Rattle.cp_resolved.specs.FormedStatements.{IsTarget, PerformFormed, StartFormed, StartIs, EntryFormed, InvokeFormed, TestFormed, OrdinalFormed, AssignFormed, OwnResult, ForFormed, IsNotRoutine, StatementFormed, AllFormed, ArmsFormed, ArmFormed}
 use Rattle.cp_resolved.specs.InStep.{Numbering, base_of, range_on, predeclared_as, FoundIs, TypeIs}
 use Rattle.cp_resolved.specs.ItemsStand.{Surroundings, CanStand, StatementsLaw}
-use Rattle.cp_resolved.specs.Layouts.{Here, frame_here, is_own, cell_named}
 use Rattle.cp_resolved.specs.Meant.{AreHeld, IsCell, Assigns, Means}
-use Rattle.cp_resolved.specs.Small.{Each, IsSmallConstant}
 use Rattle.cp_resolved.specs.Stands.{AssignedBy, StartItem, StartsAre, Ground, ItemAt, CalleeIs, CallItem, CallsAre, kind_of, first_of, Performed, InvokedBy, IsOrdinal, labels_of, is_down, OwnAll, OwnArms, OwnArm, StatementIs}
 use Rattle.cp_resolved.specs.Used.{HasResult, IsUsed, AreUsed, SelectorsUsed, system_type}
-use Rattle.cp_resolved.specs.Valued.{ValueIs, PlaceIs, DesignatedIs}
 use Rattle.cp_resolved.proofs.names.Alike.{same_inside}
 use Rattle.cp_resolved.proofs.forms.Designating.{IsNoRoutine, begun_same}
 use Rattle.cp_resolved.proofs.items.Expressions as known

@@ -2,17 +2,12 @@
 use Rattle.std.proofs.Common.{◌≡◌, ℕ, zero, suc, List, [], ◌∷◌, ◌++◌, length, Some, slice_get, refl, sym, ap, subst, ◌∙◌, arith, length-append}
 use Rattle.cp_tree.specs.Syntax as syntax
 use Rattle.cp_slots.specs.Code as code
-use Rattle.cp_layout.specs.Layers.{Layer, nothing_laid}
-use Rattle.cp_layout.specs.LaidStatements.{statements}
+use Rattle.cp_resolved.proofs.Words.{Layer, nothing_laid, statements, routine_in, Scope, seen_inside, nothing_declared, whole_laid}
 use Rattle.cp_layout.specs.LaidDeclarations.{heading, with_heading, opened, routine, routines, entered, system_groups, system, definition, system_definition, system_definitions, program_part, program_parts, program}
-use Rattle.cp_meaning.specs.Declarations.{routine_in}
-use Rattle.cp_meaning.specs.Scopes.{Scope, seen_inside}
 use Rattle.cp_meaning.specs.Systems.{Declared, definition_in, program_part_in, declared, program_system, own_meaning, system_in}
 use Rattle.cp_resolved.specs.Begun.{routine_begun, routines_begun, initial_begun, parameters_of, parts_begun, system_begun, definition_begun, definitions_begun, part_begun, program_parts_begun, all_begun}
-use Rattle.cp_resolved.specs.Fit.{nothing_declared}
 use Rattle.cp_resolved.specs.Openings.{Opening, routine_openings, parts_scope, initial_opening, definition_openings, definitions_openings, part_openings, parts_openings, openings_of}
 use Rattle.cp_resolved.specs.Openings.{with_routine as with_named}
-use Rattle.cp_resolved.specs.TreeLayouts.{whole_laid}
 use Rattle.cp_resolved.proofs.laid.Declares.{heading_declares, local_parts_declare, permanent_parts_declare, system_groups_declare, type_declares, constants_declare, variables_declare}
 
 module _ (Q : code.Item → Type 0) where

@@ -1,10 +1,8 @@
 -- All statements: their items have what they need.
 use Rattle.std.proofs.Common.{◌≡◌, ℕ, ◌+◌, ◌*◌, ◌<◌, ◌≤◌, max, Bool, false, List, [], ◌∷◌, length, Option, Some, None, slice_index, refl, sym, ap, subst, arith}
-use Rattle.cp_tree.specs.declared.statement.Direction.{Direction}
+use Rattle.cp_resolved.proofs.Words.{Direction, CellType, PredeclaredRoutine}
 use Rattle.cp_tree.specs.Syntax as syntax
-use Rattle.cp_layout.specs.declared.kinds.CellType.{CellType}
 use Rattle.cp_layout.specs.declared.kinds.CellType.TheVariants as types
-use Rattle.cp_layout.specs.declared.names.PredeclaredRoutine.{PredeclaredRoutine}
 use Rattle.cp_layout.specs.declared.names.PredeclaredRoutine.TheVariants as predeclared
 use Rattle.cp_slots.specs.Code as code
 use Rattle.cp_slots.specs.Code.{Action, Arm, Argument, ComponentPlace, Place}

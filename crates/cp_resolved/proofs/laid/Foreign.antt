@@ -1,14 +1,9 @@
 -- Where statements avoid a routine's own name, no item that is laid out of them calls the routine.
 use Rattle.std.proofs.Common.{◌≡◌, ℕ, ◌+◌, ◌<◌, Bool, List, [], ◌∷◌, length, Option, Some, None, sym, ap, subst, arith}
-use Rattle.cp_tree.specs.declared.statement.Direction.{Direction}
+use Rattle.cp_resolved.proofs.Words.{Direction, CellType, ArrayType, FunctionResult, LayoutMeaning, PredeclaredRoutine, Each}
 use Rattle.cp_tree.specs.Syntax as syntax
-use Rattle.cp_layout.specs.declared.kinds.CellType.{CellType}
 use Rattle.cp_layout.specs.declared.kinds.CellType.TheVariants as types
-use Rattle.cp_layout.specs.declared.kinds.ArrayType.{ArrayType}
-use Rattle.cp_layout.specs.declared.layer.FunctionResult.{FunctionResult}
-use Rattle.cp_layout.specs.declared.names.LayoutMeaning.{LayoutMeaning}
 use Rattle.cp_layout.specs.declared.names.LayoutMeaning.TheVariants as meaning
-use Rattle.cp_layout.specs.declared.names.PredeclaredRoutine.{PredeclaredRoutine}
 use Rattle.cp_layout.specs.declared.names.PredeclaredRoutine.TheVariants as predeclared
 use Rattle.cp_slots.specs.Code as code
 use Rattle.cp_slots.specs.Code.{Place, OrdinalExpression, SetExpression, ComponentPlace, Argument, Arm, Action, Item}
@@ -17,7 +12,6 @@ use Rattle.cp_layout.specs.Values.{Value, Designated, a_variable, a_contained, a
 use Rattle.cp_layout.specs.Layers.{Layer, Frame, Pending, again, find, with_cell, with_room, settled_all, settled, without_pending, added, call_need, result_of}
 use Rattle.cp_layout.specs.LaidExpressions.{begun_as, begun, field_found, entry_found, entry_of, field_selected, element_found, component_of_array, component_found, element_selected, with_count, counted, function_as, named_as, signed, name_at, expression, sum, more_terms, term, more_factors, factor, elements, first_value, arguments_from, designator, selectors, selector, arguments}
 use Rattle.cp_layout.specs.LaidStatements.{Target, target_of, assigned_as, assignment, assigned, performed, procedure, standard, Callee, a_standard_procedure, a_procedure, no_callee, callee_of, invoked_as, invoked, blocked, cycled, chosen, while_item, until_item, token_of, repeated, selected, for_item, initial_of, begun_component, Placed, placed_of, started_as, started, starts, statements, statement, arms, one_arm}
-use Rattle.cp_resolved.specs.Small.{Each}
 use Rattle.cp_resolved.proofs.laid.Avoiding.{AvoidsExpression, AvoidsSum, AvoidTerms, AvoidsTerm, AvoidFactors, AvoidsFactor, AvoidExpressions, AvoidsCall, AvoidsDesignator, AvoidSelectors, AvoidsSelector, AvoidStarts, AvoidsStatement, AvoidStatements, AvoidArms, AvoidsArm}
 use Rattle.cp_resolved.proofs.laid.Calling.{designator_there}
 use Rattle.cp_resolved.proofs.laid.Kept.{Kept, changed, designator_kept}

@@ -1,11 +1,9 @@
 -- What an expression leaves of the state: it changes the frame, the items of its statement and the greatest number of arguments alone.
 use Rattle.std.proofs.Common.{◌≡◌, ℕ, ◌+◌, Bool, true, false, List, Option, Some, None, ap, ◌∙◌, refl}
 use Rattle.cp_tree.specs.Syntax as syntax
-use Rattle.cp_slots.specs.Code.{SetExpression, ComponentPlace, Argument}
-use Rattle.cp_layout.specs.declared.layer.FunctionResult.{FunctionResult}
+use Rattle.cp_resolved.proofs.Words.{SetExpression, ComponentPlace, Argument, FunctionResult, Layer, Frame, Pending, result_of}
 use Rattle.cp_layout.specs.Values.{Value, Designated, a_routine, an_entry, a_standard, ordinal_of, multiplied, added}
 use Rattle.cp_slots.specs.Code as code
-use Rattle.cp_layout.specs.Layers.{Layer, Frame, Pending, result_of}
 use Rattle.cp_layout.specs.LaidExpressions.{expression, sum, more_terms, term, more_factors, factor, elements, first_value, arguments_from, designator, selectors, selector, begun, signed, counted, called, function_as, named_as}
 
 abbrev pub changed : Layer → Frame → List Pending → ℕ → Layer

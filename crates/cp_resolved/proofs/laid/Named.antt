@@ -1,10 +1,7 @@
 -- What names, types and system types lead to is there: the numbers of system types and routines are below how many there are.
 use Rattle.std.proofs.Common.{◌≡◌, ℕ, suc, ◌+◌, ◌<◌, ◌≤◌, Bool, true, false, if◌then◌else◌, ◌&&◌, nat_le, nat_lt, List, [], ◌∷◌, drop, length, Option, Some, None, slice_get, refl, sym, subst, arith, rules}
-use Rattle.std.specs.Str.{bytes_eq}
-use Rattle.cp_layout.specs.declared.kinds.CellType.{CellType}
+use Rattle.cp_resolved.proofs.Words.{bytes_eq, CellType, ArrayType, LayoutMeaning}
 use Rattle.cp_layout.specs.declared.kinds.CellType.TheVariants as types
-use Rattle.cp_layout.specs.declared.kinds.ArrayType.{ArrayType}
-use Rattle.cp_layout.specs.declared.names.LayoutMeaning.{LayoutMeaning}
 use Rattle.cp_layout.specs.declared.names.LayoutMeaning.TheVariants as meaning
 use Rattle.cp_slots.specs.Code.{ComponentPlace, OrdinalExpression, Place}
 use Rattle.cp_layout.specs.Kinds.{Compound, array, record_with, Compounds, array_of, as_array, field_of, Field}

@@ -1,11 +1,8 @@
 -- Once the items of a statement are in the tables, each call stands in one, followed by the next, and the statement's own item comes last.
 use Rattle.std.proofs.Common.{◌≡◌, ◌+◌, ◌<◌, max, ℕ, suc, List, [], ◌∷◌, ◌++◌, length, Option, Some, slice_get, slice_index, refl, sym, ap, subst, ◌∙◌, arith, length-append}
 use Rattle.cp_slots.specs.Code as code
-use Rattle.cp_layout.specs.Layers.{Layer, Pending, need_of, added, without_pending, settled_all, settled}
-use Rattle.cp_meaning.specs.Names.{temporary}
-use Rattle.cp_meaning.specs.State.{Item, function_call}
+use Rattle.cp_resolved.proofs.Words.{Layer, Pending, need_of, added, without_pending, settled_all, settled, temporary, Item, function_call, Here}
 use Rattle.cp_resolved.specs.ItemsStand.{ItemIs, AreItems}
-use Rattle.cp_resolved.specs.Layouts.{Here}
 use Rattle.cp_resolved.specs.Stands.{Ground, ItemAt, CallItem, CallsAre}
 use Rattle.cp_resolved.proofs.names.Entries.{there, still_there, last_entry}
 use Rattle.cp_resolved.proofs.items.Going.{CallPending, PendingAre, Goes}

@@ -1,9 +1,6 @@
 -- Where calls are at different tokens and each temporary name has its cell, the cells are one after the other.
 use Rattle.std.proofs.Common.{◌≡◌, ℕ, suc, ◌+◌, ◌==◌, Bool, false, if◌then◌else◌, List, [], ◌∷◌, refl, ap, ◌∙◌, inl, inr, arith}
-use Rattle.cp_slots.specs.declared.place.PlaceOrigin.TheVariants.{Local}
-use Rattle.cp_meaning.specs.State.{Item, statement_item, function_call}
-use Rattle.cp_resolved.specs.Layouts.{Here}
-use Rattle.cp_resolved.specs.Used.{AreNext}
+use Rattle.cp_resolved.proofs.Words.{Local, Item, statement_item, function_call, Here, AreNext}
 use Rattle.cp_resolved.specs.Calls.{calls_before, AreApart, AreTemporaries}
 use Rattle.cp_resolved.proofs.frames.LeastCells.{same_number as same_token}
 

@@ -1,10 +1,8 @@
 -- What each small step of laying out statements leaves true, whole statements leave true.
-use Rattle.std.proofs.Common.{ℕ, ◌+◌, Bool, List, [], ◌∷◌, length, max, Option, Some, None}
-use Rattle.cp_tree.specs.declared.statement.Direction.{Direction}
+use Rattle.cp_resolved.proofs.Words.{ℕ, ◌+◌, Bool, List, [], ◌∷◌, length, max, Option, Some, None, Direction, FunctionResult, SetExpression, ComponentPlace}
+use Rattle.cp_resolved.proofs.Words.{Argument, Arm, Action}
 use Rattle.cp_tree.specs.Syntax as syntax
-use Rattle.cp_layout.specs.declared.layer.FunctionResult.{FunctionResult}
 use Rattle.cp_slots.specs.Code as code
-use Rattle.cp_slots.specs.Code.{SetExpression, ComponentPlace, Argument, Arm, Action}
 use Rattle.cp_layout.specs.Values.{Value, Designated, a_routine, an_entry, a_standard, added as values_added, multiplied as values_multiplied, ordinal_of}
 use Rattle.cp_layout.specs.Layers.{Layer, again, with_cell, with_room, settled, added, call_need, result_of, need_inside, pending_need}
 use Rattle.cp_layout.specs.LaidExpressions.{begun, with_count, counted, function_as, named_as, signed, name_at, expression, sum, more_terms, term, more_factors, factor, elements, first_value, arguments_from, designator, selectors, selector, arguments}

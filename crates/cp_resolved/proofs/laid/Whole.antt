@@ -1,18 +1,12 @@
 -- Routines and system types, and the whole program: all items have what they need, and each routine has its room.
 use Rattle.std.proofs.Common.{◌≡◌, ℕ, ◌+◌, ◌-◌, ◌<◌, ◌≤◌, min, List, [], ◌∷◌, ◌++◌, length, Option, Some, None, slice_get, refl, sym, ap, subst, ◌∙◌, ◌⊎◌, inl, inr, append_assoc, append-nil, arith, length-append}
-use Rattle.std.proofs.lemmas.Option.{none-some}
-use Rattle.cp_tree.specs.declared.declaration.SystemKind.{SystemKind}
+use Rattle.cp_resolved.proofs.Words.{none-some, SystemKind, Body, Routine, Definition, SystemDefinition, ProgramPart, Program, CellType, Compounds, most}
+use Rattle.cp_resolved.proofs.Words.{plus, RoutineView, written_type, statements}
 use Rattle.cp_tree.specs.Syntax as syntax
-use Rattle.cp_tree.specs.Syntax.{Body, Routine, Definition, SystemDefinition, ProgramPart, Program}
-use Rattle.cp_layout.specs.declared.kinds.CellType.{CellType}
 use Rattle.cp_layout.specs.declared.names.LayoutMeaning.TheVariants as meaning
 use Rattle.cp_slots.specs.Code as code
 use Rattle.cp_slots.specs.Code.{Action, Item}
-use Rattle.cp_layout.specs.Kinds.{Compounds, most, plus}
-use Rattle.cp_slots.specs.Tables.{RoutineView}
 use Rattle.cp_layout.specs.Layers.{Layer, Frame, Heading, Owned, System, need_of, nothing_laid, routine_of, with_routine}
-use Rattle.cp_layout.specs.LaidTypes.{written_type}
-use Rattle.cp_layout.specs.LaidStatements.{statements}
 use Rattle.cp_layout.specs.LaidDeclarations.{Parameters, body, opened, closed, routine_inside, routine, routines, with_heading, with_new_frame, heading_with, initial_statement, heading, local_parts, permanent_parts, system_groups, entered, left, system_of, system_inside, system, constants, variables, definition, type_named, system_definition, system_definitions, program_part, program_parts, program}
 use Rattle.cp_resolved.proofs.laid.Calling.{ActionFits, CallFits, Calls, RoomFits, onward_routines, Ground}
 use Rattle.cp_resolved.proofs.laid.Declared.{Declared, declared_same, then_declared, Typed, name_declared, constants_declared, written_typed, variables_declared, permanent_declared, local_parts_declared, heading_declared, system_groups_declared}

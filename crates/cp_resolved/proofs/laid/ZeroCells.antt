@@ -1,12 +1,8 @@
 -- What statements leave of the frame: each call has a new cell, which begins with 0, and no other cell is changed.
 use Rattle.std.proofs.Common.{◌≡◌, ℕ, ◌+◌, ℤ, pos, Bool, true, false, List, [], ◌∷◌, ◌++◌, Option, Some, None, slice_get, ap, ◌∙◌, refl, sym, append_assoc, append-nil}
-use Rattle.cp_tree.specs.declared.statement.Direction.{Direction}
+use Rattle.cp_resolved.proofs.Words.{Direction, FunctionResult, PredeclaredRoutine, SetExpression, ComponentPlace, Argument, Arm, RoutineView}
 use Rattle.cp_tree.specs.Syntax as syntax
-use Rattle.cp_layout.specs.declared.layer.FunctionResult.{FunctionResult}
-use Rattle.cp_layout.specs.declared.names.PredeclaredRoutine.{PredeclaredRoutine}
 use Rattle.cp_slots.specs.Code as code
-use Rattle.cp_slots.specs.Code.{SetExpression, ComponentPlace, Argument, Arm}
-use Rattle.cp_slots.specs.Tables.{RoutineView}
 use Rattle.cp_layout.specs.Values.{Value, Designated, a_routine, an_entry, a_standard, ordinal_of, multiplied, added as sum_of}
 use Rattle.cp_layout.specs.Layers.{Layer, Frame, Pending, result_of, with_cell, frame_with, settled_all, settled, without_pending, added}
 use Rattle.cp_layout.specs.LaidExpressions.{expression, sum, more_terms, term, more_factors, factor, elements, first_value, arguments_from, arguments, designator, selectors, selector, begun, signed, counted, called, function_as, named_as, name_at}

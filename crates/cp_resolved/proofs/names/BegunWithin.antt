@@ -1,10 +1,8 @@
 -- The types that are laid out where the statements of each routine begin are among those of the whole program.
-use Rattle.std.proofs.Common.{List, [], ◌∷◌, ◌++◌}
+use Rattle.cp_resolved.proofs.Words.{List, [], ◌∷◌, ◌++◌, Layer, nothing_laid, Each}
 use Rattle.cp_tree.specs.Syntax as syntax
-use Rattle.cp_layout.specs.Layers.{Layer, nothing_laid}
 use Rattle.cp_layout.specs.LaidDeclarations.{initial_statement, routine, routines, system, system_definition, system_definitions, definition, program_part, program_parts, program}
 use Rattle.cp_resolved.specs.Begun.{routine_begun, routines_begun, initial_begun, parameters_of, parts_begun, system_begun, definition_begun, definitions_begun, part_begun, program_parts_begun, all_begun}
-use Rattle.cp_resolved.specs.Small.{Each}
 use Rattle.cp_resolved.proofs.laid.Extends.{Longer, longer_trans, body_extends, initial_extends, routines_extend, system_definitions_extend, program_parts_extend}
 use Rattle.cp_resolved.proofs.frames.FrameCells.{each_both as each_append}
 

@@ -1,12 +1,9 @@
 -- The states in which the statements of routines and initial statements begin come one after the other: each extends those before it.
 use Rattle.std.proofs.Common.{◌≡◌, ◌≤◌, ℕ, zero, suc, List, [], ◌∷◌, ◌++◌, Some, None, slice_get, refl, subst, arith}
-use Rattle.std.proofs.lemmas.Option.{none-some, same_Some}
+use Rattle.cp_resolved.proofs.Words.{none-some, same_Some, Layer, nothing_laid, no_frame, written_type, whole_laid}
 use Rattle.cp_tree.specs.Syntax as syntax
-use Rattle.cp_layout.specs.Layers.{Layer, nothing_laid, no_frame}
-use Rattle.cp_layout.specs.LaidTypes.{written_type}
 use Rattle.cp_layout.specs.LaidDeclarations.{Parameters, heading_with, with_new_frame, entered, system_groups, body, initial_statement, routine, routines, system, type_named, definition, system_definition, system_definitions, program_part, program_parts, program}
 use Rattle.cp_resolved.specs.Begun.{routine_begun, routines_begun, initial_begun, parameters_of, parts_begun, system_begun, definition_begun, definitions_begun, part_begun, program_parts_begun, all_begun}
-use Rattle.cp_resolved.specs.TreeLayouts.{whole_laid}
 use Rattle.cp_resolved.proofs.laid.Declares.{type_declares, permanent_parts_declare, system_groups_declare}
 use Rattle.cp_resolved.proofs.laid.Extends.{longer_trans, Extends, extends_trans, extends_with, extends_same, declared_extends, heading_extends, body_extends, begun_extends, program_part_extends}
 

@@ -1,28 +1,14 @@
 -- Where the statements of each routine begin, its heading has its parameters, and the routines that are visible belong to its system type.
 use Rattle.std.proofs.Common.{◌≡◌, ◌+◌, ℕ, suc, Bool, true, false, if◌then◌else◌, List, [], ◌∷◌, ◌++◌, length, Option, Some, None, slice_get, refl, sym, ap, subst, ◌∙◌, arith}
-use Rattle.std.specs.Str.{bytes_eq}
-use Rattle.std.proofs.lemmas.Option.{none-some, same_Some}
-use Rattle.cp_tree.specs.declared.constant.Identifier.{Identifier}
+use Rattle.cp_resolved.proofs.Words.{bytes_eq, none-some, same_Some, Identifier, CellType, LayoutMeaning, named_type, Name, Scope, routine_in, system_of}
+use Rattle.cp_resolved.proofs.Words.{routine_begun, routines_begun, parts_begun, IsDistinctRoutine, AreValues, each_in, in_routine, ParametersAre, Numbering}
+use Rattle.cp_resolved.proofs.Words.{InStep, Opening, with_routine, routine_openings, AreOpened, Each, IsSmallRoutine, AreNumbered}
 use Rattle.cp_tree.specs.Syntax as syntax
-use Rattle.cp_layout.specs.declared.kinds.CellType.{CellType}
 use Rattle.cp_layout.specs.declared.kinds.CellType.TheVariants as types
-use Rattle.cp_layout.specs.declared.names.LayoutMeaning.{LayoutMeaning}
 use Rattle.cp_layout.specs.declared.names.LayoutMeaning.TheVariants as meaning
 use Rattle.cp_layout.specs.Layers as layers
 use Rattle.cp_layout.specs.Layers.{Names, Layer, Heading, System, is_open, seen_inside, outermost, nothing_laid}
-use Rattle.cp_layout.specs.LaidTypes.{named_type}
 use Rattle.cp_layout.specs.LaidDeclarations.{Parameters, heading, with_heading, opened, routine, routines, entered, system_parameter, system_parameters_of, system_group, system_groups, program_parts}
-use Rattle.cp_meaning.specs.Names.{Name}
-use Rattle.cp_meaning.specs.Scopes.{Scope}
-use Rattle.cp_meaning.specs.Declarations.{routine_in}
-use Rattle.cp_meaning.specs.Systems.{system_of}
-use Rattle.cp_resolved.specs.Begun.{routine_begun, routines_begun, parts_begun}
-use Rattle.cp_resolved.specs.Distinct.{IsDistinctRoutine, AreValues}
-use Rattle.cp_resolved.specs.Enumerations.{each_in, in_routine}
-use Rattle.cp_resolved.specs.FormedParts.{ParametersAre}
-use Rattle.cp_resolved.specs.InStep.{Numbering, InStep}
-use Rattle.cp_resolved.specs.Openings.{Opening, with_routine, routine_openings, AreOpened}
-use Rattle.cp_resolved.specs.Small.{Each, IsSmallRoutine, AreNumbered}
 use Rattle.cp_resolved.proofs.names.Entries.{last_entry}
 use Rattle.cp_resolved.proofs.names.EntriesKnown.{heading_of, begun_headings}
 use Rattle.cp_resolved.proofs.laid.Extends.{routine_names}

@@ -1,34 +1,22 @@
 -- Where the statements of a routine begin, each of its parameters is visible, at the slot that its heading has.
 use Rattle.std.proofs.Common.{◌≡◌, ℕ, Bool, true, false, if◌then◌else◌, List, [], ◌∷◌, ◌++◌, length, Some, refl, sym, ap, subst, ◌∙◌, append_assoc}
 use Rattle.std.proofs.lemmas.List.{append-nil}
-use Rattle.cp_tree.specs.declared.constant.Identifier.{Identifier}
+use Rattle.cp_resolved.proofs.Words.{Identifier, PlaceOrigin, CellType, LayoutMeaning, Compounds, named_type, Name, same_name, Ty, Scope, local_variable}
+use Rattle.cp_resolved.proofs.Words.{routine_begun, PassedBy, slot_of, with_routine, Each, itself}
 use Rattle.cp_tree.specs.Syntax as syntax
-use Rattle.cp_slots.specs.declared.place.PlaceOrigin.{PlaceOrigin}
 use Rattle.cp_slots.specs.declared.place.PlaceOrigin.TheVariants as origin
-use Rattle.cp_layout.specs.declared.kinds.CellType.{CellType}
 use Rattle.cp_layout.specs.declared.layer.Passing.{Passing}
 use Rattle.cp_layout.specs.declared.layer.Passing.TheVariants as passing
 use Rattle.cp_layout.specs.declared.layer.ParameterLayout as code_parameter
-use Rattle.cp_layout.specs.declared.names.LayoutMeaning.{LayoutMeaning}
 use Rattle.cp_layout.specs.declared.names.LayoutMeaning.TheVariants as meaning
-use Rattle.cp_layout.specs.Kinds.{Compounds}
 use Rattle.cp_layout.specs.Layers.{Names, Layer, find}
-use Rattle.cp_layout.specs.LaidTypes.{named_type}
 use Rattle.cp_layout.specs.LaidDeclarations.{Parameters, value_parameter, constant_parameter, constant_parameters_of, constant_group, constant_groups, reference_parameter, var_parameter, var_parameters_of, var_group, parameter_group, parameter_groups, heading, with_heading, opened}
-use Rattle.cp_meaning.specs.Names.{Name, same_name}
 use Rattle.cp_meaning.specs.Types as named
-use Rattle.cp_meaning.specs.Types.{Ty}
 use Rattle.cp_meaning.specs.Scopes as scopes
-use Rattle.cp_meaning.specs.Scopes.{Scope, local_variable}
 use Rattle.cp_meaning.specs.Declarations as meant
 use Rattle.cp_meaning.specs.Declarations.{Parameter, Heading, names_of, parameters_named, with_group, with_groups, with_parameter_groups, type_named, routine_in}
-use Rattle.cp_resolved.specs.Begun.{routine_begun}
 use Rattle.cp_resolved.specs.Distinct.{IsOther, AreDistinct, all_names, part_names, kind_names, IsDistinctRoutine, IsNoComponent, AreValues}
-use Rattle.cp_resolved.specs.FormedParts.{PassedBy}
 use Rattle.cp_resolved.specs.InStep.{Numbering, TypeIs, InStep}
-use Rattle.cp_resolved.specs.Layouts.{slot_of}
-use Rattle.cp_resolved.specs.Openings.{with_routine}
-use Rattle.cp_resolved.specs.Small.{Each}
 use Rattle.cp_resolved.proofs.agreeing.AgreeingWritten.{each_left, each_right}
 use Rattle.cp_resolved.proofs.laid.Declares.{local_parts_declare}
 use Rattle.cp_resolved.proofs.names.EntriesKnown.{heading_of}
@@ -38,7 +26,6 @@ use Rattle.cp_resolved.proofs.names.Steps.{type_grown}
 use Rattle.cp_resolved.proofs.names.StepsOfParts.{constant_groups_reached, parameter_groups_reached}
 use Rattle.cp_resolved.proofs.names.StepsOfTypes.{named_type_same}
 use Rattle.cp_resolved.proofs.frames.FrameCells.{each_both}
-use Rattle.cp_lawful.proofs.Once.{itself}
 
 -- ---- names of parameters
 

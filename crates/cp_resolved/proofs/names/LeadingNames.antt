@@ -1,31 +1,17 @@
 -- The visible names of components lead, in each component of the system type, to one of theirs.
 use Rattle.std.proofs.Common.{◌≡◌, ◌+◌, ◌*◌, ◌<◌, ◌≤◌, ℕ, suc, true, false, List, [], ◌∷◌, ◌++◌, length, Some, None, slice_get, refl, sym, ap, ap₂, subst, ◌∙◌, ◌⊎◌, inl, inr, arith}
-use Rattle.std.proofs.lemmas.List.{length-map}
-use Rattle.std.proofs.lemmas.Option.{slice_get_within}
-use Rattle.cp_tree.specs.Syntax.{Program, Tree}
+use Rattle.cp_resolved.proofs.Words.{length-map, slice_get_within, Program, Tree, plain, laid, Tables, component_at, Name, permanent_variable, find, Variable}
+use Rattle.cp_resolved.proofs.Words.{Parameter, SystemMeaning, program_system, system_of, component_with, parameter_variables, first_component}
+use Rattle.cp_resolved.proofs.Words.{first_components, ground_of, system_variables, IsFramed, is_parameter, look, IsPlaced, place_of, meaning_at, Stands}
+use Rattle.cp_resolved.proofs.Words.{layouts_of}
 use Rattle.cp_slots.specs.declared.place.ComponentPlace.TheVariants as place_in
-use Rattle.cp_layout.specs.Laid.{plain, laid}
 use Rattle.cp_slots.specs.Systems.{IsOf, Names}
-use Rattle.cp_slots.specs.Tables.{Tables, component_at}
 use Rattle.cp_lawful.proofs.Earlier.{TyBelow, VariablesBelow, ParametersBelow, systems_below}
-use Rattle.cp_meaning.specs.Names.{Name}
 use Rattle.cp_meaning.specs.Types.{Ty, Range, array_over, component_of, length_of_range}
-use Rattle.cp_meaning.specs.Scopes.{permanent_variable, find}
-use Rattle.cp_meaning.specs.Declarations.{Variable, Parameter}
-use Rattle.cp_meaning.specs.Systems.{SystemMeaning, program_system, system_of}
 use Rattle.cp_meaning.specs.Components.{Path, Listed, step_down, listed_elements, listed_variable, listed_variables, listed, components_of}
 use Rattle.cp_meaning.specs.State as named
-use Rattle.cp_meaning.specs.Places.{component_with}
-use Rattle.cp_meaning.specs.Steps.{parameter_variables, first_component, first_components}
 use Rattle.cp_meaning.specs.WellFormed.{IsWellFormed}
-use Rattle.cp_resolved.specs.BodiesStand.{ground_of}
-use Rattle.cp_resolved.specs.Framed.{system_variables, IsFramed}
 use Rattle.cp_resolved.specs.ItemsInside.{ComponentsLead}
-use Rattle.cp_resolved.specs.Layouts.{is_parameter, look}
-use Rattle.cp_resolved.specs.LayoutsKnow.{IsPlaced, place_of}
-use Rattle.cp_resolved.specs.Openings.{meaning_at}
-use Rattle.cp_resolved.specs.Resolved.{Stands}
-use Rattle.cp_resolved.specs.TreeLayouts.{layouts_of}
 use Rattle.cp_resolved.proofs.components.ComponentsOfTree.{low}
 use Rattle.cp_resolved.proofs.components.ComponentsStand.{map_there}
 use Rattle.cp_resolved.proofs.components.Contained.{skipped, listed_first, elements_first, found_by_path}

@@ -1,19 +1,12 @@
 -- What declarations leave of the names of the tables: all others stand for what they did.
 use Rattle.std.proofs.Common.{◌≡◌, ◌+◌, ℕ, Bool, false, if◌then◌else◌, List, [], ◌∷◌, ◌++◌, length, Option, Some, None, refl, ap, ◌∙◌}
-use Rattle.cp_tree.specs.declared.constant.Identifier.{Identifier}
+use Rattle.cp_resolved.proofs.Words.{Identifier, CellBase, CellType, Contained, LayoutMeaning, as_integer, Name, same_name, names_of}
 use Rattle.cp_tree.specs.Syntax as syntax
-use Rattle.cp_layout.specs.declared.kinds.CellBase.{CellBase}
-use Rattle.cp_layout.specs.declared.kinds.CellType.{CellType}
-use Rattle.cp_layout.specs.declared.layer.Contained.{Contained}
-use Rattle.cp_layout.specs.declared.names.LayoutMeaning.{LayoutMeaning}
 use Rattle.cp_layout.specs.declared.names.LayoutMeaning.TheVariants as meaning
 use Rattle.cp_layout.specs.Kinds.{Fields, no_fields}
 use Rattle.cp_layout.specs.Layers.{Names, Layer, find}
-use Rattle.cp_layout.specs.LaidExpressions.{as_integer}
 use Rattle.cp_layout.specs.LaidTypes.{with_constant, enumerated, enumeration_base, simple_type, written_type, field_groups, field_group}
 use Rattle.cp_layout.specs.LaidDeclarations.{constant, constants, type_definition, type_definitions, components_of, variable, variable_with, variables_of, variable_group, variables, local, locals_of, local_group, local_variables, permanent_part, permanent_parts, local_part, local_parts}
-use Rattle.cp_meaning.specs.Names.{Name, same_name}
-use Rattle.cp_meaning.specs.Declarations.{names_of}
 use Rattle.cp_resolved.specs.Distinct.{IsOther, all_names, simple_names, type_names, groups_names, part_names}
 use Rattle.cp_resolved.proofs.agreeing.AgreeingWritten.{each_left, each_right}
 use Rattle.cp_resolved.proofs.names.Steps.{bytes_turned}

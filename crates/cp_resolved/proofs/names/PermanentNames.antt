@@ -2,32 +2,18 @@
 -- a system type has the name of a parameter, and no component that it contains has one.
 use Rattle.std.proofs.Common.{◌≡◌, ℕ, Bool, true, false, ◌||◌, if◌then◌else◌, List, [], ◌∷◌, ◌++◌, length, Option, Some, None, refl, sym, ap, subst, ◌∙◌, inl, inr, append_assoc}
 use Rattle.std.specs.Prelude.{◌⊎◌}
-use Rattle.std.specs.Str.{bytes_eq}
+use Rattle.cp_resolved.proofs.Words.{bytes_eq, same_Some, bytes_eq-Decides, Identifier, PlaceOrigin, CellType, Contained, LayoutMeaning, named_type}
+use Rattle.cp_resolved.proofs.Words.{written_type, Ty, Scope, permanent_variable, Name, same_name, routine_begun, parts_begun, IsInFrame, is_parameter}
+use Rattle.cp_resolved.proofs.Words.{AreOthers, Each}
 use Rattle.std.proofs.lemmas.List.{append-nil}
-use Rattle.std.proofs.lemmas.Option.{same_Some}
-use Rattle.std.proofs.lemmas.Slice.Eq.{bytes_eq-Decides}
-use Rattle.cp_tree.specs.declared.constant.Identifier.{Identifier}
 use Rattle.cp_tree.specs.Syntax as syntax
-use Rattle.cp_slots.specs.declared.place.PlaceOrigin.{PlaceOrigin}
 use Rattle.cp_slots.specs.declared.place.PlaceOrigin.TheVariants as origin
-use Rattle.cp_layout.specs.declared.kinds.CellType.{CellType}
 use Rattle.cp_layout.specs.declared.kinds.CellType.TheVariants as types
-use Rattle.cp_layout.specs.declared.layer.Contained.{Contained}
-use Rattle.cp_layout.specs.declared.names.LayoutMeaning.{LayoutMeaning}
 use Rattle.cp_layout.specs.declared.names.LayoutMeaning.TheVariants as meaning
 use Rattle.cp_layout.specs.Layers.{Names, Layer, find, is_open, seen_inside, outermost, nothing_laid}
-use Rattle.cp_layout.specs.LaidTypes.{named_type, written_type}
 use Rattle.cp_layout.specs.LaidDeclarations.{components_of, variable, variable_with, variables_of, variable_group, variables, permanent_part, permanent_parts, Parameters, heading, with_heading, opened, routine, routines, entered, system_parameter, system_parameters_of, system_group, system_groups, program_parts}
-use Rattle.cp_meaning.specs.Types.{Ty}
-use Rattle.cp_meaning.specs.Scopes.{Scope, permanent_variable}
 use Rattle.cp_meaning.specs.Declarations as meant
 use Rattle.cp_meaning.specs.Declarations.{Variable, Block, Parameter, names_of, with_group, with_groups, parameters_named, named_variables, type_in, with_names, type_named, variables_in, part_in, parts_in}
-use Rattle.cp_meaning.specs.Names.{Name, same_name}
-use Rattle.cp_resolved.specs.Begun.{routine_begun, parts_begun}
-use Rattle.cp_resolved.specs.InStep.{IsInFrame}
-use Rattle.cp_resolved.specs.Layouts.{is_parameter}
-use Rattle.cp_resolved.specs.Once.{AreOthers}
-use Rattle.cp_resolved.specs.Small.{Each}
 use Rattle.cp_resolved.proofs.laid.Extends.{routine_names}
 use Rattle.cp_resolved.proofs.names.KeptNames as kept
 use Rattle.cp_meaning.proofs.Good.{or_right as either_true}

@@ -1,18 +1,10 @@
 -- Where names are in step with a scope of limited types, each variable begins with at most 8,192 cells. It does so where fewer names stand too.
 use Rattle.std.proofs.Common.{ℕ, ◌≤◌, Bool, true, false, if◌then◌else◌, List, [], ◌∷◌, ◌++◌, length, Some, sym, ap, subst, ◌⊎◌, inl, inr, arith, le_trans}
-use Rattle.std.specs.Str.{bytes_eq}
-use Rattle.cp_layout.specs.declared.kinds.CellType.{CellType}
-use Rattle.cp_layout.specs.declared.names.LayoutMeaning.{LayoutMeaning}
+use Rattle.cp_resolved.proofs.Words.{bytes_eq, CellType, LayoutMeaning, Compounds, least, Names, Layer, find_type, named_type, type_meant, Ty, Scope, Each}
 use Rattle.cp_layout.specs.declared.names.LayoutMeaning.TheVariants as meaning
-use Rattle.cp_layout.specs.Kinds.{Compounds, least}
-use Rattle.cp_layout.specs.Layers.{Names, Layer, find_type}
-use Rattle.cp_layout.specs.LaidTypes.{named_type, type_meant}
-use Rattle.cp_meaning.specs.Types.{Ty}
 use Rattle.cp_meaning.specs.Scopes as scopes
-use Rattle.cp_meaning.specs.Scopes.{Scope}
 use Rattle.cp_resolved.specs.InStep.{Numbering, TypeIs, CellsAre, PartsAre, BoundIs, MeaningIs, InStep}
 use Rattle.cp_resolved.specs.Limited.{IsLimited, IsLimitedMeaning, AreLimited}
-use Rattle.cp_resolved.specs.Small.{Each}
 use Rattle.cp_resolved.proofs.agreeing.AgreeingWritten.{each_right}
 use Rattle.cp_resolved.proofs.laid.Declares.{Declares}
 use Rattle.cp_resolved.proofs.counts.FewReferences.{each_weaker}

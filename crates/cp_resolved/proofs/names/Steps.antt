@@ -1,19 +1,13 @@
 -- Names in step: what they find, what a system type sees of them, and that more types change nothing.
 use Rattle.std.proofs.Common.{◌≡◌, ℕ, Bool, true, false, if◌then◌else◌, List, [], ◌∷◌, ◌++◌, Option, Some, refl, sym, ap, ◌∙◌, arith, inl, inr}
 use Rattle.std.specs.Prelude.{◌⊎◌}
-use Rattle.std.specs.Str.{bytes_eq}
+use Rattle.cp_resolved.proofs.Words.{bytes_eq, bytes_eq-Decides, CellType, LayoutMeaning, is_open, Ty, Scope, is_seen}
 use Rattle.std.specs.Bool.{Decides}
 use Rattle.std.proofs.lemmas.Bool.Decides.{same_from_decides}
-use Rattle.std.proofs.lemmas.Slice.Eq.{bytes_eq-Decides}
-use Rattle.cp_layout.specs.declared.kinds.CellType.{CellType}
-use Rattle.cp_layout.specs.declared.names.LayoutMeaning.{LayoutMeaning}
 use Rattle.cp_layout.specs.Kinds.{Compounds, Field, array, compound_cells, cells_of, plus, times, count_of}
 use Rattle.cp_layout.specs.Layers as layers
-use Rattle.cp_layout.specs.Layers.{is_open}
 use Rattle.cp_meaning.specs.Types as named
-use Rattle.cp_meaning.specs.Types.{Ty}
 use Rattle.cp_meaning.specs.Scopes as scopes
-use Rattle.cp_meaning.specs.Scopes.{Scope, is_seen}
 use Rattle.cp_resolved.specs.InStep.{Numbering, range_on, TypeIs, FieldsAre, CellsAre, PartsAre, BoundIs, MeaningIs, InStep, FoundIs, IsOuter, AreOuter}
 use Rattle.cp_resolved.proofs.names.Entries.{still_there as slice_more}
 

@@ -2,25 +2,18 @@
 use Rattle.std.proofs.Common.{◌≡◌, ℕ, Bool, true, false, if◌then◌else◌, List, [], ◌∷◌, ◌++◌, length, Option, Some, None, refl, sym, ap, subst, ◌∙◌, inl, inr}
 use Rattle.std.specs.Prelude.{◌⊎◌}
 use Rattle.std.proofs.lemmas.List.{append-nil}
-use Rattle.cp_tree.specs.declared.constant.Identifier.{Identifier}
+use Rattle.cp_resolved.proofs.Words.{Identifier, CellType, Contained, Layer, written_type, Ty, has_components, Scope, Block, Heading, names_of, with_names}
+use Rattle.cp_resolved.proofs.Words.{Enumerated, in_type, each_in, in_part, names_among}
 use Rattle.cp_tree.specs.Syntax as syntax
 use Rattle.cp_slots.specs.declared.place.PlaceOrigin.TheVariants as origin
-use Rattle.cp_layout.specs.declared.kinds.CellType.{CellType}
 use Rattle.cp_layout.specs.declared.kinds.CellType.TheVariants as types
-use Rattle.cp_layout.specs.declared.layer.Contained.{Contained}
 use Rattle.cp_layout.specs.Kinds.{Compounds, as_array, array_type}
-use Rattle.cp_layout.specs.Layers.{Layer}
 use Rattle.cp_layout.specs.LaidTypes as laid
-use Rattle.cp_layout.specs.LaidTypes.{written_type}
 use Rattle.cp_layout.specs.LaidDeclarations as laid_parts
 use Rattle.cp_layout.specs.LaidDeclarations.{constant, constants, constant_meaning, type_definition, type_definitions, array_components, components_in, components_of, variable, variable_with, variables_of, variable_group, variables, local, locals_of, local_group, local_variables, permanent_part, permanent_parts, local_part, local_parts, Parameters, constant_parameter, constant_parameters_of, constant_group, constant_groups, var_parameter, var_parameters_of, var_group, parameter_group, parameter_groups, heading, system_parameter, system_parameters_of, system_group, system_groups}
 use Rattle.cp_meaning.specs.Types as named
-use Rattle.cp_meaning.specs.Types.{Ty, has_components}
 use Rattle.cp_meaning.specs.Scopes as scopes
-use Rattle.cp_meaning.specs.Scopes.{Scope}
 use Rattle.cp_meaning.specs.Declarations as meant
-use Rattle.cp_meaning.specs.Declarations.{Block, Heading, names_of, with_names}
-use Rattle.cp_resolved.specs.Enumerations.{Enumerated, in_type, each_in, in_part, names_among}
 use Rattle.cp_resolved.specs.InStep.{Numbering, range_on, TypeIs, MeaningIs, InStep}
 use Rattle.cp_resolved.specs.Small.{Each, IsSmallConstant, IsSmallType, IsSmallPart, AreNumbered, IsParameter, AreParameters}
 use Rattle.cp_resolved.proofs.names.StepsOfTypes.{ConstantIs, constant_same, named_type_same, Written, type_written, constants_trans, numbered_left, numbered_after}

@@ -4,18 +4,13 @@ use Rattle.std.proofs.lemmas.List.{append-nil}
 use Rattle.cp_tree.specs.Syntax as syntax
 use Rattle.cp_layout.specs.declared.names.LayoutMeaning.TheVariants as meaning
 use Rattle.cp_layout.specs.Layers.{Names, Layer, Heading, routine_of}
-use Rattle.cp_layout.specs.LaidStatements.{statements}
+use Rattle.cp_resolved.proofs.Words.{statements, Scope, routine_in, with_routines, system_in, Enumerated, each_in, in_part, in_routine, in_system}
+use Rattle.cp_resolved.proofs.Words.{names_among, Numbering, InStep, AreOuter, Opening, with_routine, routine_openings, parts_scope, AreOpened, routine_begun}
+use Rattle.cp_resolved.proofs.Words.{parts_begun, system_begun}
 use Rattle.cp_layout.specs.LaidDeclarations.{heading, heading_with, body, with_new_frame, with_heading, opened, routine, routines, entered, system_groups, permanent_parts, system}
 use Rattle.cp_meaning.specs.Scopes as scopes
-use Rattle.cp_meaning.specs.Scopes.{Scope}
 use Rattle.cp_meaning.specs.Declarations as meant
-use Rattle.cp_meaning.specs.Declarations.{routine_in}
-use Rattle.cp_meaning.specs.Systems.{with_routines, system_in}
-use Rattle.cp_resolved.specs.Enumerations.{Enumerated, each_in, in_part, in_routine, in_system, names_among}
-use Rattle.cp_resolved.specs.InStep.{Numbering, InStep, AreOuter}
 use Rattle.cp_resolved.specs.Small.{Each, IsSmallPart, IsSmallRoutine, IsSmallSystem, AreNumbered, AreParameters}
-use Rattle.cp_resolved.specs.Openings.{Opening, with_routine, routine_openings, parts_scope, AreOpened}
-use Rattle.cp_resolved.specs.Begun.{routine_begun, parts_begun, system_begun}
 use Rattle.cp_resolved.proofs.laid.Grown.{statements_grew}
 use Rattle.cp_resolved.proofs.laid.Declares.{heading_declares, local_parts_declare, permanent_parts_declare, system_groups_declare}
 use Rattle.cp_resolved.proofs.laid.Extends.{Extends, routine_extends, routine_names, system_extends}

@@ -1,38 +1,26 @@
 -- Names stay in step as constants and types are declared, and a written type is laid out as the type that it stands for.
 use Rattle.std.proofs.Common.{◌≡◌, ◌+◌, ◌-◌, ◌<◌, ◌≤◌, ℕ, zero, suc, ℤ, pos, negsuc, neg_ℤ, Bool, true, false, if◌then◌else◌, List, [], ◌∷◌, ◌++◌, length, map, Option, Some, None, refl, sym, ap, subst, ◌∙◌, arith, append_assoc, length-append, inl, inr}
 use Rattle.std.specs.Prelude.{◌⊎◌, nat_le}
-use Rattle.std.specs.Str.{bytes_eq}
-use Rattle.std.proofs.lemmas.Bool.{le-leb}
+use Rattle.cp_resolved.proofs.Words.{bytes_eq, le-leb, Identifier, Sign, Constant, ConstantKind, CellBase, CellType, LayoutMeaning, Names, Layer, as_integer}
+use Rattle.cp_resolved.proofs.Words.{Ty, Scope, Enumerated, in_simple, in_type, in_groups, names_among}
 use Rattle.std.proofs.lemmas.Bool.Decides.{leb_tells}
 use Rattle.std.proofs.lemmas.List.{append-nil, length-map}
-use Rattle.cp_tree.specs.declared.constant.Identifier.{Identifier}
-use Rattle.cp_tree.specs.declared.constant.Sign.{Sign}
 use Rattle.cp_tree.specs.declared.constant.Sign.TheVariants as sign
-use Rattle.cp_tree.specs.declared.constant.Constant.{Constant}
-use Rattle.cp_tree.specs.declared.constant.ConstantKind.{ConstantKind}
 use Rattle.cp_tree.specs.declared.constant.ConstantKind.TheVariants as constant_kind
 use Rattle.cp_tree.specs.Syntax as syntax
 use Rattle.cp_slots.specs.declared.place.PlaceOrigin.TheVariants as origin
-use Rattle.cp_layout.specs.declared.kinds.CellBase.{CellBase}
 use Rattle.cp_layout.specs.declared.kinds.CellBase.TheVariants as base
 use Rattle.cp_layout.specs.declared.kinds.CellRange.{CellRange}
-use Rattle.cp_layout.specs.declared.kinds.CellType.{CellType}
 use Rattle.cp_layout.specs.declared.kinds.CellType.TheVariants as types
-use Rattle.cp_layout.specs.declared.names.LayoutMeaning.{LayoutMeaning}
 use Rattle.cp_layout.specs.declared.names.LayoutMeaning.TheVariants as meaning
 use Rattle.cp_layout.specs.Kinds as kinds
 use Rattle.cp_layout.specs.Kinds.{Compounds, Compound, Field, Fields, array, record_with, cells_of, array_type, plus, times, count_of}
 use Rattle.cp_layout.specs.Layers as layers
-use Rattle.cp_layout.specs.Layers.{Names, Layer}
-use Rattle.cp_layout.specs.LaidExpressions.{as_integer}
 use Rattle.cp_layout.specs.LaidTypes as laid
 use Rattle.cp_layout.specs.LaidTypes.{opposite_number, signed_number, with_constant, enumerated, enumeration_base, first_constant, simple_type, written_type, field_groups, field_group, fields_of_type}
 use Rattle.cp_meaning.specs.Types as named
-use Rattle.cp_meaning.specs.Types.{Ty}
 use Rattle.cp_meaning.specs.Scopes as scopes
-use Rattle.cp_meaning.specs.Scopes.{Scope}
 use Rattle.cp_meaning.specs.Declarations as meant
-use Rattle.cp_resolved.specs.Enumerations.{Enumerated, in_simple, in_type, in_groups, names_among}
 use Rattle.cp_resolved.specs.InStep.{Numbering, base_of, range_on, TypeIs, FieldsAre, IsSmall, CellsAre, PartsAre, BoundIs, MeaningIs, InStep, FoundIs, predeclared_as}
 use Rattle.cp_resolved.specs.Small.{IsSmallConstant, IsSmallSimple, IsSmallType, AreSmallGroups, AreNumbered}
 use Rattle.cp_resolved.proofs.laid.Declares.{Declares, groups_declare}

@@ -1,30 +1,19 @@
 -- Where the routines of a system type begin, each of its parameters has the slot that the heading of its initial statement has.
 use Rattle.std.proofs.Common.{◌≡◌, ℕ, false, List, [], ◌∷◌, ◌++◌, Some, refl, sym, ap, subst, ◌∙◌, append_assoc}
 use Rattle.std.proofs.lemmas.List.{append-nil}
-use Rattle.cp_tree.specs.declared.constant.Identifier.{Identifier}
+use Rattle.cp_resolved.proofs.Words.{Identifier, CellType, LayoutMeaning, Compounds, named_type, Name, same_name, Ty, Scope, permanent_variable, seen_inside}
+use Rattle.cp_resolved.proofs.Words.{system_in, parameters_of, parts_begun, PassedBy, ParametersAre, Each, AreParameters, slot_in}
 use Rattle.cp_tree.specs.Syntax as syntax
 use Rattle.cp_slots.specs.declared.place.PlaceOrigin.TheVariants as origin
-use Rattle.cp_layout.specs.declared.kinds.CellType.{CellType}
 use Rattle.cp_layout.specs.declared.kinds.CellType.TheVariants as types
 use Rattle.cp_layout.specs.declared.layer.ParameterLayout as code_parameter
-use Rattle.cp_layout.specs.declared.names.LayoutMeaning.{LayoutMeaning}
 use Rattle.cp_layout.specs.declared.names.LayoutMeaning.TheVariants as meaning
-use Rattle.cp_layout.specs.Kinds.{Compounds}
 use Rattle.cp_layout.specs.Layers.{Names, Layer, find}
-use Rattle.cp_layout.specs.LaidTypes.{named_type}
 use Rattle.cp_layout.specs.LaidDeclarations.{Parameters, value_parameter, cell_parameter, passed_component, system_parameter, system_parameters_of, system_group, system_groups, entered, permanent_parts}
-use Rattle.cp_meaning.specs.Names.{Name, same_name}
 use Rattle.cp_meaning.specs.Types as named
-use Rattle.cp_meaning.specs.Types.{Ty}
-use Rattle.cp_meaning.specs.Scopes.{Scope, permanent_variable, seen_inside}
 use Rattle.cp_meaning.specs.Declarations.{Parameter, Heading, names_of, parameters_named, with_group, with_groups, type_named}
-use Rattle.cp_meaning.specs.Systems.{system_in}
-use Rattle.cp_resolved.specs.Begun.{parameters_of, parts_begun}
 use Rattle.cp_resolved.specs.Distinct.{IsOther, AreDistinct, all_names, part_names, parameter_names, AreApart, IsNoComponent}
-use Rattle.cp_resolved.specs.FormedParts.{PassedBy, ParametersAre}
 use Rattle.cp_resolved.specs.InStep.{Numbering, range_on, TypeIs, InStep, AreOuter}
-use Rattle.cp_resolved.specs.Small.{Each, AreParameters}
-use Rattle.cp_resolved.specs.TreeLayouts.{slot_in}
 use Rattle.cp_resolved.proofs.laid.Declares.{permanent_parts_declare}
 use Rattle.cp_resolved.proofs.names.HeadingsFound.{AreBeside, beside_left, beside_right, beside_first, beside_others, distinct_left, distinct_right, named_beside, passed_value, passed_grown, find_itself, groups_others, same_after}
 use Rattle.cp_resolved.proofs.names.NamesBeside.{find_past, permanent_parts_beside}

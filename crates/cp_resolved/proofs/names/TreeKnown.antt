@@ -1,37 +1,21 @@
 -- The layouts of a tree know what stands where its statements begin.
 use Rattle.std.proofs.Common.{◌≡◌, ◌+◌, ◌<◌, ◌≤◌, ℕ, zero, suc, Bool, true, false, if◌then◌else◌, List, [], ◌∷◌, length, Option, Some, None, slice_get, refl, sym, ap, subst, ◌∙◌, inl, inr, arith}
 use Rattle.std.specs.Prelude.{◌⊎◌}
-use Rattle.std.proofs.lemmas.Option.{none-some, same_Some}
-use Rattle.std.proofs.lemmas.Slice.Eq.{bytes_eq-Decides}
+use Rattle.cp_resolved.proofs.Words.{none-some, same_Some, bytes_eq-Decides, PlaceOrigin, ArrayType, CellType, LayoutMeaning, array, Name, same_name}
+use Rattle.cp_resolved.proofs.Words.{temporary, Ty, Scope, RoutineMeaning, Item, system_of, routine_of_type, all_begun, all_calls_laid, calls_before}
+use Rattle.cp_resolved.proofs.Words.{Numbering, CellsAre, PartsAre, BoundIs, InStep, FoundIs, Knows, Here, frame_here, is_parameter, Opening, openings_of}
+use Rattle.cp_resolved.proofs.Words.{meaning_in, meaning_at, numbering_of}
 use Rattle.cp_tree.specs.Syntax as syntax
-use Rattle.cp_slots.specs.declared.place.PlaceOrigin.{PlaceOrigin}
 use Rattle.cp_slots.specs.declared.place.PlaceOrigin.TheVariants as origin
-use Rattle.cp_layout.specs.declared.kinds.ArrayType.{ArrayType}
-use Rattle.cp_layout.specs.declared.kinds.CellType.{CellType}
 use Rattle.cp_layout.specs.declared.kinds.CellType.TheVariants as types
-use Rattle.cp_layout.specs.declared.names.LayoutMeaning.{LayoutMeaning}
 use Rattle.cp_layout.specs.declared.names.LayoutMeaning.TheVariants as meaning
-use Rattle.cp_layout.specs.Kinds.{array}
 use Rattle.cp_layout.specs.Layers as layers
 use Rattle.cp_layout.specs.Layers.{Layer, Heading, System, result_of, result_in}
 use Rattle.cp_layout.specs.LaidExpressions.{component_count, count_in}
-use Rattle.cp_meaning.specs.Names.{Name, same_name, temporary}
 use Rattle.cp_meaning.specs.Types as named
-use Rattle.cp_meaning.specs.Types.{Ty}
 use Rattle.cp_meaning.specs.Scopes as scopes
-use Rattle.cp_meaning.specs.Scopes.{Scope}
-use Rattle.cp_meaning.specs.Declarations.{RoutineMeaning}
-use Rattle.cp_meaning.specs.State.{Item}
-use Rattle.cp_meaning.specs.Systems.{system_of}
-use Rattle.cp_meaning.specs.Expressions.{routine_of_type}
-use Rattle.cp_resolved.specs.Begun.{all_begun}
-use Rattle.cp_resolved.specs.Calls.{all_calls_laid, calls_before}
-use Rattle.cp_resolved.specs.InStep.{Numbering, CellsAre, PartsAre, BoundIs, InStep, FoundIs}
-use Rattle.cp_resolved.specs.Knows.{Knows}
-use Rattle.cp_resolved.specs.Layouts.{Here, frame_here, is_parameter}
 use Rattle.cp_resolved.specs.LayoutsKnow.{IsPlaced, place_of, KnowsAt, LayoutsLaw}
 use Rattle.cp_resolved.specs.Once.{IsOnce, IsWord, AreWords, AreSized, IsSized, IsSizedMeaning}
-use Rattle.cp_resolved.specs.Openings.{Opening, openings_of, meaning_in, meaning_at, numbering_of}
 use Rattle.cp_resolved.specs.TreeLayouts.{all_parts, layer_or, parts_at, begun_at, whole_laid, origin_in, hidden_origin, slot_in, first_in, owner_in}
 use Rattle.cp_resolved.specs.Used.{ResultsAre, system_type, EntryIs, KnowsCalls}
 use Rattle.cp_resolved.proofs.names.BegunKnown.{Begins, AreBegun, all_begin}

@@ -1,23 +1,14 @@
 -- In a program that breaks no rule no routine calls itself.
 use Rattle.std.proofs.Common.{◌≡◌, ℕ, ◌+◌, ◌≤◌, ◌∙◌, Bool, true, false, if◌then◌else◌, List, [], ◌∷◌, ◌++◌, length, Option, Some, None, Ok, Err, is_some, refl, sym, ap, subst, arith}
-use Rattle.std.specs.Str.{bytes_eq}
-use Rattle.std.proofs.lemmas.Slice.Eq.{bytes_eq-Decides}
-use Rattle.cp_tree.specs.declared.declaration.SystemKind.{SystemKind}
-use Rattle.cp_tree.specs.declared.constant.Identifier.{Identifier}
+use Rattle.cp_resolved.proofs.Words.{bytes_eq, bytes_eq-Decides, SystemKind, Identifier, ValueType, Use, no_use, Judged, ◌>>=◌, faults, Context, Step}
+use Rattle.cp_resolved.proofs.Words.{as_declared, to_kind, reserve_name, part_steps, Loud, Heard, Each}
 use Rattle.cp_tree.specs.Syntax as syntax
 use Rattle.cp_tree.specs.Syntax.{Routine, Body, System, Definition, SystemDefinition, ProgramPart, Tree}
 use Rattle.cp_scope.specs.declared.types.Meaning as checked
 use Rattle.cp_scope.specs.declared.types.Meaning.TheVariants as checked_meaning
-use Rattle.cp_scope.specs.declared.types.ValueType.{ValueType}
-use Rattle.cp_scope.specs.declared.count.Use.{Use}
-use Rattle.cp_scope.specs.Counts.{no_use}
-use Rattle.cp_scope.specs.Judged.{Judged, ◌>>=◌, faults}
 use Rattle.cp_scope.specs.Scopes as scopes
 use Rattle.cp_scope.specs.Scopes.{Scope, Scopes, look, look_in, look_outer, or_else, through_seal, with_name, sealed, Around, last_of, add_around, enter, keep, start}
-use Rattle.cp_check.specs.declared.operand.Context.{Context}
 use Rattle.cp_check.specs.declared.types.Spot.TheVariants as spot
-use Rattle.cp_check.specs.Types.{Step}
-use Rattle.cp_check.specs.Declarations.{as_declared, to_kind, reserve_name, part_steps}
 use Rattle.cp_check.specs.Headings as headings
 use Rattle.cp_check.specs.Routines as routines
 use Rattle.cp_check.specs.Systems as systems
@@ -25,7 +16,6 @@ use Rattle.cp_check.specs.Statements.{statements}
 use Rattle.cp_check.specs.Faults.{declarations, program_context, opened as checked_opened, faults_of}
 use Rattle.cp_lawful.proofs.Classes as classes
 use Rattle.cp_lawful.proofs.Kept.{parts_kept, written_kept, last_is}
-use Rattle.cp_lawful.proofs.Loud.{Loud, Heard}
 use Rattle.cp_lawful.proofs.Once.{no_left, no_right, no_first, none_before, inside_sound, defined_sound, declarations_sound, parts_sound, uses_sound as limits_sound}
 use Rattle.cp_lawful.proofs.Told as told
 use Rattle.cp_lawful.proofs.Told.{Told, heard}
@@ -35,7 +25,6 @@ use Rattle.cp_layout.specs.Layers as layers
 use Rattle.cp_layout.specs.Layers.{Layer, Pending, find, seen_inside, with_open, nothing_laid}
 use Rattle.cp_layout.specs.LaidDeclarations as lays
 use Rattle.cp_layout.specs.LaidDeclarations.{body, Parameters, heading, heading_with, with_heading, with_new_frame, opened, local_parts, permanent_parts, system_groups, entered, initial_statement, definition, system, system_definition, system_definitions, program_part, program_parts, program}
-use Rattle.cp_resolved.specs.Small.{Each}
 use Rattle.cp_resolved.proofs.laid.Avoiding.{statements_avoid}
 use Rattle.cp_resolved.proofs.laid.Declared.{Declared, then_declared, heading_declared, local_parts_declared, permanent_declared, system_groups_declared, constants_declared, variables_declared, written_typed}
 use Rattle.cp_resolved.proofs.laid.Extends.{routine_names, system_names}

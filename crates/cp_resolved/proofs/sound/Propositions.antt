@@ -9,12 +9,10 @@ use Rattle.cp_slots.specs.declared.place.ArgumentValue.{ArgumentValue}
 use Rattle.cp_slots.specs.declared.place.ArgumentValue.TheVariants as value
 use Rattle.cp_slots.specs.declared.place.ComponentPlace.{ComponentPlace}
 use Rattle.cp_slots.specs.declared.place.ComponentPlace.TheVariants.{Own, Parameter}
-use Rattle.cp_slots.specs.declared.tables.ComponentKind.{ComponentKind}
+use Rattle.cp_resolved.proofs.Words.{ComponentKind, Process, Tables, parameter_at}
 use Rattle.cp_slots.specs.declared.tables.ComponentKind.TheVariants as kind
-use Rattle.cp_slots.specs.declared.tables.Process.{Process}
 use Rattle.cp_slots.specs.Fits.{ListFits, InnerFits, ActionFits, ItemFits, KindFits, ProcessFits, IsSound}
 use Rattle.cp_slots.specs.Systems.{parameter_count, Names, HandsNone, HandsOne, Hands, IsOwn, StaysInside, ActionNames, IsItself, ComponentOwns, IsTyped}
-use Rattle.cp_slots.specs.Tables.{Tables, parameter_at}
 
 -- ---- lists of items
 

@@ -1,19 +1,11 @@
 -- The components, processes and system types of tables that are laid out are sound, where the counts of processes and monitors have not stopped.
 use Rattle.std.proofs.Common.{◌≡◌, ℕ, zero, suc, ◌+◌, ◌-◌, ◌*◌, ◌^◌, ◌<◌, ◌≤◌, ℤ, List, [], ◌∷◌, length, Option, Some, None, slice_get, slice_index_or, refl, sym, ap, subst, ◌∙◌, inl, inr, arith, length-append, le_trans}
-use Rattle.std.proofs.lemmas.Option.{none-some, same_Some, slice_get_within}
+use Rattle.cp_resolved.proofs.Words.{none-some, same_Some, slice_get_within, Tree, Component, ComponentKind, ComponentParameter, Process, plus, Listing, byte}
+use Rattle.cp_resolved.proofs.Words.{contents_least, program_listed, program, Layer, System, need_of, nothing_laid}
 use Rattle.cp_tree.specs.declared.declaration.SystemKind.TheVariants as system_kind
-use Rattle.cp_tree.specs.Syntax.{Tree}
-use Rattle.cp_slots.specs.declared.tables.Component.{Component}
-use Rattle.cp_slots.specs.declared.tables.ComponentKind.{ComponentKind}
 use Rattle.cp_slots.specs.declared.tables.ComponentKind.TheVariants as kind
-use Rattle.cp_slots.specs.declared.tables.ComponentParameter.{ComponentParameter}
-use Rattle.cp_slots.specs.declared.tables.Process.{Process}
 use Rattle.cp_slots.specs.Fits as fits
-use Rattle.cp_layout.specs.Kinds.{plus}
 use Rattle.cp_layout.specs.Laid.{PlainTables, plain, system_type, types_of, system_types, room_from, no_room, tables_laid, laid}
-use Rattle.cp_layout.specs.LaidComponents.{Listing, byte, contents_least, program_listed}
-use Rattle.cp_layout.specs.LaidDeclarations.{program}
-use Rattle.cp_layout.specs.Layers.{Layer, System, need_of, nothing_laid}
 use Rattle.cp_slots.specs.Systems as systems
 use Rattle.cp_slots.specs.Systems.{own_of}
 use Rattle.cp_slots.specs.Tables.{Tables, RoutineView, SystemView, routine_at, no_routine, system_at, no_system, component_at, no_component, process_at, no_process}

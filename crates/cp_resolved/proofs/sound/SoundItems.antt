@@ -1,6 +1,7 @@
 -- The items and routines of tables that are laid out are sound, where no routine calls itself and the numbers are words.
 use Rattle.std.proofs.Common.{◌≡◌, ℕ, zero, suc, ◌+◌, ◌-◌, ◌*◌, ◌^◌, ◌<◌, ◌≤◌, min, List, [], ◌∷◌, map, length, Option, Some, None, slice_get, slice_index_or, refl, sym, ap, ◌∙◌, ◌⊎◌, inl, inr, arith}
-use Rattle.std.proofs.lemmas.Option.{none-some, same_Some, slice_get_within}
+use Rattle.cp_resolved.proofs.Words.{none-some, same_Some, slice_get_within, most, plus, Layer, need_of, Tables, RoutineView, item_at, no_item, routine_at}
+use Rattle.cp_resolved.proofs.Words.{no_routine}
 use Rattle.cp_slots.specs.declared.item.Item as code_item
 use Rattle.cp_slots.specs.declared.item.ResolvedArm as code_arm
 use Rattle.cp_slots.specs.declared.item.Action as code_action
@@ -8,9 +9,6 @@ use Rattle.cp_slots.specs.declared.item.Action.TheVariants as action
 use Rattle.cp_slots.specs.declared.place.Argument as code_argument
 use Rattle.cp_slots.specs.Code.{Item, item_seen, arm_seen, argument_seen, action_seen}
 use Rattle.cp_slots.specs.Fits as fits
-use Rattle.cp_layout.specs.Kinds.{most, plus}
-use Rattle.cp_layout.specs.Layers.{Layer, need_of}
-use Rattle.cp_slots.specs.Tables.{Tables, RoutineView, item_at, no_item, routine_at, no_routine}
 use Rattle.cp_resolved.specs.Soundness.{AreHeld, IsOwnCall}
 use Rattle.cp_resolved.proofs.laid.Calling.{InnerFits, ArmsFit, ActionFits, CallFits, Calls, RoomFits, need_bounded}
 use Rattle.cp_resolved.proofs.names.Entries.{there}

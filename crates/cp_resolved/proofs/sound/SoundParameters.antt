@@ -1,12 +1,6 @@
 -- The parameters of system types that are components are cells of it in their order, where the count of its cells has not stopped.
 use Rattle.std.proofs.Common.{◌≡◌, ℕ, zero, suc, ◌<◌, List, [], ◌∷◌, length, Option, Some, None, slice_get, slice_index_or, refl, sym, ap, ◌∙◌, ◌⊎◌, inl, inr, arith}
-use Rattle.std.proofs.lemmas.Option.{none-some, same_Some}
-use Rattle.cp_slots.specs.declared.tables.ComponentParameter.{ComponentParameter}
-use Rattle.cp_layout.specs.Kinds.{most}
-use Rattle.cp_layout.specs.Laid.{system_type, types_of}
-use Rattle.cp_layout.specs.LaidComponents.{Listing}
-use Rattle.cp_layout.specs.Layers.{Layer, Owned, System}
-use Rattle.cp_slots.specs.Systems.{parameter_count}
+use Rattle.cp_resolved.proofs.Words.{none-some, same_Some, ComponentParameter, most, system_type, types_of, Listing, Layer, Owned, System, parameter_count}
 use Rattle.cp_slots.specs.Tables.{Tables, SystemView, system_at, no_system, parameter_at, no_parameter}
 use Rattle.cp_resolved.proofs.names.Entries.{there, entry_at, last_or_before}
 use Rattle.cp_resolved.proofs.systems.Owning.{IsOwned}

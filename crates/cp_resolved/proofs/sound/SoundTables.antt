@@ -1,9 +1,5 @@
 -- Tables that are laid out are sound, where their numbers have not stopped and what items read, write and name is there.
-use Rattle.std.proofs.Common.{◌≡◌, ◌-◌, ◌<◌, ◌≤◌, length, refl, ap, List, arith}
-use Rattle.std.proofs.lemmas.Option.{slice_get_within}
-use Rattle.cp_slots.specs.declared.tables.Process.{Process}
-use Rattle.cp_layout.specs.LaidComponents.{Listing}
-use Rattle.cp_layout.specs.Layers.{Layer}
+use Rattle.cp_resolved.proofs.Words.{◌≡◌, ◌-◌, ◌<◌, ◌≤◌, length, refl, ap, List, arith, slice_get_within, Process, Listing, Layer}
 use Rattle.cp_resolved.specs.Soundness.{SoundLaw}
 use Rattle.cp_resolved.proofs.components.Handed.{First, program_first, program_handed}
 use Rattle.cp_resolved.proofs.sound.SoundComponents.{Tabled, tabled, layer_of, listing_of, room_of, listed, images, components_sound, apart_sound, components_own, processes_sound, processes_own, routines_own, takes_nothing}

@@ -1,18 +1,9 @@
 -- What the rules say of the calls in each routine and initial statement of a tree that was read and breaks none: what is called is a routine of some number.
 use Rattle.std.proofs.Common.{◌≡◌, ℕ, zero, suc, Bool, true, false, if◌then◌else◌, List, [], ◌∷◌, Option, Some, None, slice_get, refl, sym, ap, subst, ◌∙◌}
-use Rattle.cp_tree.specs.Syntax.{Program, Routine, Tree}
-use Rattle.cp_lawful.specs.Accepted.{IsAccepted}
-use Rattle.cp_meaning.specs.Names.{Name, same_name}
+use Rattle.cp_resolved.proofs.Words.{Program, Routine, Tree, IsAccepted, Name, same_name, find, since, routine_meaning, RoutineMeaning, routine_in}
+use Rattle.cp_resolved.proofs.Words.{SystemMeaning, declared, own_meaning, or_own, system_of, Place, IsAgreed, AreAgreed, places_of, tokens_of, Opening}
+use Rattle.cp_resolved.proofs.Words.{openings_of, meaning_in, meaning_at, IsRead, initial_meaning, Each, Tokens, is_entry_in}
 use Rattle.cp_meaning.specs.Scopes as scopes
-use Rattle.cp_meaning.specs.Scopes.{find, since, routine_meaning}
-use Rattle.cp_meaning.specs.Declarations.{RoutineMeaning, routine_in}
-use Rattle.cp_meaning.specs.Systems.{SystemMeaning, declared, own_meaning, or_own, system_of}
-use Rattle.cp_resolved.specs.Judging.{Place, IsAgreed, AreAgreed, places_of, tokens_of}
-use Rattle.cp_resolved.specs.Openings.{Opening, openings_of, meaning_in, meaning_at}
-use Rattle.cp_tree.specs.Read.{IsRead}
-use Rattle.cp_resolved.specs.Resolved.{initial_meaning}
-use Rattle.cp_resolved.specs.Small.{Each}
-use Rattle.cp_resolved.specs.Typed.{Tokens, is_entry_in}
 use Rattle.cp_resolved.proofs.agreeing.ProgramNoted.{ProgramNoted, read_noted}
 use Rattle.cp_resolved.proofs.statements.RoutinesNoted.{opens_entry, entry_in, entry_at, waits_of, waits_with, waits_at, IsNoted, AreNoted, InitialNumbered, SystemNumbered}
 use Rattle.cp_resolved.proofs.agreeing.RoutinesSeen.{body_scope_entry}

@@ -1,31 +1,15 @@
 -- What the rules have found of the calls in expressions that break none of them.
 use Rattle.std.proofs.Common.{◌≡◌, ℕ, Bool, true, false, ◌&&◌, if◌then◌else◌, List, [], ◌∷◌, Option, Some, None, Ok, refl, sym, ap, subst, ◌∙◌}
-use Rattle.std.specs.Prelude.{nat_eq}
-use Rattle.std.specs.Option.{option_or}
-use Rattle.std.proofs.lemmas.Bool.{eq-eqb}
-use Rattle.cp_tree.specs.declared.constant.Sign.{Sign}
-use Rattle.cp_tree.specs.declared.expression.Relation.{Relation}
-use Rattle.cp_tree.specs.declared.expression.Addition.{Addition}
+use Rattle.cp_resolved.proofs.Words.{nat_eq, option_or, eq-eqb, Sign, Relation, Addition, Multiplication, CheckFault, ValueType, Predeclared, Use, no_use}
+use Rattle.cp_resolved.proofs.Words.{both_uses, broken, agree, is_of, values_of, Scopes, heading_at, body_at, Context, Operand, Named, or_left, or_right}
 use Rattle.cp_tree.specs.declared.expression.Addition.TheVariants as addition
-use Rattle.cp_tree.specs.declared.expression.Multiplication.{Multiplication}
 use Rattle.cp_tree.specs.declared.expression.Multiplication.TheVariants as multiplication
-use Rattle.cp_scope.specs.declared.fault.CheckFault.{CheckFault}
 use Rattle.cp_scope.specs.declared.fault.Rule.TheVariants.{C5, C9, C10, C12}
 use Rattle.cp_scope.specs.declared.fault.CheckFault.TheVariants as check_fault
-use Rattle.cp_scope.specs.declared.types.ValueType.{ValueType}
 use Rattle.cp_scope.specs.declared.types.ValueType.TheVariants as types
 use Rattle.cp_scope.specs.declared.types.Base.TheVariants as base
-use Rattle.cp_scope.specs.declared.types.Predeclared.{Predeclared}
 use Rattle.cp_scope.specs.declared.types.Predeclared.TheVariants as predeclared
-use Rattle.cp_scope.specs.declared.count.Use.{Use}
-use Rattle.cp_scope.specs.Counts.{no_use, both_uses}
-use Rattle.cp_scope.specs.Judged.{broken}
-use Rattle.cp_scope.specs.Types.{agree, is_of, values_of}
-use Rattle.cp_scope.specs.Scopes.{Scopes, heading_at, body_at}
-use Rattle.cp_check.specs.declared.operand.Context.{Context}
-use Rattle.cp_check.specs.declared.operand.Operand.{Operand}
 use Rattle.cp_check.specs.declared.operand.DesignatedName.{DesignatedName}
-use Rattle.cp_check.specs.declared.operand.Named.{Named}
 use Rattle.cp_check.specs.declared.operand.Named.TheVariants.{Nothing, Constant, Variable, Parameter, Kind, Routine, Entry, Predeclared as Predeclared'}
 use Rattle.cp_check.specs.Operands.{value, is_queue}
 use Rattle.cp_check.specs.Operations as operations
@@ -33,7 +17,6 @@ use Rattle.cp_check.specs.Calls as calls
 use Rattle.cp_check.specs.Expressions as expressions
 use Rattle.cp_resolved.proofs.agreeing.Agreeing.{none_left, none_right}
 use Rattle.cp_resolved.proofs.agreeing.WithoutFaults.{ok_same, Then, then_of, if_of}
-use Rattle.cp_lawful.proofs.Once.{or_left, or_right}
 
 -- ---- what may take time in a queue
 

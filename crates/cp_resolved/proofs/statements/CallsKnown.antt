@@ -1,46 +1,24 @@
 -- Each call in the statements of a number is one of a routine of some number; who may wait there, and where `continue` stands.
 use Rattle.std.proofs.Common.{◌≡◌, ℕ, Bool, true, false, ◌&&◌, ◌⊎◌, inl, inr, Option, Some, None, Ok, is_some, refl, sym, ap, subst, ◌∙◌}
-use Rattle.std.specs.Prelude.{not}
-use Rattle.cp_tree.specs.declared.declaration.SystemKind.{SystemKind}
+use Rattle.cp_resolved.proofs.Words.{not, SystemKind, Identifier, ValueType, Predeclared, Use, no_use, Judged, Context, Named, expression, designator}
+use Rattle.cp_resolved.proofs.Words.{IsAccepted, statements_loud, Name, Ty, has_components, RoutineMeaning, routine_in, last_field, is_call_meant, system_of}
+use Rattle.cp_resolved.proofs.Words.{Designated, designator_form, IsOwn, tokens_of, Here, meaning_at, IsRead, layouts_of, IsBare}
 use Rattle.cp_tree.specs.declared.declaration.SystemKind.TheVariants as system_kind
-use Rattle.cp_tree.specs.declared.constant.Identifier.{Identifier}
 use Rattle.cp_tree.specs.Syntax.{Program, Tree, Designator, designator as name_with, Selectors, no_selectors, more_selectors}
-use Rattle.cp_scope.specs.declared.types.ValueType.{ValueType}
 use Rattle.cp_scope.specs.declared.types.Base as check_base
 use Rattle.cp_scope.specs.declared.types.Meaning.TheVariants as meaning
-use Rattle.cp_scope.specs.declared.types.Predeclared.{Predeclared}
 use Rattle.cp_scope.specs.declared.types.Predeclared.TheVariants as predeclared
-use Rattle.cp_scope.specs.declared.count.Use.{Use}
-use Rattle.cp_scope.specs.Counts.{no_use}
-use Rattle.cp_scope.specs.Judged.{Judged}
 use Rattle.cp_scope.specs.Scopes.{Scopes, Shape, as_body, body_of, look, heading_at, body_at}
-use Rattle.cp_check.specs.declared.operand.Context.{Context}
 use Rattle.cp_check.specs.declared.operand.DesignatedName as check_designated
-use Rattle.cp_check.specs.declared.operand.Named.{Named}
 use Rattle.cp_check.specs.declared.operand.Named.TheVariants as name
 use Rattle.cp_check.specs.Calls as calls
 use Rattle.cp_check.specs.Names as names
-use Rattle.cp_check.specs.Expressions.{expression, designator}
 use Rattle.cp_check.specs.Statements.{statements, may_wait_in}
-use Rattle.cp_lawful.specs.Accepted.{IsAccepted}
-use Rattle.cp_lawful.proofs.Loud.{statements_loud}
-use Rattle.cp_meaning.specs.Names.{Name}
 use Rattle.cp_meaning.specs.Types as named
-use Rattle.cp_meaning.specs.Types.{Ty, has_components}
 use Rattle.cp_meaning.specs.Scopes as scopes
 use Rattle.cp_meaning.specs.Scopes.{find, since, routine_meaning, standard_meaning, permanent_variable, delay_procedure, continue_procedure}
-use Rattle.cp_meaning.specs.Declarations.{RoutineMeaning, routine_in}
 use Rattle.cp_meaning.specs.Expressions.{name_of, routine_called, routine_meant, routine_of_system, routine_of_type}
-use Rattle.cp_meaning.specs.Lifting.{last_field, is_call_meant}
-use Rattle.cp_meaning.specs.Systems.{system_of}
-use Rattle.cp_resolved.specs.Compiled.{Designated, designator_form}
-use Rattle.cp_resolved.specs.Judging.{IsOwn, tokens_of}
-use Rattle.cp_resolved.specs.Layouts.{Here}
-use Rattle.cp_resolved.specs.Openings.{meaning_at}
-use Rattle.cp_tree.specs.Read.{IsRead}
-use Rattle.cp_resolved.specs.TreeLayouts.{layouts_of}
 use Rattle.cp_resolved.specs.Typed.{Tokens, is_entry_in, IsOrdinalResult, ResultIs, HeadingIs, IsMarked, RoutineIs, StandardIs, predeclared_of, ConstantIs, ScopesAgree, AreSmallSelectors}
-use Rattle.cp_resolved.specs.Used.{IsBare}
 use Rattle.cp_resolved.proofs.statements.CalleesKnown.{At, at_number, numbered, routine_entry, CalleeKnown}
 use Rattle.cp_resolved.proofs.statements.CallsJudged.{OwnCall, CalledAs, GivesResult, IsValue}
 use Rattle.cp_resolved.proofs.statements.ExpressionsJudged.{FunctionSaid}

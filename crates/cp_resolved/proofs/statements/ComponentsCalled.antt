@@ -1,31 +1,16 @@
 -- What is called by the name of a component, in statements that break no rule, is an entry of its system type, and no process has one.
 use Rattle.std.proofs.Common.{◌≡◌, ℕ, Bool, true, false, Option, Some, None, Ok, refl, sym, subst, ◌∙◌}
 use Rattle.cp_tree.specs.declared.declaration.SystemKind.TheVariants as system_kind
-use Rattle.cp_tree.specs.declared.constant.Identifier.{Identifier}
+use Rattle.cp_resolved.proofs.Words.{Identifier, IsRead, ValueType, Predeclared, Judged, Scopes, heading_at, Context, Named, designator, IsAccepted, Name, Ty}
+use Rattle.cp_resolved.proofs.Words.{routine_meant, routine_of_type, routine_of_system, is_call_meant, last_field, system_of, Chosen, field_chosen, tokens_of}
+use Rattle.cp_resolved.proofs.Words.{Layouts, Here, is_own, is_parameter}
 use Rattle.cp_tree.specs.Syntax.{Designator, designator as name_with, Selectors, no_selectors, more_selectors, Selector, field, index, Program, Tree}
-use Rattle.cp_tree.specs.Read.{IsRead}
-use Rattle.cp_scope.specs.declared.types.ValueType.{ValueType}
-use Rattle.cp_scope.specs.declared.types.Predeclared.{Predeclared}
-use Rattle.cp_scope.specs.Judged.{Judged}
-use Rattle.cp_scope.specs.Scopes.{Scopes, heading_at}
-use Rattle.cp_check.specs.declared.operand.Context.{Context}
 use Rattle.cp_check.specs.declared.operand.DesignatedName as check_designated
-use Rattle.cp_check.specs.declared.operand.Named.{Named}
 use Rattle.cp_check.specs.declared.operand.Named.TheVariants as name
-use Rattle.cp_check.specs.Expressions.{designator}
-use Rattle.cp_lawful.specs.Accepted.{IsAccepted}
 use Rattle.cp_slots.specs.Code as code
-use Rattle.cp_meaning.specs.Names.{Name}
 use Rattle.cp_meaning.specs.Types as named
-use Rattle.cp_meaning.specs.Types.{Ty}
 use Rattle.cp_meaning.specs.Scopes.{Meaning, permanent_variable, routine_meaning, Scope, find}
-use Rattle.cp_meaning.specs.Expressions.{routine_meant, routine_of_type, routine_of_system}
-use Rattle.cp_meaning.specs.Lifting.{is_call_meant, last_field}
-use Rattle.cp_meaning.specs.Systems.{system_of}
 use Rattle.cp_resolved.specs.Compiled.{Formed, Designated, a_variable, some_components, a_component, then_form, component_begun, permanent_begun, result_begun, begun_form, field_of_form, part_of_form, with_field_form, element_of_form, with_element_form, ordinal_form, with_index_form, expression_form, designator_form, selected_form, chosen_form}
-use Rattle.cp_resolved.specs.Encoded.{Chosen, field_chosen}
-use Rattle.cp_resolved.specs.Judging.{tokens_of}
-use Rattle.cp_resolved.specs.Layouts.{Layouts, Here, is_own, is_parameter}
 use Rattle.cp_resolved.specs.Typed.{Tokens, Written, HeadingIs, ConstantIs, RoutineIs, StandardIs, ScopesAgree, AreSmallSelectors}
 use Rattle.cp_resolved.proofs.statements.CalleesKnown.{numbered, routine_entry}
 use Rattle.cp_resolved.proofs.statements.CallsJudged.{IsValue, CalledAs}

@@ -1,18 +1,11 @@
 -- What holds of each statement of a list, at any depth; and where a list is judged without a fault, so is each statement of it.
-use Rattle.std.proofs.Common.{◌≡◌, ℕ, false, List, [], Ok}
+use Rattle.cp_resolved.proofs.Words.{◌≡◌, ℕ, false, List, [], Ok, Use, no_use, Judged, both, ◌>>=◌, Scopes, Context, Label, expression, IsSmallStatement}
+use Rattle.cp_resolved.proofs.Words.{AreSmallStatements, AreSmallArms}
 use Rattle.cp_tree.specs.Syntax.{Expression, Statement, empty, assign, invoke, block, if_then, if_else, case_of, while_do, repeat_until, for_do, cycle, init, Statements, no_statements, more_statements, Arms, no_arms, more_arms, arm}
-use Rattle.cp_scope.specs.declared.count.Use.{Use}
-use Rattle.cp_scope.specs.Counts.{no_use}
-use Rattle.cp_scope.specs.Judged.{Judged, both, ◌>>=◌}
-use Rattle.cp_scope.specs.Scopes.{Scopes}
-use Rattle.cp_check.specs.declared.operand.Context.{Context}
-use Rattle.cp_check.specs.declared.case.Label.{Label}
 use Rattle.cp_check.specs.Names as names
 use Rattle.cp_check.specs.Cases as cases
-use Rattle.cp_check.specs.Expressions.{expression}
 use Rattle.cp_check.specs.Statements as statements
 use Rattle.cp_check.specs.Statements.{statement}
-use Rattle.cp_resolved.specs.SmallStatements.{IsSmallStatement, AreSmallStatements, AreSmallArms}
 use Rattle.cp_resolved.proofs.agreeing.WithoutFaults.{Then, then_of, both_of}
 
 -- ---- each statement

@@ -1,29 +1,20 @@
 -- Each function call in an expression that breaks no rule is one that the rules allow.
 use Rattle.std.proofs.Common.{◌≡◌, ℕ, ◌+◌, Bool, true, false, ◌&&◌, if◌then◌else◌, List, [], ◌∷◌, ◌++◌, Option, Some, None, Ok, refl, sym, ap, subst, ◌∙◌}
-use Rattle.cp_tree.specs.declared.constant.Identifier.{Identifier}
-use Rattle.cp_tree.specs.declared.constant.Sign.{Sign}
+use Rattle.cp_resolved.proofs.Words.{Identifier, Sign, ValueType, Meaning, Judged, both, ◌>>=◌, Context, Operand, Named, is_function, Scope, Item}
+use Rattle.cp_resolved.proofs.Words.{function_call}
 use Rattle.cp_tree.specs.Syntax.{Expression, alone, related, Sum, sum, Terms, no_terms, more_terms as terms_more, Term, term, Factors, no_factors, more_factors as factors_more, Factor, named as factor_named, group, negated, set_of, Expressions, no_expressions, more_expressions, Designator, designator as name_with, Selectors, no_selectors, more_selectors, field, index}
-use Rattle.cp_scope.specs.declared.types.ValueType.{ValueType}
 use Rattle.cp_scope.specs.declared.types.ValueType.TheVariants as types
-use Rattle.cp_scope.specs.declared.types.Meaning.{Meaning}
 use Rattle.cp_scope.specs.declared.types.Meaning.TheVariants as meaning
 use Rattle.cp_scope.specs.declared.types.Parameter as check_parameter
-use Rattle.cp_scope.specs.Judged.{Judged, both, ◌>>=◌}
 use Rattle.cp_scope.specs.Scopes.{Scopes, field_at, member_at}
-use Rattle.cp_check.specs.declared.operand.Context.{Context}
-use Rattle.cp_check.specs.declared.operand.Operand.{Operand}
 use Rattle.cp_check.specs.declared.operand.OperandUse.TheVariants as place
 use Rattle.cp_check.specs.declared.operand.DesignatedName as check_designated
-use Rattle.cp_check.specs.declared.operand.Named.{Named}
 use Rattle.cp_check.specs.declared.operand.Named.TheVariants as name
-use Rattle.cp_check.specs.Operands.{is_function}
 use Rattle.cp_check.specs.Operations as operations
 use Rattle.cp_check.specs.Names as names
 use Rattle.cp_check.specs.Calls as calls
 use Rattle.cp_check.specs.Expressions.{expression, sum_value, more_terms, term_value, more_factors, factor, designator, selectors, arguments, is_unsigned, has_no_terms, has_no_factors, has_none, is_var_at}
 use Rattle.cp_check.specs.Expressions as expressions
-use Rattle.cp_meaning.specs.Scopes.{Scope}
-use Rattle.cp_meaning.specs.State.{Item, function_call}
 use Rattle.cp_meaning.specs.Lifting.{is_call, own_call, expression_calls, sum_calls, terms_calls, term_calls, factors_calls, factor_calls, expressions_calls, selectors_calls}
 use Rattle.cp_resolved.specs.Typed.{IsSmallExpression, IsSmallSum, AreSmallTerms, IsSmallTerm, AreSmallFactors, IsSmallFactor, AreSmallExpressions, IsSmallDesignator, AreSmallSelectors}
 use Rattle.cp_resolved.proofs.statements.CallsJudged.{Below, first_below, second_below, AreBelow, IsValue, OptionBelow, added_below, multiplied_below, signed_below, related_below, negated_below, constructed_below, CalledAs, GivesResult, ValueSaid, value_said}

@@ -1,30 +1,15 @@
 -- What the rules say of all statements of a tree that was read and breaks none, in any routine with their scope.
 use Rattle.std.proofs.Common.{◌≡◌, ◌∙◌, ℕ, zero, suc, ◌+◌, ◌-◌, ◌<◌, ◌≤◌, ◌==◌, Bool, true, false, if◌then◌else◌, List, [], ◌∷◌, ◌++◌, length, Option, Some, None, Ok, slice_get, ap, sym, refl, subst, arith, append_assoc, length-append}
-use Rattle.std.proofs.lemmas.List.{length-map}
+use Rattle.cp_resolved.proofs.Words.{length-map, eqb-true, eqb-false, leb-true, leb-false, Use, no_use, Judged, IsAccepted, Heard, statements_loud, spell}
+use Rattle.cp_resolved.proofs.Words.{Scope, RoutineMeaning, names_of, seen_inside, nothing_declared, Place, IsAgreed, AreAgreed, places_of, tokens_of, Here}
+use Rattle.cp_resolved.proofs.Words.{IsRead, initial_meaning, Each, layouts_of}
 use Rattle.std.specs.Prelude.{nat_eq, nat_le}
-use Rattle.std.proofs.lemmas.Bool.{eqb-true, eqb-false, leb-true, leb-false}
-use Rattle.cp_scope.specs.declared.count.Use.{Use}
-use Rattle.cp_scope.specs.Counts.{no_use}
-use Rattle.cp_scope.specs.Judged.{Judged}
 use Rattle.cp_check.specs.Statements.{statements}
-use Rattle.cp_lawful.specs.Accepted.{IsAccepted}
-use Rattle.cp_lawful.proofs.Loud.{Heard, statements_loud}
-use Rattle.cp_tree.specs.Spelling.{spell}
 use Rattle.cp_tree.specs.Syntax.{Definition, type_definition, system_definition, SystemDefinition, ProgramPart, program_types, Program, Tree}
-use Rattle.cp_meaning.specs.Scopes.{Scope}
-use Rattle.cp_meaning.specs.Declarations.{RoutineMeaning, names_of}
 use Rattle.cp_meaning.specs.Systems.{system_in, Declared, definition_in, definitions_in, program_part_in, program_parts_in, declared, program_system, own_meaning}
-use Rattle.cp_meaning.specs.Scopes.{seen_inside}
 use Rattle.cp_resolved.specs.Enumerations.{Enumerated, enumerations_of, before_among, constants_before}
-use Rattle.cp_resolved.specs.Fit.{nothing_declared}
-use Rattle.cp_resolved.specs.Judging.{Place, IsAgreed, AreAgreed, places_of, tokens_of}
-use Rattle.cp_resolved.specs.Layouts.{Here}
 use Rattle.cp_resolved.specs.Openings.{Opening, openings_of, meaning_in, meaning_at, parts_openings, routine_openings, initial_opening}
-use Rattle.cp_tree.specs.Read.{IsRead}
-use Rattle.cp_resolved.specs.Resolved.{initial_meaning}
-use Rattle.cp_resolved.specs.Small.{Each}
 use Rattle.cp_resolved.specs.Tokens.{all_tokens, definition_types, program_part_types, token_in, constants_among}
-use Rattle.cp_resolved.specs.TreeLayouts.{layouts_of}
 use Rattle.cp_resolved.proofs.agreeing.DifferentTokens.{all_numbered}
 use Rattle.cp_resolved.proofs.statements.EachStatement.{EachOf, each_of, IsSound, Inside, sound_of}
 use Rattle.cp_resolved.proofs.forms.FormedStatements.{Right, right_of}

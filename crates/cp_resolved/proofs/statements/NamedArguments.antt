@@ -1,33 +1,18 @@
 -- Where an expression that breaks no rule is a variable that may be assigned to, it is a name alone, and no call; and so is the argument of a `var` parameter.
 use Rattle.std.proofs.Common.{◌≡◌, ℕ, Bool, true, false, ◌&&◌, if◌then◌else◌, List, [], ◌∷◌, Option, Some, None, Ok, Err, refl, sym, ap, subst, ◌∙◌}
-use Rattle.std.specs.Prelude.{not}
-use Rattle.cp_tree.specs.declared.constant.Identifier.{Identifier}
+use Rattle.cp_resolved.proofs.Words.{not, Identifier, C6, Judged, both, ◌>>=◌, Scopes, Context, Operand, OperandUse, Named, value, is_assignable, values_of}
+use Rattle.cp_resolved.proofs.Words.{fault, variable_faults, all_variable_faults, find, Parameter, is_call, last_field, Here, Designated, designator_form}
 use Rattle.cp_tree.specs.Syntax.{Expression, alone, related, Expressions, no_expressions, more_expressions, Designator, designator as name_with, Selectors, Sum, sum, no_terms, more_terms as terms_more, Term, term, no_factors, more_factors as factors_more, Factor, named as factor_named, group, negated, set_of}
-use Rattle.cp_scope.specs.declared.fault.Rule.TheVariants.{C6}
 use Rattle.cp_scope.specs.declared.types.Parameter as check_parameter
 use Rattle.cp_scope.specs.declared.types.ValueType.TheVariants as types
-use Rattle.cp_scope.specs.Judged.{Judged, both, ◌>>=◌}
-use Rattle.cp_scope.specs.Scopes.{Scopes}
-use Rattle.cp_check.specs.declared.operand.Context.{Context}
-use Rattle.cp_check.specs.declared.operand.Operand.{Operand}
-use Rattle.cp_check.specs.declared.operand.OperandUse.{OperandUse}
 use Rattle.cp_check.specs.declared.operand.OperandUse.TheVariants as place
 use Rattle.cp_check.specs.declared.operand.DesignatedName as check_designated
-use Rattle.cp_check.specs.declared.operand.Named.{Named}
 use Rattle.cp_check.specs.declared.operand.Named.TheVariants as name
-use Rattle.cp_check.specs.Operands.{value, is_assignable}
-use Rattle.cp_scope.specs.Types.{values_of}
 use Rattle.cp_check.specs.Operations as operations
 use Rattle.cp_check.specs.Calls as calls
-use Rattle.cp_check.specs.Calls.{fault, variable_faults, all_variable_faults}
 use Rattle.cp_check.specs.Expressions.{expression, sum_value, more_terms, term_value, more_factors, factor, designator, arguments, constructed}
 use Rattle.cp_check.specs.Expressions as expressions
-use Rattle.cp_meaning.specs.Scopes.{find}
-use Rattle.cp_meaning.specs.Declarations.{Parameter}
-use Rattle.cp_meaning.specs.Lifting.{is_call, last_field}
 use Rattle.cp_meaning.specs.Expressions.{variable_in, variable_in_sum, variable_in_term, variable_in_factor}
-use Rattle.cp_resolved.specs.Layouts.{Here}
-use Rattle.cp_resolved.specs.Compiled.{Designated, designator_form}
 use Rattle.cp_resolved.specs.Typed.{Tokens, AreParameters, ScopesAgree, IsSmallExpression, IsSmallSum, IsSmallTerm, IsSmallFactor, AreSmallExpressions}
 use Rattle.cp_resolved.proofs.agreeing.Agreeing.{none_left, none_right}
 use Rattle.cp_resolved.proofs.forms.MadeValues.{IsMade, agreed_made, sum_made, product_made, signed_made, related_made, negated_made, group_made, constructed_made, applied_made, alone_made, call_made, terms_made, factors_made}

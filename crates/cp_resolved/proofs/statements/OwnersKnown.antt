@@ -1,16 +1,10 @@
 -- Of each routine and initial statement: the checker's context has the kind of its system type, and its scope tells which system type that is.
 use Rattle.std.proofs.Common.{◌≡◌, ◌∙◌, ℕ, true, List, [], ◌∷◌, ◌++◌, length, Option, Some, None, ap, sym, refl, subst}
-use Rattle.cp_tree.specs.declared.declaration.SystemKind.{SystemKind}
+use Rattle.cp_resolved.proofs.Words.{SystemKind, Scopes, enter, start, reserve_name, routine_step, definition_step, program_part_step, program_part_steps}
+use Rattle.cp_resolved.proofs.Words.{declarations, program_context, Scope, seen_inside, nothing_declared}
 use Rattle.cp_tree.specs.Syntax.{RoutineKind, procedure, function, Routine, System, Definition, type_definition, system_definition, SystemDefinition, ProgramPart, program_types, Program}
-use Rattle.cp_scope.specs.Scopes.{Scopes, enter, start}
-use Rattle.cp_check.specs.Declarations.{reserve_name}
-use Rattle.cp_check.specs.Routines.{routine_step}
-use Rattle.cp_check.specs.Systems.{definition_step, program_part_step, program_part_steps}
-use Rattle.cp_check.specs.Faults.{declarations, program_context}
-use Rattle.cp_meaning.specs.Scopes.{Scope, seen_inside}
 use Rattle.cp_meaning.specs.Declarations.{heading_of, result_of, routine_in}
 use Rattle.cp_meaning.specs.Systems.{SystemMeaning, system_in, Declared, definition_in, program_part_in, declared, program_system, own_meaning, system_of}
-use Rattle.cp_resolved.specs.Fit.{nothing_declared}
 use Rattle.cp_resolved.specs.Judging.{Place, routine_place, routine_places, initial_place, parts_scopes, system_places, definition_places, definitions_places, part_places, parts_places, places_of, tokens_of}
 use Rattle.cp_resolved.specs.Openings.{Opening, with_routine, routine_openings, initial_opening, parts_scope, system_openings, definition_openings, definitions_openings, part_openings, parts_openings, openings_of}
 use Rattle.cp_resolved.proofs.agreeing.AgreeingProgram.{IsNumberedDefinition, AreNumberedDefinitions, IsNumberedPart, AreNumberedParts}

@@ -1,28 +1,16 @@
 -- The routines of a system type by their numbers: which are entries, and what is written of their bodies where they are called.
 use Rattle.std.proofs.Common.{◌≡◌, ℕ, Bool, true, false, ◌&&◌, if◌then◌else◌, ◌⊎◌, inl, inr, List, [], ◌∷◌, ◌++◌, length, Option, Some, None, Ok, Err, is_some, slice_get, refl, sym, ap, subst, ◌∙◌, arith, append_assoc, length-append}
-use Rattle.cp_tree.specs.declared.declaration.SystemKind.{SystemKind}
+use Rattle.cp_resolved.proofs.Words.{SystemKind, Use, no_use, Judged, Scopes, Shapes, body_shape, shape_in, may_enter, routine_step, routine_steps, Name}
+use Rattle.cp_resolved.proofs.Words.{same_name, find, since, routine_meaning, seen_inside, is_seen, routine_in, SystemMeaning, system_in, with_routines}
+use Rattle.cp_resolved.proofs.Words.{declared, own_meaning, each_in, in_part, in_routine, in_system, initial_meaning, Each, IsSmallRoutine, IsSmallSystem}
+use Rattle.cp_resolved.proofs.Words.{all_tokens, routine_tokens, Tokens, is_entry_in}
 use Rattle.cp_tree.specs.declared.declaration.SystemKind.TheVariants as system_kind
 use Rattle.cp_tree.specs.Syntax.{Program, Routine, System}
-use Rattle.cp_scope.specs.declared.count.Use.{Use}
-use Rattle.cp_scope.specs.Counts.{no_use}
-use Rattle.cp_scope.specs.Judged.{Judged}
-use Rattle.cp_scope.specs.Scopes.{Scopes, Shapes, body_shape, shape_in}
-use Rattle.cp_check.specs.Headings.{may_enter}
-use Rattle.cp_check.specs.Routines.{routine_step, routine_steps}
 use Rattle.cp_check.specs.Statements.{statements}
 use Rattle.cp_check.specs.Systems.{inside}
-use Rattle.cp_meaning.specs.Names.{Name, same_name}
 use Rattle.cp_meaning.specs.Scopes as scopes
-use Rattle.cp_meaning.specs.Scopes.{find, since, routine_meaning, seen_inside, is_seen}
-use Rattle.cp_meaning.specs.Declarations.{routine_in}
-use Rattle.cp_meaning.specs.Systems.{SystemMeaning, system_in, with_routines, declared, own_meaning}
-use Rattle.cp_resolved.specs.Enumerations.{each_in, in_part, in_routine, in_system}
 use Rattle.cp_resolved.specs.Judging.{Place, routine_place, routine_places, initial_place, parts_scopes, system_places, AreAgreed, places_of}
 use Rattle.cp_resolved.specs.Openings.{Opening, with_routine, routine_openings, parts_scope, initial_opening, system_openings, openings_of, meaning_in, meaning_at}
-use Rattle.cp_resolved.specs.Resolved.{initial_meaning}
-use Rattle.cp_resolved.specs.Small.{Each, IsSmallRoutine, IsSmallSystem}
-use Rattle.cp_resolved.specs.Tokens.{all_tokens, routine_tokens}
-use Rattle.cp_resolved.specs.Typed.{Tokens, is_entry_in}
 use Rattle.cp_resolved.proofs.agreeing.Agreeing.{none_left, none_right, More}
 use Rattle.cp_resolved.proofs.agreeing.AgreeingNames.{Agree}
 use Rattle.cp_resolved.proofs.agreeing.AgreeingTypes.{IsFew}

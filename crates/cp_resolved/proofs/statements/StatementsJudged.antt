@@ -1,44 +1,28 @@
 -- Each call, `delay` and `continue` in statements that break no rule is one that the rules allow.
 use Rattle.std.proofs.Common.{◌≡◌, ℕ, suc, ◌+◌, Bool, true, false, ◌&&◌, if◌then◌else◌, List, [], ◌∷◌, ◌++◌, length, Option, Some, None, Ok, Err, refl, sym, ap, subst, ◌∙◌, arith}
 use Rattle.std.specs.Prelude.{nat_eq, not, slice_get}
-use Rattle.cp_tree.specs.declared.constant.Identifier.{Identifier}
+use Rattle.cp_resolved.proofs.Words.{Identifier, CheckFault, ValueType, Predeclared, Use, no_use, both_uses, agree, is_of, Judged, both, ◌>>=◌, Context}
+use Rattle.cp_resolved.proofs.Words.{Operand, OperandUse, Named, Label, is_function, is_assignable, variable_faults, all_variable_faults, Scope, Item}
+use Rattle.cp_resolved.proofs.Words.{expression_calls, expressions_calls, selectors_calls, designator_calls, Each}
 use Rattle.cp_tree.specs.Syntax.{Expression, Expressions, Designator, designator as name_with, Selectors, Start, Statement, empty, assign, invoke, block, if_then, if_else, case_of, while_do, repeat_until, for_do, cycle, init, Statements, no_statements, more_statements, Arms, no_arms, more_arms, Arm, arm}
-use Rattle.cp_scope.specs.declared.fault.CheckFault.{CheckFault}
 use Rattle.cp_scope.specs.declared.fault.CheckFault.TheVariants as check_fault
 use Rattle.cp_scope.specs.declared.fault.Rule.TheVariants.{C5, C6, C7, C12}
 use Rattle.cp_scope.specs.declared.types.Base.TheVariants as base
-use Rattle.cp_scope.specs.declared.types.ValueType.{ValueType}
 use Rattle.cp_scope.specs.declared.types.ValueType.TheVariants as types
 use Rattle.cp_scope.specs.declared.types.Parameter as check_parameter
-use Rattle.cp_scope.specs.declared.types.Predeclared.{Predeclared}
 use Rattle.cp_scope.specs.declared.types.Predeclared.TheVariants as predeclared
-use Rattle.cp_scope.specs.declared.count.Use.{Use}
-use Rattle.cp_scope.specs.Counts.{no_use, both_uses}
-use Rattle.cp_scope.specs.Types.{agree, is_of}
-use Rattle.cp_scope.specs.Judged.{Judged, both, ◌>>=◌}
 use Rattle.cp_scope.specs.Scopes.{Scopes, heading_at, body_at, shape_in, as_need}
-use Rattle.cp_check.specs.declared.operand.Context.{Context}
-use Rattle.cp_check.specs.declared.operand.Operand.{Operand}
-use Rattle.cp_check.specs.declared.operand.OperandUse.{OperandUse}
 use Rattle.cp_check.specs.declared.operand.OperandUse.TheVariants as place
 use Rattle.cp_check.specs.declared.operand.DesignatedName as check_designated
-use Rattle.cp_check.specs.declared.operand.Named.{Named}
 use Rattle.cp_check.specs.declared.operand.Named.TheVariants as name
-use Rattle.cp_check.specs.declared.case.Label.{Label}
 use Rattle.cp_check.specs.declared.statement.Target.{Target}
 use Rattle.cp_check.specs.declared.statement.Target.TheVariants as target
-use Rattle.cp_check.specs.Operands.{is_function, is_assignable}
 use Rattle.cp_check.specs.Names as names
 use Rattle.cp_check.specs.Calls as calls
-use Rattle.cp_check.specs.Calls.{variable_faults, all_variable_faults}
 use Rattle.cp_check.specs.Cases as cases
 use Rattle.cp_check.specs.Expressions.{expression, designator, arguments, is_var_at, is_var_of}
 use Rattle.cp_check.specs.Statements as statements
 use Rattle.cp_check.specs.Statements.{statement}
-use Rattle.cp_meaning.specs.Scopes.{Scope}
-use Rattle.cp_meaning.specs.State.{Item}
-use Rattle.cp_meaning.specs.Lifting.{expression_calls, expressions_calls, selectors_calls, designator_calls}
-use Rattle.cp_resolved.specs.Small.{Each}
 use Rattle.cp_resolved.specs.SmallStatements.{IsSmallStart, IsSmallStatement, AreSmallStatements, AreSmallArms, IsSmallArm}
 use Rattle.cp_resolved.specs.Typed.{IsSmallExpression, AreSmallExpressions, IsSmallDesignator, AreSmallSelectors}
 use Rattle.cp_resolved.proofs.agreeing.Agreeing.{none_left, none_right}

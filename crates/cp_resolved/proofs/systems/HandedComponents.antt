@@ -1,28 +1,16 @@
 -- The parameters of a system type that are components have cells in their order, and the names lead to these.
 use Rattle.std.proofs.Common.{◌≡◌, ℕ, ◌+◌, true, false, List, [], ◌∷◌, ◌++◌, length, Some, slice_get, refl, sym, ap, subst, ◌∙◌, ◌⊎◌, inl, inr, append_assoc, append-nil, arith, length-append}
-use Rattle.std.specs.Str.{bytes_eq}
-use Rattle.std.proofs.lemmas.Slice.Eq.{bytes_eq-Decides}
-use Rattle.cp_tree.specs.declared.constant.Identifier.{Identifier}
+use Rattle.cp_resolved.proofs.Words.{bytes_eq, bytes_eq-Decides, Identifier, Permanent, CellType, LayoutMeaning, ComponentParameter, named_type, Name, Ty}
+use Rattle.cp_resolved.proofs.Words.{Scope, permanent_variable, Parameter, Heading, names_of, parameters_named, parts_begun, AreParameters}
 use Rattle.cp_tree.specs.Syntax as syntax
-use Rattle.cp_slots.specs.declared.place.PlaceOrigin.TheVariants.{Permanent}
-use Rattle.cp_layout.specs.declared.kinds.CellType.{CellType}
 use Rattle.cp_layout.specs.declared.kinds.CellType.TheVariants as types
-use Rattle.cp_layout.specs.declared.names.LayoutMeaning.{LayoutMeaning}
 use Rattle.cp_layout.specs.declared.names.LayoutMeaning.TheVariants as meaning
-use Rattle.cp_slots.specs.declared.tables.ComponentParameter.{ComponentParameter}
 use Rattle.cp_layout.specs.Layers.{Names, Layer, Owned, find}
-use Rattle.cp_layout.specs.LaidTypes.{named_type}
 use Rattle.cp_layout.specs.LaidDeclarations.{component_cell, permanent_part, permanent_parts, Parameters, entered, system_parameter, system_parameters_of, system_group, system_groups}
-use Rattle.cp_meaning.specs.Names.{Name}
 use Rattle.cp_meaning.specs.Types as named
-use Rattle.cp_meaning.specs.Types.{Ty}
 use Rattle.cp_meaning.specs.Scopes as scopes
-use Rattle.cp_meaning.specs.Scopes.{Scope, permanent_variable}
 use Rattle.cp_meaning.specs.Declarations as meant
-use Rattle.cp_meaning.specs.Declarations.{Parameter, Heading, names_of, parameters_named}
-use Rattle.cp_resolved.specs.Begun.{parts_begun}
 use Rattle.cp_resolved.specs.InStep.{Numbering, range_on, TypeIs, InStep, AreOuter}
-use Rattle.cp_resolved.specs.Small.{AreParameters}
 use Rattle.cp_resolved.proofs.names.Entries.{still_there, last_entry}
 use Rattle.cp_resolved.proofs.components.Handed.{handed, constants_owned, definitions_owned, variables_handed}
 use Rattle.cp_resolved.proofs.names.KeptNames as kept

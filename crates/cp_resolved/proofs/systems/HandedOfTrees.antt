@@ -1,27 +1,14 @@
 -- The parameters of each system type of a tree that are components are those of the tables, in their order.
 use Rattle.std.proofs.Common.{◌≡◌, ◌+◌, ◌<◌, ◌≤◌, ℕ, true, false, List, [], ◌∷◌, ◌++◌, length, Option, Some, None, slice_get, slice_index_or, refl, sym, ap, subst, ◌∙◌, ◌⊎◌, inl, inr, append_assoc, append-nil, arith}
-use Rattle.std.proofs.lemmas.Option.{slice_get_within}
-use Rattle.cp_tree.specs.Syntax.{Program, Tree}
+use Rattle.cp_resolved.proofs.Words.{slice_get_within, Program, Tree, ComponentParameter, plain, laid, system_type, system_types, component_cell, Layer}
+use Rattle.cp_resolved.proofs.Words.{Names, System, nothing_laid, parameter_count, Name, permanent_variable, Variable, Parameter, parameter_variables}
+use Rattle.cp_resolved.proofs.Words.{SystemMeaning, program_system, system_of, AreDifferent, AreDeclared, system_variables, IsFramed, CellsAre, PartsAre}
+use Rattle.cp_resolved.proofs.Words.{BoundIs, is_parameter, IsPlain, numbering_of}
 use Rattle.cp_layout.specs.declared.names.LayoutMeaning.TheVariants as meaning
-use Rattle.cp_slots.specs.declared.tables.ComponentParameter.{ComponentParameter}
-use Rattle.cp_layout.specs.Laid.{plain, laid, system_type, system_types}
-use Rattle.cp_layout.specs.LaidDeclarations.{component_cell}
 use Rattle.cp_layout.specs.Layers as layers
-use Rattle.cp_layout.specs.Layers.{Layer, Names, System, nothing_laid}
-use Rattle.cp_slots.specs.Systems.{parameter_count}
 use Rattle.cp_slots.specs.Tables.{Tables, SystemView, system_at, no_system, parameter_at, no_parameter}
-use Rattle.cp_meaning.specs.Names.{Name}
 use Rattle.cp_meaning.specs.Types.{Ty, ordinal, queue_type, set_over, array_over, record_with, component_of}
-use Rattle.cp_meaning.specs.Scopes.{permanent_variable}
-use Rattle.cp_meaning.specs.Declarations.{Variable, Parameter}
-use Rattle.cp_meaning.specs.Steps.{parameter_variables}
-use Rattle.cp_meaning.specs.Systems.{SystemMeaning, program_system, system_of}
-use Rattle.cp_resolved.specs.Framed.{AreDifferent, AreDeclared, system_variables, IsFramed}
 use Rattle.cp_resolved.specs.Headed.{HandedBy, AreHanded, EntranceFits}
-use Rattle.cp_resolved.specs.InStep.{CellsAre, PartsAre, BoundIs}
-use Rattle.cp_resolved.specs.Layouts.{is_parameter}
-use Rattle.cp_resolved.specs.Names.{IsPlain}
-use Rattle.cp_resolved.specs.Openings.{numbering_of}
 use Rattle.cp_resolved.specs.TreeLayouts.{slot_in, program_parts_parts, layer_or, parts_at, layouts_of, whole_laid}
 use Rattle.cp_resolved.proofs.components.ComponentsOfTree.{Own, own_of, laid_all, around, count_same, meaning_of, program_meaning}
 use Rattle.cp_resolved.proofs.names.Entries.{not_there, still_there, entry_at}

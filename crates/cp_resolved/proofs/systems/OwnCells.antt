@@ -1,13 +1,9 @@
 -- The routines of a system type may name all permanent cells of its components.
 use Rattle.std.proofs.Common.{◌≡◌, ℕ, List, [], ◌∷◌, ◌++◌, length, Option, Some, slice_get, refl, sym, ap, subst, ◌∙◌, ◌⊎◌, inl, inr}
-use Rattle.std.proofs.lemmas.Option.{none-some}
+use Rattle.cp_resolved.proofs.Words.{none-some, RoutineView, statements, routine_begun, initial_begun, parameters_of, parts_begun, system_begun, whole_laid}
 use Rattle.cp_tree.specs.Syntax as syntax
-use Rattle.cp_slots.specs.Tables.{RoutineView}
 use Rattle.cp_layout.specs.Layers.{Layer, Owned, System, nothing_laid, routine_of, with_routine}
-use Rattle.cp_layout.specs.LaidStatements.{statements}
 use Rattle.cp_layout.specs.LaidDeclarations.{heading, with_heading, opened, routine, routines, initial_statement, system, system_of, definition, system_definition, system_definitions, program_part, program_parts, constants, variables, program}
-use Rattle.cp_resolved.specs.Begun.{routine_begun, initial_begun, parameters_of, parts_begun, system_begun}
-use Rattle.cp_resolved.specs.TreeLayouts.{whole_laid}
 use Rattle.cp_resolved.proofs.laid.Declares.{type_declares, constants_declare, variables_declare}
 use Rattle.cp_resolved.proofs.names.Entries.{still_there, last_entry, last_or_before}
 use Rattle.cp_resolved.proofs.laid.Grown.{statements_grew}

@@ -1,23 +1,12 @@
 -- What is laid out of the permanent variables so far: the cells of each, and how many components come before those that each is.
 use Rattle.std.proofs.Common.{◌≡◌, ℕ, ◌<◌, true, List, [], ◌∷◌, ◌++◌, length, Some, slice_get, refl, sym, ap, subst, ◌∙◌, ◌⊎◌, inl, inr, append_assoc, append-nil, arith, length-append}
-use Rattle.std.specs.Str.{bytes_eq}
-use Rattle.std.proofs.lemmas.Slice.Eq.{bytes_eq-Decides}
-use Rattle.cp_slots.specs.declared.place.PlaceOrigin.TheVariants.{Permanent}
-use Rattle.cp_layout.specs.declared.kinds.CellType.{CellType}
-use Rattle.cp_layout.specs.declared.layer.Contained.{Contained}
-use Rattle.cp_layout.specs.declared.layer.Content.{Content}
+use Rattle.cp_resolved.proofs.Words.{bytes_eq, bytes_eq-Decides, Permanent, CellType, Contained, Content, LayoutMeaning, count_in, component_cell, Name, Ty}
+use Rattle.cp_resolved.proofs.Words.{array_over, component_of, length_of_range, Variable, Each}
 use Rattle.cp_layout.specs.declared.layer.Content.TheVariants as content
-use Rattle.cp_layout.specs.declared.names.LayoutMeaning.{LayoutMeaning}
 use Rattle.cp_layout.specs.declared.names.LayoutMeaning.TheVariants as meaning
 use Rattle.cp_layout.specs.Kinds.{Compounds, cells_of, plus, times}
 use Rattle.cp_layout.specs.Layers.{Names, Layer, Owned, System, find}
-use Rattle.cp_layout.specs.LaidExpressions.{count_in}
-use Rattle.cp_layout.specs.LaidDeclarations.{component_cell}
-use Rattle.cp_meaning.specs.Names.{Name}
-use Rattle.cp_meaning.specs.Types.{Ty, array_over, component_of, length_of_range}
-use Rattle.cp_meaning.specs.Declarations.{Variable}
 use Rattle.cp_resolved.specs.InStep.{Numbering, TypeIs}
-use Rattle.cp_resolved.specs.Small.{Each}
 use Rattle.cp_resolved.proofs.names.Entries.{there, still_there}
 use Rattle.cp_resolved.proofs.names.PermanentNames.{found_cases, Under}
 use Rattle.cp_resolved.proofs.names.Steps.{cells_grown, type_grown}

@@ -1,13 +1,7 @@
 -- The permanent cells of system types: parameters that are components have cells in their order, and a routine names no cells past those of its type.
 use Rattle.std.proofs.Common.{◌≡◌, ℕ, ◌<◌, ◌≤◌, List, [], ◌∷◌, ◌++◌, length, Option, Some, slice_get, refl, sym, ap, ◌∙◌, ◌⊎◌, inl, inr, arith}
-use Rattle.std.proofs.lemmas.Option.{none-some, slice_get_within}
-use Rattle.cp_slots.specs.declared.tables.ComponentParameter.{ComponentParameter}
-use Rattle.cp_layout.specs.declared.layer.Contained.{Contained}
-use Rattle.cp_layout.specs.declared.layer.Content.{Content}
-use Rattle.cp_layout.specs.Kinds.{most, plus}
-use Rattle.cp_slots.specs.Tables.{RoutineView}
+use Rattle.cp_resolved.proofs.Words.{none-some, slice_get_within, ComponentParameter, Contained, Content, most, plus, RoutineView, component_cell}
 use Rattle.cp_layout.specs.Layers.{Layer, Owned, System, no_frame, no_owned, routine_of}
-use Rattle.cp_layout.specs.LaidDeclarations.{component_cell}
 use Rattle.cp_resolved.proofs.names.Entries.{still_there, last_or_before}
 
 -- in their order, where the count of the cells has not stopped

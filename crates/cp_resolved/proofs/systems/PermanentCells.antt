@@ -1,34 +1,21 @@
 -- The parameters and variables of a system type have its permanent cells, one after the other.
 use Rattle.std.proofs.Common.{◌≡◌, ◌+◌, ◌≤◌, ℕ, Bool, true, false, if◌then◌else◌, List, [], ◌∷◌, ◌++◌, length, Option, Some, None, refl, sym, ap, subst, ◌∙◌, ◌⊎◌, inl, inr, arith, append_assoc, append-nil}
-use Rattle.std.specs.Prelude.{min}
-use Rattle.std.specs.Str.{bytes_eq}
-use Rattle.std.proofs.lemmas.Option.{none-some, same_Some}
-use Rattle.cp_tree.specs.declared.constant.Identifier.{Identifier}
+use Rattle.cp_resolved.proofs.Words.{min, bytes_eq, none-some, same_Some, Identifier, CellType, Contained, LayoutMeaning, most, plus, written_type, Name}
+use Rattle.cp_resolved.proofs.Words.{same_name, Ty, has_components, Scope, permanent_variable, parameter_variables, Enumerated, each_in, in_type, in_part}
+use Rattle.cp_resolved.proofs.Words.{cells_of, look, components_among}
 use Rattle.cp_tree.specs.Syntax as syntax
 use Rattle.cp_slots.specs.declared.place.PlaceOrigin.TheVariants as origin
-use Rattle.cp_layout.specs.declared.kinds.CellType.{CellType}
 use Rattle.cp_layout.specs.declared.kinds.CellType.TheVariants as types
-use Rattle.cp_layout.specs.declared.layer.Contained.{Contained}
-use Rattle.cp_layout.specs.declared.names.LayoutMeaning.{LayoutMeaning}
 use Rattle.cp_layout.specs.declared.names.LayoutMeaning.TheVariants as meaning
 use Rattle.cp_layout.specs.Kinds as kinds
-use Rattle.cp_layout.specs.Kinds.{most, plus}
 use Rattle.cp_layout.specs.Layers.{Names, find, Layer}
 use Rattle.cp_layout.specs.LaidTypes as laid
-use Rattle.cp_layout.specs.LaidTypes.{written_type}
 use Rattle.cp_layout.specs.LaidDeclarations.{constants, type_definitions, components_of, cell_variable, variable, variable_with, variables_of, variable_group, variables, permanent_part, permanent_parts, Parameters, system_parameter, system_parameters_of, system_group, system_groups}
-use Rattle.cp_meaning.specs.Names.{Name, same_name}
 use Rattle.cp_meaning.specs.Types as named
-use Rattle.cp_meaning.specs.Types.{Ty, has_components}
-use Rattle.cp_meaning.specs.Scopes.{Scope, permanent_variable}
 use Rattle.cp_meaning.specs.Declarations as meant
 use Rattle.cp_meaning.specs.Declarations.{Variable, Parameter, Block, Heading, names_of, named_variables, parameters_named, with_names}
-use Rattle.cp_meaning.specs.Steps.{parameter_variables}
-use Rattle.cp_resolved.specs.Enumerations.{Enumerated, each_in, in_type, in_part}
 use Rattle.cp_resolved.specs.InStep.{Numbering, range_on, TypeIs, InStep}
-use Rattle.cp_resolved.specs.Layouts.{cells_of, look}
 use Rattle.cp_resolved.specs.Small.{Each, IsSmallType, IsSmallPart, AreNumbered, IsParameter, AreParameters}
-use Rattle.cp_resolved.specs.TreeLayouts.{components_among}
 use Rattle.cp_resolved.proofs.frames.Cells.{cells_same}
 use Rattle.cp_resolved.proofs.laid.Extends.{Longer}
 use Rattle.cp_resolved.proofs.frames.FrameCells.{look_left, look_right, itself, same_is}

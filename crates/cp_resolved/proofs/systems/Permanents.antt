@@ -1,28 +1,18 @@
 -- Permanent variables and the parameters of system types, as they are declared one after the other: where each lies and which components each is.
 use Rattle.std.proofs.Common.{◌≡◌, ℕ, ◌<◌, List, [], ◌∷◌, ◌++◌, length, Option, Some, None, slice_get, refl, sym, ap, subst, ◌∙◌, ◌⊎◌, inl, inr, append_assoc, append-nil, false, true}
-use Rattle.std.proofs.lemmas.Option.{none-some, same_Some}
-use Rattle.cp_tree.specs.declared.constant.Identifier.{Identifier}
+use Rattle.cp_resolved.proofs.Words.{none-some, same_Some, Identifier, Permanent, CellType, Contained, LayoutMeaning, named_type, written_type, Ty, Scope}
+use Rattle.cp_resolved.proofs.Words.{Variable, Block, Heading, names_of, named_variables, parts_begun, in_type, each_in, in_part, Each, IsSmallType}
+use Rattle.cp_resolved.proofs.Words.{IsSmallPart, AreNumbered, AreParameters}
 use Rattle.cp_tree.specs.Syntax as syntax
-use Rattle.cp_slots.specs.declared.place.PlaceOrigin.TheVariants.{Permanent}
-use Rattle.cp_layout.specs.declared.kinds.CellType.{CellType}
 use Rattle.cp_layout.specs.declared.kinds.CellType.TheVariants as types
-use Rattle.cp_layout.specs.declared.layer.Contained.{Contained}
-use Rattle.cp_layout.specs.declared.names.LayoutMeaning.{LayoutMeaning}
 use Rattle.cp_layout.specs.declared.names.LayoutMeaning.TheVariants as meaning
 use Rattle.cp_layout.specs.Kinds.{Compounds, array, array_type, as_array}
 use Rattle.cp_layout.specs.Layers.{Names, Layer, find, seen_inside, is_open, outermost, nothing_laid}
-use Rattle.cp_layout.specs.LaidTypes.{named_type, written_type}
 use Rattle.cp_layout.specs.LaidDeclarations.{array_components, components_in, components_of, constants, type_definitions, variable, variable_with, variables_of, variable_group, variables, permanent_part, permanent_parts, Parameters, entered, system_parameter, system_parameters_of, system_group, system_groups}
 use Rattle.cp_meaning.specs.Types as named
-use Rattle.cp_meaning.specs.Types.{Ty}
 use Rattle.cp_meaning.specs.Scopes as scopes
-use Rattle.cp_meaning.specs.Scopes.{Scope}
 use Rattle.cp_meaning.specs.Declarations as meant
-use Rattle.cp_meaning.specs.Declarations.{Variable, Block, Heading, names_of, named_variables}
-use Rattle.cp_resolved.specs.Begun.{parts_begun}
-use Rattle.cp_resolved.specs.Enumerations.{in_type, each_in, in_part}
 use Rattle.cp_resolved.specs.InStep.{Numbering, range_on, TypeIs, InStep, AreOuter}
-use Rattle.cp_resolved.specs.Small.{Each, IsSmallType, IsSmallPart, AreNumbered, AreParameters}
 use Rattle.cp_resolved.proofs.frames.Cells.{count_same}
 use Rattle.cp_resolved.proofs.laid.Declared as declared_parts
 use Rattle.cp_resolved.proofs.laid.Declares.{Declares, type_declares, constants_declare, definitions_declare}

@@ -1,33 +1,16 @@
 -- Each system type of a tree stands for its declaration: its initial statement, its cells and its parameters.
 use Rattle.std.proofs.Common.{◌≡◌, ◌+◌, ◌<◌, ◌≤◌, ◌⊎◌, inl, inr, ℕ, Bool, true, false, if◌then◌else◌, List, [], ◌∷◌, ◌++◌, Option, Some, None, refl, sym, ap, subst, ◌∙◌, arith, append_assoc}
-use Rattle.std.specs.Prelude.{min}
-use Rattle.std.proofs.lemmas.Option.{none-some, same_Some}
+use Rattle.cp_resolved.proofs.Words.{min, none-some, same_Some, CellType, LayoutMeaning, most, Layer, Name, same_name, Ty, has_components, permanent_variable}
+use Rattle.cp_resolved.proofs.Words.{find, Variable, content_of, value_held, least_of, parameter_variables, SystemMeaning, HasType, AreDifferent, AreDeclared}
+use Rattle.cp_resolved.proofs.Words.{system_variables, Numbering, InStep, FoundIs, cells_of, look, Each, is_standing, IsStandingVariable, slot_in}
+use Rattle.cp_resolved.proofs.Words.{components_among}
 use Rattle.cp_slots.specs.declared.place.PlaceOrigin.TheVariants as origin
-use Rattle.cp_layout.specs.declared.kinds.CellType.{CellType}
-use Rattle.cp_layout.specs.declared.names.LayoutMeaning.{LayoutMeaning}
 use Rattle.cp_layout.specs.declared.names.LayoutMeaning.TheVariants as meaning
-use Rattle.cp_layout.specs.Kinds.{most}
 use Rattle.cp_layout.specs.Layers as layers
-use Rattle.cp_layout.specs.Layers.{Layer}
-use Rattle.cp_meaning.specs.Names.{Name, same_name}
-use Rattle.cp_meaning.specs.Types.{Ty, has_components}
 use Rattle.cp_meaning.specs.Values.{least}
 use Rattle.cp_meaning.specs.Scopes as scopes
-use Rattle.cp_meaning.specs.Scopes.{permanent_variable, find}
-use Rattle.cp_meaning.specs.Declarations.{Variable}
 use Rattle.cp_meaning.specs.State.{Content, holds, Environment}
-use Rattle.cp_meaning.specs.Places.{content_of, value_held}
-use Rattle.cp_meaning.specs.Calls.{least_of}
-use Rattle.cp_meaning.specs.Steps.{parameter_variables}
-use Rattle.cp_meaning.specs.Systems.{SystemMeaning}
-use Rattle.cp_resolved.specs.Encoded.{HasType}
-use Rattle.cp_resolved.specs.Framed.{AreDifferent, AreDeclared, system_variables}
-use Rattle.cp_resolved.specs.InStep.{Numbering, InStep, FoundIs}
-use Rattle.cp_resolved.specs.Layouts.{cells_of, look}
 use Rattle.cp_resolved.specs.Resolved.{AreApart, first_permanent}
-use Rattle.cp_resolved.specs.Small.{Each}
-use Rattle.cp_resolved.specs.Standing.{is_standing, IsStandingVariable}
-use Rattle.cp_resolved.specs.TreeLayouts.{slot_in, components_among}
 use Rattle.cp_resolved.proofs.frames.FrameCells.{look_right, look_either, look_each, none_left, none_right, same_is}
 use Rattle.cp_resolved.proofs.frames.LeastCells.{standing_typed}
 use Rattle.cp_resolved.proofs.systems.PermanentCells.{width, width_plain, taken, taken_before, taken_inside, taken_apart, Holds, Owns, Follow, Firsts}

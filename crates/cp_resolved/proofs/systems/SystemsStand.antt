@@ -1,32 +1,17 @@
 -- The system types of a tree stand for their declarations.
 use Rattle.std.proofs.Common.{◌≡◌, ◌+◌, ◌-◌, ◌<◌, ◌≤◌, inl, inr, ℕ, zero, suc, true, false, List, [], ◌∷◌, ◌++◌, length, Option, Some, None, slice_get, slice_index_or, refl, sym, ap, subst, ◌∙◌, arith, length-append}
-use Rattle.std.proofs.lemmas.Option.{none-some, same_Some, slice_get_within}
+use Rattle.cp_resolved.proofs.Words.{none-some, same_Some, slice_get_within, CellType, most, PlainTables, plain, laid, tables_laid, system_types, Layer}
+use Rattle.cp_resolved.proofs.Words.{System, nothing_laid, routine_of, statements, Tables, RoutineView, no_system, system_at, Name, Ty, has_components}
+use Rattle.cp_resolved.proofs.Words.{permanent_variable, find, Variable, Parameter, RoutineMeaning, parameter_variables, SystemMeaning, program_system}
+use Rattle.cp_resolved.proofs.Words.{system_of, all_begun, nothing_declared, Numbering, InStep, cells_of, look, SystemLayout, IsPlaced, Opening, openings_of}
+use Rattle.cp_resolved.proofs.Words.{meaning_at, numbering_of, Each, IsParameter}
 use Rattle.cp_tree.specs.Syntax as syntax
 use Rattle.cp_slots.specs.declared.place.PlaceOrigin.TheVariants as origin
-use Rattle.cp_layout.specs.declared.kinds.CellType.{CellType}
 use Rattle.cp_layout.specs.declared.names.LayoutMeaning.TheVariants as meaning
-use Rattle.cp_layout.specs.Kinds.{most}
-use Rattle.cp_layout.specs.Laid.{PlainTables, plain, laid, tables_laid, system_types}
 use Rattle.cp_layout.specs.Layers as layers
-use Rattle.cp_layout.specs.Layers.{Layer, System, nothing_laid, routine_of}
-use Rattle.cp_layout.specs.LaidStatements.{statements}
-use Rattle.cp_slots.specs.Tables.{Tables, RoutineView, no_system, system_at}
-use Rattle.cp_meaning.specs.Names.{Name}
 use Rattle.cp_meaning.specs.Types as named
-use Rattle.cp_meaning.specs.Types.{Ty, has_components}
-use Rattle.cp_meaning.specs.Scopes.{permanent_variable, find}
-use Rattle.cp_meaning.specs.Declarations.{Variable, Parameter, RoutineMeaning}
-use Rattle.cp_meaning.specs.Steps.{parameter_variables}
-use Rattle.cp_meaning.specs.Systems.{SystemMeaning, program_system, system_of}
-use Rattle.cp_resolved.specs.Begun.{all_begun}
-use Rattle.cp_resolved.specs.Fit.{nothing_declared}
 use Rattle.cp_resolved.specs.Framed.{AreDifferent, AreDeclared, system_variables, SystemsLaw}
-use Rattle.cp_resolved.specs.InStep.{Numbering, InStep}
-use Rattle.cp_resolved.specs.Layouts.{cells_of, look, SystemLayout}
-use Rattle.cp_resolved.specs.LayoutsKnow.{IsPlaced}
-use Rattle.cp_resolved.specs.Openings.{Opening, openings_of, meaning_at, numbering_of}
 use Rattle.cp_resolved.specs.Resolved.{initial_meaning, SystemParameterIs, SystemParametersAre, AreApart}
-use Rattle.cp_resolved.specs.Small.{Each, IsParameter}
 use Rattle.cp_resolved.specs.TreeLayouts.{all_parts, parts_at, layer_or, whole_laid, program_parts_parts, initial_or, owner_in, components_among, slot_in, system_layout}
 use Rattle.cp_resolved.proofs.names.BegunKnown.{parts_many}
 use Rattle.cp_resolved.proofs.items.BodiesStand.{laid_routines, EndsAt, ends_at}

@@ -1,39 +1,23 @@
 -- The law of bodies is not empty: of the procedure of a program, which calls a function with its `var` parameter, what is wanted holds.
 use Rattle.std.proofs.Common.{◌≡◌, ◌≤◌, ◌∙◌, ◌⊎◌, inl, inr, ℕ, Bool, true, false, if◌then◌else◌, [], ◌∷◌, length, Option, Some, None, slice_get, refl, sym, ap, subst, arith}
 use Rattle.std.specs.Prelude.{codes}
-use Rattle.std.specs.Str.{bytes_eq}
-use Rattle.std.proofs.lemmas.Option.{none-some, same_Some}
+use Rattle.cp_resolved.proofs.Words.{bytes_eq, none-some, same_Some, LayoutMeaning, Names, Layer, outermost, nothing_laid, Tables, routine_at, plain, laid}
+use Rattle.cp_resolved.proofs.Words.{simple_type, written_type, statements, statement, assigned, Name, same_name, ordinal, Scope, RoutineMeaning}
+use Rattle.cp_resolved.proofs.Words.{routine_of_type, routine_begun, all_begun, ground_of, BodyFormed, Numbering, Here, is_own, place_of, meaning_at}
+use Rattle.cp_resolved.proofs.Words.{numbering_of, OwnAll}
 use Rattle.cp_tree.specs.Syntax as syntax
 use Rattle.cp_slots.specs.declared.place.PlaceOrigin.TheVariants as origin
 use Rattle.cp_layout.specs.declared.kinds.CellBase.TheVariants as base
-use Rattle.cp_layout.specs.declared.names.LayoutMeaning.{LayoutMeaning}
 use Rattle.cp_layout.specs.declared.names.LayoutMeaning.TheVariants as meaning
 use Rattle.cp_slots.specs.Code as code
 use Rattle.cp_layout.specs.Kinds.{most, values_of, least, copies, compound_below}
 use Rattle.cp_layout.specs.Layers as layers
-use Rattle.cp_layout.specs.Layers.{Names, Layer, outermost, nothing_laid}
-use Rattle.cp_slots.specs.Tables.{Tables, routine_at}
-use Rattle.cp_layout.specs.Laid.{plain, laid}
-use Rattle.cp_layout.specs.LaidTypes.{simple_type, written_type}
 use Rattle.cp_layout.specs.LaidExpressions.{expression, sum, more_terms, term, more_factors, factor, elements, first_value, arguments_from, designator, selectors, selector}
-use Rattle.cp_layout.specs.LaidStatements.{statements, statement, assigned}
 use Rattle.cp_layout.specs.LaidDeclarations.{variables, variables_of, local_parts, heading, parameter_groups, var_parameters_of, constant_groups, constant_parameters_of, routine, program_parts}
-use Rattle.cp_meaning.specs.Names.{Name, same_name}
-use Rattle.cp_meaning.specs.Types.{ordinal}
 use Rattle.cp_meaning.specs.Scopes as scopes
-use Rattle.cp_meaning.specs.Scopes.{Scope}
-use Rattle.cp_meaning.specs.Declarations.{RoutineMeaning}
-use Rattle.cp_meaning.specs.Expressions.{routine_of_type}
-use Rattle.cp_resolved.specs.Begun.{routine_begun, all_begun}
-use Rattle.cp_resolved.specs.BodiesStand.{ground_of, BodyFormed}
 use Rattle.cp_resolved.specs.Compiled.{as_ordinal, then_form, Designated, a_variable, a_component, result_begun, begun_form, ordinal_form, with_index_form, with_element_form, expression_form, selected_form}
 use Rattle.cp_resolved.specs.FormedParts.{HeadingIs, KnowsHeadings}
 use Rattle.cp_resolved.specs.FormedStatements.{KnowsStarts}
-use Rattle.cp_resolved.specs.InStep.{Numbering}
-use Rattle.cp_resolved.specs.Layouts.{Here, is_own}
-use Rattle.cp_resolved.specs.LayoutsKnow.{place_of}
-use Rattle.cp_resolved.specs.Openings.{meaning_at, numbering_of}
-use Rattle.cp_resolved.specs.Stands.{OwnAll}
 use Rattle.cp_resolved.proofs.names.Alike.{same_inside}
 use Rattle.cp_resolved.proofs.items.BodiesStand.{bodies_law}
 use Rattle.cp_resolved.proofs.worked.CallingPlaced.{calling_placed}

@@ -1,15 +1,7 @@
 -- The law of layouts is not empty: a program with a function, a procedure with a `var` parameter, a permanent variable and a call has what it asks.
 use Rattle.std.proofs.Common.{◌≤◌, ℕ, zero, suc, Bool, true, false, if◌then◌else◌, [], ◌∷◌, Some, refl, arith}
-use Rattle.cp_layout.specs.Kinds.{most}
-use Rattle.cp_meaning.specs.Names.{same_name}
-use Rattle.cp_meaning.specs.Scopes.{Scope, find}
-use Rattle.cp_meaning.specs.Systems.{system_of}
-use Rattle.cp_resolved.specs.Calls.{all_calls_laid, AreApart}
-use Rattle.cp_resolved.specs.LayoutsKnow.{IsPlaced}
-use Rattle.cp_resolved.specs.Names.{IsPlain}
-use Rattle.cp_resolved.specs.Once.{AreOthers, IsSizedMeaning, AreSized, AreWords}
-use Rattle.cp_resolved.specs.Openings.{meaning_at}
-use Rattle.cp_resolved.specs.Small.{Each}
+use Rattle.cp_resolved.proofs.Words.{most, same_name, Scope, find, system_of, all_calls_laid, AreApart, IsPlaced, IsPlain, AreOthers, IsSizedMeaning}
+use Rattle.cp_resolved.proofs.Words.{AreSized, AreWords, meaning_at, Each}
 use Rattle.cp_resolved.proofs.worked.CallingProgram.{calling}
 
 plain : IsPlain calling.program

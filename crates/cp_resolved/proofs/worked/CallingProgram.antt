@@ -1,8 +1,9 @@
 -- A program with variables and calls stands for itself: layouts for it exist, whatever items have the views that are wanted.
 use Rattle.std.proofs.Common.{◌≡◌, ◌∙◌, ℕ, zero, suc, ◌+◌, ◌<◌, ◌≤◌, ◌⊎◌, inl, inr, Bool, true, false, if◌then◌else◌, List, [], ◌∷◌, map, length, replicate, Option, Some, None, ap, sym, refl, subst, arith, get_or}
 use Rattle.std.specs.Prelude.{ℤ, pos, negsuc, codes, slice_index, slice_index_or}
-use Rattle.std.proofs.lemmas.List.{length-map}
-use Rattle.cp_tree.specs.declared.constant.Identifier.{Identifier}
+use Rattle.cp_resolved.proofs.Words.{length-map, Identifier, Tables, item_at, routine_at, no_item, Name, same_name, temporary, result_name, Ty, ordinal}
+use Rattle.cp_resolved.proofs.Words.{all_integers, has_components, Variable, RoutineMeaning, routine_in, system_of, step_down, component_with}
+use Rattle.cp_resolved.proofs.Words.{first_components, encode, HasType, as_ordinal, Ground, ItemAt, CallItem}
 use Rattle.cp_tree.specs.declared.expression.Addition.TheVariants.{Plus}
 use Rattle.cp_tree.specs.Syntax.{Expression, alone, sum, no_terms, more_terms, term, no_factors, number, named, no_expressions, more_expressions, Designator, designator, no_selectors, assign, invoke, no_statements, more_statements, simple, type_name, function, procedure, Routine, program_variables, Tree}
 use Rattle.cp_slots.specs.declared.item.Item as code_item
@@ -10,20 +11,9 @@ use Rattle.cp_slots.specs.declared.place.Arithmetic.TheVariants.{Add}
 use Rattle.cp_slots.specs.declared.place.PlaceOrigin.TheVariants.{Permanent, Local, Reference}
 use Rattle.cp_slots.specs.declared.tables.ComponentKind.TheVariants as kind
 use Rattle.cp_slots.specs.Code as code
-use Rattle.cp_slots.specs.Tables.{Tables, item_at, routine_at, no_item}
-use Rattle.cp_meaning.specs.Names.{Name, same_name, temporary, result_name}
-use Rattle.cp_meaning.specs.Types.{Ty, ordinal, all_integers, has_components}
 use Rattle.cp_meaning.specs.Scopes.{Meaning, local_variable, permanent_variable, routine_meaning, Scope, find, since}
-use Rattle.cp_meaning.specs.Declarations.{Variable, RoutineMeaning, routine_in}
-use Rattle.cp_meaning.specs.Systems.{system_of}
-use Rattle.cp_meaning.specs.Components.{step_down}
 use Rattle.cp_meaning.specs.State.{component_at as named_component_at}
-use Rattle.cp_meaning.specs.Places.{component_with}
-use Rattle.cp_meaning.specs.Steps.{first_components}
 use Rattle.cp_resolved.specs.Layouts.{cells_of, FrameLayout, Layouts, here, cell_named, look}
-use Rattle.cp_resolved.specs.Encoded.{encode, HasType}
-use Rattle.cp_resolved.specs.Compiled.{as_ordinal}
-use Rattle.cp_resolved.specs.Stands.{Ground, ItemAt, CallItem}
 use Rattle.cp_resolved.specs.Resolved.{StandsAt, ContainedAt, initial_meaning, first_value, first_permanent, FrameIs, RoutineIs, SystemIs, ComponentIs, ProcessIs, Stands}
 use Rattle.cp_resolved.proofs.frames.FrameCells.{same_is}
 

@@ -1,15 +1,9 @@
 -- The smallest program stands for itself: layouts for it exist.
 use Rattle.std.proofs.Common.{◌≡◌, ℕ, ◌<◌, ◌≤◌, Bool, true, false, if◌then◌else◌, [], ◌∷◌, Some, None, refl, subst, arith}
-use Rattle.cp_tree.specs.Syntax.{empty, no_statements, more_statements, Tree}
+use Rattle.cp_resolved.proofs.Words.{empty, no_statements, more_statements, Tree, Local, Tables, Name, same_name, system_of, Layouts, Ground}
 use Rattle.cp_slots.specs.declared.item.Action.TheVariants as action
-use Rattle.cp_slots.specs.declared.place.PlaceOrigin.TheVariants.{Local}
 use Rattle.cp_slots.specs.declared.tables.ComponentKind.TheVariants as kind
-use Rattle.cp_slots.specs.Tables.{Tables}
-use Rattle.cp_meaning.specs.Names.{Name, same_name}
 use Rattle.cp_meaning.specs.Scopes.{Meaning, local_variable, permanent_variable, Scope, find, predeclared}
-use Rattle.cp_meaning.specs.Systems.{system_of}
-use Rattle.cp_resolved.specs.Layouts.{Layouts}
-use Rattle.cp_resolved.specs.Stands.{Ground}
 use Rattle.cp_resolved.specs.Resolved.{initial_meaning, RoutineIs, SystemIs, ComponentIs, ProcessIs, Stands}
 
 -- begin end.

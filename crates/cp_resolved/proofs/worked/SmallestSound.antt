@@ -1,14 +1,8 @@
 -- The law of sound tables is not empty: the smallest program has what it asks.
 use Rattle.std.proofs.Common.{◌≡◌, ℕ, zero, suc, ◌<◌, IsTrue, length, refl, arith}
-use Rattle.cp_slots.specs.Fits.{IsSound}
+use Rattle.cp_resolved.proofs.Words.{IsSound, most, plain, laid, tables_laid, room_from, program_listed, contained_by, contents_least, program, program_parts}
+use Rattle.cp_resolved.proofs.Words.{routines, statements, statement, ActionNames, item_at, routine_at, system_at}
 use Rattle.cp_slots.specs.Inside.{action_inside}
-use Rattle.cp_layout.specs.Kinds.{most}
-use Rattle.cp_layout.specs.Laid.{plain, laid, tables_laid, room_from}
-use Rattle.cp_layout.specs.LaidComponents.{program_listed, contained_by, contents_least}
-use Rattle.cp_layout.specs.LaidDeclarations.{program, program_parts, routines}
-use Rattle.cp_layout.specs.LaidStatements.{statements, statement}
-use Rattle.cp_slots.specs.Systems.{ActionNames}
-use Rattle.cp_slots.specs.Tables.{item_at, routine_at, system_at}
 use Rattle.cp_resolved.specs.Soundness.{IsModest, IsOwnCall}
 use Rattle.cp_resolved.proofs.worked.SmallestProgram.{smallest, tables}
 use Rattle.cp_resolved.proofs.sound.SoundTables.{laid_sound}

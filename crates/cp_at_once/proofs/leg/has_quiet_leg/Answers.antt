@@ -1,9 +1,5 @@
-use Rattle.std.proofs.Common.{◌≡◌, ◌∙◌, true, sym, subst}
-use Rattle.cp_machine.specs.Bodies.{KeepBodies}
-use Rattle.cp_machine.specs.System.{machine_of}
+use Rattle.cp_at_once.proofs.Words.{◌≡◌, ◌∙◌, true, sym, subst, KeepBodies, machine_of, without_output, EndsQuietly}
 use Rattle.cp_machine.proofs.Unmoved.{keep_refl}
-use Rattle.cp_endless.specs.Silent.{without_output}
-use Rattle.cp_at_once.specs.Legs.{EndsQuietly}
 use Rattle.cp_at_once.proofs.Same.{phases_same}
 use Rattle.cp_at_once.proofs.leg.has_quiet_leg.Goals as goal
 

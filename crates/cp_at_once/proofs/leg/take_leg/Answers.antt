@@ -1,10 +1,8 @@
-use Rattle.std.proofs.Common.{◌≡◌, ◌∙◌, [], true, false, refl, sym, ap, subst}
+use Rattle.cp_at_once.proofs.Words.{◌≡◌, ◌∙◌, [], true, false, refl, sym, ap, subst, KeepBodies, EndsQuietly}
 use Rattle.cp_machine.specs.System.{Machine, machine_of, is_ready, is_pending, output_of, step_at, IsStateOf}
-use Rattle.cp_machine.specs.Bodies.{KeepBodies}
 use Rattle.cp_machine.specs.declared.event.Event.TheVariants.{Local}
 use Rattle.cp_machine.proofs.CallerLemmas.{local_ready, pending_is, ready_thread}
 use Rattle.cp_ends.proofs.LocalOutput.{local_output}
-use Rattle.cp_at_once.specs.Legs.{EndsQuietly}
 use Rattle.cp_at_once.proofs.Legs.{ends_here, ends_later, kept_by}
 use Rattle.std.proofs.lemmas.Bool.{false≢true}
 use Rattle.cp_at_once.proofs.leg.take_leg.Goals as goal

@@ -1,8 +1,5 @@
-use Rattle.std.proofs.Common.{◌≡◌, ℕ, Bool, [], true, false}
-use Rattle.cp_machine.specs.Bodies.{KeepBodies}
-use Rattle.cp_machine.specs.declared.gates.Gates.{Gates}
+use Rattle.cp_at_once.proofs.Words.{◌≡◌, ℕ, Bool, [], true, false, KeepBodies, Gates, EndsQuietly}
 use Rattle.cp_machine.specs.System.{Machine, machine_of, is_ready, is_pending, output_of, IsStateOf}
-use Rattle.cp_at_once.specs.Legs.{EndsQuietly}
 use Rattle.cp_at_once.proofs.leg.take_leg.Given as goal
 
 abbrev pub invariant-loop : goal.invariant-loop

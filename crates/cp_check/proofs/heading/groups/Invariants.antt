@@ -1,6 +1,4 @@
-use Rattle.std.proofs.Common.{◌≡◌, drop, map}
-use Rattle.cp_scope.specs.View.{scopes_of}
-use Rattle.cp_tree.specs.View.{group_view}
+use Rattle.cp_check.proofs.Words.{◌≡◌, drop, map, scopes_of, group_view}
 use Rattle.cp_check.specs.Headings as spec
 use Rattle.cp_check.proofs.heading.groups.Given as goal
 

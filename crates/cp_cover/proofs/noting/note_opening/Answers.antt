@@ -1,10 +1,6 @@
-use Rattle.std.proofs.Common.{◌∙◌}
-use Rattle.cp_machine.specs.System.{machine_of}
+use Rattle.cp_cover.proofs.Words.{◌∙◌, machine_of, Over, Due, Goes, slots, ok_as}
 use Rattle.cp_machine.proofs.CallerLemmas.{opening_ready}
-use Rattle.cp_run.specs.declared.outcome.Turn.TheVariants.{Over, Due, Goes}
-use Rattle.cp_run.specs.Slots.{slots}
 use Rattle.cp_run.proofs.Choosing.{opened_at}
-use Rattle.cp_run.proofs.Tracing.{ok_as}
 use Rattle.cp_cover.proofs.Adding.{adds_none}
 use Rattle.cp_cover.proofs.Stretches.{adds_opened}
 use Rattle.cp_cover.proofs.noting.note_opening.Goals as goal

@@ -1,9 +1,7 @@
-use Rattle.std.proofs.Common.{◌≡◌, ◌<◌, ◌-◌, ◌∙◌, ap, sym, arith}
+use Rattle.cp_cover.proofs.Words.{◌≡◌, ◌<◌, ◌-◌, ◌∙◌, ap, sym, arith, Over, Due, Goes, slots}
 use Rattle.cp_machine.specs.System.{machine_of, Stepped}
 use Rattle.cp_machine.proofs.CallerLemmas.{local_ready, ready_thread, ready_within}
-use Rattle.cp_run.specs.declared.outcome.Turn.TheVariants.{Over, Due, Goes}
 use Rattle.cp_run.specs.Run.{turn_after}
-use Rattle.cp_run.specs.Slots.{slots}
 use Rattle.cp_run.proofs.Stretching.{step_on}
 use Rattle.cp_run.proofs.Stretching as stretching
 use Rattle.cp_cover.proofs.Adding.{adds_none}

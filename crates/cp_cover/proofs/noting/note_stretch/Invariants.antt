@@ -1,10 +1,7 @@
-use Rattle.std.proofs.Common.{◌≡◌, ◌-◌, List, true, false}
+use Rattle.cp_cover.proofs.Words.{◌≡◌, ◌-◌, List, true, false, slots, Adds, CoverMark}
 use Rattle.cp_machine.specs.System.{machine_of, is_ready, is_pending, IsStateOf}
 use Rattle.cp_run.specs.Run.{stretch}
-use Rattle.cp_run.specs.Slots.{slots}
-use Rattle.cp_cover.specs.Marks.{Adds}
 use Rattle.cp_cover.specs.Reached.{stretch_marks}
-use Rattle.cp_cover.specs.declared.mark.CoverMark.{CoverMark}
 use Rattle.cp_cover.proofs.noting.note_stretch.Given as goal
 
 abbrev pub invariant-loop : goal.invariant-loop

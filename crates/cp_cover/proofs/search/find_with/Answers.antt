@@ -1,8 +1,4 @@
-use Rattle.std.proofs.Common.{◌≡◌, ◌+◌, ℕ, suc, List, true, sym, subst, arith}
-use Rattle.cp_run.specs.Slots.{slots}
-use Rattle.cp_cover.specs.declared.keys.CoverStateKey.{CoverStateKey}
-use Rattle.cp_cover.specs.declared.mark.CoverMark.{CoverMark}
-use Rattle.cp_cover.specs.Layers.{AreReached, IsLayer}
+use Rattle.cp_cover.proofs.Words.{◌≡◌, ◌+◌, ℕ, suc, List, true, sym, subst, arith, slots, CoverStateKey, CoverMark, AreReached, IsLayer}
 use Rattle.cp_cover.proofs.FromLayer.{same_marks}
 use Rattle.cp_cover.proofs.search.find_with.Goals as goal
 

@@ -1,6 +1,4 @@
-use Rattle.cp_machine.specs.System.{IsStateOf}
-use Rattle.cp_run.specs.Slots.{slots}
-use Rattle.cp_cover.specs.Layers.{AreReached, IsLayer}
+use Rattle.cp_cover.proofs.Words.{IsStateOf, slots, AreReached, IsLayer}
 use Rattle.cp_cover.proofs.search.find_with.Given as goal
 
 abbrev pub invariant-loop-depth : goal.invariant-loop-depth

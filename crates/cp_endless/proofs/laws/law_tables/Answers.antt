@@ -1,6 +1,4 @@
-use Rattle.std.specs.Prelude.{Contains}
-use Rattle.cp_run.specs.Slots.{slots}
-use Rattle.cp_endless.specs.Silent.{without_output, ShowsLess}
+use Rattle.cp_endless.proofs.Words.{Contains, slots, without_output, ShowsLess}
 use Rattle.cp_endless.proofs.possible.Tables.{tables_known}
 use Rattle.cp_endless.proofs.slots.Output.{slots_forget}
 use Rattle.cp_endless.proofs.laws.law_tables.Goals as goal

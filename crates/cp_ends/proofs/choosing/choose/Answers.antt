@@ -1,15 +1,8 @@
-use Rattle.std.proofs.Common.{◌≡◌, ◌∙◌, ◌++◌, true, false, sym, ap, subst}
-use Rattle.std.specs.Prelude.{IfOk}
-use Rattle.cp_machine.specs.System.{Machine, machine_of, is_pending}
-use Rattle.cp_machine.specs.declared.shown.Shown.{Shown}
+use Rattle.cp_ends.proofs.Words.{◌≡◌, ◌∙◌, ◌++◌, true, false, sym, ap, subst, IfOk, Machine, machine_of, is_pending, Shown, slots, without_output, goal_at}
+use Rattle.cp_ends.proofs.Words.{Arrival, same_key}
 use Rattle.cp_machine.proofs.CallerLemmas.{pending_is, line_within, admitted_free}
 use Rattle.cp_run.specs.declared.outcome.Turn.TheVariants.{Over, Due, Goes}
-use Rattle.cp_run.specs.Slots.{slots}
 use Rattle.cp_run.proofs.Choosing.{may_in_line, may_be_ready}
-use Rattle.cp_endless.specs.Silent.{without_output}
-use Rattle.cp_ends.specs.Arrivals.{goal_at}
-use Rattle.cp_ends.specs.Graph.{Arrival}
-use Rattle.cp_ends.specs.Holds.{same_key}
 use Rattle.cp_ends.specs.declared.end.End as code
 use Rattle.cp_ends.proofs.Arriving.{next_free, next_let_in, told_none}
 use Rattle.cp_ends.proofs.choosing.choose.Goals as goal

@@ -1,14 +1,7 @@
-use Rattle.std.proofs.Common.{◌∙◌, ◌++◌, sym, ap, subst}
+use Rattle.cp_ends.proofs.Words.{◌∙◌, ◌++◌, sym, ap, subst, Machine, machine_of, Shown, slots, without_output, goal_at, Arrival, same_key}
 use Rattle.std.specs.Prelude.{◌≡◌, IfOk}
-use Rattle.cp_machine.specs.System.{Machine, machine_of}
-use Rattle.cp_machine.specs.declared.shown.Shown.{Shown}
 use Rattle.cp_machine.proofs.CallerLemmas.{opening_ready}
 use Rattle.cp_run.specs.declared.outcome.Turn.TheVariants.{Over, Goes}
-use Rattle.cp_run.specs.Slots.{slots}
-use Rattle.cp_endless.specs.Silent.{without_output}
-use Rattle.cp_ends.specs.Arrivals.{goal_at}
-use Rattle.cp_ends.specs.Graph.{Arrival}
-use Rattle.cp_ends.specs.Holds.{same_key}
 use Rattle.cp_ends.specs.declared.end.End as code
 use Rattle.cp_ends.proofs.Arriving.{first_by, told_none}
 use Rattle.cp_ends.proofs.choosing.open.Goals as goal

@@ -1,13 +1,5 @@
-use Rattle.std.proofs.Common.{◌≡◌, ◌∙◌, ◌<◌, ◌++◌, true, false, sym, ap, arith}
-use Rattle.cp_machine.specs.System.{machine_of, is_ready, is_pending}
-use Rattle.cp_run.specs.Slots.{slots}
-use Rattle.cp_run.specs.Table.{each}
-use Rattle.cp_endless.specs.Moments.{stretch_moments}
-use Rattle.cp_endless.specs.Shown.{shown_at}
-use Rattle.cp_endless.specs.Silent.{silent_slots, without_output}
-use Rattle.cp_ends.specs.Arrivals.{return_within, stretch_arrival}
-use Rattle.cp_ends.specs.Graph.{End}
-use Rattle.cp_ends.specs.Holds.{same_key}
+use Rattle.cp_ends.proofs.Words.{◌≡◌, ◌∙◌, ◌<◌, ◌++◌, true, false, sym, ap, arith, machine_of, is_ready, is_pending, slots, each, stretch_moments, shown_at}
+use Rattle.cp_ends.proofs.Words.{silent_slots, without_output, return_within, stretch_arrival, End, same_key}
 use Rattle.cp_ends.proofs.Stepping.{if_goes}
 use Rattle.cp_ends.proofs.Stretches.{cut_goal, cut_shown, cut_there, due_there, over_there, spot_before, spot_next, told_before, told_next}
 use Rattle.cp_ends.proofs.choosing.stretch.Goals as goal

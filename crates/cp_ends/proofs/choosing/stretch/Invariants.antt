@@ -1,11 +1,5 @@
-use Rattle.std.proofs.Common.{◌≡◌, ◌++◌, [], Some, true, false}
-use Rattle.cp_machine.specs.System.{machine_of, output_of, is_ready, is_pending, IsStateOf}
-use Rattle.cp_run.specs.Slots.{slots}
-use Rattle.cp_run.specs.Table.{each}
-use Rattle.cp_endless.specs.Moments.{stretch_moments}
-use Rattle.cp_endless.specs.Rounds.{spot_after}
-use Rattle.cp_endless.specs.Shown.{shown_at}
-use Rattle.cp_endless.specs.Silent.{silent_slots}
+use Rattle.cp_ends.proofs.Words.{◌≡◌, ◌++◌, [], Some, true, false, machine_of, output_of, is_ready, is_pending, IsStateOf, slots, each, stretch_moments}
+use Rattle.cp_ends.proofs.Words.{spot_after, shown_at, silent_slots}
 use Rattle.cp_ends.proofs.choosing.stretch.Given as goal
 
 abbrev pub invariant-loop : goal.invariant-loop

@@ -1,9 +1,7 @@
-use Rattle.std.proofs.Common.{◌∙◌, ◌++◌, ◌<◌, [], length, arith, sym, ap}
+use Rattle.cp_ends.proofs.Words.{◌∙◌, ◌++◌, ◌<◌, [], length, arith, sym, ap, Stepped, silent_slots, without_output}
 use Rattle.cp_machine.specs.System.{machine_of, step_at}
-use Rattle.cp_machine.specs.Statements.{Stepped}
 use Rattle.cp_machine.proofs.CallerLemmas.{local_ready, ready_thread, threads_count}
 use Rattle.cp_run.proofs.Stretching.{after_local}
-use Rattle.cp_endless.specs.Silent.{silent_slots, without_output}
 use Rattle.cp_ends.proofs.Arriving.{silent_already, told_none}
 use Rattle.cp_ends.proofs.LocalOutput.{local_output}
 use Rattle.cp_ends.proofs.Stepping.{no_call, state_forgot, turn_forgot, ready_forgot, free_forgot, call_forgot, told_forgot}

@@ -1,7 +1,5 @@
-use Rattle.std.proofs.Common.{◌≡◌, ◌∙◌, true, false, string_bytes, sym, ap, subst, arith}
-use Rattle.cp_ends.specs.Holds.{value_origin}
+use Rattle.cp_ends.proofs.Words.{◌≡◌, ◌∙◌, true, false, string_bytes, sym, ap, subst, arith, value_origin, MOST_VALUES}
 use Rattle.cp_ends.specs.Told.{value_line, is_told}
-use Rattle.cp_ends.specs.declared.found.TheConstants.{MOST_VALUES}
 use Rattle.cp_ends.proofs.Listing.{FirstSoFar, values_more, values_left_out, take_found}
 use Rattle.cp_ends.proofs.report.value_lines.Goals as goal
 use Rattle.cp_ends.proofs.report.value_lines.Goals.{then-is_told+in_ok-push_early, else-is_told}

@@ -1,9 +1,4 @@
-use Rattle.std.proofs.Common.{◌∙◌, ap}
-use Rattle.std.specs.Prelude.{nat_eq}
-use lib.Pointwise.{pointwise}
-use Rattle.cp_key.specs.Key.{key_of}
-use Rattle.cp_machine.specs.System.{machine_of}
-use Rattle.cp_ends.specs.Holds.{same_key}
+use Rattle.cp_ends.proofs.Words.{◌∙◌, ap, nat_eq, pointwise, key_of, machine_of, same_key}
 use Rattle.cp_ends.proofs.round.is_at.Goals as goal
 
 pub returns : goal.returns

@@ -1,15 +1,6 @@
-use Rattle.std.proofs.Common.{◌≡◌, ◌∙◌, ◌+◌, ◌<◌, true, false, if◌then◌else◌, sym, ap, arith}
-use Rattle.std.specs.Prelude.{◌==◌, ◌&&◌, ◌||◌}
+use Rattle.cp_ends.proofs.Words.{◌≡◌, ◌∙◌, ◌+◌, ◌<◌, true, false, if◌then◌else◌, sym, ap, arith, ◌==◌, ◌&&◌, ◌||◌, machine_of, is_ready, is_pending, slots}
+use Rattle.cp_ends.proofs.Words.{each, stretch_moments, shown_at, silent_slots, return_within, same_key, Alone, Spins}
 use Rattle.std.proofs.lemmas.Bool.{eq-eqb, ne_eqb}
-use Rattle.cp_machine.specs.System.{machine_of, is_ready, is_pending}
-use Rattle.cp_run.specs.Slots.{slots}
-use Rattle.cp_run.specs.Table.{each}
-use Rattle.cp_endless.specs.Moments.{stretch_moments}
-use Rattle.cp_endless.specs.Shown.{shown_at}
-use Rattle.cp_endless.specs.Silent.{silent_slots}
-use Rattle.cp_ends.specs.Arrivals.{return_within}
-use Rattle.cp_ends.specs.Holds.{same_key}
-use Rattle.cp_ends.specs.declared.end.End.TheVariants.{Alone, Spins}
 use Rattle.cp_ends.proofs.Returning.{called_next, is_back, never_back, none_called, none_yet, not_back, round_there}
 use Rattle.cp_ends.proofs.Stepping.{if_goes}
 use Rattle.cp_ends.proofs.Stretches.{spot_before, spot_next, spot_none, stops, told_before, told_next}

@@ -1,14 +1,5 @@
-use Rattle.std.proofs.Common.{◌≡◌, ◌++◌, [], None, Some, true, false}
-use Rattle.cp_key.specs.Key.{key_of}
-use Rattle.cp_machine.specs.System.{machine_of, output_of, is_ready, is_pending, IsStateOf}
-use Rattle.cp_run.specs.Slots.{slots}
-use Rattle.cp_run.specs.Table.{each}
-use Rattle.cp_endless.specs.Moments.{stretch_moments}
-use Rattle.cp_endless.specs.Rounds.{spot_after}
-use Rattle.cp_endless.specs.Shown.{shown_at}
-use Rattle.cp_endless.specs.Silent.{silent_slots}
-use Rattle.cp_ends.specs.Arrivals.{has_call, return_within}
-use Rattle.cp_ends.specs.Holds.{same_key}
+use Rattle.cp_ends.proofs.Words.{◌≡◌, ◌++◌, [], None, Some, true, false, key_of, machine_of, output_of, is_ready, is_pending, IsStateOf, slots, each}
+use Rattle.cp_ends.proofs.Words.{stretch_moments, spot_after, shown_at, silent_slots, has_call, return_within, same_key}
 use Rattle.cp_ends.proofs.round.round_of.Given as goal
 
 abbrev pub invariant-loop : goal.invariant-loop

@@ -1,7 +1,4 @@
-use Rattle.std.proofs.Common.{◌∙◌, ◌++◌, [], refl, ap, arith}
-use Rattle.cp_ends.specs.Answer.{slot_graph}
-use Rattle.cp_ends.specs.Holds.{SlotArrival}
-use Rattle.cp_ends.specs.Searched.{searched}
+use Rattle.cp_ends.proofs.Words.{◌∙◌, ◌++◌, [], refl, ap, arith, slot_graph, SlotArrival, searched}
 use Rattle.cp_ends.proofs.GoingOn.{nothing, start_found}
 use Rattle.cp_ends.proofs.search.search_with.Goals as goal
 

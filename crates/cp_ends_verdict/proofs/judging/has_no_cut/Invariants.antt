@@ -1,6 +1,4 @@
-use Rattle.std.proofs.Common.{◌≡◌, drop, not}
-use Rattle.std.specs.List.{list_all}
-use Rattle.cp_ends_verdict.specs.Expectations.{is_cut}
+use Rattle.cp_ends_verdict.proofs.Words.{◌≡◌, drop, not, list_all, is_cut}
 use Rattle.cp_ends_verdict.proofs.judging.has_no_cut.Given as goal
 
 abbrev pub invariant-loop-end : goal.invariant-loop-end

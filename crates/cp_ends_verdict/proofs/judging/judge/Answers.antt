@@ -1,6 +1,4 @@
-use Rattle.std.proofs.Common.{◌∙◌, ap}
-use Rattle.cp_ends_verdict.specs.Expectations.{asks_some}
-use Rattle.cp_ends_verdict.specs.Judged.{judgement_of}
+use Rattle.cp_ends_verdict.proofs.Words.{◌∙◌, ap, asks_some, judgement_of}
 use Rattle.cp_ends_verdict.proofs.Judgements.{judged}
 use Rattle.cp_ends_verdict.proofs.judging.judge.Goals as goal
 

@@ -1,6 +1,4 @@
-use Rattle.std.proofs.Common.{◌≡◌, map, take}
-use Rattle.cp_slots.specs.Tables.{Tables}
-use Rattle.cp_ends.specs.Holds.{Holds, SlotFindings}
+use Rattle.cp_ends_verdict.proofs.Words.{◌≡◌, map, take, Tables, Holds, SlotFindings}
 use Rattle.cp_ends_verdict.specs.Knowledge as spec
 use Rattle.cp_ends_verdict.proofs.knowing.known_ends.Given as goal
 

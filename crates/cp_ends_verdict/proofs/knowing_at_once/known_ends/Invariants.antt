@@ -1,12 +1,5 @@
-use Rattle.std.proofs.Common.{◌≡◌, ℕ, List, map, take}
-use Rattle.std.specs.Prelude.{All}
-use Rattle.cp_slots.specs.Tables.{Tables}
-use Rattle.cp_machine.specs.System.{Machine}
-use Rattle.cp_machine.specs.declared.gates.Gates.TheVariants.{First}
-use Rattle.cp_endless.specs.Silent.{silent_slots}
-use Rattle.cp_ends.specs.Ends.{EndsSo}
+use Rattle.cp_ends_verdict.proofs.Words.{◌≡◌, ℕ, List, map, take, All, Tables, Machine, First, silent_slots, EndsSo, end_pair}
 use Rattle.cp_at_once.specs.Holds.{AreStates, HasWord}
-use Rattle.cp_ends_verdict.specs.Knowledge.{end_pair}
 use Rattle.cp_ends_verdict.proofs.knowing_at_once.known_ends.Given as goal
 
 abbrev pub invariant-loop-end : goal.invariant-loop-end

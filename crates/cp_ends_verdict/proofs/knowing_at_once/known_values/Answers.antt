@@ -1,10 +1,5 @@
-use Rattle.std.proofs.Common.{ap, sym, subst}
-use Rattle.cp_at_once.specs.Holds.{IsWordOf}
+use Rattle.cp_ends_verdict.proofs.Words.{ap, sym, subst, IsWordOf, First, slots, without_output, ShowsSo}
 use Rattle.cp_at_once.specs.declared.found.ValueAtOnce.{ValueAtOnce}
-use Rattle.cp_machine.specs.declared.gates.Gates.TheVariants.{First}
-use Rattle.cp_run.specs.Slots.{slots}
-use Rattle.cp_endless.specs.Silent.{without_output}
-use Rattle.cp_ends.specs.Ends.{ShowsSo}
 use Rattle.cp_ends_verdict.proofs.KnownAtOnce.{text_more, value_more, value_words, values_done}
 use Rattle.cp_ends_verdict.proofs.knowing_at_once.known_values.Goals as goal
 

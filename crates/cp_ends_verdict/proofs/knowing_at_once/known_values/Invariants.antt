@@ -1,13 +1,5 @@
-use Rattle.std.proofs.Common.{◌≡◌, ℕ, List, map, take}
-use Rattle.std.specs.Prelude.{All}
-use Rattle.cp_slots.specs.Tables.{Tables}
-use Rattle.cp_machine.specs.System.{Machine}
-use Rattle.cp_machine.specs.declared.gates.Gates.TheVariants.{First}
-use Rattle.cp_run.specs.Slots.{slots}
-use Rattle.cp_endless.specs.Silent.{without_output}
-use Rattle.cp_ends.specs.Ends.{ShowsSo}
+use Rattle.cp_ends_verdict.proofs.Words.{◌≡◌, ℕ, List, map, take, All, Tables, Machine, First, slots, without_output, ShowsSo, HasTexts, value_pair}
 use Rattle.cp_at_once.specs.Holds.{AreStates, HasWord}
-use Rattle.cp_ends_verdict.specs.Knowledge.{HasTexts, value_pair}
 use Rattle.cp_ends_verdict.proofs.knowing_at_once.known_values.Given as goal
 
 abbrev pub invariant-loop-value : goal.invariant-loop-value

@@ -1,10 +1,4 @@
-use Rattle.std.proofs.Common.{ℕ, take}
-use Rattle.cp_machine.specs.declared.gates.Gates.{Gates}
-use Rattle.cp_slots.specs.Tables.{Tables}
-use Rattle.cp_walk.specs.Text.{Spellings}
-use Rattle.cp_ends_verdict.specs.Behaviour.{on_slots}
-use Rattle.cp_ends_verdict.specs.Judged.{IsJudgedBy}
-use Rattle.cp_ends_verdict.specs.Knowledge.{HasTexts, IsKnown}
+use Rattle.cp_ends_verdict.proofs.Words.{ℕ, take, Gates, Tables, Spellings, on_slots, IsJudgedBy, HasTexts, IsKnown}
 use Rattle.cp_ends_verdict.specs.Marked as spec
 use Rattle.cp_ends_verdict.proofs.verdict.verdict_on.Given as goal
 

@@ -1,11 +1,8 @@
-use Rattle.std.proofs.Common.{[], ◌≡◌, ◌∙◌, ◌≤◌, ap, arith, length, subst, sym}
+use Rattle.cp_key.proofs.Words.{[], ◌≡◌, ◌∙◌, ◌≤◌, ap, arith, length, subst, sym, append-nil, length-map, thread_of, key_of}
 use Rattle.std.specs.Prelude.{vec_len}
-use Rattle.std.proofs.lemmas.List.{append-nil, length-map}
 use Rattle.cp_machine.specs.declared.state.TheConstants.{MOST_SHOWN}
 use Rattle.cp_machine.specs.Fits.{LinesFit, MachineFits}
-use Rattle.cp_machine.specs.Machine.{thread_of}
 use Rattle.cp_machine.specs.Reach.{Reaches}
-use Rattle.cp_key.specs.Key.{key_of}
 use Rattle.cp_key.specs.Known.{ArePartsOf}
 use Rattle.cp_key.proofs.Keys.{key_tells}
 use Rattle.cp_key.proofs.KnownBodies.{bodies_alike}

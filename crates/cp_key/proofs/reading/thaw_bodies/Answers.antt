@@ -1,12 +1,7 @@
 use Rattle.std.proofs.Common.{◌≡◌, ◌∙◌, ◌+◌, ◌<◌, ◌≤◌, ◌∷◌, [], ◌++◌, ap, arith, drop, false, get_or-set_other, length, subst, sym}
-use Rattle.std.specs.Prelude.{slice_index_or, vec_capacity}
+use Rattle.cp_key.proofs.Words.{slice_index_or, vec_capacity, ProcessState, body_of, has_moved, no_thread, thread_at, body_key, inside, rest_at}
 use Rattle.std.proofs.lemmas.List.{drop_all, get_or_read, length-append}
-use Rattle.cp_machine.specs.declared.process.ProcessState.{ProcessState}
-use Rattle.cp_machine.specs.Bodies.{body_of, has_moved}
-use Rattle.cp_machine.specs.Machine.{no_thread, thread_at}
 use Rattle.cp_machine.proofs.CopyLemmas.{grown, set_each}
-use Rattle.cp_key.specs.Key.{body_key}
-use Rattle.cp_key.specs.Known.{inside, rest_at}
 use Rattle.cp_key.specs.Room.{HasThreadRoom}
 use Rattle.cp_key.proofs.KnownBodies.{bodies_key, found, rest_more, some_bytes}
 use Rattle.cp_key.proofs.Lists.{next_of}

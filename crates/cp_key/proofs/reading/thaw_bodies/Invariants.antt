@@ -1,13 +1,7 @@
-use Rattle.std.proofs.Common.{◌≡◌, ◌+◌, ◌<◌, ◌≤◌, ◌++◌, ℕ, List, length, drop}
-use Rattle.std.specs.Prelude.{slice_index_or}
-use Rattle.std.specs.List.{flat_map}
-use Rattle.cp_machine.specs.declared.process.ProcessState.{ProcessState}
-use Rattle.cp_machine.specs.Bodies.{body_of}
+use Rattle.cp_key.proofs.Words.{◌≡◌, ◌+◌, ◌<◌, ◌≤◌, ◌++◌, ℕ, List, length, drop, slice_index_or, flat_map, ProcessState, body_of, Thread, thread_at, body_key}
+use Rattle.cp_key.proofs.Words.{HaveThreadRoom}
 use Rattle.cp_machine.specs.Fits.{HaveCells, HaveReferences, HaveStacks}
-use Rattle.cp_machine.specs.Machine.{Thread, thread_at}
-use Rattle.cp_key.specs.Key.{body_key}
 use Rattle.cp_key.specs.Known.{KeepUnmoved, inside, rest_at}
-use Rattle.cp_key.specs.Room.{HaveThreadRoom}
 use Rattle.cp_key.proofs.reading.thaw_bodies.Given as goal
 
 abbrev pub invariant-loop-at : goal.invariant-loop-at

@@ -1,11 +1,6 @@
-use Rattle.std.proofs.Common.{◌≡◌, ◌∙◌, ◌+◌, ◌<◌, ◌++◌, ap, arith, drop, length}
-use Rattle.std.specs.Prelude.{slice_index_or}
-use Rattle.std.specs.List.{flat_map}
+use Rattle.cp_key.proofs.Words.{◌≡◌, ◌∙◌, ◌+◌, ◌<◌, ◌++◌, ap, arith, drop, length, slice_index_or, flat_map, monitor_of, no_monitor, set_each, monitor_key}
+use Rattle.cp_key.proofs.Words.{number_key}
 use Rattle.std.proofs.lemmas.List.{append_assoc, drop_all, length-set}
-use Rattle.cp_machine.specs.Machine.{monitor_of, no_monitor}
-use Rattle.cp_machine.proofs.CopyLemmas.{set_each}
-use Rattle.cp_key.specs.Key.{monitor_key}
-use Rattle.cp_key.specs.Numbers.{number_key}
 use Rattle.cp_key.proofs.Lists.{next_of}
 use Rattle.cp_key.proofs.Places.{monitors_seen}
 use Rattle.cp_key.proofs.reading.thaw_guards.Goals as goal

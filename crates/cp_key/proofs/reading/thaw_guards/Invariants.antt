@@ -1,9 +1,5 @@
-use Rattle.std.proofs.Common.{◌≡◌, ◌<◌, ◌++◌, ℕ, List, length, drop}
-use Rattle.std.specs.Prelude.{slice_index_or}
-use Rattle.std.specs.List.{flat_map}
+use Rattle.cp_key.proofs.Words.{◌≡◌, ◌<◌, ◌++◌, ℕ, List, length, drop, slice_index_or, flat_map, Monitor, monitor_of, no_monitor, monitor_key}
 use Rattle.cp_machine.specs.declared.state.Gate.{Gate}
-use Rattle.cp_machine.specs.Machine.{Monitor, monitor_of, no_monitor}
-use Rattle.cp_key.specs.Key.{monitor_key}
 use Rattle.cp_key.specs.Room.{AreShort}
 use Rattle.cp_key.proofs.reading.thaw_guards.Given as goal
 

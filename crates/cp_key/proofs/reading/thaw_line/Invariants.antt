@@ -1,6 +1,4 @@
-use Rattle.std.proofs.Common.{◌≡◌, ◌≤◌, ◌++◌, ℕ, List, length, take, drop}
-use Rattle.std.specs.List.{flat_map}
-use Rattle.cp_key.specs.Numbers.{byte_key}
+use Rattle.cp_key.proofs.Words.{◌≡◌, ◌≤◌, ◌++◌, ℕ, List, length, take, drop, flat_map, byte_key}
 use Rattle.cp_key.proofs.reading.thaw_line.Given as goal
 
 abbrev pub invariant-loop-at : goal.invariant-loop-at

@@ -1,6 +1,4 @@
-use Rattle.std.proofs.Common.{◌∙◌, ◌++◌, ap, refl, sym}
-use Rattle.cp_machine.specs.Bodies.{body_of}
-use Rattle.cp_key.specs.Known.{inside}
+use Rattle.cp_key.proofs.Words.{◌∙◌, ◌++◌, ap, refl, sym, body_of, inside}
 use Rattle.cp_key.proofs.Keys.{body_tells}
 use Rattle.cp_key.proofs.reading.thaw_next.Goals as goal
 

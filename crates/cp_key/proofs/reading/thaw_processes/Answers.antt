@@ -1,10 +1,5 @@
-use Rattle.std.proofs.Common.{◌∙◌, ◌≤◌, ◌++◌, arith, subst, sym}
-use Rattle.std.specs.Prelude.{slice_index_or, vec_capacity}
-use Rattle.std.proofs.lemmas.List.{append_assoc}
+use Rattle.cp_key.proofs.Words.{◌∙◌, ◌≤◌, ◌++◌, arith, subst, sym, slice_index_or, vec_capacity, append_assoc, no_thread, status_key, list_key}
 use Rattle.cp_store.specs.declared.memory.Room.{Room}
-use Rattle.cp_machine.specs.Machine.{no_thread}
-use Rattle.cp_key.specs.Key.{status_key}
-use Rattle.cp_key.specs.Numbers.{list_key}
 use Rattle.cp_key.proofs.KnownBodies.{bodies_key, room_same, thread_is}
 use Rattle.cp_key.proofs.Places.{threads_seen}
 use Rattle.cp_key.proofs.reading.thaw_processes.Goals as goal

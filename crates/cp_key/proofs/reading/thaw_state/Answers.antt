@@ -1,11 +1,8 @@
-use Rattle.std.proofs.Common.{◌∙◌, ◌++◌, List, ap, arith, length, map, subst, sym}
+use Rattle.cp_key.proofs.Words.{◌∙◌, ◌++◌, List, ap, arith, length, map, subst, sym, ProcessState, monitor_of, thread_of, byte_key, integer_key, list_key}
+use Rattle.cp_key.proofs.Words.{number_key, HaveThreadRoom}
 use Rattle.std.proofs.lemmas.List.{append_assoc, with_items_is}
-use Rattle.cp_machine.specs.declared.process.ProcessState.{ProcessState}
 use Rattle.cp_machine.specs.Fits.{HaveCells, HaveReferences, HaveStacks}
-use Rattle.cp_machine.specs.Machine.{monitor_of, thread_of}
 use Rattle.cp_key.specs.Key.{key_of, rest_key, gates_key, monitor_key, option_key, phase_key, shown_key, threads_key}
-use Rattle.cp_key.specs.Numbers.{byte_key, integer_key, list_key, number_key}
-use Rattle.cp_key.specs.Room.{HaveThreadRoom}
 use Rattle.cp_key.proofs.Keys.{integers_tell, numbers_tell}
 use Rattle.cp_key.proofs.Machines.{after_bindings, after_monitors, after_output, after_permanents, after_phases, of_parts}
 use Rattle.cp_key.proofs.reading.thaw_state.Goals as goal

@@ -1,12 +1,6 @@
-use Rattle.std.proofs.Common.{◌≡◌, ◌∙◌, ◌+◌, ◌<◌, ◌++◌, ap, arith, drop, length, sym}
-use Rattle.std.specs.Prelude.{slice_index_or}
-use Rattle.std.specs.List.{flat_map}
+use Rattle.cp_key.proofs.Words.{◌≡◌, ◌∙◌, ◌+◌, ◌<◌, ◌++◌, ap, arith, drop, length, sym, slice_index_or, flat_map, ProcessState, no_thread, thread_at}
+use Rattle.cp_key.proofs.Words.{set_each, status_key, AreSameInside}
 use Rattle.std.proofs.lemmas.List.{get_or_read, length-set}
-use Rattle.cp_machine.specs.declared.process.ProcessState.{ProcessState}
-use Rattle.cp_machine.specs.Machine.{no_thread, thread_at}
-use Rattle.cp_machine.proofs.CopyLemmas.{set_each}
-use Rattle.cp_key.specs.Key.{status_key}
-use Rattle.cp_key.specs.Known.{AreSameInside}
 use Rattle.cp_key.proofs.Lists.{next_of}
 use Rattle.cp_key.proofs.reading.thaw_statuses.Goals as goal
 

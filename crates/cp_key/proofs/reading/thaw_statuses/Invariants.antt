@@ -1,10 +1,4 @@
-use Rattle.std.proofs.Common.{◌≡◌, ◌<◌, ◌++◌, ℕ, List, length, drop}
-use Rattle.std.specs.Prelude.{slice_index_or}
-use Rattle.std.specs.List.{flat_map}
-use Rattle.cp_machine.specs.declared.process.ProcessState.{ProcessState}
-use Rattle.cp_machine.specs.Machine.{Thread, thread_at}
-use Rattle.cp_key.specs.Key.{status_key}
-use Rattle.cp_key.specs.Known.{AreSameInside}
+use Rattle.cp_key.proofs.Words.{◌≡◌, ◌<◌, ◌++◌, ℕ, List, length, drop, slice_index_or, flat_map, ProcessState, Thread, thread_at, status_key, AreSameInside}
 use Rattle.cp_key.proofs.reading.thaw_statuses.Given as goal
 
 abbrev pub invariant-loop-at : goal.invariant-loop-at

@@ -1,8 +1,4 @@
-use Rattle.std.proofs.Common.{◌≡◌, ◌≤◌, ◌<◌, ◌++◌, ℕ, false, take, map}
-use Rattle.std.specs.List.{flat_map}
-use Rattle.cp_machine.specs.Bodies.{body_of, has_moved}
-use Rattle.cp_machine.specs.Machine.{thread_of}
-use Rattle.cp_key.specs.Key.{body_key}
+use Rattle.cp_key.proofs.Words.{◌≡◌, ◌≤◌, ◌<◌, ◌++◌, ℕ, false, take, map, flat_map, body_of, has_moved, thread_of, body_key}
 use Rattle.cp_key.proofs.writing.freeze_bodies.Given as goal
 
 abbrev pub invariant-loop-pid : goal.invariant-loop-pid

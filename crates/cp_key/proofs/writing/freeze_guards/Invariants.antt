@@ -1,7 +1,4 @@
-use Rattle.std.proofs.Common.{◌≡◌, ◌++◌, take, map}
-use Rattle.std.specs.List.{flat_map}
-use Rattle.cp_machine.specs.Machine.{monitor_of}
-use Rattle.cp_key.specs.Key.{monitor_key}
+use Rattle.cp_key.proofs.Words.{◌≡◌, ◌++◌, take, map, flat_map, monitor_of, monitor_key}
 use Rattle.cp_key.proofs.writing.freeze_guards.Given as goal
 
 abbrev pub invariant-loop-guard : goal.invariant-loop-guard

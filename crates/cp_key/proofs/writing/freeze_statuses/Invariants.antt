@@ -1,7 +1,4 @@
-use Rattle.std.proofs.Common.{◌≡◌, ◌++◌, take, map}
-use Rattle.std.specs.List.{flat_map}
-use Rattle.cp_machine.specs.Machine.{thread_of}
-use Rattle.cp_key.specs.Key.{status_key}
+use Rattle.cp_key.proofs.Words.{◌≡◌, ◌++◌, take, map, flat_map, thread_of, status_key}
 use Rattle.cp_key.proofs.writing.freeze_statuses.Given as goal
 
 abbrev pub invariant-loop-process : goal.invariant-loop-process

@@ -1,6 +1,4 @@
-use Rattle.std.proofs.Common.{◌≡◌, ◌<◌, ◌∙◌, ap, length, refl, sym}
-use Rattle.std.proofs.lemmas.List.{get_or-map, map-set}
-use Rattle.cp_machine.specs.Machine.{machine_of, monitor_at, monitor_of, no_monitor}
+use Rattle.cp_machine.proofs.Words.{◌≡◌, ◌<◌, ◌∙◌, ap, length, refl, sym, get_or-map, map-set, machine_of, monitor_at, monitor_of, no_monitor}
 use Rattle.cp_machine.proofs.admit.admit_process.Goals as goal
 
 pub returns-in-Some-clause-after : goal.returns-in-Some-clause-after

@@ -1,21 +1,8 @@
-use Rattle.std.proofs.Common.{subst, sym}
-use Rattle.cp_machine.specs.Fits.{HaveGateRoom}
-use Rattle.std.proofs.Common.{◌≡◌, ◌∙◌, Ok, ap}
+use Rattle.cp_machine.proofs.Words.{subst, sym, HaveGateRoom, ◌≡◌, ◌∙◌, Ok, ap, machine_of, arguments_of, length, arith, component_of, called_by, HasCallRoom}
+use Rattle.cp_machine.proofs.Words.{under, rest_of, fault, outcome, ProcessState, Err, rules, ◌<◌, slice_index_or, vec_len}
 use Rattle.cp_store.specs.Arguments.{bounds_or}
-use Rattle.cp_machine.specs.Machine.{machine_of}
-use Rattle.cp_machine.specs.Memory.{arguments_of}
 use Rattle.cp_machine.specs.Reach.{FitsNew}
-use Rattle.std.proofs.Common.{length, arith}
-use Rattle.cp_machine.specs.Memory.{component_of}
 use Rattle.cp_machine.proofs.CallOutcomes.{call_arguments_fail, call_component_fails, call_goes, guards_as}
-use Rattle.cp_machine.specs.Calls.{called_by}
-use Rattle.cp_machine.specs.Fits.{HasCallRoom}
-use Rattle.cp_machine.specs.Machine.{under}
-use Rattle.cp_machine.specs.Stack.{rest_of}
-use Rattle.cp_machine.specs.Statements.{fault, outcome}
-use Rattle.cp_machine.specs.declared.process.ProcessState.{ProcessState}
-use Rattle.std.proofs.Common.{Err, rules, ◌<◌}
-use Rattle.std.specs.Prelude.{slice_index_or, vec_len}
 use Rattle.cp_machine.proofs.call.call.Goals as goal
 
 pub call_by-requires-clause-line : goal.call_by-requires-clause-line

@@ -1,8 +1,5 @@
 use Rattle.cp_machine.proofs.CallOutcomes.{called_entry, called_inside, initialised_is, not_false, not_true}
-use Rattle.cp_machine.specs.Machine.{is_initialised, machine_of, phase_at, under}
-use Rattle.cp_machine.specs.Stack.{rest_of}
-use Rattle.cp_machine.specs.Statements.{local}
-use Rattle.std.proofs.Common.{ap, false, sym, true, ◌∙◌, ◌≡◌}
+use Rattle.cp_machine.proofs.Words.{is_initialised, machine_of, phase_at, under, rest_of, local, ap, false, sym, true, ◌∙◌, ◌≡◌}
 use Rattle.cp_machine.proofs.call.call_by.Goals as goal
 
 pub open_call-requires-clause-pid : goal.open_call-requires-clause-pid

@@ -1,10 +1,5 @@
-use Rattle.std.proofs.Common.{◌≡◌, ◌∙◌, ap, sym}
+use Rattle.cp_machine.proofs.Words.{◌≡◌, ◌∙◌, ap, sym, component_at, called_in, machine_of, under, rest_of, local}
 use Rattle.cp_slots.specs.declared.tables.ComponentKind.TheVariants as kind
-use Rattle.cp_slots.specs.Tables.{component_at}
-use Rattle.cp_machine.specs.Calls.{called_in}
-use Rattle.cp_machine.specs.Machine.{machine_of, under}
-use Rattle.cp_machine.specs.Stack.{rest_of}
-use Rattle.cp_machine.specs.Statements.{local}
 use Rattle.cp_machine.proofs.call.call_entry.Goals as goal
 
 pub returns-in-Monitor-clause-after : goal.returns-in-Monitor-clause-after

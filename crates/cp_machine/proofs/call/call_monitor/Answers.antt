@@ -1,13 +1,6 @@
-use Rattle.std.proofs.Common.{◌∙◌, ap, subst, sym}
-use Rattle.cp_machine.specs.declared.event.Event.TheVariants.{Kernel}
+use Rattle.cp_machine.proofs.Words.{◌∙◌, ap, subst, sym, Kernel, HaveGateRoom, entered, Machine, Stepped, length, ◌<◌, length-set}
 use Rattle.cp_machine.specs.declared.event.Kernel.TheVariants.{Enter}
-use Rattle.cp_machine.specs.Fits.{HaveGateRoom}
-use Rattle.cp_machine.specs.Kernel.{entered}
-use Rattle.cp_machine.specs.Machine.{Machine}
-use Rattle.cp_machine.specs.Statements.{Stepped}
 use Rattle.cp_machine.proofs.CallOutcomes.{count_within, guards_as}
-use Rattle.std.proofs.Common.{length, ◌<◌}
-use Rattle.std.proofs.lemmas.List.{length-set}
 use Rattle.cp_machine.proofs.call.call_monitor.Goals as goal
 
 pub enter-requires-clause-line : goal.enter-requires-clause-line

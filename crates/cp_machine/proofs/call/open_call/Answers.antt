@@ -1,15 +1,8 @@
-use Rattle.std.proofs.Common.{subst, sym}
-use Rattle.cp_machine.specs.Machine.{machine_of}
+use Rattle.cp_machine.proofs.Words.{subst, sym, machine_of, opened, thread_at, under, rest_of, Return, Frame, ap, length, ◌∙◌}
 use Rattle.cp_machine.specs.Reach.{FitsOwn}
 use Rattle.cp_machine.proofs.NamingLemmas.{opened_fits}
 use Rattle.cp_machine.proofs.CallOutcomes.{set_within}
-use Rattle.cp_machine.specs.Calls.{opened}
-use Rattle.cp_machine.specs.Machine.{thread_at, under}
 use Rattle.cp_machine.specs.Memory.{frame_bound}
-use Rattle.cp_machine.specs.Stack.{rest_of}
-use Rattle.cp_machine.specs.declared.process.Entry.TheVariants.{Return}
-use Rattle.cp_store.specs.declared.memory.Frame.{Frame}
-use Rattle.std.proofs.Common.{ap, length, ◌∙◌}
 use Rattle.cp_machine.proofs.call.open_call.Goals as goal
 
 pub returns-clause-reserved : goal.returns-clause-reserved

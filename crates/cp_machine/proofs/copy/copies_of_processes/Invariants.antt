@@ -1,6 +1,4 @@
-use Rattle.std.proofs.Common.{◌≡◌, ℕ, map, take}
-use Rattle.cp_machine.specs.Fits.{HaveCells, HaveReferences, HaveStacks}
-use Rattle.cp_machine.specs.Machine.{thread_of}
+use Rattle.cp_machine.proofs.Words.{◌≡◌, ℕ, map, take, HaveCells, HaveReferences, HaveStacks, thread_of}
 use Rattle.cp_machine.proofs.copy.copies_of_processes.Given as goal
 
 abbrev pub invariant-loop-process : goal.invariant-loop-process

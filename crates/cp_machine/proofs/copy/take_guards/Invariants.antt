@@ -1,7 +1,4 @@
-use Rattle.std.proofs.Common.{◌≡◌, ◌<◌, ℕ}
-use Rattle.std.specs.Prelude.{slice_index_or}
-use Rattle.cp_machine.specs.declared.state.Gate.{Gate}
-use Rattle.cp_machine.specs.Machine.{monitor_of}
+use Rattle.cp_machine.proofs.Words.{◌≡◌, ◌<◌, ℕ, slice_index_or, Gate, monitor_of}
 use Rattle.cp_machine.proofs.copy.take_guards.Given as goal
 
 abbrev pub invariant-loop-at : goal.invariant-loop-at

@@ -1,7 +1,5 @@
-use Rattle.std.proofs.Common.{◌≡◌, ◌+◌, ◌<◌, ◌≤◌, ◌∙◌, List, ap, false, length, subst, sym, arith}
-use Rattle.std.specs.Prelude.{slice_index_or, vec_capacity}
-use Rattle.cp_machine.specs.declared.process.ProcessState.{ProcessState}
-use Rattle.cp_machine.specs.Machine.{thread_of}
+use Rattle.cp_machine.proofs.Words.{◌≡◌, ◌+◌, ◌<◌, ◌≤◌, ◌∙◌, List, ap, false, length, subst, sym, arith, slice_index_or, vec_capacity, ProcessState}
+use Rattle.cp_machine.proofs.Words.{thread_of}
 use Rattle.cp_machine.proofs.CopyLemmas.{AreCopied, body_kept, copied_next, status_taken, threads_same}
 use Rattle.cp_machine.proofs.copy.take_processes.Goals as goal
 use Rattle.cp_machine.proofs.copy.take_processes.Goals.{then-has, else-has}

@@ -1,6 +1,4 @@
-use Rattle.std.proofs.Common.{subst, sym}
-use Rattle.cp_machine.specs.Fits.{AreFirstKnown}
-use Rattle.cp_machine.specs.Machine.{machine_of}
+use Rattle.cp_machine.proofs.Words.{subst, sym, AreFirstKnown, machine_of}
 use Rattle.cp_machine.proofs.LineLemmas.{thread_known}
 use Rattle.cp_machine.proofs.end.return_to.Goals as goal
 

@@ -1,9 +1,6 @@
-use Rattle.std.proofs.Common.{◌≡◌, ◌∙◌, ap, drop, map, subst, sym}
-use Rattle.std.proofs.lemmas.List.{map-set}
-use Rattle.cp_slots.specs.Tables.{routine_at}
-use Rattle.cp_store.specs.declared.memory.Frame.{Frame}
+use Rattle.cp_machine.proofs.Words.{◌≡◌, ◌∙◌, ap, drop, map, subst, sym, map-set, routine_at, Frame, Machine, Thread, machine_of, thread_of, thread_at}
+use Rattle.cp_machine.proofs.Words.{with_thread}
 use Rattle.cp_machine.specs.Calls.{given_up, given_up_from}
-use Rattle.cp_machine.specs.Machine.{Machine, Thread, machine_of, thread_of, thread_at, with_thread}
 use Rattle.cp_machine.specs.Results.{HasResult}
 use Rattle.cp_machine.proofs.ThreadLemmas.{thread_read}
 use Rattle.cp_machine.proofs.frame.leave.Goals as goal

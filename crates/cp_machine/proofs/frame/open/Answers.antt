@@ -1,10 +1,6 @@
-use Rattle.std.proofs.Common.{◌≡◌, ◌∷◌, ap, drop, map, sym}
-use Rattle.std.proofs.lemmas.List.{map-set}
+use Rattle.cp_machine.proofs.Words.{◌≡◌, ◌∷◌, ap, drop, map, sym, map-set, frame_behind, Thread, machine_of, thread_of, thread_at, with_thread, frame_opened}
+use Rattle.cp_machine.proofs.Words.{rest_of}
 use Rattle.cp_slots.specs.Tables.{routine_view}
-use Rattle.cp_machine.specs.Calls.{frame_behind}
-use Rattle.cp_machine.specs.Machine.{Thread, machine_of, thread_of, thread_at, with_thread}
-use Rattle.cp_machine.specs.Memory.{frame_opened}
-use Rattle.cp_machine.specs.Stack.{rest_of}
 use Rattle.cp_machine.proofs.ThreadLemmas.{thread_read}
 use Rattle.cp_machine.proofs.frame.open.Goals as goal
 

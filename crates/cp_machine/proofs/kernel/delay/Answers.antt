@@ -1,7 +1,4 @@
-use Rattle.std.proofs.Common.{subst, sym}
-use Rattle.std.specs.Prelude.{pos, slice_set}
-use Rattle.cp_machine.specs.Fits.{AreFirstKnown}
-use Rattle.cp_machine.specs.Machine.{machine_of}
+use Rattle.cp_machine.proofs.Words.{subst, sym, pos, slice_set, AreFirstKnown, machine_of}
 use Rattle.cp_machine.proofs.LineLemmas.{thread_known}
 use Rattle.cp_machine.proofs.kernel.delay.Goals as goal
 

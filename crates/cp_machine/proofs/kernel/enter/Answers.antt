@@ -1,6 +1,4 @@
-use Rattle.std.proofs.Common.{◌≡◌, ◌∙◌, ap, arith, length, refl}
-use Rattle.std.proofs.lemmas.List.{map-set}
-use Rattle.cp_machine.specs.Machine.{Monitor, machine_of, monitor_at, monitor_of}
+use Rattle.cp_machine.proofs.Words.{◌≡◌, ◌∙◌, ap, arith, length, refl, map-set, Monitor, machine_of, monitor_at, monitor_of}
 use Rattle.cp_machine.proofs.KernelLemmas.{guard_read}
 use Rattle.cp_machine.proofs.kernel.enter.Goals as goal
 

@@ -1,6 +1,4 @@
-use Rattle.std.proofs.Common.{◌≡◌, ◌∙◌, refl}
-use Rattle.std.proofs.lemmas.List.{map-set}
-use Rattle.cp_machine.specs.Machine.{machine_of, monitor_at, monitor_of}
+use Rattle.cp_machine.proofs.Words.{◌≡◌, ◌∙◌, refl, map-set, machine_of, monitor_at, monitor_of}
 use Rattle.cp_machine.proofs.KernelLemmas.{guard_read}
 use Rattle.cp_machine.proofs.kernel.hand_over.Goals as goal
 

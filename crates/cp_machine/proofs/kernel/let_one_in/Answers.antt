@@ -1,6 +1,4 @@
-use Rattle.std.proofs.Common.{◌≡◌, ◌∙◌, ◌≤◌, ◌<◌, arith, ap, length, refl, sym}
-use Rattle.std.proofs.lemmas.List.{map-set}
-use Rattle.cp_machine.specs.Machine.{Monitor, machine_of, monitor_at, monitor_of}
+use Rattle.cp_machine.proofs.Words.{◌≡◌, ◌∙◌, ◌≤◌, ◌<◌, arith, ap, length, refl, sym, map-set, Monitor, machine_of, monitor_at, monitor_of}
 use Rattle.cp_machine.proofs.KernelLemmas.{guard_read, one_in_few, one_in_many}
 use Rattle.cp_machine.proofs.kernel.let_one_in.Goals as goal
 

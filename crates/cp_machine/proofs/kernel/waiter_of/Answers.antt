@@ -1,7 +1,5 @@
-use Rattle.std.proofs.Common.{◌≡◌, ◌∙◌, sym}
+use Rattle.cp_machine.proofs.Words.{◌≡◌, ◌∙◌, sym, ProcessState, is_delayed_at, thread_of}
 use Rattle.std.specs.Prelude.{position}
-use Rattle.cp_machine.specs.declared.process.ProcessState.{ProcessState}
-use Rattle.cp_machine.specs.Machine.{is_delayed_at, thread_of}
 use Rattle.cp_machine.proofs.KernelLemmas.{position_map}
 use Rattle.cp_machine.proofs.kernel.waiter_of.Goals as goal
 

@@ -1,7 +1,5 @@
-use Rattle.std.proofs.Common.{◌≡◌, ◌<◌, length}
-use Rattle.std.proofs.lemmas.List.{length-map}
+use Rattle.cp_machine.proofs.Words.{◌≡◌, ◌<◌, length, length-map, machine_of}
 use Rattle.cp_machine.specs.declared.event.Event.TheVariants.{Local}
-use Rattle.cp_machine.specs.Machine.{machine_of}
 use Rattle.cp_machine.proofs.LocalSteps.{own_stepped, own_same, ready_stepped, still_kept}
 use Rattle.cp_machine.proofs.local.local_step.Goals as goal
 

@@ -1,16 +1,10 @@
-use Rattle.std.proofs.Common.{◌∙◌, ap, sym}
+use Rattle.cp_machine.proofs.Words.{◌∙◌, ap, sym, Assign, If, While, Until, Rest, machine_of, under, with_stack, rest_of, assign, branch, local, outcome}
+use Rattle.cp_machine.proofs.Words.{while_do, until, act, Block, Cycle}
 use Rattle.std.proofs.lemmas.Bool.{false≢true}
-use Rattle.cp_slots.specs.declared.item.Action.TheVariants.{Assign, If, While, Until}
-use Rattle.cp_machine.specs.declared.process.Entry.TheVariants.{Rest}
-use Rattle.cp_machine.specs.Machine.{machine_of, under, with_stack}
-use Rattle.cp_machine.specs.Stack.{rest_of}
-use Rattle.cp_machine.specs.Statements.{assign, branch, local, outcome, while_do, until}
-use Rattle.cp_machine.specs.Step.{act}
 use Rattle.cp_machine.proofs.LocalSteps.{assign_calm, branch_calm, while_calm, until_calm, done_pending, done_same}
 use Rattle.cp_machine.proofs.ReadLemmas.{taken_fits, taken_reads, taken_room}
 use Rattle.cp_machine.proofs.RoomLemmas.{is_busy}
 use Rattle.cp_machine.proofs.TakeLemmas.{item_room, item_taken}
-use Rattle.cp_slots.specs.declared.item.Action.TheVariants.{Block, Cycle}
 use Rattle.cp_machine.proofs.local.perform_local.Goals as goal
 
 pub assign-requires-clause-reads : goal.assign-requires-clause-reads

@@ -1,10 +1,5 @@
-use Rattle.std.proofs.Common.{of_z, to_z, w16}
-use Rattle.cp_machine.specs.Machine.{machine_of, under}
-use Rattle.cp_machine.specs.Statements.{succeeded}
+use Rattle.cp_machine.proofs.Words.{of_z, to_z, w16, machine_of, under, succeeded, outcome, Successor, ap, rules, sym, ◌∙◌, ◌∷◌, ◌≡◌}
 use Rattle.cp_machine.proofs.LocalSteps.{succeeded_calm, done_pending, done_same}
-use Rattle.cp_machine.specs.Statements.{outcome}
-use Rattle.cp_machine.specs.declared.process.Entry.TheVariants.{Successor}
-use Rattle.std.proofs.Common.{ap, rules, sym, ◌∙◌, ◌∷◌, ◌≡◌}
 use Rattle.cp_machine.proofs.local.take_local_successor.Goals as goal
 
 pub returns-clause-same : goal.returns-clause-same

@@ -1,9 +1,5 @@
 use Rattle.std.proofs.Common.{◌≡◌, ◌∙◌, Bool, Err, Ok, Result, ap, false, of_z, rules, sym, to_z, true, w16}
-use Rattle.std.specs.Prelude.{ℤ}
-use Rattle.cp_store.specs.declared.error.ErrorName.{ErrorName}
-use Rattle.cp_store.specs.Values.{ranged}
-use Rattle.cp_machine.specs.Machine.{machine_of, under}
-use Rattle.cp_machine.specs.Statements.{fault, gone_on, is_beyond, local, outcome}
+use Rattle.cp_machine.proofs.Words.{ℤ, ErrorName, ranged, machine_of, under, fault, gone_on, is_beyond, local, outcome}
 use Rattle.cp_machine.proofs.Outcomes.{for_fails, for_goes, for_none}
 use Rattle.cp_machine.proofs.loops.for_from.Goals as goal
 

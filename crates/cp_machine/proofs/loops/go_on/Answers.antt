@@ -1,9 +1,5 @@
-use Rattle.cp_machine.specs.Stack.{rest_of}
-use Rattle.cp_machine.specs.Memory.{number_put, origin_of}
-use Rattle.cp_machine.specs.Machine.{Machine, machine_of, under, with_stack}
-use Rattle.cp_machine.specs.declared.process.Entry.TheVariants.{Successor}
-use Rattle.std.specs.Prelude.{ℤ}
-use Rattle.std.proofs.Common.{◌≡◌, ◌∷◌, ◌∙◌, ap, of_z, rules, to_z, w16}
+use Rattle.cp_machine.proofs.Words.{rest_of, number_put, origin_of, Machine, machine_of, under, with_stack, Successor, ℤ, ◌≡◌, ◌∷◌, ◌∙◌, ap, of_z, rules}
+use Rattle.cp_machine.proofs.Words.{to_z, w16}
 use Rattle.cp_machine.proofs.Outcomes.{replaced_has, replaced_within}
 use Rattle.cp_machine.proofs.loops.go_on.Goals as goal
 

@@ -1,9 +1,5 @@
 use Rattle.std.proofs.Common.{◌≡◌, ◌∙◌, Bool, Err, Ok, Result, ap, false, of_z, rules, sym, to_z, true, w16}
-use Rattle.std.specs.Prelude.{ℤ}
-use Rattle.std.specs.Ordering.{int_eq}
-use Rattle.cp_store.specs.declared.error.ErrorName.{ErrorName}
-use Rattle.cp_machine.specs.Machine.{machine_of, under}
-use Rattle.cp_machine.specs.Statements.{fault, gone_on, local, next_value, outcome}
+use Rattle.cp_machine.proofs.Words.{ℤ, int_eq, ErrorName, machine_of, under, fault, gone_on, local, next_value, outcome}
 use Rattle.cp_machine.proofs.Outcomes.{turn_fails, turn_goes, turn_last}
 use Rattle.cp_machine.proofs.loops.successor.Goals as goal
 

@@ -1,8 +1,5 @@
 use Rattle.cp_machine.proofs.CallOutcomes.{while_fails, while_goes}
-use Rattle.cp_machine.specs.Machine.{machine_of, under}
-use Rattle.cp_machine.specs.Statements.{fault, local, outcome}
-use Rattle.cp_store.specs.Values.{is_true}
-use Rattle.std.proofs.Common.{Bool, ap, false, of_z, rules, sym, to_z, true, w16, ◌∙◌, ◌≡◌}
+use Rattle.cp_machine.proofs.Words.{machine_of, under, fault, local, outcome, is_true, Bool, ap, false, of_z, rules, sym, to_z, true, w16, ◌∙◌, ◌≡◌}
 use Rattle.cp_machine.proofs.loops.while_do.Goals as goal
 
 pub value_of-requires-clause-pid : goal.value_of-requires-clause-pid

@@ -1,8 +1,6 @@
-use Rattle.std.proofs.Common.{◌≡◌}
+use Rattle.cp_machine.proofs.Words.{◌≡◌, machine_of, address_of}
 use Rattle.cp_store.specs.Inside as store
 use Rattle.cp_store.specs.Places.{address_at}
-use Rattle.cp_machine.specs.Machine.{machine_of}
-use Rattle.cp_machine.specs.Memory.{address_of}
 use Rattle.cp_machine.proofs.ReadLemmas.{own_memory, reached_in, whole_memory}
 use Rattle.cp_machine.proofs.memory.address_of.Goals as goal
 

@@ -1,11 +1,6 @@
-use Rattle.std.proofs.Common.{refl, ◌≡◌, ◌∙◌, ap, length, sym}
-use Rattle.std.proofs.lemmas.List.{map-set, with_items_is}
-use Rattle.cp_store.specs.Memory.{memory_of}
-use Rattle.cp_store.specs.Arguments.{bound_in_component, bindings_after}
-use Rattle.cp_machine.specs.Machine.{machine_of, with_bindings}
-use Rattle.cp_machine.specs.Memory.{memory_at, with_memory}
+use Rattle.cp_machine.proofs.Words.{refl, ◌≡◌, ◌∙◌, ap, length, sym, map-set, with_items_is, memory_of, bound_in_component, bindings_after, machine_of}
+use Rattle.cp_machine.proofs.Words.{with_bindings, memory_at, with_memory, subst}
 use Rattle.cp_machine.proofs.ThreadLemmas.{memory_put}
-use Rattle.std.proofs.Common.{subst}
 use Rattle.cp_store.specs.Inside as store
 use Rattle.cp_machine.proofs.ReadLemmas.{own_memory}
 use Rattle.cp_machine.proofs.memory.bind_parameters.Goals as goal

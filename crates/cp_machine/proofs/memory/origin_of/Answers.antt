@@ -1,9 +1,6 @@
-use Rattle.std.proofs.Common.{◌≡◌, refl}
+use Rattle.cp_machine.proofs.Words.{◌≡◌, refl, machine_of, memory_at, origin_of, frame_at}
 use Rattle.cp_store.specs.Inside as store
 use Rattle.cp_store.specs.Places.{origin_address}
-use Rattle.cp_machine.specs.Machine.{machine_of}
-use Rattle.cp_machine.specs.Memory.{memory_at, origin_of}
-use Rattle.cp_machine.specs.Reach.{frame_at}
 use Rattle.cp_machine.proofs.ReadLemmas.{begins, named_in, own_memory, whole_memory}
 use Rattle.cp_machine.proofs.memory.origin_of.Goals as goal
 

@@ -1,8 +1,4 @@
-use Rattle.std.proofs.Common.{refl, ◌≡◌, ◌∙◌, ap, length, sym}
-use Rattle.std.proofs.lemmas.List.{map-set, with_items_is}
-use Rattle.cp_store.specs.Memory.{memory_of}
-use Rattle.cp_store.specs.Memory.{put_copy}
-use Rattle.cp_machine.specs.Machine.{machine_of}
+use Rattle.cp_machine.proofs.Words.{refl, ◌≡◌, ◌∙◌, ap, length, sym, map-set, with_items_is, memory_of, put_copy, machine_of}
 use Rattle.cp_machine.proofs.ThreadLemmas.{memory_put}
 use Rattle.cp_store.specs.Inside as store
 use Rattle.cp_machine.proofs.ReadLemmas.{own_memory}

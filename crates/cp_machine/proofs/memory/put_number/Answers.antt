@@ -1,9 +1,6 @@
-use Rattle.std.proofs.Common.{to_z, of_z, refl, ◌≡◌, ◌∙◌, ap, length, sym}
-use Rattle.std.proofs.lemmas.List.{map-set, with_items_is}
+use Rattle.cp_machine.proofs.Words.{to_z, of_z, refl, ◌≡◌, ◌∙◌, ap, length, sym, map-set, with_items_is, memory_of, put_number, machine_of}
 use Rattle.std.specs.Int.{w16}
 use Rattle.std.proofs.lemmas.Int.{to_z-of_z}
-use Rattle.cp_store.specs.Memory.{memory_of, put_number}
-use Rattle.cp_machine.specs.Machine.{machine_of}
 use Rattle.cp_machine.proofs.ThreadLemmas.{memory_put}
 use Rattle.cp_store.specs.Inside as store
 use Rattle.cp_machine.proofs.ReadLemmas.{own_memory}

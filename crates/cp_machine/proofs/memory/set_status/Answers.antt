@@ -1,6 +1,4 @@
-use Rattle.std.proofs.Common.{refl, ◌≡◌, map}
-use Rattle.std.proofs.lemmas.List.{map-set}
-use Rattle.cp_machine.specs.Machine.{thread_of, thread_at}
+use Rattle.cp_machine.proofs.Words.{refl, ◌≡◌, map, map-set, thread_of, thread_at}
 use Rattle.cp_machine.proofs.ThreadLemmas.{thread_read}
 use Rattle.cp_machine.proofs.memory.set_status.Goals as goal
 

@@ -1,14 +1,7 @@
-use Rattle.std.proofs.Common.{◌∙◌, ap, sym}
-use Rattle.cp_slots.specs.declared.item.Action.TheVariants.{While, Until, Display}
-use Rattle.cp_machine.specs.declared.process.Entry.TheVariants.{Rest}
-use Rattle.cp_machine.specs.Machine.{machine_of, under, with_stack}
-use Rattle.cp_machine.specs.Stack.{rest_of}
-use Rattle.cp_machine.specs.Statements.{local}
-use Rattle.cp_machine.specs.Step.{act}
+use Rattle.cp_machine.proofs.Words.{◌∙◌, ap, sym, While, Until, Display, Rest, machine_of, under, with_stack, rest_of, local, act, Block, Cycle}
 use Rattle.cp_machine.proofs.ReadLemmas.{taken_fits, taken_reads, taken_room}
 use Rattle.cp_machine.proofs.RoomLemmas.{is_busy}
 use Rattle.cp_machine.proofs.TakeLemmas.{item_room, item_taken}
-use Rattle.cp_slots.specs.declared.item.Action.TheVariants.{Block, Cycle}
 use Rattle.cp_machine.proofs.perform.perform.Goals as goal
 
 pub returns-in-Display-clause-reserved : goal.returns-in-Display-clause-reserved

@@ -1,8 +1,4 @@
-use Rattle.cp_slots.specs.declared.item.Action.TheVariants.{Assign, AssignSet, Copy}
-use Rattle.std.proofs.Common.{◌∙◌, ap}
-use Rattle.cp_machine.specs.Machine.{machine_of, under}
-use Rattle.cp_machine.specs.Step.{act}
-use Rattle.cp_machine.specs.declared.process.Entry.TheVariants.{Rest}
+use Rattle.cp_machine.proofs.Words.{Assign, AssignSet, Copy, ◌∙◌, ap, machine_of, under, act, Rest}
 use Rattle.cp_machine.proofs.RoomLemmas.{is_busy}
 use Rattle.cp_machine.proofs.ReadLemmas.{taken_reads}
 use Rattle.cp_machine.proofs.perform.perform_assignment.Goals as goal

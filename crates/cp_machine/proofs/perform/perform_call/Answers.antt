@@ -1,16 +1,10 @@
-use Rattle.cp_slots.specs.declared.item.Action.TheVariants.{Call, Start}
-use Rattle.cp_machine.specs.Machine.{machine_of, under}
-use Rattle.cp_machine.specs.Step.{act}
-use Rattle.cp_machine.specs.declared.process.Entry.TheVariants.{Rest}
+use Rattle.cp_machine.proofs.Words.{Call, Start, machine_of, under, act, Rest, rest_of, subst, sym, ◌∙◌, ap, arith, length}
 use Rattle.cp_machine.specs.Calls.{call, start}
-use Rattle.cp_machine.specs.Stack.{rest_of}
 use Rattle.cp_machine.proofs.RoomLemmas.{is_busy}
 use Rattle.cp_machine.proofs.TakeLemmas.{item_taken, item_call_room}
-use Rattle.std.proofs.Common.{subst, sym, ◌∙◌, ap}
 use Rattle.cp_machine.specs.Reach.{CanCall, CanStart}
 use Rattle.cp_machine.proofs.NamingLemmas.{taken_call, taken_start}
 use Rattle.cp_machine.proofs.TakeLemmas.{guards_count, processes_count}
-use Rattle.std.proofs.Common.{arith, length}
 use Rattle.cp_machine.proofs.perform.perform_call.Goals as goal
 
 pub call-requires-clause-room : goal.call-requires-clause-room

@@ -1,13 +1,6 @@
-use Rattle.std.proofs.Common.{ℕ, ◌<◌, length, subst, sym, ◌∙◌, ap}
-use Rattle.std.specs.Prelude.{slice_index_or}
-use Rattle.cp_slots.specs.declared.item.Action.TheVariants.{If, Case}
-use Rattle.cp_slots.specs.declared.item.ResolvedArm.{ResolvedArm}
-use Rattle.cp_machine.specs.Fits.{HasRoom}
-use Rattle.cp_machine.specs.Machine.{machine_of, under}
-use Rattle.cp_machine.specs.Step.{act}
-use Rattle.cp_machine.specs.declared.process.Entry.TheVariants.{Rest}
+use Rattle.cp_machine.proofs.Words.{ℕ, ◌<◌, length, subst, sym, ◌∙◌, ap, slice_index_or, If, Case, ResolvedArm, HasRoom, machine_of, under, act, Rest}
+use Rattle.cp_machine.proofs.Words.{rest_of}
 use Rattle.cp_machine.specs.Statements.{case_of}
-use Rattle.cp_machine.specs.Stack.{rest_of}
 use Rattle.cp_machine.proofs.RoomLemmas.{is_busy}
 use Rattle.cp_machine.proofs.ReadLemmas.{taken_fits, taken_reads, taken_room}
 use Rattle.cp_machine.proofs.perform.perform_choice.Goals as goal

@@ -1,9 +1,5 @@
 use Rattle.cp_machine.specs.Statements.{for_do}
-use Rattle.cp_machine.specs.Step.{act}
-use Rattle.std.proofs.Common.{◌≡◌, ◌∙◌, ap, of_z, rules, sym, to_z, w16}
-use Rattle.cp_slots.specs.declared.item.Action.TheVariants.{For}
-use Rattle.cp_machine.specs.Machine.{machine_of, under}
-use Rattle.cp_machine.specs.declared.process.Entry.TheVariants.{Rest}
+use Rattle.cp_machine.proofs.Words.{act, ◌≡◌, ◌∙◌, ap, of_z, rules, sym, to_z, w16, For, machine_of, under, Rest}
 use Rattle.cp_machine.proofs.RoomLemmas.{is_busy}
 use Rattle.cp_machine.proofs.ReadLemmas.{taken_fits, taken_reads, taken_room}
 use Rattle.cp_machine.proofs.perform.perform_for.Goals as goal

@@ -1,12 +1,6 @@
-use Rattle.std.proofs.Common.{◌∷◌, subst, ◌∙◌, ap}
-use Rattle.cp_machine.specs.declared.process.Entry.TheVariants.{Rest}
-use Rattle.cp_machine.specs.Fits.{StackFits}
-use Rattle.cp_machine.specs.Machine.{machine_of, thread_at, under}
-use Rattle.cp_machine.specs.Step.{act}
+use Rattle.cp_machine.proofs.Words.{◌∷◌, subst, ◌∙◌, ap, Rest, StackFits, machine_of, thread_at, under, act, Delay, Continue, StackReaches}
 use Rattle.cp_machine.proofs.RoomLemmas.{entries_fit, is_busy}
-use Rattle.cp_slots.specs.declared.item.Action.TheVariants.{Delay, Continue}
 use Rattle.cp_machine.proofs.ReadLemmas.{taken_reads}
-use Rattle.cp_machine.specs.Reach.{StackReaches}
 use Rattle.cp_machine.proofs.RoomLemmas.{within}
 use Rattle.cp_machine.proofs.Covered.{frame_reaches}
 use Rattle.cp_machine.proofs.LineLemmas.{firsts_known}

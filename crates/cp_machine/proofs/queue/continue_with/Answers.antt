@@ -1,20 +1,11 @@
-use Rattle.std.proofs.Common.{◌≡◌, ◌∙◌, ◌<◌, ap, arith, get_or-set_same, length, subst, sym}
-use Rattle.cp_machine.specs.Fits.{ThreadFits}
-use Rattle.cp_machine.specs.Machine.{Thread, machine_of, no_thread, thread_at, under}
-use Rattle.cp_machine.specs.Stack.{from_end}
+use Rattle.cp_machine.proofs.Words.{◌≡◌, ◌∙◌, ◌<◌, ap, arith, get_or-set_same, length, subst, sym, ThreadFits, Thread, machine_of, no_thread, thread_at}
+use Rattle.cp_machine.proofs.Words.{under, from_end, Machine, Permanent, HasCells, ThreadReaches, AreFirstKnown, continued_from, fault, local, outcome, rules}
 use Rattle.cp_machine.proofs.Keeping.{end_fits}
 use Rattle.cp_machine.proofs.RoomLemmas.{within}
-use Rattle.cp_machine.specs.Machine.{Machine}
-use Rattle.cp_store.specs.declared.memory.Address.TheVariants.{Permanent}
-use Rattle.cp_machine.specs.Reach.{HasCells, ThreadReaches}
 use Rattle.cp_machine.proofs.Framing.{end_reaches}
-use Rattle.cp_machine.specs.Fits.{AreFirstKnown}
 use Rattle.cp_machine.proofs.LineLemmas.{thread_known}
 use Rattle.cp_machine.proofs.CallOutcomes.{continue_fails, continue_goes, guards_as}
 use Rattle.cp_machine.proofs.Outcomes.{replaced_within}
-use Rattle.cp_machine.specs.Calls.{continued_from}
-use Rattle.cp_machine.specs.Statements.{fault, local, outcome}
-use Rattle.std.proofs.Common.{rules}
 use Rattle.cp_machine.proofs.queue.continue_with.Goals as goal
 
 pub continue_from-requires-clause-fits : goal.continue_from-requires-clause-fits

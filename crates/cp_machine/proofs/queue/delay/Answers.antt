@@ -1,12 +1,5 @@
-use Rattle.std.proofs.Common.{arith, subst}
-use Rattle.cp_store.specs.declared.memory.Address.TheVariants.{Permanent}
-use Rattle.cp_machine.specs.Machine.{machine_of}
-use Rattle.cp_machine.specs.Reach.{HasCells}
+use Rattle.cp_machine.proofs.Words.{arith, subst, Permanent, machine_of, HasCells, under, rest_of, fault, local, outcome, ap, rules, sym, ◌∙◌, ◌≡◌}
 use Rattle.cp_machine.proofs.CallOutcomes.{delay_fails, delay_goes}
-use Rattle.cp_machine.specs.Machine.{under}
-use Rattle.cp_machine.specs.Stack.{rest_of}
-use Rattle.cp_machine.specs.Statements.{fault, local, outcome}
-use Rattle.std.proofs.Common.{ap, rules, sym, ◌∙◌, ◌≡◌}
 use Rattle.cp_machine.proofs.queue.delay.Goals as goal
 
 pub delay_at-requires-clause-cell : goal.delay_at-requires-clause-cell

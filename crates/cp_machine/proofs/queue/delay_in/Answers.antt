@@ -1,20 +1,10 @@
-use Rattle.std.proofs.Common.{◌<◌, length, subst, sym}
-use Rattle.cp_machine.specs.Machine.{Machine}
-use Rattle.cp_machine.specs.Fits.{AreFirstKnown}
+use Rattle.cp_machine.proofs.Words.{◌<◌, length, subst, sym, Machine, AreFirstKnown, machine_of, delayed, under, rest_of, Stepped, Kernel, is_true, Bool, ap}
+use Rattle.cp_machine.proofs.Words.{false, of_z, rules, to_z, true, w16, ◌∙◌, ◌≡◌, pos, slice_index_or}
 use Rattle.cp_machine.proofs.LineLemmas.{thread_known}
-use Rattle.cp_machine.specs.Machine.{machine_of}
 use Rattle.cp_machine.proofs.CallOutcomes.{delayed_if, guards_as}
 use Rattle.cp_machine.proofs.Outcomes.{replaced_within}
-use Rattle.cp_machine.specs.Kernel.{delayed}
-use Rattle.cp_machine.specs.Machine.{under}
-use Rattle.cp_machine.specs.Stack.{rest_of}
-use Rattle.cp_machine.specs.Statements.{Stepped}
-use Rattle.cp_machine.specs.declared.event.Event.TheVariants.{Kernel}
 use Rattle.cp_machine.specs.declared.event.Kernel.TheVariants.{Delay}
-use Rattle.cp_store.specs.Values.{is_true}
-use Rattle.std.proofs.Common.{Bool, ap, false, of_z, rules, to_z, true, w16, ◌∙◌, ◌≡◌}
 use Rattle.std.proofs.lemmas.List.{get_or_read}
-use Rattle.std.specs.Prelude.{pos, slice_index_or}
 use Rattle.cp_machine.proofs.queue.delay_in.Goals as goal
 
 pub delay-requires-clause-cell : goal.delay-requires-clause-cell

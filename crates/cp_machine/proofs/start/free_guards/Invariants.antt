@@ -1,6 +1,4 @@
-use Rattle.std.proofs.Common.{◌≡◌, map}
-use Rattle.std.specs.Prelude.{replicate}
-use Rattle.cp_machine.specs.Machine.{monitor_of, no_monitor}
+use Rattle.cp_machine.proofs.Words.{◌≡◌, map, replicate, monitor_of, no_monitor}
 use Rattle.cp_machine.proofs.start.free_guards.Given as goal
 
 abbrev pub invariant-loop-number : goal.invariant-loop-number

@@ -1,7 +1,4 @@
-use Rattle.std.proofs.Common.{◌≡◌, ◌<◌, ◌∷◌, ◌++◌, [], length, arith}
-use Rattle.std.specs.Prelude.{vec_capacity}
-use Rattle.cp_slots.specs.Tables.{no_process}
-use Rattle.cp_machine.specs.Opening.{unstarted_thread}
+use Rattle.cp_machine.proofs.Words.{◌≡◌, ◌<◌, ◌∷◌, ◌++◌, [], length, arith, vec_capacity, no_process, unstarted_thread}
 use Rattle.cp_machine.proofs.StartLemmas.{room_more, threads_more}
 use Rattle.cp_machine.proofs.start.start_processes.Goals as goal
 

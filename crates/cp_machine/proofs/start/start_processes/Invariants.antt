@@ -1,7 +1,4 @@
-use Rattle.std.proofs.Common.{◌≡◌, map, take}
-use Rattle.cp_machine.specs.Fits.{HaveCells, HaveReferences, HaveStacks}
-use Rattle.cp_machine.specs.Machine.{thread_of}
-use Rattle.cp_machine.specs.Opening.{unstarted_thread}
+use Rattle.cp_machine.proofs.Words.{◌≡◌, map, take, HaveCells, HaveReferences, HaveStacks, thread_of, unstarted_thread}
 use Rattle.cp_machine.proofs.start.start_processes.Given as goal
 
 abbrev pub invariant-loop-number : goal.invariant-loop-number

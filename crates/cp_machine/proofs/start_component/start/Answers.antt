@@ -1,19 +1,7 @@
-use Rattle.std.proofs.Common.{◌≡◌, ◌∙◌, Ok, ap, subst, sym}
+use Rattle.cp_machine.proofs.Words.{◌≡◌, ◌∙◌, Ok, ap, subst, sym, machine_of, arguments_of, component_of, FitsComponent, length, arith, started, HasCallRoom}
+use Rattle.cp_machine.proofs.Words.{under, rest_of, fault, outcome, ProcessState, component_at, Err, rules, ◌<◌, slice_index_or, vec_len}
 use Rattle.cp_store.specs.Arguments.{bounds_or}
-use Rattle.cp_machine.specs.Machine.{machine_of}
-use Rattle.cp_machine.specs.Memory.{arguments_of, component_of}
-use Rattle.cp_machine.specs.Reach.{FitsComponent}
-use Rattle.std.proofs.Common.{length, arith}
 use Rattle.cp_machine.proofs.CallOutcomes.{start_arguments_fail, start_component_fails, start_goes}
-use Rattle.cp_machine.specs.Calls.{started}
-use Rattle.cp_machine.specs.Fits.{HasCallRoom}
-use Rattle.cp_machine.specs.Machine.{under}
-use Rattle.cp_machine.specs.Stack.{rest_of}
-use Rattle.cp_machine.specs.Statements.{fault, outcome}
-use Rattle.cp_machine.specs.declared.process.ProcessState.{ProcessState}
-use Rattle.cp_slots.specs.Tables.{component_at}
-use Rattle.std.proofs.Common.{Err, rules, ◌<◌}
-use Rattle.std.specs.Prelude.{slice_index_or, vec_len}
 use Rattle.cp_machine.proofs.start_component.start.Goals as goal
 
 pub returns-clause-reserved : goal.returns-clause-reserved

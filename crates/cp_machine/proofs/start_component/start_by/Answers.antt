@@ -1,9 +1,5 @@
-use Rattle.cp_machine.specs.Calls.{started}
-use Rattle.cp_machine.specs.Machine.{machine_of, under}
-use Rattle.cp_machine.specs.Stack.{rest_of}
-use Rattle.cp_slots.specs.Tables.{component_at}
+use Rattle.cp_machine.proofs.Words.{started, machine_of, under, rest_of, component_at, ap, sym, ◌∙◌, ◌≡◌}
 use Rattle.cp_slots.specs.declared.tables.ComponentKind.TheVariants as kind
-use Rattle.std.proofs.Common.{ap, sym, ◌∙◌, ◌≡◌}
 use Rattle.cp_machine.proofs.start_component.start_by.Goals as goal
 
 pub component-requires : goal.component-requires

@@ -1,22 +1,8 @@
-use Rattle.std.proofs.Common.{subst, sym}
-use Rattle.cp_store.specs.Inside.{AllFitComponent}
-use Rattle.cp_machine.specs.Machine.{machine_of}
-use Rattle.cp_machine.specs.Memory.{memory_at}
-use Rattle.cp_machine.specs.Reach.{FitsComponent}
+use Rattle.cp_machine.proofs.Words.{subst, sym, AllFitComponent, machine_of, memory_at, FitsComponent, ◌<◌, length, Machine, opened, is_uninitialised}
+use Rattle.cp_machine.proofs.Words.{phase_at, thread_at, under, with_phase, parameters_bound, rest_of, local, InitEnd, Initialising, component_at, Frame, ap}
+use Rattle.cp_machine.proofs.Words.{false, true, ◌∙◌, ◌≡◌}
 use Rattle.cp_machine.proofs.NamingLemmas.{begun_fits}
-use Rattle.std.proofs.Common.{◌<◌, length}
-use Rattle.cp_machine.specs.Machine.{Machine}
 use Rattle.cp_machine.proofs.CallOutcomes.{begins_if, not_false, not_true, set_within, uninitialised_is}
-use Rattle.cp_machine.specs.Calls.{opened}
-use Rattle.cp_machine.specs.Machine.{is_uninitialised, phase_at, thread_at, under, with_phase}
-use Rattle.cp_machine.specs.Memory.{parameters_bound}
-use Rattle.cp_machine.specs.Stack.{rest_of}
-use Rattle.cp_machine.specs.Statements.{local}
-use Rattle.cp_machine.specs.declared.process.Entry.TheVariants.{InitEnd}
-use Rattle.cp_machine.specs.declared.state.Phase.TheVariants.{Initialising}
-use Rattle.cp_slots.specs.Tables.{component_at}
-use Rattle.cp_store.specs.declared.memory.Frame.{Frame}
-use Rattle.std.proofs.Common.{ap, false, true, ◌∙◌, ◌≡◌}
 use Rattle.cp_machine.proofs.start_component.start_inside.Goals as goal
 
 pub returns-clause-reserved : goal.returns-clause-reserved

@@ -1,11 +1,6 @@
-use Rattle.std.proofs.Common.{subst, sym}
-use Rattle.cp_store.specs.Inside.{AllFitComponent}
-use Rattle.cp_machine.specs.Machine.{machine_of}
-use Rattle.cp_machine.specs.Memory.{memory_at}
-use Rattle.cp_machine.specs.Reach.{FitsComponent}
+use Rattle.cp_machine.proofs.Words.{subst, sym, AllFitComponent, machine_of, memory_at, FitsComponent, ap, length, ◌∙◌}
 use Rattle.cp_machine.proofs.NamingLemmas.{replaced_fits}
 use Rattle.cp_machine.proofs.CallOutcomes.{set_within}
-use Rattle.std.proofs.Common.{ap, length, ◌∙◌}
 use Rattle.cp_machine.proofs.start_component.start_process.Goals as goal
 
 pub returns-clause-reserved : goal.returns-clause-reserved

@@ -1,11 +1,5 @@
-use Rattle.std.proofs.Common.{◌≡◌, ◌∙◌, Err, Ok, Result, ap, of_z, rules, sym, to_z, w16}
-use Rattle.std.specs.Prelude.{ℤ}
-use Rattle.cp_store.specs.declared.error.ErrorName.{ErrorName}
-use Rattle.cp_store.specs.Values.{ranged}
-use Rattle.cp_machine.specs.Machine.{machine_of, under, with_stack}
-use Rattle.cp_machine.specs.Memory.{number_put}
-use Rattle.cp_machine.specs.Stack.{rest_of}
-use Rattle.cp_machine.specs.Statements.{fault, local, outcome}
+use Rattle.cp_machine.proofs.Words.{◌≡◌, ◌∙◌, Err, Ok, Result, ap, of_z, rules, sym, to_z, w16, ℤ, ErrorName, ranged, machine_of, under, with_stack}
+use Rattle.cp_machine.proofs.Words.{number_put, rest_of, fault, local, outcome}
 use Rattle.cp_machine.proofs.Outcomes.{assign_done, assign_left_fails, assign_range_fails, assign_right_fails, replaced_has, replaced_within}
 use Rattle.cp_machine.proofs.statement.assign.Goals as goal
 

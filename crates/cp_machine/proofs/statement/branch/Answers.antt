@@ -1,9 +1,5 @@
 use Rattle.cp_machine.proofs.CallOutcomes.{branch_fails, branch_goes}
-use Rattle.cp_machine.specs.Machine.{machine_of, under}
-use Rattle.cp_machine.specs.Stack.{rest_of}
-use Rattle.cp_machine.specs.Statements.{fault, local, outcome}
-use Rattle.cp_store.specs.Values.{is_true}
-use Rattle.std.proofs.Common.{Bool, ap, false, of_z, rules, sym, to_z, true, w16, ◌∙◌, ◌≡◌}
+use Rattle.cp_machine.proofs.Words.{machine_of, under, rest_of, fault, local, outcome, is_true, Bool, ap, false, of_z, rules, sym, to_z, true, w16, ◌∙◌, ◌≡◌}
 use Rattle.cp_machine.proofs.statement.branch.Goals as goal
 
 pub value_of-requires-clause-pid : goal.value_of-requires-clause-pid

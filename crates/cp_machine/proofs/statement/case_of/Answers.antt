@@ -1,12 +1,7 @@
-use Rattle.std.proofs.Common.{◌∙◌}
-use Rattle.cp_machine.specs.Fits.{HasRoom}
+use Rattle.cp_machine.proofs.Words.{◌∙◌, HasRoom, machine_of, under, rest_of, arm_for, fault, local, outcome, ErrorName, ℕ, Err, Ok, Option, Result, ap, of_z}
+use Rattle.cp_machine.proofs.Words.{rules, sym, to_z, w16, ◌≡◌}
 use Rattle.cp_machine.proofs.KeepingSteps.{arm_is}
 use Rattle.cp_machine.proofs.CallOutcomes.{case_arm, case_fails, case_no_arm}
-use Rattle.cp_machine.specs.Machine.{machine_of, under}
-use Rattle.cp_machine.specs.Stack.{rest_of}
-use Rattle.cp_machine.specs.Statements.{arm_for, fault, local, outcome}
-use Rattle.cp_store.specs.declared.error.ErrorName.{ErrorName}
-use Rattle.std.proofs.Common.{ℕ, Err, Ok, Option, Result, ap, of_z, rules, sym, to_z, w16, ◌≡◌}
 use Rattle.cp_machine.proofs.statement.case_of.Goals as goal
 
 pub replace-requires-clause-room : goal.replace-requires-clause-room

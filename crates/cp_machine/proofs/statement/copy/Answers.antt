@@ -1,8 +1,4 @@
-use Rattle.std.proofs.Common.{◌≡◌, ◌∙◌, ap, rules, sym}
-use Rattle.cp_machine.specs.Machine.{machine_of, under, with_stack}
-use Rattle.cp_machine.specs.Memory.{cells_put}
-use Rattle.cp_machine.specs.Stack.{rest_of}
-use Rattle.cp_machine.specs.Statements.{fault, local, outcome}
+use Rattle.cp_machine.proofs.Words.{◌≡◌, ◌∙◌, ap, rules, sym, machine_of, under, with_stack, cells_put, rest_of, fault, local, outcome}
 use Rattle.cp_machine.proofs.Outcomes.{copy_done, copy_from_fails, copy_to_fails, replaced_has, replaced_within}
 use Rattle.cp_machine.proofs.statement.copy.Goals as goal
 

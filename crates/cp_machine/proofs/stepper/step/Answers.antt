@@ -1,12 +1,6 @@
-use Rattle.std.proofs.Common.{◌≡◌, ◌<◌, length, refl, subst, true}
-use Rattle.std.proofs.lemmas.List.{length-map}
-use Rattle.cp_machine.specs.declared.event.Event.{Event}
+use Rattle.cp_machine.proofs.Words.{◌≡◌, ◌<◌, length, refl, subst, true, length-map, Event, LinesFit, MachineFits, machine_of, Reaches, Stepped}
 use Rattle.cp_machine.specs.declared.event.Event.TheVariants.{Local, Kernel, Ended, Fault, OutputFull}
 use Rattle.cp_machine.specs.declared.event.RunError.{RunError}
-use Rattle.cp_machine.specs.Fits.{LinesFit, MachineFits}
-use Rattle.cp_machine.specs.Machine.{machine_of}
-use Rattle.cp_machine.specs.Reach.{Reaches}
-use Rattle.cp_machine.specs.Statements.{Stepped}
 use Rattle.cp_machine.specs.Step.{succeeds}
 use Rattle.cp_machine.proofs.KeepingAct.{step_fits}
 use Rattle.cp_machine.proofs.ReachingKept.{step_reaches}

@@ -1,9 +1,6 @@
 use Rattle.cp_machine.proofs.RoomLemmas.{within}
 use Rattle.cp_machine.proofs.Keeping.{frame_fits}
-use Rattle.cp_machine.specs.Step.{take_top}
-use Rattle.cp_machine.specs.declared.process.Entry.TheVariants.{InitEnd, Return}
-use Rattle.std.proofs.Common.{◌≡◌, ◌∷◌, ◌∙◌, ap}
-use Rattle.cp_machine.specs.Machine.{machine_of, thread_at, under}
+use Rattle.cp_machine.proofs.Words.{take_top, InitEnd, Return, ◌≡◌, ◌∷◌, ◌∙◌, ap, machine_of, thread_at, under}
 use Rattle.cp_machine.proofs.LineLemmas.{firsts_known}
 use Rattle.cp_machine.proofs.stepper.take_end.Goals as goal
 

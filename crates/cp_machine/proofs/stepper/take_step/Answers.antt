@@ -1,7 +1,4 @@
-use Rattle.cp_machine.specs.Step.{take_top}
-use Rattle.cp_machine.specs.declared.process.Entry.TheVariants.{Rest}
-use Rattle.cp_machine.specs.Machine.{machine_of, thread_at, under}
-use Rattle.std.proofs.Common.{◌≡◌, ◌∷◌, ◌∙◌, ap, sym}
+use Rattle.cp_machine.proofs.Words.{take_top, Rest, machine_of, thread_at, under, ◌≡◌, ◌∷◌, ◌∙◌, ap, sym}
 use Rattle.cp_machine.proofs.TakeLemmas.{gate_room}
 use Rattle.cp_machine.proofs.stepper.take_step.Goals as goal
 

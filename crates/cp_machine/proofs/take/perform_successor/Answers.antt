@@ -1,8 +1,5 @@
 use Rattle.cp_machine.specs.Statements.{next_turn, succeeded}
-use Rattle.std.proofs.Common.{length, ◌≡◌, ◌∙◌, ap, of_z, rules, sym, to_z, w16}
-use Rattle.cp_slots.specs.declared.item.Action.TheVariants.{For}
-use Rattle.cp_machine.specs.declared.process.Entry.TheVariants.{Successor}
-use Rattle.cp_machine.specs.Machine.{machine_of, under}
+use Rattle.cp_machine.proofs.Words.{length, ◌≡◌, ◌∙◌, ap, of_z, rules, sym, to_z, w16, For, Successor, machine_of, under}
 use Rattle.cp_machine.proofs.ReadLemmas.{item_reads}
 use Rattle.cp_machine.proofs.RoomLemmas.{is_busy, successor_stands}
 use Rattle.cp_machine.proofs.TakeLemmas.{turn_room, turn_taken}

@@ -1,8 +1,4 @@
-use Rattle.cp_machine.specs.Machine.{machine_of, under}
-use Rattle.cp_machine.specs.Statements.{Stepped, outcome}
-use Rattle.cp_machine.specs.Step.{act}
-use Rattle.cp_machine.specs.declared.event.Event.{Event}
-use Rattle.std.proofs.Common.{ap, sym, ◌∙◌}
+use Rattle.cp_machine.proofs.Words.{machine_of, under, Stepped, outcome, act, Event, ap, sym, ◌∙◌}
 use Rattle.cp_machine.proofs.take.take_item.Goals as goal
 
 pub perform-requires-clause-taken : goal.perform-requires-clause-taken

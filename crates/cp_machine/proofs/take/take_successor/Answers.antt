@@ -1,8 +1,4 @@
-use Rattle.cp_machine.specs.Machine.{machine_of, under}
-use Rattle.cp_machine.specs.Statements.{Stepped, outcome, succeeded}
-use Rattle.cp_machine.specs.declared.event.Event.{Event}
-use Rattle.cp_machine.specs.declared.process.Entry.TheVariants.{Successor}
-use Rattle.std.proofs.Common.{ap, of_z, rules, sym, to_z, w16, ◌∙◌, ◌∷◌, ◌≡◌}
+use Rattle.cp_machine.proofs.Words.{machine_of, under, Stepped, outcome, succeeded, Event, Successor, ap, of_z, rules, sym, to_z, w16, ◌∙◌, ◌∷◌, ◌≡◌}
 use Rattle.cp_machine.proofs.take.take_successor.Goals as goal
 
 pub returns-in-Ok-clause-reserved : goal.returns-in-Ok-clause-reserved

@@ -1,8 +1,6 @@
 use Rattle.std.proofs.Common.{◌∙◌, sym, ap, true, false, is_some}
-use Rattle.cp_machine.specs.System.{machine_of}
-use Rattle.cp_run.specs.Slots.{slots}
+use Rattle.cp_run.proofs.Words.{machine_of, slots, pending_is}
 use Rattle.cp_run.proofs.Choosing.{wanted_line, wanted_ready}
-use Rattle.cp_machine.proofs.CallerLemmas.{pending_is}
 use Rattle.cp_run.proofs.Owning.{own_ready, own_line}
 use Rattle.cp_run.proofs.choice.candidates.Goals as goal
 

@@ -1,7 +1,5 @@
-use Rattle.std.proofs.Common.{◌∙◌, ap, ◌==◌}
+use Rattle.cp_run.proofs.Words.{◌∙◌, ap, ◌==◌, machine_of, slots}
 use Rattle.std.specs.List.{list_any}
-use Rattle.cp_machine.specs.System.{machine_of}
-use Rattle.cp_run.specs.Slots.{slots}
 use Rattle.cp_run.proofs.Wanting.{any_wanted}
 use Rattle.cp_run.proofs.choice.may.Goals as goal
 

@@ -1,8 +1,4 @@
-use Rattle.std.proofs.Common.{◌∙◌, sym, ap, arith, refl, ◌-◌, ◌+◌, []}
-use Rattle.cp_machine.specs.System.{machine_of}
-use Rattle.cp_run.specs.Run.{Ended, Wants, run_from}
-use Rattle.cp_run.specs.Slots.{slots}
-use Rattle.cp_run.specs.Code.{node_of, further}
+use Rattle.cp_run.proofs.Words.{◌∙◌, sym, ap, arith, refl, ◌-◌, ◌+◌, [], machine_of, Ended, Wants, run_from, slots, node_of, further}
 use Rattle.cp_run.proofs.Running.{over_at, limit_at, wants_at}
 use Rattle.cp_run.proofs.runs.end_of_word.Goals as goal
 

@@ -1,9 +1,7 @@
 use Rattle.std.proofs.Common.{◌≡◌, ◌-◌, ◌+◌, ◌∙◌, ap, sym, subst, arith, drop, get_or, length, true, false, IfOk, List, [], ℕ}
 use Rattle.std.proofs.Math.Seq.{drop-length}
-use Rattle.cp_machine.specs.System.{machine_of}
+use Rattle.cp_run.proofs.Words.{machine_of, Answer, Ended, may, run, run_from, slots}
 use Rattle.cp_run.specs.Code.{answer_of, node_of, further}
-use Rattle.cp_run.specs.Run.{Answer, Ended, may, run, run_from}
-use Rattle.cp_run.specs.Slots.{slots}
 use Rattle.cp_run.proofs.TraceBounds.{ticks_within}
 use Rattle.cp_run.proofs.Running.{over_at, limit_at, refused_at, goes_at, drop_next}
 use Rattle.cp_run.proofs.Failing.{none_well}

@@ -1,8 +1,4 @@
-use Rattle.std.proofs.Common.{◌≡◌, ◌≤◌, ◌-◌, ◌+◌, ◌*◌, drop}
-use Rattle.cp_machine.specs.System.{machine_of, IsStateOf}
-use Rattle.cp_run.specs.Run.{run, run_from}
-use Rattle.cp_run.specs.Slots.{slots}
-use Rattle.cp_run.specs.Code.{node_of, further}
+use Rattle.cp_run.proofs.Words.{◌≡◌, ◌≤◌, ◌-◌, ◌+◌, ◌*◌, drop, machine_of, IsStateOf, run, run_from, slots, node_of, further}
 use Rattle.cp_run.proofs.runs.run_counted.Given as goal
 
 abbrev pub invariant-loop-place : goal.invariant-loop-place

@@ -1,7 +1,5 @@
-use Rattle.std.proofs.Common.{◌≡◌, ◌∙◌, ◌+◌, ◌<◌, ap, arith, if◌then◌else◌, length}
+use Rattle.cp_run.proofs.Words.{◌≡◌, ◌∙◌, ◌+◌, ◌<◌, ap, arith, if◌then◌else◌, length, ready_thread, threads_count, slots}
 use Rattle.cp_machine.specs.System.{machine_of, step_at}
-use Rattle.cp_machine.proofs.CallerLemmas.{ready_thread, threads_count}
-use Rattle.cp_run.specs.Slots.{slots}
 use Rattle.cp_run.proofs.Stretching.{after_local}
 use Rattle.cp_run.proofs.stretches.next_turn.Goals as goal
 use Rattle.cp_run.proofs.stretches.next_turn.Goals.{else-is_under_way-via-then-is_under_way+else-local_step, else-is_under_way-via-else-is_under_way}

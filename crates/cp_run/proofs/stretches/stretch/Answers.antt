@@ -1,7 +1,4 @@
-use Rattle.std.proofs.Common.{◌≡◌, ◌<◌, ◌-◌, ◌∙◌, arith}
-use Rattle.cp_machine.specs.System.{machine_of}
-use Rattle.cp_run.specs.declared.outcome.Turn.TheVariants.{Over, Due, Goes}
-use Rattle.cp_run.specs.Slots.{slots}
+use Rattle.cp_run.proofs.Words.{◌≡◌, ◌<◌, ◌-◌, ◌∙◌, arith, machine_of, Over, Due, Goes, slots}
 use Rattle.cp_machine.proofs.Unmoved.{keep_more}
 use Rattle.cp_run.proofs.Stretching.{step_on, used_up}
 use Rattle.cp_run.proofs.Watching.{stepped}

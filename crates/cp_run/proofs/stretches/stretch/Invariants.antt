@@ -1,8 +1,6 @@
-use Rattle.std.proofs.Common.{◌≡◌, ◌≤◌, ◌-◌, ◌+◌, true, false}
+use Rattle.cp_run.proofs.Words.{◌≡◌, ◌≤◌, ◌-◌, ◌+◌, true, false, stretch, slots}
 use Rattle.cp_machine.specs.Bodies.{KeepBodies}
 use Rattle.cp_machine.specs.System.{Machine, machine_of, is_ready, is_pending, IsStateOf}
-use Rattle.cp_run.specs.Run.{stretch}
-use Rattle.cp_run.specs.Slots.{slots}
 use Rattle.cp_run.proofs.stretches.stretch.Given as goal
 
 abbrev pub invariant-loop : goal.invariant-loop

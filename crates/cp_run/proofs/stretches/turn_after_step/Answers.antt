@@ -1,11 +1,6 @@
-use Rattle.std.proofs.Common.{refl}
-use Rattle.cp_machine.specs.System.{machine_of}
-use Rattle.cp_machine.specs.declared.event.Event.TheVariants.{Local}
+use Rattle.cp_run.proofs.Words.{refl, machine_of, Local, turn_after, slots, ap, sym, ◌∙◌}
 use Rattle.cp_machine.proofs.CallerLemmas.{local_ready, ready_thread}
 use Rattle.cp_machine.specs.System.{Stepped}
-use Rattle.cp_run.specs.Run.{turn_after}
-use Rattle.cp_run.specs.Slots.{slots}
-use Rattle.std.proofs.Common.{ap, sym, ◌∙◌}
 use Rattle.cp_run.proofs.stretches.turn_after_step.Goals as goal
 
 pub turn_at-requires-clause-goes_on : goal.turn_at-requires-clause-goes_on

@@ -1,11 +1,7 @@
 use Rattle.std.proofs.Common.{◌≡◌, ◌≤◌, ◌-◌, ◌+◌, ◌++◌, ◌∙◌, ap, sym, arith, drop, length, get_or, true, []}
 use Rattle.std.proofs.lemmas.List.{append_assoc}
 use Rattle.std.proofs.Math.Nat.{mul-le-mul_right}
-use Rattle.cp_machine.specs.System.{machine_of}
-use Rattle.cp_run.specs.Code.{node_of, further}
-use Rattle.cp_run.specs.Run.{may, chosen, run_from}
-use Rattle.cp_run.specs.Slots.{slots}
-use Rattle.cp_run.specs.Trace.{chosen_lines, trace, trace_from}
+use Rattle.cp_run.proofs.Words.{machine_of, node_of, further, may, chosen, run_from, slots, chosen_lines, trace, trace_from}
 use Rattle.cp_run.proofs.Running.{refused_at, goes_at, drop_next, drop_all}
 use Rattle.cp_run.proofs.TraceBounds.{few_lines, ticks_within}
 use Rattle.cp_run.proofs.TraceRuns.{over_run, over_lines, no_word_lines, not_over, some_left, refused_lines, chosen_further}

@@ -1,7 +1,4 @@
-use Rattle.std.proofs.Common.{◌≡◌, ◌∙◌, ◌++◌, ap, sym, true, false}
-use Rattle.cp_machine.specs.System.{machine_of, is_pending}
-use Rattle.cp_run.specs.declared.outcome.Turn.TheVariants.{Over, Due, Goes}
-use Rattle.cp_run.specs.Slots.{slots}
+use Rattle.cp_run.proofs.Words.{◌≡◌, ◌∙◌, ◌++◌, ap, sym, true, false, machine_of, is_pending, Over, Due, Goes, slots}
 use Rattle.cp_run.proofs.Choosing.{may_in_line, may_be_ready, chosen_free, chosen_at_gate}
 use Rattle.cp_machine.proofs.CallerLemmas.{pending_is, line_within, admitted_free}
 use Rattle.cp_run.proofs.Tracing.{ok_as, behind_admission, none_added, chosen_free_lines}

@@ -1,7 +1,4 @@
-use Rattle.std.proofs.Common.{◌∙◌, ◌++◌, ap, sym}
-use Rattle.cp_machine.specs.System.{machine_of}
-use Rattle.cp_run.specs.declared.outcome.Turn.TheVariants.{Over, Due, Goes}
-use Rattle.cp_run.specs.Slots.{slots}
+use Rattle.cp_run.proofs.Words.{◌∙◌, ◌++◌, ap, sym, machine_of, Over, Due, Goes, slots}
 use Rattle.cp_run.proofs.Choosing.{opened_at}
 use Rattle.cp_machine.proofs.CallerLemmas.{opening_ready}
 use Rattle.cp_run.proofs.Tracing.{ok_as, none_added, opened_at_lines}

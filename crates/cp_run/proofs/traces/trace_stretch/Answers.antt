@@ -1,10 +1,6 @@
-use Rattle.std.proofs.Common.{◌≡◌, ◌<◌, ◌-◌, ◌++◌, ◌∙◌, ap, sym, arith}
+use Rattle.cp_run.proofs.Words.{◌≡◌, ◌<◌, ◌-◌, ◌++◌, ◌∙◌, ap, sym, arith, Over, Due, Goes, turn_after, slots, stretch_lines}
 use Rattle.cp_machine.specs.System.{machine_of, succeeds, Stepped}
 use Rattle.cp_machine.proofs.CallerLemmas.{local_ready, ready_thread}
-use Rattle.cp_run.specs.declared.outcome.Turn.TheVariants.{Over, Due, Goes}
-use Rattle.cp_run.specs.Run.{turn_after}
-use Rattle.cp_run.specs.Slots.{slots}
-use Rattle.cp_run.specs.Trace.{stretch_lines}
 use Rattle.cp_run.proofs.Stretching.{step_on, used_up}
 use Rattle.cp_run.proofs.Tracing.{counted, lines_further, lines_used_up, no_more}
 use Rattle.cp_run.proofs.Failing.{none_well}

@@ -1,8 +1,4 @@
-use Rattle.std.proofs.Common.{◌≡◌, ◌≤◌, ◌-◌, ◌+◌, ◌++◌, true, false}
-use Rattle.cp_machine.specs.System.{machine_of, is_ready, is_pending, IsStateOf}
-use Rattle.cp_run.specs.Run.{stretch}
-use Rattle.cp_run.specs.Slots.{slots}
-use Rattle.cp_run.specs.Trace.{stretch_lines}
+use Rattle.cp_run.proofs.Words.{◌≡◌, ◌≤◌, ◌-◌, ◌+◌, ◌++◌, true, false, machine_of, is_ready, is_pending, IsStateOf, stretch, slots, stretch_lines}
 use Rattle.cp_run.proofs.traces.trace_stretch.Given as goal
 
 abbrev pub invariant-loop : goal.invariant-loop

@@ -1,9 +1,6 @@
-use Rattle.std.proofs.Common.{◌≡◌, ◌<◌, ◌∙◌, length, sym, ap, arith, if◌then◌else◌}
+use Rattle.cp_run.proofs.Words.{◌≡◌, ◌<◌, ◌∙◌, length, sym, ap, arith, if◌then◌else◌, Over, Due, Goes, AllWaiting, Finished, ready_thread, threads_count}
 use Rattle.cp_machine.specs.declared.state.Readiness.TheVariants.{Nobody, One, Several}
 use Rattle.cp_machine.specs.System.{machine_of, is_ready, readiness_of}
-use Rattle.cp_run.specs.declared.outcome.Turn.TheVariants.{Over, Due, Goes}
-use Rattle.cp_run.specs.declared.outcome.OutcomeKind.TheVariants.{AllWaiting, Finished}
-use Rattle.cp_machine.proofs.CallerLemmas.{ready_thread, threads_count}
 use Rattle.cp_run.specs.Run.{those_below, settled_turn as spec_turn}
 use Rattle.cp_run.specs.Slots.{slots, processes_of}
 use Rattle.cp_run.proofs.Owning.{own_ready}

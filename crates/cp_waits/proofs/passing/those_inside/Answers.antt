@@ -1,11 +1,5 @@
 use Rattle.std.proofs.Common.{◌≡◌, ◌∙◌, ◌<◌, ◌≤◌, ◌+◌, ap, sym, true, false, length, arith, List, ℕ, Bool}
-use Rattle.std.specs.Prelude.{◌&&◌, ◌||◌, nat_eq, slice_index_or}
-use Rattle.std.specs.List.{list_any}
-use Rattle.std.proofs.lemmas.Bool.{lt-ltb}
-use Rattle.cp_machine.specs.declared.process.ProcessState.{ProcessState}
-use Rattle.cp_machine.specs.System.{machine_of}
-use Rattle.cp_endless.specs.Silent.{in_call_on_slots}
-use Rattle.cp_waits.specs.Sets.{has}
+use Rattle.cp_waits.proofs.Words.{◌&&◌, ◌||◌, nat_eq, slice_index_or, list_any, lt-ltb, ProcessState, machine_of, in_call_on_slots, has}
 use Rattle.cp_waits.proofs.Insides.{inside_read, leaves, those_more, with_all, with_none}
 use Rattle.cp_waits.proofs.passing.those_inside.Goals as goal
 use Rattle.cp_waits.proofs.passing.those_inside.Goals.{then-has+then-is_inside, else-has, else-has-via-then-has+else-is_inside, else-has-via-else-has}

@@ -1,7 +1,4 @@
-use Rattle.std.proofs.Common.{◌≡◌, ◌<◌, ℕ}
-use Rattle.std.specs.Prelude.{◌&&◌, nat_lt, not}
-use Rattle.cp_machine.specs.System.{machine_of, is_ready}
-use Rattle.cp_waits.specs.Sets.{has}
+use Rattle.cp_waits.proofs.Words.{◌≡◌, ◌<◌, ℕ, ◌&&◌, nat_lt, not, machine_of, is_ready, has}
 use Rattle.cp_waits.proofs.passing.those_not_ready.Given as goal
 
 abbrev pub invariant-loop-process : goal.invariant-loop-process

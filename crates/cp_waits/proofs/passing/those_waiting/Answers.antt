@@ -1,12 +1,6 @@
 use Rattle.std.proofs.Common.{◌≡◌, ◌∙◌, ◌<◌, ◌≤◌, ◌+◌, ap, sym, true, false, length, arith, List, ℕ, Bool}
-use Rattle.std.specs.Prelude.{◌&&◌, ◌||◌, nat_eq, slice_index_or}
-use Rattle.std.proofs.lemmas.Bool.{lt-ltb}
-use Rattle.cp_machine.specs.declared.process.ProcessState.{ProcessState}
+use Rattle.cp_waits.proofs.Words.{◌&&◌, ◌||◌, nat_eq, slice_index_or, lt-ltb, ProcessState, machine_of, thread_read, waits_on_slots, has}
 use Rattle.cp_machine.specs.Machine.{is_waiting}
-use Rattle.cp_machine.specs.System.{machine_of}
-use Rattle.cp_machine.proofs.ThreadLemmas.{thread_read}
-use Rattle.cp_endless.specs.Silent.{waits_on_slots}
-use Rattle.cp_waits.specs.Sets.{has}
 use Rattle.cp_waits.proofs.Insides.{those_more, with_all, with_none}
 use Rattle.cp_waits.proofs.passing.those_waiting.Goals as goal
 use Rattle.cp_waits.proofs.passing.those_waiting.Goals.{then-waits, else-waits}

@@ -1,8 +1,4 @@
-use Rattle.std.proofs.Common.{◌≡◌, ◌<◌, ℕ}
-use Rattle.std.specs.Prelude.{◌&&◌, nat_lt}
-use Rattle.cp_machine.specs.System.{machine_of}
-use Rattle.cp_endless.specs.Silent.{waits_on_slots}
-use Rattle.cp_waits.specs.Sets.{has}
+use Rattle.cp_waits.proofs.Words.{◌≡◌, ◌<◌, ℕ, ◌&&◌, nat_lt, machine_of, waits_on_slots, has}
 use Rattle.cp_waits.proofs.passing.those_waiting.Given as goal
 
 abbrev pub invariant-loop-process : goal.invariant-loop-process

@@ -1,7 +1,4 @@
-use Rattle.std.proofs.Common.{ℕ, sym, ◌∙◌, arith, refl, below_more}
-use Rattle.cp_waits.specs.Ranks.{IsRanked, rank_in, passed_over_in}
-use Rattle.cp_waits.specs.Walks.{IsEdge}
-use Rattle.cp_waits.specs.declared.graph.Edge.{Edge}
+use Rattle.cp_waits.proofs.Words.{ℕ, sym, ◌∙◌, arith, refl, below_more, IsRanked, rank_in, passed_over_in, IsEdge, Edge}
 use Rattle.cp_waits.proofs.Edges.{edge_within}
 use Rattle.cp_waits.proofs.ranks.are_ranks.Goals as goal
 

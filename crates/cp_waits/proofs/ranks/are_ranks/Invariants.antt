@@ -1,7 +1,4 @@
-use Rattle.std.proofs.Common.{◌<◌, ℕ}
-use Rattle.cp_waits.specs.declared.graph.Edge.{Edge}
-use Rattle.cp_waits.specs.Ranks.{IsRanked, rank_in, passed_over_in}
-use Rattle.cp_waits.specs.Walks.{IsEdge}
+use Rattle.cp_waits.proofs.Words.{◌<◌, ℕ, Edge, IsRanked, rank_in, passed_over_in, IsEdge}
 use Rattle.cp_waits.proofs.ranks.are_ranks.Given as goal
 
 abbrev pub invariant-loop-state : goal.invariant-loop-state

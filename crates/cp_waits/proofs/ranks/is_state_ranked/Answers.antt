@@ -1,7 +1,5 @@
 use Rattle.std.proofs.Common.{◌≡◌, ℕ, ◌<◌, ◌≤◌, slice_get, Some, sym, ◌∙◌, arith, refl, below_more}
-use Rattle.cp_waits.specs.Ranks.{IsRanked, rank_in, passed_over_in}
-use Rattle.cp_waits.specs.Walks.{first_edge, end_edge}
-use Rattle.cp_waits.specs.declared.graph.Edge.{Edge}
+use Rattle.cp_waits.proofs.Words.{IsRanked, rank_in, passed_over_in, first_edge, end_edge, Edge}
 use Rattle.cp_waits.proofs.ranks.is_state_ranked.Goals as goal
 
 pub returns-then-not-is_ranked_at : goal.returns-then-not-is_ranked_at

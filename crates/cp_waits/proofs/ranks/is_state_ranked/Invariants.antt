@@ -1,7 +1,5 @@
 use Rattle.std.proofs.Common.{◌≡◌, ◌≤◌, ◌<◌, ℕ, Some, slice_get}
-use Rattle.cp_waits.specs.declared.graph.Edge.{Edge}
-use Rattle.cp_waits.specs.Ranks.{IsRanked, rank_in, passed_over_in}
-use Rattle.cp_waits.specs.Walks.{first_edge}
+use Rattle.cp_waits.proofs.Words.{Edge, IsRanked, rank_in, passed_over_in, first_edge}
 use Rattle.cp_waits.proofs.ranks.is_state_ranked.Given as goal
 
 abbrev pub invariant-loop-place : goal.invariant-loop-place

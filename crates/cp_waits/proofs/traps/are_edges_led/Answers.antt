@@ -1,8 +1,5 @@
 use Rattle.std.proofs.Common.{◌≡◌, ℕ, ◌<◌, ◌≤◌, slice_get, Some, sym, ◌∙◌, arith, refl, below_more}
-use Rattle.cp_waits.specs.Ranks.{rank_in, passed_over_in}
-use Rattle.cp_waits.specs.Traps.{LeadsToTrap, is_trap_in}
-use Rattle.cp_waits.specs.Walks.{first_edge, end_edge}
-use Rattle.cp_waits.specs.declared.graph.Edge.{Edge}
+use Rattle.cp_waits.proofs.Words.{rank_in, passed_over_in, LeadsToTrap, is_trap_in, first_edge, end_edge, Edge}
 use Rattle.cp_waits.proofs.traps.are_edges_led.Goals as goal
 
 pub returns-then-not-is_edge_led_at : goal.returns-then-not-is_edge_led_at

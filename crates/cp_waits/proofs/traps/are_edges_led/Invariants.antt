@@ -1,8 +1,5 @@
 use Rattle.std.proofs.Common.{◌≡◌, ◌≤◌, ◌<◌, ℕ, Some, slice_get}
-use Rattle.cp_waits.specs.declared.graph.Edge.{Edge}
-use Rattle.cp_waits.specs.Ranks.{rank_in, passed_over_in}
-use Rattle.cp_waits.specs.Traps.{LeadsToTrap, is_trap_in}
-use Rattle.cp_waits.specs.Walks.{first_edge}
+use Rattle.cp_waits.proofs.Words.{Edge, rank_in, passed_over_in, LeadsToTrap, is_trap_in, first_edge}
 use Rattle.cp_waits.proofs.traps.are_edges_led.Given as goal
 
 abbrev pub invariant-loop-place : goal.invariant-loop-place

@@ -1,6 +1,4 @@
-use Rattle.std.proofs.Common.{ℕ, sym, ◌∙◌, ◌<◌, arith, refl, below_more, length}
-use Rattle.cp_waits.specs.Ranks.{rank_in, passed_over_in}
-use Rattle.cp_waits.specs.Traps.{IsStateLed, is_trap_in}
+use Rattle.cp_waits.proofs.Words.{ℕ, sym, ◌∙◌, ◌<◌, arith, refl, below_more, length, rank_in, passed_over_in, IsStateLed, is_trap_in}
 use Rattle.cp_waits.proofs.traps.are_traps.Goals as goal
 
 pub returns-then-not-is_state_led : goal.returns-then-not-is_state_led

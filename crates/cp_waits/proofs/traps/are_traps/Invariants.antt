@@ -1,6 +1,4 @@
-use Rattle.std.proofs.Common.{◌<◌, ℕ}
-use Rattle.cp_waits.specs.Ranks.{rank_in, passed_over_in}
-use Rattle.cp_waits.specs.Traps.{IsStateLed, is_trap_in}
+use Rattle.cp_waits.proofs.Words.{◌<◌, ℕ, rank_in, passed_over_in, IsStateLed, is_trap_in}
 use Rattle.cp_waits.proofs.traps.are_traps.Given as goal
 
 abbrev pub invariant-loop-state : goal.invariant-loop-state

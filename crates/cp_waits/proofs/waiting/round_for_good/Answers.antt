@@ -1,9 +1,7 @@
 use Rattle.std.proofs.Common.{◌≡◌, inl, sym, subst, IfSome}
 use Rattle.cp_waits.specs.Lines.{IsAnswer, IsShown, ShowsRound}
-use Rattle.cp_waits.specs.Ranks.{rank_in, passed_over_in}
-use Rattle.cp_waits.specs.Traps.{HasTraps, is_trap_in}
+use Rattle.cp_waits.proofs.Words.{rank_in, passed_over_in, HasTraps, is_trap_in, ForGood}
 use Rattle.cp_waits.specs.declared.passing.Keeping.TheVariants as keeping
-use Rattle.cp_waits.specs.declared.waiting.How.TheVariants.{ForGood}
 use Rattle.cp_waits.proofs.waiting.round_for_good.Goals as goal
 use Rattle.cp_waits.proofs.waiting.round_for_good.Goals.{in-Some, in-None}
 

@@ -1,6 +1,4 @@
-use Rattle.std.proofs.Common.{inr, refl}
-use Rattle.cp_waits.specs.Ranks.{rank_in, passed_over_in}
-use Rattle.cp_waits.specs.Traps.{is_trap_in}
+use Rattle.cp_waits.proofs.Words.{inr, refl, rank_in, passed_over_in, is_trap_in}
 use Rattle.cp_waits.proofs.waiting.standing_still.Goals as goal
 
 pub returns : goal.returns

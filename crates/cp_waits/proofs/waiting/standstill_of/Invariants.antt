@@ -1,6 +1,4 @@
-use Rattle.std.proofs.Common.{◌≡◌, ◌<◌, ℕ, false, get_or}
-use Rattle.cp_waits.specs.declared.graph.Standstill.{Standstill}
-use Rattle.cp_waits.specs.Sets.{has}
+use Rattle.cp_waits.proofs.Words.{◌≡◌, ◌<◌, ℕ, false, get_or, Standstill, has}
 use Rattle.cp_waits.proofs.waiting.standstill_of.Given as goal
 
 abbrev pub invariant-loop-still : goal.invariant-loop-still

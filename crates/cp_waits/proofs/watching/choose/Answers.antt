@@ -1,16 +1,11 @@
-use Rattle.std.proofs.Common.{◌≡◌, ◌∙◌, [], ◌∷◌, true, false, refl}
-use Rattle.cp_machine.specs.System.{machine_of, is_pending}
+use Rattle.cp_waits.proofs.Words.{◌≡◌, ◌∙◌, [], ◌∷◌, true, false, refl, machine_of, is_pending, slots, Over, Due, Goes, silent_slots, without_output}
+use Rattle.cp_waits.proofs.Words.{in_call_on_slots, waits_on_slots, choice_leg, ok_to}
 use Rattle.cp_machine.proofs.CallerLemmas.{pending_is, line_within, admitted_free}
-use Rattle.cp_run.specs.Slots.{slots}
 use Rattle.cp_run.proofs.Choosing.{may_in_line, may_be_ready}
-use Rattle.cp_run.specs.declared.outcome.Turn.TheVariants.{Over, Due, Goes}
-use Rattle.cp_endless.specs.Silent.{silent_slots, without_output, in_call_on_slots, waits_on_slots}
 use Rattle.cp_ends.proofs.Arriving.{settled_alike}
-use Rattle.cp_waits.specs.Legs.{choice_leg}
 use Rattle.cp_waits.specs.declared.watching.Came.TheVariants as came
 use Rattle.cp_waits.proofs.Legs.{comes_same, leg_by, next_free, next_let_in, over_at_once}
 use Rattle.cp_waits.proofs.watching.choose.Goals as goal
-use Rattle.cp_run.proofs.Tracing.{ok_as as ok_to}
 
 pub stretch-requires-clause-ready : goal.stretch-requires-clause-ready
 stretch-requires-clause-ready g c =

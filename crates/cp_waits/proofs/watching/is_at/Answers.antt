@@ -1,9 +1,6 @@
-use Rattle.std.proofs.Common.{◌∙◌, ap}
-use Rattle.std.specs.Prelude.{nat_eq}
+use Rattle.cp_waits.proofs.Words.{◌∙◌, ap, nat_eq, machine_of, same_key}
 use lib.Pointwise.{pointwise}
 use Rattle.cp_key.specs.Key.{key_of}
-use Rattle.cp_machine.specs.System.{machine_of}
-use Rattle.cp_ends.specs.Holds.{same_key}
 use Rattle.cp_waits.proofs.watching.is_at.Goals as goal
 
 pub returns : goal.returns

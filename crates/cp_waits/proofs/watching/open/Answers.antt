@@ -1,15 +1,10 @@
-use Rattle.std.proofs.Common.{[], ◌∙◌, false, refl}
-use Rattle.cp_machine.specs.System.{machine_of}
+use Rattle.cp_waits.proofs.Words.{[], ◌∙◌, false, refl, machine_of, slots, Over, Due, Goes, silent_slots, without_output, in_call_on_slots, waits_on_slots}
+use Rattle.cp_waits.proofs.Words.{first_leg, ok_to}
 use Rattle.cp_machine.proofs.CallerLemmas.{opening_ready}
-use Rattle.cp_run.specs.Slots.{slots}
-use Rattle.cp_run.specs.declared.outcome.Turn.TheVariants.{Over, Due, Goes}
-use Rattle.cp_endless.specs.Silent.{silent_slots, without_output, in_call_on_slots, waits_on_slots}
 use Rattle.cp_ends.proofs.Arriving.{turn_alike}
-use Rattle.cp_waits.specs.Legs.{first_leg}
 use Rattle.cp_waits.specs.declared.watching.Came.TheVariants as came
 use Rattle.cp_waits.proofs.Legs.{comes_same, first_at, leg_by, over_at_once}
 use Rattle.cp_waits.proofs.watching.open.Goals as goal
-use Rattle.cp_run.proofs.Tracing.{ok_as as ok_to}
 
 pub turn_at-requires-clause-goes_on : goal.turn_at-requires-clause-goes_on
 turn_at-requires-clause-goes_on g c = λ e. opening_ready c.args.program.now c.args.limits.gates (machine_of c.args.state.now) c.processes-processes.ensures.sound.some c.requires.start

@@ -1,7 +1,5 @@
-use Rattle.std.proofs.Common.{[], ◌≡◌, ◌∙◌, ◌+◌, ◌<◌, true, false, sym, ap, arith}
-use Rattle.cp_machine.specs.System.{machine_of, is_ready, is_pending}
-use Rattle.cp_endless.specs.Silent.{silent_slots, in_call_on_slots, waits_on_slots}
-use Rattle.cp_ends.specs.Holds.{same_key}
+use Rattle.cp_waits.proofs.Words.{[], ◌≡◌, ◌∙◌, ◌+◌, ◌<◌, true, false, sym, ap, arith, machine_of, is_ready, is_pending, silent_slots, in_call_on_slots}
+use Rattle.cp_waits.proofs.Words.{waits_on_slots, same_key, none_well}
 use Rattle.cp_ends.proofs.Stepping.{if_goes}
 use Rattle.cp_ends.proofs.Stretches.{spot_before, spot_next, stops}
 use Rattle.cp_ends.proofs.named.Keys.{key_same, key_self}
@@ -9,7 +7,6 @@ use Rattle.cp_waits.proofs.Legs.{never_back, none_yet, not_back, not_true, retur
 use Rattle.cp_waits.proofs.Insides.{everybody_is}
 use Rattle.cp_waits.proofs.watching.round.Goals as goal
 use Rattle.cp_waits.proofs.watching.round.Goals.{else-going-pid-via-then-going-pid+in_ok-is_at+else-branch, else-going-pid-via-else-going-pid}
-use Rattle.cp_machine.proofs.CallOutcomes.{none_well}
 
 pub loop-init : goal.loop-init
 loop-init g c =

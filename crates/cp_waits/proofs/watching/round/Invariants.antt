@@ -1,9 +1,6 @@
-use Rattle.std.proofs.Common.{◌≡◌, [], Some, true, false}
+use Rattle.cp_waits.proofs.Words.{◌≡◌, [], Some, true, false, machine_of, output_of, is_ready, is_pending, IsStateOf, stretch_moments, spot_after}
+use Rattle.cp_waits.proofs.Words.{silent_slots}
 use Rattle.cp_key.specs.Key.{key_of}
-use Rattle.cp_machine.specs.System.{machine_of, output_of, is_ready, is_pending, IsStateOf}
-use Rattle.cp_endless.specs.Moments.{stretch_moments}
-use Rattle.cp_endless.specs.Rounds.{spot_after}
-use Rattle.cp_endless.specs.Silent.{silent_slots}
 use Rattle.cp_waits.specs.Passings.{HasSeen}
 use Rattle.cp_waits.proofs.Legs.{NoReturn}
 use Rattle.cp_waits.proofs.watching.round.Given as goal

@@ -1,12 +1,10 @@
-use Rattle.std.proofs.Common.{◌≡◌, ◌∙◌, ◌<◌, true, false, sym, subst, arith}
-use Rattle.cp_machine.specs.System.{machine_of, is_ready, is_pending}
-use Rattle.cp_endless.specs.Silent.{silent_slots, in_call_on_slots, waits_on_slots}
+use Rattle.cp_waits.proofs.Words.{◌≡◌, ◌∙◌, ◌<◌, true, false, sym, subst, arith, machine_of, is_ready, is_pending, silent_slots, in_call_on_slots}
+use Rattle.cp_waits.proofs.Words.{waits_on_slots, none_well}
 use Rattle.cp_ends.proofs.Stepping.{if_goes}
 use Rattle.cp_ends.proofs.Stretches.{spot_before, spot_next}
 use Rattle.cp_waits.specs.Legs.{HasRound}
 use Rattle.cp_waits.proofs.Legs.{comes_again, cut_for_good, due_there, over_there, seen_before, seen_after}
 use Rattle.cp_waits.proofs.watching.stretch.Goals as goal
-use Rattle.cp_machine.proofs.CallOutcomes.{none_well}
 
 pub loop-init : goal.loop-init
 loop-init g c =

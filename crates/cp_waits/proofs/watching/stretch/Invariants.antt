@@ -1,8 +1,5 @@
-use Rattle.std.proofs.Common.{◌≡◌, [], Some, List, true, false}
-use Rattle.cp_machine.specs.System.{Machine, machine_of, output_of, is_ready, is_pending, IsStateOf}
-use Rattle.cp_endless.specs.Moments.{stretch_moments}
-use Rattle.cp_endless.specs.Rounds.{spot_after}
-use Rattle.cp_endless.specs.Silent.{silent_slots}
+use Rattle.cp_waits.proofs.Words.{◌≡◌, [], Some, List, true, false, Machine, machine_of, output_of, is_ready, is_pending, IsStateOf, stretch_moments}
+use Rattle.cp_waits.proofs.Words.{spot_after, silent_slots}
 use Rattle.cp_waits.specs.Passings.{HasSeen}
 use Rattle.cp_waits.proofs.watching.stretch.Given as goal
 

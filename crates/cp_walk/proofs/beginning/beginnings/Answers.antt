@@ -1,6 +1,4 @@
-use Rattle.std.proofs.Common.{◌≡◌, ◌∙◌, ◌<◌, ◌∷◌, ◌+◌, sym, arith, length}
-use Rattle.cp_walk.specs.declared.row.Row.{Row}
-use Rattle.cp_walk.specs.Beginnings.{words_of_rows}
+use Rattle.cp_walk.proofs.Words.{◌≡◌, ◌∙◌, ◌<◌, ◌∷◌, ◌+◌, sym, arith, length, Row, words_of_rows}
 use Rattle.cp_walk.proofs.Counted.{added, counted_rows, rows_added, taken_rows}
 use Rattle.cp_walk.proofs.beginning.beginnings.Goals as goal
 

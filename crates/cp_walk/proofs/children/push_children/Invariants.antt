@@ -1,6 +1,4 @@
-use Rattle.std.proofs.Common.{◌≡◌, ◌++◌, take}
-use Rattle.cp_walk.specs.Cutting.{children}
-use Rattle.cp_walk.specs.Members.{words_of}
+use Rattle.cp_walk.proofs.Words.{◌≡◌, ◌++◌, take, children, words_of}
 use Rattle.cp_walk.proofs.children.push_children.Given as goal
 
 abbrev pub invariant-loop-process : goal.invariant-loop-process

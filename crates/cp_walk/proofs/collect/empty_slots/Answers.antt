@@ -1,6 +1,4 @@
-use Rattle.cp_walk.specs.declared.row.Row.{Row}
-use Rattle.std.proofs.Common.{◌∷◌, [], ◌++◌, List, map, ℕ, ap, ◌∙◌, sym, arith}
-use Rattle.std.proofs.lemmas.List.{map-append}
+use Rattle.cp_walk.proofs.Words.{Row, ◌∷◌, [], ◌++◌, List, map, ℕ, ap, ◌∙◌, sym, arith, map-append}
 use Rattle.std.proofs.lemmas.List.FromFn.{map-range_with_len_more}
 use Rattle.cp_walk.proofs.collect.empty_slots.Goals as goal
 

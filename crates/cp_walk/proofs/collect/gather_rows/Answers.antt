@@ -1,7 +1,5 @@
-use Rattle.cp_walk.specs.declared.row.Row.{Row}
-use Rattle.std.proofs.Common.{◌≡◌, List, flat_map, ap, ◌∙◌, sym}
+use Rattle.cp_walk.proofs.Words.{Row, ◌≡◌, List, flat_map, ap, ◌∙◌, sym, table_of, rows_at}
 use Rattle.std.proofs.lemmas.Result.{IfOk-weaker}
-use Rattle.cp_walk.specs.Tables.{table_of, rows_at}
 use Rattle.cp_walk.proofs.Gathering.{flat_map-map}
 use Rattle.cp_walk.proofs.collect.gather_rows.Goals as goal
 

@@ -1,7 +1,4 @@
-use Rattle.std.proofs.Common.{◌≡◌, List, ◌++◌, map}
-use Rattle.std.specs.List.{range_with_len}
-use Rattle.cp_walk.specs.declared.worker.TaskRows.{TaskRows}
-use Rattle.cp_walk.specs.Tables.{rows_at}
+use Rattle.cp_walk.proofs.Words.{◌≡◌, List, ◌++◌, map, range_with_len, TaskRows, rows_at}
 use Rattle.cp_walk.proofs.collect.sort_by_task.Given as goal
 
 abbrev pub invariant-loop-piece : goal.invariant-loop-piece

@@ -1,8 +1,6 @@
-use Rattle.std.proofs.Common.{◌∙◌, ◌<◌, length, arith, ap, map, refl}
+use Rattle.cp_walk.proofs.Words.{◌∙◌, ◌<◌, length, arith, ap, map, refl, tallies_of, line_of}
 use Rattle.cp_walk.proofs.Grouping.{grouped_more, grouped_count, grouped_text, room}
 use Rattle.cp_walk.proofs.Joining.{take_whole}
-use Rattle.cp_walk.specs.Groups.{tallies_of}
-use Rattle.cp_walk.specs.Rows.{line_of}
 use Rattle.cp_walk.proofs.groups.group_rows.Goals as goal
 
 pub count_row-requires : goal.count_row-requires

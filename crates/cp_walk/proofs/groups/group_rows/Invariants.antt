@@ -1,6 +1,4 @@
-use Rattle.std.proofs.Common.{◌≡◌, map, take}
-use Rattle.cp_walk.specs.Groups.{tallies_of}
-use Rattle.cp_walk.specs.Rows.{line_of}
+use Rattle.cp_walk.proofs.Words.{◌≡◌, map, take, tallies_of, line_of}
 use Rattle.cp_walk.proofs.Grouping.{held}
 use Rattle.cp_walk.proofs.groups.group_rows.Given as goal
 

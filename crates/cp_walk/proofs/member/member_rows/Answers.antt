@@ -1,13 +1,7 @@
 use Rattle.std.proofs.Common.{◌≡◌, ◌∙◌, ◌+◌, ◌-◌, ◌<◌, ap, sym, arith, subst, length, map, take, drop, get_or, []}
-use Rattle.cp_machine.specs.System.{machine_of}
-use Rattle.cp_run.specs.Code.{node_of}
-use Rattle.cp_run.specs.Slots.{slots}
+use Rattle.cp_walk.proofs.Words.{machine_of, node_of, slots, rows_behind, rows_from, line_of, IsTooMany, behind, walk, length-map}
 use Rattle.cp_run.proofs.Running.{drop_next}
 use Rattle.cp_run.proofs.TraceRuns.{some_left}
-use Rattle.cp_walk.specs.Cutting.{rows_behind, rows_from}
-use Rattle.cp_walk.specs.Rows.{line_of, IsTooMany}
-use Rattle.cp_walk.specs.Walk.{behind, walk}
-use Rattle.std.proofs.lemmas.List.{length-map}
 use Rattle.cp_walk.proofs.Errors.{err_as}
 use Rattle.cp_walk.proofs.Leading.{due_opened, due_chosen}
 use Rattle.cp_walk.proofs.Replaying.{many_at, none_over, refused_rows, replayed, replayed_all, nothing_replayed, walked_at}

@@ -1,9 +1,4 @@
-use Rattle.std.proofs.Common.{◌≡◌, ◌≤◌, ◌-◌, drop, take, map}
-use Rattle.cp_machine.specs.System.{machine_of, IsStateOf}
-use Rattle.cp_run.specs.Slots.{slots}
-use Rattle.cp_run.specs.Code.{node_of}
-use Rattle.cp_walk.specs.Cutting.{rows_behind, rows_from}
-use Rattle.cp_walk.specs.Walk.{behind, IsDue}
+use Rattle.cp_walk.proofs.Words.{◌≡◌, ◌≤◌, ◌-◌, drop, take, map, machine_of, IsStateOf, slots, node_of, rows_behind, rows_from, behind, IsDue}
 use Rattle.cp_walk.proofs.member.member_rows.Given as goal
 
 abbrev pub invariant-loop-place : goal.invariant-loop-place

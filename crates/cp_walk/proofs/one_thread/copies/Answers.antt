@@ -1,6 +1,4 @@
-use Rattle.std.proofs.Common.{◌∙◌, ◌+◌, ap, length, ◌∷◌, []}
-use Rattle.std.proofs.lemmas.List.{length-append}
-use Rattle.cp_machine.specs.System.{IsStateOf}
+use Rattle.cp_walk.proofs.Words.{◌∙◌, ◌+◌, ap, length, ◌∷◌, [], length-append, IsStateOf}
 use Rattle.cp_walk.proofs.Branches.{all_more}
 use Rattle.cp_walk.proofs.one_thread.copies.Goals as goal
 

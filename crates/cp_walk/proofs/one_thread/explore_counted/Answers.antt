@@ -1,10 +1,5 @@
-use Rattle.std.proofs.Common.{◌∙◌, ap, sym, arith, subst, ◌<◌, length, map, [], refl}
-use Rattle.cp_machine.specs.System.{machine_of}
-use Rattle.cp_run.specs.Code.{node_of}
-use Rattle.cp_run.specs.Slots.{slots}
-use Rattle.cp_run.specs.Table.{table}
-use Rattle.cp_walk.specs.Rows.{line_of, IsTooMany}
-use Rattle.cp_walk.specs.Beginnings.{beginnings, words_in}
+use Rattle.cp_walk.proofs.Words.{◌∙◌, ap, sym, arith, subst, ◌<◌, length, map, [], refl, machine_of, node_of, slots, table, line_of, IsTooMany, beginnings}
+use Rattle.cp_walk.proofs.Words.{words_in}
 use Rattle.cp_walk.proofs.Counted.{rows_words}
 use Rattle.cp_walk.proofs.Errors.{err_as}
 use Rattle.cp_walk.proofs.Leading.{due_opened}

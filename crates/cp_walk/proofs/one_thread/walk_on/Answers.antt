@@ -1,10 +1,5 @@
-use Rattle.std.proofs.Common.{◌≡◌, ◌∙◌, ◌+◌, ◌++◌, ◌<◌, ◌≤◌, ap, length, map, subst}
-use Rattle.cp_machine.specs.System.{machine_of}
-use Rattle.cp_run.specs.Code.{node_of}
-use Rattle.cp_run.specs.Slots.{slots}
-use Rattle.cp_walk.specs.Beginnings.{beginnings, words_in}
-use Rattle.cp_walk.specs.Rows.{line_of, IsTooMany}
-use Rattle.cp_walk.specs.Walk.{behind, walk}
+use Rattle.cp_walk.proofs.Words.{◌≡◌, ◌∙◌, ◌+◌, ◌++◌, ◌<◌, ◌≤◌, ap, length, map, subst, machine_of, node_of, slots, beginnings, words_in, line_of, IsTooMany}
+use Rattle.cp_walk.proofs.Words.{behind, walk}
 use Rattle.cp_walk.proofs.Errors.{err_then, ok_as}
 use Rattle.cp_walk.proofs.one_thread.walk_on.Goals as goal
 

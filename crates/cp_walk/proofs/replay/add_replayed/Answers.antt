@@ -1,8 +1,5 @@
-use Rattle.std.proofs.Common.{◌∙◌, ap, arith, map}
-use Rattle.std.proofs.lemmas.List.{length-map}
+use Rattle.cp_walk.proofs.Words.{◌∙◌, ap, arith, map, length-map, line_of, begun}
 use Rattle.cp_machine.specs.System.{machine_of, output_of}
-use Rattle.cp_walk.specs.Rows.{line_of}
-use Rattle.cp_walk.specs.Walked.{begun}
 use Rattle.cp_walk.proofs.Repeats.{one_again}
 use Rattle.cp_walk.proofs.replay.add_replayed.Goals as goal
 

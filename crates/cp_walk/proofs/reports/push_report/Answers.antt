@@ -1,7 +1,5 @@
-use Rattle.std.proofs.Common.{◌≡◌, ◌∙◌, ◌++◌, map, string_bytes, sym}
-use Rattle.std.proofs.lemmas.List.{length-map}
+use Rattle.cp_walk.proofs.Words.{◌≡◌, ◌∙◌, ◌++◌, map, string_bytes, sym, length-map, line_of}
 use Rattle.cp_walk.specs.Report.{report_text}
-use Rattle.cp_walk.specs.Rows.{line_of}
 use Rattle.cp_walk.proofs.Reporting.{ok_then, report_of}
 use Rattle.cp_walk.proofs.reports.push_report.Goals as goal
 

@@ -1,7 +1,5 @@
-use Rattle.std.proofs.Common.{◌≡◌, ◌++◌, string_bytes, take}
-use Rattle.cp_run.specs.Table.{each}
+use Rattle.cp_walk.proofs.Words.{◌≡◌, ◌++◌, string_bytes, take, each, line_of}
 use Rattle.cp_walk.specs.Report.{row_text}
-use Rattle.cp_walk.specs.Rows.{line_of}
 use Rattle.cp_walk.proofs.reports.push_rows.Given as goal
 
 abbrev pub invariant-loop-row : goal.invariant-loop-row

@@ -1,12 +1,7 @@
 use Rattle.std.proofs.Common.{◌≡◌, ◌≤◌, ◌<◌, ◌++◌, ◌∷◌, [], cond, length, sym, ap, ◌∙◌, subst, arith, List}
-use Rattle.std.proofs.lemmas.List.{length-take}
+use Rattle.cp_walk.proofs.Words.{length-take, View, view_of, TaskRows, IsDone, IsHonest, IsTooMany}
 use Rattle.std.specs.Prelude.{Any}
-use Rattle.cp_board.specs.declared.views.View.{View}
 use Rattle.cp_board.specs.Views.{noted_by, note, last_of, drew, rows_noted}
-use Rattle.cp_board.specs.Seats.{view_of}
-use Rattle.cp_walk.specs.declared.worker.TaskRows.{TaskRows}
-use Rattle.cp_walk.specs.Ends.{IsDone, IsHonest}
-use Rattle.cp_walk.specs.Rows.{IsTooMany}
 use Rattle.cp_walk.proofs.Doing.{one_more, honest, any_last, excess, noted_most}
 use Rattle.cp_walk.proofs.running.draw_tasks.Goals as goal
 

@@ -1,14 +1,7 @@
 use Rattle.std.proofs.Common.{rules, refl, true, ◌≡◌, ◌≤◌, ◌<◌, ◌+◌, ◌∙◌, ap, sym, subst, arith, [], ◌∷◌, ◌++◌, length, get_or, map, take, take_all, ℕ}
 use Rattle.std.specs.Prelude.{IfSome}
-use Rattle.std.proofs.lemmas.List.{length-append, length-map}
-use Rattle.cp_run.specs.declared.outcome.OutcomeKind.TheVariants.{ChoiceLimit}
-use Rattle.cp_machine.specs.System.{machine_of, IsStateOf}
-use Rattle.cp_run.specs.Code.{node_of}
-use Rattle.cp_run.specs.Slots.{slots}
-use Rattle.cp_run.specs.Run.{Choosing, those_below, may, chosen}
-use Rattle.cp_walk.specs.Beginnings.{beginnings, words_in}
-use Rattle.cp_walk.specs.Rows.{line_of, IsTooMany}
-use Rattle.cp_walk.specs.Walk.{behind, walk, IsDue}
+use Rattle.cp_walk.proofs.Words.{length-append, length-map, ChoiceLimit, machine_of, IsStateOf, node_of, slots, Choosing, those_below, may, chosen}
+use Rattle.cp_walk.proofs.Words.{beginnings, words_in, line_of, IsTooMany, behind, walk, IsDue}
 use Rattle.cp_walk.specs.Walked.{begun, within_span, AreWalked, IsWalked}
 use Rattle.cp_walk.specs.declared.memo.Span.{Span}
 use Rattle.cp_key.specs.Key.{core_key}

@@ -1,10 +1,4 @@
-use Rattle.std.proofs.Common.{◌≡◌, ◌≤◌, ◌+◌, ◌*◌, [], length, map, take, ◌++◌, All}
-use Rattle.cp_machine.specs.System.{machine_of, IsStateOf}
-use Rattle.cp_run.specs.Slots.{slots}
-use Rattle.cp_walk.specs.Beginnings.{words_in}
-use Rattle.cp_walk.specs.Rows.{line_of}
-use Rattle.cp_walk.specs.Walk.{behind}
-use Rattle.cp_walk.specs.Walked.{AreWalked}
+use Rattle.cp_walk.proofs.Words.{◌≡◌, ◌≤◌, ◌+◌, ◌*◌, [], length, map, take, ◌++◌, All, machine_of, IsStateOf, slots, words_in, line_of, behind, AreWalked}
 use Rattle.cp_walk.proofs.Counted.{added}
 use Rattle.cp_walk.proofs.Listed.{behind_each}
 use Rattle.cp_walk.proofs.walk.+walk_from.Given as goal

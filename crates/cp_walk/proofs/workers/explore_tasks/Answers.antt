@@ -1,11 +1,9 @@
-use Rattle.std.proofs.Common.{◌<◌, ◌≤◌, List, map, All, length, sym, ap, ◌∙◌, subst, arith}
+use Rattle.cp_walk.proofs.Words.{◌<◌, ◌≤◌, List, map, All, length, sym, ap, ◌∙◌, subst, arith, TaskRows, table_of, rows_at}
 use Rattle.std.proofs.lemmas.List.Elements.{All-map}
 use Rattle.cp_board.specs.declared.seats.Seat.{Seat}
 use Rattle.cp_board.specs.Views.{Settles}
 use Rattle.cp_board.specs.Seats.{IsSeatOf, view_of, tasks_of}
-use Rattle.cp_walk.specs.declared.worker.TaskRows.{TaskRows}
 use Rattle.cp_walk.specs.declared.worker.Worked.{Worked}
-use Rattle.cp_walk.specs.Tables.{table_of, rows_at}
 use Rattle.cp_walk.specs.Ends.{HasWorked}
 use Rattle.cp_walk.proofs.Deciding.{total-le-table, all_below, table-from_parts, length-table}
 use Rattle.cp_walk.proofs.workers.explore_tasks.Goals as goal

@@ -1,8 +1,5 @@
-use Rattle.std.proofs.Common.{◌≡◌, ◌∙◌, true, refl, sym, ap, subst}
-use Rattle.std.specs.List.{list_any}
-use Rattle.cp_ends.specs.Answer.{ends_tests}
+use Rattle.cp_at_once.proofs.Words.{◌≡◌, ◌∙◌, true, refl, sym, ap, subst, list_any, ends_tests, IsWordOf}
 use Rattle.cp_ends.proofs.Telling.{ends_told}
-use Rattle.cp_at_once.specs.Holds.{IsWordOf}
 use Rattle.cp_at_once.specs.declared.found.EndAtOnce.{EndAtOnce}
 use Rattle.cp_at_once.proofs.Noting.{end_again, end_new}
 use Rattle.cp_at_once.proofs.found.FoundAtOnce.add_end.Goals as goal

@@ -1,8 +1,5 @@
-use Rattle.std.proofs.Common.{◌≡◌, ◌∙◌, true, take, refl, sym, ap, subst}
-use Rattle.std.specs.List.{list_any}
-use Rattle.cp_ends.specs.Answer.{ends_tests}
+use Rattle.cp_at_once.proofs.Words.{◌≡◌, ◌∙◌, true, take, refl, sym, ap, subst, list_any, ends_tests, IsWordOf}
 use Rattle.cp_ends.proofs.Telling.{values_told}
-use Rattle.cp_at_once.specs.Holds.{IsWordOf}
 use Rattle.cp_at_once.specs.declared.found.ValueAtOnce.{ValueAtOnce}
 use Rattle.cp_at_once.proofs.Noting.{value_again, value_new}
 use Rattle.cp_at_once.proofs.found.FoundAtOnce.add_value.Goals as goal

@@ -1,8 +1,6 @@
-use Rattle.std.proofs.Common.{◌≡◌, ◌<◌, length, take, sym, subst, arith}
+use Rattle.cp_at_once.proofs.Words.{◌≡◌, ◌<◌, length, take, sym, subst, arith, ShowsLast, NotesValues}
 use Rattle.std.proofs.lemmas.List.{take_all, take_more}
 use Rattle.std.proofs.lemmas.List.Elements.{All-contains, Contains-get_or}
-use Rattle.cp_ends.specs.Graph.{ShowsLast}
-use Rattle.cp_at_once.specs.Following.{NotesValues}
 use Rattle.cp_at_once.proofs.Noting.{values_more, values_none}
 use Rattle.cp_at_once.proofs.found.FoundAtOnce.add_values.Goals as goal
 

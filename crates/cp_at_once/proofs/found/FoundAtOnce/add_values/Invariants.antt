@@ -1,10 +1,4 @@
-use Rattle.std.proofs.Common.{ℕ, List, take}
-use Rattle.std.specs.Prelude.{All}
-use Rattle.cp_slots.specs.Tables.{Tables}
-use Rattle.cp_machine.specs.System.{Machine}
-use Rattle.cp_ends.specs.Graph.{ShowsLast}
-use Rattle.cp_at_once.specs.Following.{NotesValues, SlotGraph}
-use Rattle.cp_at_once.specs.Holds.{Holds, IsWordOf}
+use Rattle.cp_at_once.proofs.Words.{ℕ, List, take, All, Tables, Machine, ShowsLast, NotesValues, SlotGraph, Holds, IsWordOf}
 use Rattle.cp_at_once.proofs.found.FoundAtOnce.add_values.Given as goal
 
 abbrev pub invariant-loop-value : goal.invariant-loop-value

@@ -1,9 +1,5 @@
-use Rattle.std.proofs.Common.{◌∙◌, ◌++◌, ap}
-use Rattle.cp_machine.specs.System.{output_of}
-use Rattle.cp_ends.specs.Answer.{slot_graph}
-use Rattle.cp_ends.specs.Arrivals.{goal_at}
+use Rattle.cp_at_once.proofs.Words.{◌∙◌, ◌++◌, ap, output_of, slot_graph, goal_at, none_well}
 use Rattle.cp_at_once.proofs.search.SearchAtOnce.fill.Goals as goal
-use Rattle.cp_machine.proofs.CallOutcomes.{none_well}
 
 pub open-requires-clause-own : goal.open-requires-clause-own
 open-requires-clause-own g c = c.requires.own

@@ -1,15 +1,8 @@
 use Rattle.std.proofs.Common.{◌∙◌, ◌++◌, ◌∷◌, [], length, length-append, refl, ap, arith}
-use Rattle.cp_machine.specs.System.{machine_of}
-use Rattle.cp_ends.specs.Answer.{slot_graph}
-use Rattle.cp_ends.specs.Arrivals.{goal_at}
-use Rattle.cp_ends.proofs.GoingOn.{ok_to}
-use Rattle.cp_at_once.specs.Legs.{HasLeg}
+use Rattle.cp_at_once.proofs.Words.{machine_of, slot_graph, goal_at, ok_to, HasLeg, IsStateOf, subst, sym, none_well}
 use Rattle.cp_at_once.proofs.Following.{at_end, at_kept, at_leg, going_first, leads_to}
 use Rattle.cp_at_once.proofs.Keeping.{word_longer}
-use Rattle.cp_machine.specs.System.{IsStateOf}
-use Rattle.std.proofs.Common.{subst, sym}
 use Rattle.cp_at_once.proofs.search.SearchAtOnce.follow.Goals as goal
-use Rattle.cp_machine.proofs.CallOutcomes.{none_well}
 
 pub loop-made-init : goal.loop-made-init
 loop-made-init g c =

@@ -1,11 +1,5 @@
-use Rattle.std.proofs.Common.{◌≡◌, ◌≤◌, ◌+◌, ℕ, List, [], length}
-use Rattle.cp_machine.specs.System.{Machine, machine_of, output_of, IsStateOf}
-use Rattle.cp_ends.specs.Answer.{slot_graph}
-use Rattle.cp_ends.specs.Arrivals.{goal_at}
-use Rattle.cp_ends.specs.Graph.{ArrivesAt}
-use Rattle.cp_ends.specs.Holds.{SlotArrival}
-use Rattle.cp_at_once.specs.Holds.{Holds, IsWordOf}
-use Rattle.cp_at_once.specs.Legs.{HasLeg}
+use Rattle.cp_at_once.proofs.Words.{◌≡◌, ◌≤◌, ◌+◌, ℕ, List, [], length, Machine, machine_of, output_of, IsStateOf, slot_graph, goal_at, ArrivesAt}
+use Rattle.cp_at_once.proofs.Words.{SlotArrival, Holds, IsWordOf, HasLeg}
 use Rattle.cp_at_once.proofs.Following.{Going}
 use Rattle.cp_at_once.proofs.search.SearchAtOnce.follow.Given as goal
 

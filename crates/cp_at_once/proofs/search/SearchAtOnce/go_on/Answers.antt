@@ -1,13 +1,8 @@
-use Rattle.std.proofs.Common.{◌≡◌, ◌∙◌, ℕ, [], true, false, ap, subst, arith}
-use Rattle.cp_machine.specs.System.{machine_of, output_of}
-use Rattle.cp_ends.specs.Answer.{slot_graph}
+use Rattle.cp_at_once.proofs.Words.{◌≡◌, ◌∙◌, ℕ, [], true, false, ap, subst, arith, machine_of, output_of, slot_graph, all_at, HasLeg, none_well}
 use Rattle.cp_ends.specs.Holds.{IsAt}
-use Rattle.cp_ends.proofs.Searching.Lists.{all_at}
 use Rattle.cp_at_once.specs.Following.{AllGoOn, IsGoneThrough}
-use Rattle.cp_at_once.specs.Legs.{HasLeg}
 use Rattle.cp_at_once.proofs.Choices.{past_all, through_all, through_more}
 use Rattle.cp_at_once.proofs.search.SearchAtOnce.go_on.Goals as goal
-use Rattle.cp_machine.proofs.CallOutcomes.{none_well}
 
 pub thaw_at-requires : goal.thaw_at-requires
 thaw_at-requires g c =

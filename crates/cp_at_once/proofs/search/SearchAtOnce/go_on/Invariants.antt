@@ -1,9 +1,4 @@
-use Rattle.std.proofs.Common.{ℕ, List}
-use Rattle.cp_machine.specs.System.{Machine, IsStateOf}
-use Rattle.cp_ends.specs.Answer.{slot_graph}
-use Rattle.cp_at_once.specs.Following.{IsGoneThrough}
-use Rattle.cp_at_once.specs.Holds.{Holds}
-use Rattle.cp_at_once.specs.Legs.{HasLeg}
+use Rattle.cp_at_once.proofs.Words.{ℕ, List, Machine, IsStateOf, slot_graph, IsGoneThrough, Holds, HasLeg}
 use Rattle.cp_at_once.proofs.search.SearchAtOnce.go_on.Given as goal
 
 abbrev pub invariant-loop-number : goal.invariant-loop-number

@@ -1,12 +1,8 @@
-use Rattle.std.proofs.Common.{◌≡◌, [], true, false, subst}
-use Rattle.cp_ends.specs.Answer.{slot_graph}
-use Rattle.cp_at_once.specs.Following.{GoesOn}
-use Rattle.cp_at_once.specs.Legs.{HasLeg}
+use Rattle.cp_at_once.proofs.Words.{◌≡◌, [], true, false, subst, slot_graph, GoesOn, HasLeg, none_well}
 use Rattle.cp_at_once.proofs.Arriving.{begun, first_followed}
 use Rattle.cp_at_once.proofs.Choices.{answers_marked}
 use Rattle.cp_at_once.proofs.Nothing.{nothing_found}
 use Rattle.cp_at_once.proofs.search.SearchAtOnce.go_through.Goals as goal
-use Rattle.cp_machine.proofs.CallOutcomes.{none_well}
 
 pub go_on-requires-clause-begun : goal.go_on-requires-clause-begun
 go_on-requires-clause-begun g c =

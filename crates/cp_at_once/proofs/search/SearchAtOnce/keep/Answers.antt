@@ -1,14 +1,8 @@
-use Rattle.std.proofs.Common.{◌≡◌, ◌∙◌, ◌<◌, ◌≤◌, true, false, length, sym, arith}
-use Rattle.cp_machine.specs.System.{machine_of}
+use Rattle.cp_at_once.proofs.Words.{◌≡◌, ◌∙◌, ◌<◌, ◌≤◌, true, false, length, sym, arith, machine_of, same_key, has, refl, none_well, key_self}
 use Rattle.cp_key.proofs.Owned.{machine_own}
-use Rattle.cp_ends.specs.Holds.{same_key}
-use Rattle.cp_ends.specs.Searched.{has}
 use Rattle.cp_at_once.proofs.Following.{known_again, one_more, one_too_many}
 use Rattle.cp_at_once.proofs.Keeping.{states_length}
-use Rattle.std.proofs.Common.{refl}
 use Rattle.cp_at_once.proofs.search.SearchAtOnce.keep.Goals as goal
-use Rattle.cp_machine.proofs.CallOutcomes.{none_well}
-use Rattle.cp_ends.proofs.named.Keys.{key_self}
 
 pub returns-then-contains-clause-found : goal.returns-then-contains-clause-found
 returns-then-contains-clause-found c = λ g states word h is leads.

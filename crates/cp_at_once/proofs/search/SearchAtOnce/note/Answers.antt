@@ -1,6 +1,4 @@
-use Rattle.std.proofs.Common.{◌≡◌, ◌∙◌, sym, ap}
-use Rattle.cp_ends.specs.Arrivals.{goal_at}
-use Rattle.cp_ends.proofs.GoingOn.{ok_to}
+use Rattle.cp_at_once.proofs.Words.{◌≡◌, ◌∙◌, sym, ap, goal_at, ok_to}
 use Rattle.cp_at_once.proofs.Arriving.{ends_so, noted_choice, noted_end, shows_all}
 use Rattle.cp_at_once.proofs.search.SearchAtOnce.note.Goals as goal
 

@@ -1,17 +1,10 @@
 use Rattle.std.proofs.Common.{rules, ◌≡◌, ◌∙◌, ◌<◌, ◌==◌, true, false, ◌++◌, get_or, length, take, ap, subst, arith}
-use Rattle.std.specs.List.{list_any}
-use Rattle.std.proofs.lemmas.List.{take_all}
-use Rattle.cp_machine.specs.System.{machine_of}
+use Rattle.cp_at_once.proofs.Words.{list_any, take_all, machine_of, slots, slot_graph, GoesOn, HasLeg, none_well}
 use Rattle.cp_run.specs.Run.{may, those_below}
-use Rattle.cp_run.specs.Slots.{slots}
 use Rattle.cp_run.proofs.Wanting.{any_wanted}
-use Rattle.cp_ends.specs.Answer.{slot_graph}
 use Rattle.cp_ends.proofs.Wanted.{may_those}
-use Rattle.cp_at_once.specs.Following.{GoesOn}
-use Rattle.cp_at_once.specs.Legs.{HasLeg}
 use Rattle.cp_at_once.proofs.Choices.{all_chosen, choice_taken, none_chosen, one_chosen}
 use Rattle.cp_at_once.proofs.search.SearchAtOnce.take_choices.Goals as goal
-use Rattle.cp_machine.proofs.CallOutcomes.{none_well}
 
 pub choose-requires-clause-may : goal.choose-requires-clause-may
 choose-requires-clause-may g c =

@@ -1,9 +1,4 @@
-use Rattle.std.proofs.Common.{◌≡◌, ℕ, List, Some, take}
-use Rattle.std.specs.Prelude.{slice_get}
-use Rattle.cp_machine.specs.System.{Machine, machine_of, IsStateOf}
-use Rattle.cp_ends.specs.Answer.{slot_graph}
-use Rattle.cp_at_once.specs.Holds.{Holds}
-use Rattle.cp_at_once.specs.Legs.{HasLeg}
+use Rattle.cp_at_once.proofs.Words.{◌≡◌, ℕ, List, Some, take, slice_get, Machine, machine_of, IsStateOf, slot_graph, Holds, HasLeg}
 use Rattle.cp_at_once.proofs.Choices.{Chosen}
 use Rattle.cp_at_once.proofs.search.SearchAtOnce.take_choices.Given as goal
 

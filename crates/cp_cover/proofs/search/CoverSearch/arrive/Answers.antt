@@ -1,11 +1,8 @@
-use Rattle.std.proofs.Common.{sym, subst}
+use Rattle.cp_cover.proofs.Words.{sym, subst, machine_of, ok_as, AddsNode}
 use Rattle.std.specs.Prelude.{IfOk}
-use Rattle.cp_machine.specs.System.{machine_of}
 use Rattle.cp_key.proofs.Owned.{machine_own}
 use Rattle.cp_run.specs.Code.{node_of}
 use Rattle.cp_run.specs.declared.outcome.Halt.{Halt}
-use Rattle.cp_run.proofs.Tracing.{ok_as}
-use Rattle.cp_cover.specs.Layers.{AddsNode}
 use Rattle.cp_cover.proofs.FromState.{node_choosing, node_halted}
 use Rattle.cp_cover.proofs.search.CoverSearch.arrive.Goals as goal
 

@@ -1,9 +1,4 @@
-use Rattle.std.proofs.Common.{◌≡◌, ◌≤◌, List, true, length, refl, sym, subst, arith}
-use Rattle.cp_machine.specs.System.{machine_of}
-use Rattle.cp_run.specs.Run.{may, those_below}
-use Rattle.cp_run.specs.Slots.{slots}
-use Rattle.cp_cover.specs.declared.keys.CoverStateKey.{CoverStateKey}
-use Rattle.cp_cover.specs.Layers.{FromLayer}
+use Rattle.cp_cover.proofs.Words.{◌≡◌, ◌≤◌, List, true, length, refl, sym, subst, arith, machine_of, may, those_below, slots, CoverStateKey, FromLayer}
 use Rattle.cp_cover.specs.Reached.{IsDue}
 use Rattle.cp_cover.proofs.FromLayer.{from_all, from_more, from_none, key_machine, no_room, own_keys}
 use Rattle.cp_cover.proofs.search.CoverSearch.next_layer.Goals as goal

@@ -1,6 +1,4 @@
-use Rattle.cp_machine.specs.System.{IsStateOf}
-use Rattle.cp_run.specs.Slots.{slots}
-use Rattle.cp_cover.specs.Layers.{FromLayer}
+use Rattle.cp_cover.proofs.Words.{IsStateOf, slots, FromLayer}
 use Rattle.cp_cover.proofs.search.CoverSearch.next_layer.Given as goal
 
 abbrev pub invariant-loop-number : goal.invariant-loop-number

@@ -1,9 +1,4 @@
-use Rattle.std.proofs.Common.{List, [], sym, subst}
-use Rattle.cp_run.specs.Slots.{slots}
-use Rattle.cp_run.proofs.Tracing.{ok_as}
-use Rattle.cp_cover.specs.declared.mark.CoverMark.{CoverMark}
-use Rattle.cp_cover.specs.Marks.{Adds}
-use Rattle.cp_cover.specs.Reached.{opened_marks}
+use Rattle.cp_cover.proofs.Words.{List, [], sym, subst, slots, ok_as, CoverMark, Adds, opened_marks}
 use Rattle.cp_cover.proofs.FromLayer.{first_marks, open_layer}
 use Rattle.cp_cover.proofs.search.CoverSearch.open.Goals as goal
 

@@ -1,9 +1,4 @@
-use Rattle.std.proofs.Common.{sym, subst}
-use Rattle.cp_machine.specs.Machine.{Machine}
-use Rattle.cp_run.specs.Run.{Node}
-use Rattle.cp_run.proofs.Tracing.{ok_as}
-use Rattle.cp_cover.specs.Layers.{AddsNode}
-use Rattle.cp_cover.specs.Marks.{Adds}
+use Rattle.cp_cover.proofs.Words.{sym, subst, Machine, Node, ok_as, AddsNode, Adds}
 use Rattle.cp_cover.proofs.search.CoverSearch.take_choice.Goals as goal
 
 pub returns-clause-marks : goal.returns-clause-marks

@@ -1,12 +1,6 @@
 use Rattle.std.proofs.Common.{rules, ◌≡◌, ◌∙◌, ◌<◌, ℕ, List, true, get_or, length, sym, take, ap, subst, arith}
 use Rattle.std.proofs.lemmas.List.{take_all, take_more}
-use Rattle.cp_machine.specs.Machine.{Machine}
-use Rattle.cp_machine.specs.System.{machine_of}
-use Rattle.cp_run.specs.Run.{chosen, may, those_below}
-use Rattle.cp_run.specs.Slots.{slots}
-use Rattle.cp_cover.specs.Layers.{AddsNode, FromState}
-use Rattle.cp_cover.specs.Marks.{Adds}
-use Rattle.cp_cover.specs.Reached.{chosen_marks}
+use Rattle.cp_cover.proofs.Words.{Machine, machine_of, chosen, may, those_below, slots, AddsNode, FromState, Adds, chosen_marks}
 use Rattle.cp_cover.proofs.FromState.{state_more, state_none}
 use Rattle.cp_cover.proofs.Wanted.{may_those}
 use Rattle.cp_cover.proofs.search.CoverSearch.take_choices.Goals as goal

@@ -1,7 +1,4 @@
-use Rattle.std.proofs.Common.{take}
-use Rattle.cp_machine.specs.System.{machine_of, IsStateOf}
-use Rattle.cp_run.specs.Slots.{slots}
-use Rattle.cp_cover.specs.Layers.{FromState}
+use Rattle.cp_cover.proofs.Words.{take, machine_of, IsStateOf, slots, FromState}
 use Rattle.cp_cover.proofs.search.CoverSearch.take_choices.Given as goal
 
 abbrev pub invariant-loop-process : goal.invariant-loop-process

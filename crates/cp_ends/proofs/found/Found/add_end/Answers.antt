@@ -1,7 +1,4 @@
-use Rattle.std.proofs.Common.{◌≡◌, ◌∙◌, true, false, sym, ap}
-use Rattle.std.specs.List.{list_any}
-use Rattle.cp_ends.specs.Answer.{ends_tests}
-use Rattle.cp_ends.specs.declared.found.FoundEnd.{FoundEnd}
+use Rattle.cp_ends.proofs.Words.{◌≡◌, ◌∙◌, true, false, sym, ap, list_any, ends_tests, FoundEnd}
 use Rattle.cp_ends.proofs.Finding.{end_again, end_new}
 use Rattle.cp_ends.proofs.found.Found.add_end.Goals as goal
 

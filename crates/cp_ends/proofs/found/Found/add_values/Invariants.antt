@@ -1,6 +1,4 @@
-use Rattle.std.proofs.Common.{ℕ, List, take}
-use Rattle.cp_slots.specs.Tables.{Tables}
-use Rattle.cp_ends.specs.Holds.{Holds, IsWordOf, SlotFindings}
+use Rattle.cp_ends.proofs.Words.{ℕ, List, take, Tables, Holds, IsWordOf, SlotFindings}
 use Rattle.cp_ends.proofs.Finding.{with_all}
 use Rattle.cp_ends.proofs.found.Found.add_values.Given as goal
 

@@ -1,8 +1,5 @@
-use Rattle.std.proofs.Common.{◌≡◌, ◌∙◌, ◌<◌, ◌≤◌, true, false, length, sym, arith}
-use Rattle.cp_machine.specs.System.{machine_of}
+use Rattle.cp_ends.proofs.Words.{◌≡◌, ◌∙◌, ◌<◌, ◌≤◌, true, false, length, sym, arith, machine_of, same_key, has}
 use Rattle.cp_key.proofs.Owned.{machine_own}
-use Rattle.cp_ends.specs.Holds.{same_key}
-use Rattle.cp_ends.specs.Searched.{has}
 use Rattle.cp_ends.proofs.GoingOn.{state_full, state_known, state_new}
 use Rattle.cp_ends.proofs.Keeping.{states_length}
 use Rattle.cp_ends.proofs.search.Search.add_state.Goals as goal

@@ -1,11 +1,5 @@
-use Rattle.std.proofs.Common.{◌∙◌, List, true, sym, ap, subst}
-use Rattle.cp_machine.specs.System.{machine_of}
-use Rattle.cp_machine.specs.declared.shown.Shown.{Shown}
-use Rattle.cp_ends.specs.Answer.{ends_tests, with_shown}
-use Rattle.cp_ends.specs.Arrivals.{goal_at}
-use Rattle.cp_ends.specs.Graph.{Place, End}
-use Rattle.cp_ends.specs.Holds.{Holds, SlotFindings}
-use Rattle.cp_ends.specs.Searched.{with_values}
+use Rattle.cp_ends.proofs.Words.{◌∙◌, List, true, sym, ap, subst, machine_of, Shown, ends_tests, with_shown, goal_at, Place, End, Holds, SlotFindings}
+use Rattle.cp_ends.proofs.Words.{with_values}
 use Rattle.cp_ends.proofs.GoingOn.{came_to, ok_to}
 use Rattle.cp_ends.proofs.search.Search.arrive.Goals as goal
 

@@ -1,8 +1,6 @@
-use Rattle.std.proofs.Common.{◌≡◌, ◌∙◌, ℕ, List, [], true, false, sym, ap, subst, arith}
-use Rattle.cp_machine.specs.System.{Machine, machine_of, output_of}
+use Rattle.cp_ends.proofs.Words.{◌≡◌, ◌∙◌, ℕ, List, [], true, false, sym, ap, subst, arith, Machine, machine_of, output_of, searched}
 use Rattle.cp_ends.specs.Answer.{GoesOn, HoldsFew, ends_tests, slot_graph}
 use Rattle.cp_ends.specs.Holds.{IsAt, SlotFindings}
-use Rattle.cp_ends.specs.Searched.{searched}
 use Rattle.cp_ends.proofs.GoingOn.{search_done}
 use Rattle.cp_ends.proofs.Searching.Growing.{searched_on}
 use Rattle.cp_ends.proofs.Searching.Lists.{all_at}

@@ -1,6 +1,4 @@
-use Rattle.cp_machine.specs.System.{IsStateOf}
-use Rattle.cp_ends.specs.Answer.{HoldsFew, ends_tests, slot_graph}
-use Rattle.cp_ends.specs.Searched.{searched}
+use Rattle.cp_ends.proofs.Words.{IsStateOf, HoldsFew, ends_tests, slot_graph, searched}
 use Rattle.cp_ends.proofs.search.Search.go_on.Given as goal
 
 abbrev pub invariant-loop-number : goal.invariant-loop-number

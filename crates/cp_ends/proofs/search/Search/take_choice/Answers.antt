@@ -1,7 +1,4 @@
-use Rattle.std.proofs.Common.{◌∙◌, ◌++◌, ap}
-use Rattle.cp_machine.specs.System.{machine_of}
-use Rattle.cp_ends.specs.Answer.{slot_graph}
-use Rattle.cp_ends.specs.Holds.{SlotArrival}
+use Rattle.cp_ends.proofs.Words.{◌∙◌, ◌++◌, ap, machine_of, slot_graph, SlotArrival}
 use Rattle.cp_ends.proofs.GoingOn.{ok_to}
 use Rattle.cp_ends.proofs.search.Search.take_choice.Goals as goal
 

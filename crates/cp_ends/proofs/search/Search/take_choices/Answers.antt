@@ -1,10 +1,6 @@
 use Rattle.std.proofs.Common.{rules, ◌≡◌, ◌∙◌, ◌<◌, true, false, [], ◌∷◌, ◌++◌, get_or, length, take, ap, subst, arith}
-use Rattle.std.proofs.lemmas.List.{take_all}
-use Rattle.cp_machine.specs.System.{machine_of}
-use Rattle.cp_run.specs.Run.{may, those_below}
-use Rattle.cp_run.specs.Slots.{slots}
+use Rattle.cp_ends.proofs.Words.{take_all, machine_of, may, those_below, slots, gone_on}
 use Rattle.cp_ends.specs.Answer.{Arrives, HoldsFew, ends_tests, slot_graph}
-use Rattle.cp_ends.specs.Searched.{gone_on}
 use Rattle.cp_ends.proofs.GoingOn.{gone_list, list_first, list_those, one_more, stops_here, taken}
 use Rattle.cp_ends.proofs.Wanted.{may_those}
 use Rattle.cp_ends.proofs.search.Search.take_choices.Goals as goal

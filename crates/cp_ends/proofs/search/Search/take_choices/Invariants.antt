@@ -1,8 +1,4 @@
-use Rattle.std.proofs.Common.{◌≡◌, ℕ, List, Some, take}
-use Rattle.std.specs.Prelude.{slice_get}
-use Rattle.cp_machine.specs.System.{Machine, machine_of, IsStateOf}
-use Rattle.cp_ends.specs.Answer.{HoldsFew, slot_graph}
-use Rattle.cp_ends.specs.Holds.{SlotFindings}
+use Rattle.cp_ends.proofs.Words.{◌≡◌, ℕ, List, Some, take, slice_get, Machine, machine_of, IsStateOf, HoldsFew, slot_graph, SlotFindings}
 use Rattle.cp_ends.proofs.GoingOn.{gone_list}
 use Rattle.cp_ends.proofs.search.Search.take_choices.Given as goal
 

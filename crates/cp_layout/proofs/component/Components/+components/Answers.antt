@@ -1,6 +1,4 @@
-use Rattle.std.proofs.Common.{◌∙◌, map, arith}
-use Rattle.cp_layout.specs.Kinds.{types_seen}
-use Rattle.cp_layout.specs.Layers.{system_seen}
+use Rattle.cp_layout.proofs.Words.{◌∙◌, map, arith, types_seen, system_seen}
 use Rattle.cp_layout.specs.LaidComponents.{listing_seen, listed_below}
 use Rattle.cp_layout.proofs.Listed.{contained_step}
 use Rattle.cp_layout.proofs.component.Components.+components.Goals as goal

@@ -1,9 +1,7 @@
-use Rattle.std.proofs.Common.{◌≡◌, drop, map}
+use Rattle.cp_layout.proofs.Words.{◌≡◌, drop, map, value_seen, designated_seen, layer_seen}
 use Rattle.cp_tree.specs.View.{expressions_view, expressions_of, terms_view, terms_of, factors_view, factors_of, selectors_view, selectors_of}
 use Rattle.cp_slots.specs.Code as code
 use Rattle.cp_slots.specs.Code.{set_seen, argument_seen}
-use Rattle.cp_layout.specs.Values.{value_seen, designated_seen}
-use Rattle.cp_layout.specs.Layers.{layer_seen}
 use Rattle.cp_layout.specs.LaidExpressions as spec
 use Rattle.cp_layout.proofs.Laid.{with_front}
 use Rattle.cp_layout.proofs.layer.Layouter.+expression.Given as goal

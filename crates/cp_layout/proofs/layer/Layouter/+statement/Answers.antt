@@ -1,7 +1,5 @@
 use Rattle.std.proofs.Common.{◌≡◌, ◌∙◌, ◌-◌, arith, drop, map, subst}
-use Rattle.cp_tree.specs.View.{statements_of, statements_view}
-use Rattle.cp_slots.specs.Code.{arm_seen}
-use Rattle.cp_layout.specs.Layers.{layer_seen}
+use Rattle.cp_layout.proofs.Words.{statements_of, statements_view, arm_seen, layer_seen}
 use Rattle.cp_layout.specs.LaidStatements as spec
 use Rattle.cp_layout.proofs.LaidLists.{arms_none, arms_step, statements_step}
 use Rattle.cp_layout.proofs.layer.Layouter.+statement.Goals as goal

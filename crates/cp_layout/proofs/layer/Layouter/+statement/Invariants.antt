@@ -1,7 +1,5 @@
-use Rattle.std.proofs.Common.{◌≡◌, ◌≤◌, drop, map, length}
+use Rattle.cp_layout.proofs.Words.{◌≡◌, ◌≤◌, drop, map, length, arm_seen, layer_seen}
 use Rattle.cp_tree.specs.View.{statements_view, statements_of, arms_view, arms_of}
-use Rattle.cp_slots.specs.Code.{arm_seen}
-use Rattle.cp_layout.specs.Layers.{layer_seen}
 use Rattle.cp_layout.specs.LaidStatements as spec
 use Rattle.cp_layout.proofs.LaidLists.{with_front}
 use Rattle.cp_layout.proofs.layer.Layouter.+statement.Given as goal

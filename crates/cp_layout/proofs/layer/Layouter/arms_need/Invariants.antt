@@ -1,6 +1,4 @@
-use Rattle.std.proofs.Common.{◌≡◌, drop, map}
-use Rattle.cp_slots.specs.Code.{arm_seen}
-use Rattle.cp_layout.specs.Layers.{layer_seen}
+use Rattle.cp_layout.proofs.Words.{◌≡◌, drop, map, arm_seen, layer_seen}
 use Rattle.cp_layout.specs.LaidStatements.{arms_need}
 use Rattle.cp_layout.proofs.layer.Layouter.arms_need.Given as goal
 

@@ -1,6 +1,4 @@
-use Rattle.std.proofs.Common.{◌≡◌, map, drop}
-use Rattle.cp_tree.specs.View.{part_view}
-use Rattle.cp_layout.specs.Layers.{layer_seen}
+use Rattle.cp_layout.proofs.Words.{◌≡◌, map, drop, part_view, layer_seen}
 use Rattle.cp_layout.specs.LaidDeclarations.{local_parts}
 use Rattle.cp_layout.proofs.layer.Layouter.local_parts.Given as goal
 

@@ -1,6 +1,4 @@
-use Rattle.std.proofs.Common.{◌≡◌, map, drop}
-use Rattle.cp_tree.specs.View.{variable_group_view}
-use Rattle.cp_layout.specs.Layers.{layer_seen}
+use Rattle.cp_layout.proofs.Words.{◌≡◌, map, drop, variable_group_view, layer_seen}
 use Rattle.cp_layout.specs.LaidDeclarations.{local_variables}
 use Rattle.cp_layout.proofs.layer.Layouter.local_variables.Given as goal
 

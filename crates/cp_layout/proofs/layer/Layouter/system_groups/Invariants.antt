@@ -1,6 +1,4 @@
-use Rattle.std.proofs.Common.{◌≡◌, [], map, drop}
-use Rattle.cp_tree.specs.View.{group_view}
-use Rattle.cp_layout.specs.Layers.{layer_seen}
+use Rattle.cp_layout.proofs.Words.{◌≡◌, [], map, drop, group_view, layer_seen}
 use Rattle.cp_layout.specs.LaidDeclarations.{system_groups}
 use Rattle.cp_layout.proofs.layer.Layouter.system_groups.Given as goal
 

@@ -1,6 +1,4 @@
-use Rattle.std.proofs.Common.{subst, sym}
-use Rattle.cp_machine.specs.Fits.{LinesFit, MachineFits}
-use Rattle.cp_machine.specs.Reach.{Reaches}
+use Rattle.cp_machine.proofs.Words.{subst, sym, LinesFit, MachineFits, Reaches}
 use Rattle.cp_machine.proofs.ReachingKept.{admitted_reaches}
 use Rattle.cp_machine.proofs.KernelFits.{admitted_fits}
 use Rattle.cp_machine.proofs.KernelLines.{admitted_lines}

@@ -1,9 +1,5 @@
-use Rattle.std.proofs.Common.{◌≡◌, ◌∙◌, ◌+◌, ◌<◌, ◌≤◌, ap, arith, length, sym, true, false, List}
-use Rattle.std.specs.Prelude.{slice_index_or}
-use Rattle.std.specs.List.{filter, range_with_len}
-use Rattle.std.proofs.lemmas.List.{length-map}
-use Rattle.cp_machine.specs.declared.process.ProcessState.{ProcessState}
-use Rattle.cp_machine.specs.Machine.{is_ready, is_ready_status, machine_of, readiness_of, thread_of}
+use Rattle.cp_machine.proofs.Words.{◌≡◌, ◌∙◌, ◌+◌, ◌<◌, ◌≤◌, ap, arith, length, sym, true, false, List, slice_index_or, filter, range_with_len, length-map}
+use Rattle.cp_machine.proofs.Words.{ProcessState, is_ready, is_ready_status, machine_of, readiness_of, thread_of}
 use Rattle.cp_machine.proofs.ListLemmas.{readiness_kept, readiness_same, several_done}
 use Rattle.cp_machine.proofs.ThreadLemmas.{thread_read}
 use Rattle.cp_machine.proofs.state.State.readiness.Goals as goal

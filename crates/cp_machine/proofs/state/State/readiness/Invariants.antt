@@ -1,6 +1,4 @@
-use Rattle.std.proofs.Common.{◌≡◌}
-use Rattle.std.specs.List.{filter, range_with_len}
-use Rattle.cp_machine.specs.Machine.{is_ready, machine_of, readiness_of}
+use Rattle.cp_machine.proofs.Words.{◌≡◌, filter, range_with_len, is_ready, machine_of, readiness_of}
 use Rattle.cp_machine.proofs.state.State.readiness.Given as goal
 
 abbrev pub invariant-loop-pid : goal.invariant-loop-pid

@@ -1,8 +1,4 @@
-use Rattle.std.proofs.Common.{sym, subst}
-use Rattle.cp_machine.specs.declared.process.Status.TheVariants.{Ready}
-use Rattle.cp_machine.specs.Fits.{LinesFit, MachineFits}
-use Rattle.cp_machine.specs.Machine.{Machine, with_status}
-use Rattle.cp_machine.specs.Reach.{Reaches}
+use Rattle.cp_machine.proofs.Words.{sym, subst, Ready, LinesFit, MachineFits, Machine, with_status, Reaches}
 use Rattle.cp_machine.proofs.ReachingKept.{opening_reaches}
 use Rattle.cp_machine.proofs.OpeningFits.{still_fits, restatused}
 use Rattle.cp_machine.proofs.OpeningLines.{opening_lines}

@@ -1,8 +1,4 @@
-use Rattle.std.proofs.Common.{◌≡◌, ◌∙◌, length, map, refl, subst, sym}
-use Rattle.std.proofs.lemmas.List.{length-map}
-use Rattle.cp_machine.specs.Fits.{LinesFit, MachineFits}
-use Rattle.cp_machine.specs.Machine.{machine_of, thread_of}
-use Rattle.cp_machine.specs.Reach.{Reaches}
+use Rattle.cp_machine.proofs.Words.{◌≡◌, ◌∙◌, length, map, refl, subst, sym, length-map, LinesFit, MachineFits, machine_of, thread_of, Reaches}
 use Rattle.cp_machine.proofs.CopyLemmas.{have_room}
 use Rattle.cp_machine.proofs.state.State.take_from.Goals as goal
 

@@ -1,9 +1,5 @@
-use Rattle.std.proofs.Common.{◌≡◌, ◌∙◌, ◌<◌, ap, length, sym, true, false, arith, List}
-use Rattle.std.proofs.lemmas.List.{append-nil}
-use Rattle.std.specs.Prelude.{slice_index_or}
-use Rattle.arrayvec.specs.ArrayVec.{array_vec_len}
-use Rattle.cp_machine.specs.declared.process.ProcessState.{ProcessState}
-use Rattle.cp_machine.specs.Machine.{is_at_gate, machine_of, thread_at}
+use Rattle.cp_machine.proofs.Words.{◌≡◌, ◌∙◌, ◌<◌, ap, length, sym, true, false, arith, List, append-nil, slice_index_or, array_vec_len, ProcessState}
+use Rattle.cp_machine.proofs.Words.{is_at_gate, machine_of, thread_at}
 use Rattle.cp_machine.proofs.ListLemmas.{kept_more}
 use Rattle.cp_machine.proofs.ThreadLemmas.{thread_read}
 use Rattle.cp_machine.proofs.state.State.waiting.Goals as goal

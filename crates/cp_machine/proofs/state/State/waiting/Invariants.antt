@@ -1,7 +1,4 @@
-use Rattle.std.proofs.Common.{◌≡◌, ◌≤◌}
-use Rattle.std.specs.List.{filter, range_with_len}
-use Rattle.arrayvec.specs.ArrayVec.{array_vec_len}
-use Rattle.cp_machine.specs.Machine.{is_at_gate, machine_of, thread_at}
+use Rattle.cp_machine.proofs.Words.{◌≡◌, ◌≤◌, filter, range_with_len, array_vec_len, is_at_gate, machine_of, thread_at}
 use Rattle.cp_machine.proofs.state.State.waiting.Given as goal
 
 abbrev pub invariant-loop-pid : goal.invariant-loop-pid

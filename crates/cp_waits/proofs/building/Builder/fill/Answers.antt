@@ -1,8 +1,5 @@
-use Rattle.std.proofs.Common.{[]}
-use Rattle.cp_machine.specs.System.{machine_of}
-use Rattle.cp_endless.specs.Silent.{silent_slots, in_call_on_slots, waits_on_slots}
+use Rattle.cp_waits.proofs.Words.{[], machine_of, silent_slots, in_call_on_slots, waits_on_slots, Comes, first_leg}
 use Rattle.cp_waits.specs.Graphs.{IsGraphOfAll}
-use Rattle.cp_waits.specs.Legs.{Comes, first_leg}
 use Rattle.cp_waits.proofs.Adding.{graph_begun}
 use Rattle.cp_waits.proofs.Insides.{everybody_is}
 use Rattle.cp_waits.proofs.Numbers.{all_found, few_processes}

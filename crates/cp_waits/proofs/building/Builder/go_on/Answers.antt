@@ -1,14 +1,11 @@
 use Rattle.std.proofs.Common.{◌≡◌, ◌∙◌, ◌≤◌, ℕ, List, [], suc, true, false, length, ap, sym, subst, arith, add-one}
-use Rattle.cp_machine.specs.System.{Machine, machine_of, output_of}
-use Rattle.cp_run.specs.Run.{those_below}
-use Rattle.cp_endless.specs.Silent.{silent_slots, in_call_on_slots, waits_on_slots}
+use Rattle.cp_waits.proofs.Words.{Machine, machine_of, output_of, those_below, silent_slots, in_call_on_slots, waits_on_slots, none_well}
 use Rattle.cp_ends.specs.Holds.{IsAt}
 use Rattle.cp_ends.proofs.Searching.Lists.{all_at}
 use Rattle.cp_waits.specs.Building.{AddsChoicesOnSlots, IsSlotGraphTo}
 use Rattle.cp_waits.proofs.Adding.{graph_next, graph_done}
 use Rattle.cp_waits.proofs.Numbers.{quiet_may}
 use Rattle.cp_waits.proofs.building.Builder.go_on.Goals as goal
-use Rattle.cp_machine.proofs.CallOutcomes.{none_well}
 use Rattle.cp_resolved.proofs.names.Entries.{not_there as past_none}
 
 pub thaw_at-requires : goal.thaw_at-requires

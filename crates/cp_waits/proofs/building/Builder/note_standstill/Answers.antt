@@ -1,7 +1,5 @@
-use Rattle.std.proofs.Common.{◌≡◌, ◌∙◌, ℕ, ◌<◌, true, false, length, refl, sym, ap, subst}
-use Rattle.std.specs.Prelude.{◌&&◌, nat_lt}
-use Rattle.cp_endless.specs.Silent.{silent_slots, in_call_on_slots, waits_on_slots}
-use Rattle.cp_waits.specs.Graphs.{LetsWait}
+use Rattle.cp_waits.proofs.Words.{◌≡◌, ◌∙◌, ℕ, ◌<◌, true, false, length, refl, sym, ap, subst, ◌&&◌, nat_lt, silent_slots, in_call_on_slots, waits_on_slots}
+use Rattle.cp_waits.proofs.Words.{LetsWait}
 use Rattle.cp_waits.specs.Legs.{Comes, GoesRound}
 use Rattle.cp_waits.proofs.Standing.{adds_none, adds_one, all_served, no_round, nobody_left, round_seen, seen_to_wait}
 use Rattle.cp_waits.proofs.building.Builder.note_standstill.Goals as goal

@@ -1,9 +1,6 @@
-use Rattle.std.proofs.Common.{subst}
-use Rattle.cp_machine.specs.System.{machine_of}
-use Rattle.cp_waits.specs.Legs.{Comes}
+use Rattle.cp_waits.proofs.Words.{subst, machine_of, Comes, ok_to}
 use Rattle.cp_waits.proofs.Numbers.{choosing_in, choosing_number}
 use Rattle.cp_waits.proofs.building.Builder.number_after.Goals as goal
-use Rattle.cp_run.proofs.Tracing.{ok_as as ok_to}
 
 pub returns-in-Choice-clause-number : goal.returns-in-Choice-clause-number
 returns-in-Choice-clause-number c =

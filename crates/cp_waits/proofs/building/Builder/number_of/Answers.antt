@@ -1,9 +1,5 @@
-use Rattle.std.proofs.Common.{◌≡◌, ◌<◌, ◌^◌, Some, sym, subst, arith}
-use Rattle.std.proofs.lemmas.Option.{slice_get_within}
-use Rattle.cp_machine.specs.System.{machine_of}
-use Rattle.cp_run.specs.Run.{Choosing}
+use Rattle.cp_waits.proofs.Words.{◌≡◌, ◌<◌, ◌^◌, Some, sym, subst, arith, slice_get_within, machine_of, Choosing, IsNumber}
 use Rattle.cp_ends.specs.Holds.{IsNumberOf}
-use Rattle.cp_waits.specs.Graphs.{IsNumber}
 use Rattle.cp_waits.proofs.Numbers.{number_none, number_some, owned_with_word}
 use Rattle.cp_waits.proofs.building.Builder.number_of.Goals as goal
 

@@ -1,19 +1,11 @@
-use Rattle.std.proofs.Common.{◌≡◌, ◌∙◌, ◌∷◌, [], Some, ap, refl, sym, subst, true}
-use Rattle.cp_machine.specs.System.{Machine, machine_of}
-use Rattle.cp_run.specs.Run.{may, chosen}
-use Rattle.cp_endless.specs.Silent.{silent_slots, in_call_on_slots, waits_on_slots}
+use Rattle.cp_waits.proofs.Words.{◌≡◌, ◌∙◌, ◌∷◌, [], Some, ap, refl, sym, subst, true, Machine, machine_of, may, chosen, silent_slots, in_call_on_slots}
+use Rattle.cp_waits.proofs.Words.{waits_on_slots, contains_at, AddsChoicesOnSlots, IsNumber, Comes, choice_leg, Graph, none_well}
 use Rattle.cp_ends.specs.Firsts.{HasWord}
-use Rattle.cp_ends.proofs.Searching.Lists.{contains_at}
-use Rattle.cp_waits.specs.Building.{AddsChoicesOnSlots}
-use Rattle.cp_waits.specs.Graphs.{IsNumber}
-use Rattle.cp_waits.specs.Legs.{Comes, choice_leg}
-use Rattle.cp_waits.specs.declared.graph.Graph.{Graph}
 use Rattle.cp_waits.proofs.Adding.{adds_one_choice}
 use Rattle.cp_waits.proofs.Insides.{everybody_is}
 use Rattle.cp_waits.proofs.Numbers.{few_processes, quiet_may}
 use Rattle.cp_waits.proofs.Standing.{choice_of_stretch}
 use Rattle.cp_waits.proofs.building.Builder.take_choice.Goals as goal
-use Rattle.cp_machine.proofs.CallOutcomes.{none_well}
 
 pub returns-clause-graph : goal.returns-clause-graph
 returns-clause-graph g c = λ states x all count at same.

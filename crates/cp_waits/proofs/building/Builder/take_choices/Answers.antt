@@ -1,11 +1,7 @@
 use Rattle.std.proofs.Common.{rules, ◌≡◌, ◌∙◌, ◌<◌, ◌∷◌, [], true, get_or, length, take, ap, sym, subst, arith}
 use Rattle.std.proofs.lemmas.List.{take_all, take_more}
-use Rattle.cp_machine.specs.System.{machine_of}
-use Rattle.cp_run.specs.Run.{may, those_below}
-use Rattle.cp_run.specs.Slots.{slots}
-use Rattle.cp_endless.specs.Silent.{silent_slots, in_call_on_slots, waits_on_slots}
+use Rattle.cp_waits.proofs.Words.{machine_of, may, those_below, slots, silent_slots, in_call_on_slots, waits_on_slots, AddsChoicesOnSlots}
 use Rattle.cp_ends.proofs.Wanted.{may_those}
-use Rattle.cp_waits.specs.Building.{AddsChoicesOnSlots}
 use Rattle.cp_waits.proofs.Adding.{adds_after, adds_nothing}
 use Rattle.cp_waits.proofs.building.Builder.take_choices.Goals as goal
 

@@ -1,7 +1,4 @@
-use Rattle.std.proofs.Common.{◌≡◌, ℕ, List, Some, length, take}
-use Rattle.std.specs.Prelude.{slice_get}
-use Rattle.cp_machine.specs.System.{Machine, machine_of, IsStateOf}
-use Rattle.cp_waits.specs.Building.{AddsChoicesOnSlots, AreAll}
+use Rattle.cp_waits.proofs.Words.{◌≡◌, ℕ, List, Some, length, take, slice_get, Machine, machine_of, IsStateOf, AddsChoicesOnSlots, AreAll}
 use Rattle.cp_waits.proofs.building.Builder.take_choices.Given as goal
 
 abbrev pub invariant-loop-process : goal.invariant-loop-process

@@ -1,11 +1,5 @@
-use Rattle.std.proofs.Common.{◌≡◌, ◌∙◌, ◌≤◌, length, sym, ap, arith}
-use Rattle.std.specs.Prelude.{◌||◌, nat_eq, not}
-use Rattle.std.proofs.lemmas.List.{length-map}
-use Rattle.cp_machine.specs.Machine.{thread_of}
-use Rattle.cp_machine.specs.System.{machine_of, is_ready}
-use Rattle.cp_machine.proofs.CallerLemmas.{threads_count}
-use Rattle.cp_endless.specs.Silent.{silent_slots, in_call_on_slots, waits_on_slots}
-use Rattle.cp_waits.specs.Sets.{has}
+use Rattle.cp_waits.proofs.Words.{◌≡◌, ◌∙◌, ◌≤◌, length, sym, ap, arith, ◌||◌, nat_eq, not, length-map, thread_of, machine_of, is_ready, threads_count}
+use Rattle.cp_waits.proofs.Words.{silent_slots, in_call_on_slots, waits_on_slots, has}
 use Rattle.cp_waits.proofs.Seeing.{seen_next}
 use Rattle.cp_waits.proofs.passing.PassingSets.add.Goals as goal
 

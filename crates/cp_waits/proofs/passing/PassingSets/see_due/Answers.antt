@@ -1,9 +1,5 @@
-use Rattle.std.proofs.Common.{◌≡◌, ◌∙◌, length, sym, arith}
-use Rattle.std.proofs.lemmas.List.{length-map}
-use Rattle.cp_machine.specs.Machine.{thread_of}
-use Rattle.cp_machine.specs.System.{machine_of}
-use Rattle.cp_machine.proofs.CallerLemmas.{threads_count}
-use Rattle.cp_endless.specs.Silent.{silent_slots, in_call_on_slots, waits_on_slots}
+use Rattle.cp_waits.proofs.Words.{◌≡◌, ◌∙◌, length, sym, arith, length-map, thread_of, machine_of, threads_count, silent_slots, in_call_on_slots}
+use Rattle.cp_waits.proofs.Words.{waits_on_slots}
 use Rattle.cp_waits.proofs.Seeing.{seen_due}
 use Rattle.cp_waits.proofs.passing.PassingSets.see_due.Goals as goal
 

@@ -1,10 +1,7 @@
 use Rattle.std.proofs.Common.{◌≡◌, ◌∙◌, ◌<◌, ◌≤◌, ◌+◌, ap, sym, arith, subst, length, List, [], ℕ, Some, Err}
-use Rattle.std.proofs.lemmas.List.{length-map, get_or-map}
-use Rattle.cp_run.specs.Slots.{slots}
+use Rattle.cp_walk.proofs.Words.{length-map, get_or-map, slots, Advanced, words_of}
 use Rattle.cp_walk.specs.declared.fault.SplitFault.TheVariants.{Leaf, Full}
 use Rattle.cp_walk.specs.Cutting.{word_at, split_of, IsSplitFault}
-use Rattle.cp_walk.specs.Deepening.{Advanced}
-use Rattle.cp_walk.specs.Members.{words_of}
 use Rattle.cp_walk.proofs.Deepened.{passed, not_short, leaf_settled, full_ends, split_goes_on}
 use Rattle.cp_walk.proofs.cutting.Cutting.deepen_at.Goals as goal
 

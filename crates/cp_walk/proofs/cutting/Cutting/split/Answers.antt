@@ -1,8 +1,5 @@
-use Rattle.std.proofs.Common.{◌∙◌, ◌<◌, ◌+◌, ap, sym, arith, subst, length, List, take, drop, ◌++◌}
+use Rattle.cp_walk.proofs.Words.{◌∙◌, ◌<◌, ◌+◌, ap, sym, arith, subst, length, List, take, drop, ◌++◌, ArrayVec, word_at, children, words_of}
 use Rattle.std.specs.Prelude.{option_map}
-use Rattle.arrayvec.specs.ArrayVec.{ArrayVec}
-use Rattle.cp_walk.specs.Cutting.{word_at, children}
-use Rattle.cp_walk.specs.Members.{words_of}
 use Rattle.cp_walk.proofs.Placing.{split_cuts, short_member, wanted_at}
 use Rattle.cp_walk.proofs.cutting.Cutting.split.Goals as goal
 

@@ -1,9 +1,5 @@
-use Rattle.std.proofs.Common.{◌∙◌, arith, subst, Some}
-use Rattle.std.proofs.lemmas.List.{length-map}
-use Rattle.cp_run.specs.Slots.{slots}
+use Rattle.cp_walk.proofs.Words.{◌∙◌, arith, subst, Some, length-map, slots, Advanced, words_of}
 use Rattle.cp_walk.specs.declared.job.Job.{Job}
-use Rattle.cp_walk.specs.Deepening.{Advanced}
-use Rattle.cp_walk.specs.Members.{words_of}
 use Rattle.cp_walk.proofs.Deepened.{all_settled, deepened_more}
 use Rattle.cp_walk.proofs.cutting.Cutting.to_depth.Goals as goal
 

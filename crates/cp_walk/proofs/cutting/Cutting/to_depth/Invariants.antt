@@ -1,8 +1,6 @@
-use Rattle.std.proofs.Common.{◌≡◌, ◌≤◌, ℕ, Some, length}
-use Rattle.cp_run.specs.Slots.{slots}
+use Rattle.cp_walk.proofs.Words.{◌≡◌, ◌≤◌, ℕ, Some, length, slots, words_of}
 use Rattle.cp_walk.specs.Cutting.{deepened}
 use Rattle.cp_walk.specs.Deepening.{Settled, weight}
-use Rattle.cp_walk.specs.Members.{words_of}
 use Rattle.cp_walk.proofs.cutting.Cutting.to_depth.Given as goal
 
 abbrev pub invariant-loop-at : goal.invariant-loop-at

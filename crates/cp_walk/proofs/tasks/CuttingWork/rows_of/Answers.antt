@@ -1,7 +1,5 @@
 use Rattle.std.proofs.Common.{◌≡◌, ◌∙◌, ap, sym, arith, length, Some, slice_get}
-use Rattle.std.proofs.lemmas.List.{length-map}
-use Rattle.cp_run.specs.Slots.{slots}
-use Rattle.cp_walk.specs.Cutting.{rows_behind}
+use Rattle.cp_walk.proofs.Words.{length-map, slots, rows_behind}
 use Rattle.cp_walk.specs.Members.{lines_behind, row_of}
 use Rattle.cp_walk.proofs.Errors.{ok_both, err_then}
 use Rattle.cp_walk.proofs.MemberTables.{taken_whole, get_at}

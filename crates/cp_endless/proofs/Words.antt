@@ -1,0 +1,33 @@
+-- The names that many proofs of this crate use, from one place.
+pub use Rattle.std.proofs.Common.{List, refl, subst, sym, ℕ, ◌∙◌, ◌≡◌}
+pub use Rattle.std.proofs.lemmas.Bool.{cases_order}
+pub use Rattle.std.specs.List.{AllByRecursion as Each}
+pub use Rattle.std.specs.Prelude.{Contains, pos}
+pub use Rattle.cp_machine.specs.Machine.{Machine, Thread, thread_at}
+pub use Rattle.cp_machine.specs.declared.event.Event.{Event}
+pub use Rattle.cp_machine.specs.declared.process.Entry.{Entry}
+pub use Rattle.cp_machine.specs.declared.process.Entry.TheVariants.{Rest, Return, Successor}
+pub use Rattle.cp_machine.specs.declared.shown.Shown.{Shown}
+pub use Rattle.cp_meaning.specs.State.{State, ready}
+pub use Rattle.cp_refine.specs.InStep.{CanGo, GoInStep}
+pub use Rattle.cp_refine.specs.Named.{named}
+pub use Rattle.cp_resolved.proofs.names.Alike.{same_inside as some_same}
+pub use Rattle.cp_run.specs.Run.{Choosing, Halted, Node, chosen, may, node_at, opened, settled_turn, stretch, turn_after, turn_at}
+pub use Rattle.cp_run.specs.Slots.{slots}
+pub use Rattle.cp_run.specs.System.{System}
+pub use Rattle.cp_run.specs.Table.{Line, each, table}
+pub use Rattle.cp_run.specs.declared.outcome.OutcomeKind.{OutcomeKind}
+pub use Rattle.cp_run.specs.declared.outcome.OutcomeKind.TheVariants.{StepLimit}
+pub use Rattle.cp_run.specs.declared.outcome.Turn.{Turn}
+pub use Rattle.cp_run.specs.declared.outcome.Turn.TheVariants.{Due, Goes, Over}
+pub use Rattle.cp_slots.specs.Tables.{Tables}
+pub use Rattle.cp_slots.specs.declared.tables.ComponentKind.{ComponentKind}
+pub use Rattle.cp_store.specs.declared.memory.Frame.{Frame}
+pub use Rattle.cp_endless.specs.Fair.{IsEndless, IsServed}
+pub use Rattle.cp_endless.specs.Forgetting.{forgetting_system}
+pub use Rattle.cp_endless.specs.Moments.{AnyOf, Moment, moments, moments_along, moments_by, states_along, stretch_moments}
+pub use Rattle.cp_endless.specs.Reachable.{LeadsTo, node_after}
+pub use Rattle.cp_endless.specs.Rounds.{IsCut, IsRound, SetsOut, chosen_spot, opening_spot, spot_after, spot_by}
+pub use Rattle.cp_endless.specs.Settled.{IsClosed, IsIn}
+pub use Rattle.cp_endless.specs.Silent.{ShowsLess, without_output}
+pub use Rattle.cp_endless.specs.WaitsForEver.{MayWaitForEver, WaitsFrom, WaitsSometime}

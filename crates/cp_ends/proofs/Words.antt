@@ -1,0 +1,58 @@
+-- The names that many proofs of this crate use, from one place.
+pub use Rattle.std.proofs.Common.{Bool, List, None, Some, [], ap, arith, false, if◌then◌else◌, inl, inr, length, refl, string_bytes, subst, suc, sym, take}
+pub use Rattle.std.proofs.Common.{true, zero, ℕ, ◌++◌, ◌+◌, ◌<◌, ◌∙◌, ◌≡◌, ◌≤◌}
+pub use Rattle.std.proofs.lemmas.Bool.{cases_lt, le-ltb, lt-ltb}
+pub use Rattle.std.proofs.lemmas.List.{append-nil, append_assoc, take_all}
+pub use Rattle.std.proofs.lemmas.List.Elements.{All-weaker, Contains-append_cases, Contains-append_left, Contains-append_right}
+pub use Rattle.std.proofs.lemmas.Option.{same_Some, slice_get_cases, slice_get_within}
+pub use Rattle.std.specs.Cmp.Lexicographic.{bytes_decides}
+pub use Rattle.std.specs.List.{AllByRecursion as Each, list_any}
+pub use Rattle.std.specs.Prelude.{All, Contains, Decides, IfOk, nat_eq, nat_lt, slice_get, ◌&&◌, ◌==◌, ◌||◌}
+pub use Rattle.cp_endless.proofs.Basics.{distance}
+pub use Rattle.cp_endless.proofs.possible.Walks.{each_append}
+pub use Rattle.cp_endless.proofs.possible.Words.{after_append, after_first}
+pub use Rattle.cp_endless.proofs.steps.Repeating.{repeating}
+pub use Rattle.cp_endless.proofs.steps.Rounds.{from_there, happens_early}
+pub use Rattle.cp_endless.specs.Forgetting.{forgetting_system}
+pub use Rattle.cp_endless.specs.Moments.{AnyOf, Moment, moments_by, stretch_moments}
+pub use Rattle.cp_endless.specs.Reachable.{EndsAfter, LeadsTo, node_after}
+pub use Rattle.cp_endless.specs.Repeats.{Repeats, repeated_part}
+pub use Rattle.cp_endless.specs.Rounds.{SetsOut, chosen_spot, spot_after, spot_by}
+pub use Rattle.cp_endless.specs.Shown.{ShowsAfter, shown_at}
+pub use Rattle.cp_endless.specs.Silent.{silent_slots, without_output}
+pub use Rattle.cp_key.specs.Key.{key_of}
+pub use Rattle.cp_lawful.specs.Accepted.{IsAccepted}
+pub use Rattle.cp_layout.specs.Laid.{laid, plain}
+pub use Rattle.cp_machine.specs.Statements.{Stepped}
+pub use Rattle.cp_machine.specs.System.{IsStateOf, Machine, is_pending, is_ready, machine_of, output_of}
+pub use Rattle.cp_machine.specs.declared.event.Event.{Event}
+pub use Rattle.cp_machine.specs.declared.gates.Gates.{Gates}
+pub use Rattle.cp_machine.specs.declared.shown.Shown.{Shown}
+pub use Rattle.cp_run.specs.Run.{Choosing, Halted, Node, chosen, may, node_at, opened, settled_turn, stretch, those_below, turn_after}
+pub use Rattle.cp_run.specs.Slots.{slots}
+pub use Rattle.cp_run.specs.System.{System}
+pub use Rattle.cp_run.specs.Table.{each}
+pub use Rattle.cp_run.specs.declared.outcome.OutcomeKind.{OutcomeKind}
+pub use Rattle.cp_run.specs.declared.outcome.OutcomeKind.TheVariants.{StepLimit}
+pub use Rattle.cp_run.specs.declared.outcome.Turn.{Turn}
+pub use Rattle.cp_run.specs.declared.outcome.Turn.TheVariants.{Due, Goes}
+pub use Rattle.cp_slots.specs.Tables.{Tables}
+pub use Rattle.cp_tree.specs.Read.{IsRead}
+pub use Rattle.cp_tree.specs.Syntax.{Tree}
+pub use lib.Pointwise.{pointwise}
+pub use Rattle.cp_ends.specs.Answer.{HoldsFew, ends_tests, slot_graph, with_shown}
+pub use Rattle.cp_ends.specs.Arrivals.{goal_at, goal_of, has_call, is_call, return_within, stretch_arrival}
+pub use Rattle.cp_ends.specs.Ends.{EndsSo, ShowsSo}
+pub use Rattle.cp_ends.specs.Firsts.{AreFirstOnes, AreFirsts, Within, is_up_to, is_within}
+pub use Rattle.cp_ends.specs.Graph.{Arrival, ArrivesAt, End, Goal, Graph, LeadsToEnd, LeadsToPlace, Place, ShowsLast}
+pub use Rattle.cp_ends.specs.Holds.{AreFound, Holds, IsWordOf, SlotArrival, SlotFindings, end_origin, same_key, value_origin}
+pub use Rattle.cp_ends.specs.Searched.{Findings, Tests, arrived, gone_on, has, searched, with_first, with_values}
+pub use Rattle.cp_ends.specs.Told.{end_line, is_told}
+pub use Rattle.cp_ends.specs.declared.end.End.TheVariants.{Alone, Over, Spins}
+pub use Rattle.cp_ends.specs.declared.found.Found.{Found}
+pub use Rattle.cp_ends.specs.declared.found.FoundEnd.{FoundEnd}
+pub use Rattle.cp_ends.specs.declared.found.FoundValue.{FoundValue}
+pub use Rattle.cp_ends.specs.declared.found.TheConstants.{MOST_VALUES}
+pub use Rattle.cp_ends.specs.declared.origin.Origin.{Origin}
+pub use Rattle.cp_ends.specs.declared.origin.Origin.TheVariants.{Choice}
+pub use Rattle.cp_ends.specs.declared.states.States.{States}
