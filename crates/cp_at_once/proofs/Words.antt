@@ -12,7 +12,8 @@ pub use Rattle.cp_ends.proofs.named.Keys.{key_self}
 pub use Rattle.cp_ends.specs.Answer.{ends_tests, slot_graph}
 pub use Rattle.cp_ends.specs.Arrivals.{goal_at}
 pub use Rattle.cp_ends.specs.Graph.{ArrivesAt, Goal, LeadsToEnd, LeadsToPlace, Place, ShowsLast}
-pub use Rattle.cp_ends.specs.Holds.{SlotArrival, same_key}
+pub use Rattle.cp_ends.specs.Holds.{SlotArrival}
+unfoldable pub use Rattle.cp_ends.specs.Holds.{same_key}
 pub use Rattle.cp_ends.specs.Searched.{has}
 pub use Rattle.cp_ends.specs.declared.end.End.{End}
 pub use Rattle.cp_machine.proofs.CallOutcomes.{none_well}

@@ -53,7 +53,8 @@ pub use Rattle.cp_refine.specs.Named.{event_of, is_some}
 pub use Rattle.cp_refine.specs.Running.{met_first}
 pub use Rattle.cp_resolved.proofs.names.Alike.{same_inside as some_same}
 pub use Rattle.cp_resolved.proofs.names.PermanentNames.{left_true as or_left}
-pub use Rattle.cp_run.specs.Run.{Choosing, may, opened, settled_turn, turn_after, turn_at}
+pub use Rattle.cp_run.specs.Run.{Choosing, opened, settled_turn, turn_after, turn_at}
+unfoldable pub use Rattle.cp_run.specs.Run.{may}
 pub use Rattle.cp_run.specs.System.{System}
 pub use Rattle.cp_run.specs.declared.outcome.OutcomeKind.{OutcomeKind}
 pub use Rattle.cp_run.specs.declared.outcome.OutcomeKind.TheVariants.{AllWaiting, Finished, StepLimit}

@@ -12,7 +12,8 @@ pub use Rattle.cp_meaning.specs.State.{State, ready}
 pub use Rattle.cp_refine.specs.InStep.{CanGo, GoInStep}
 pub use Rattle.cp_refine.specs.Named.{named}
 pub use Rattle.cp_resolved.proofs.names.Alike.{same_inside as some_same}
-pub use Rattle.cp_run.specs.Run.{Choosing, Halted, Node, chosen, may, node_at, opened, settled_turn, stretch, turn_after, turn_at}
+pub use Rattle.cp_run.specs.Run.{Choosing, Halted, Node, chosen, may, node_at, opened, settled_turn, turn_after, turn_at}
+unfoldable pub use Rattle.cp_run.specs.Run.{stretch}
 pub use Rattle.cp_run.specs.Slots.{slots}
 pub use Rattle.cp_run.specs.System.{System}
 pub use Rattle.cp_run.specs.Table.{Line, each, table}
@@ -25,7 +26,8 @@ pub use Rattle.cp_slots.specs.declared.tables.ComponentKind.{ComponentKind}
 pub use Rattle.cp_store.specs.declared.memory.Frame.{Frame}
 pub use Rattle.cp_endless.specs.Fair.{IsEndless, IsServed}
 pub use Rattle.cp_endless.specs.Forgetting.{forgetting_system}
-pub use Rattle.cp_endless.specs.Moments.{AnyOf, Moment, moments, moments_along, moments_by, states_along, stretch_moments}
+pub use Rattle.cp_endless.specs.Moments.{AnyOf, Moment, moments_along, moments_by, states_along}
+unfoldable pub use Rattle.cp_endless.specs.Moments.{moments, stretch_moments}
 pub use Rattle.cp_endless.specs.Reachable.{LeadsTo, node_after}
 pub use Rattle.cp_endless.specs.Rounds.{IsCut, IsRound, SetsOut, chosen_spot, opening_spot, spot_after, spot_by}
 pub use Rattle.cp_endless.specs.Settled.{IsClosed, IsIn}

@@ -14,7 +14,8 @@ pub use Rattle.cp_endless.proofs.possible.Words.{after_append, after_first}
 pub use Rattle.cp_endless.proofs.steps.Repeating.{repeating}
 pub use Rattle.cp_endless.proofs.steps.Rounds.{from_there, happens_early}
 pub use Rattle.cp_endless.specs.Forgetting.{forgetting_system}
-pub use Rattle.cp_endless.specs.Moments.{AnyOf, Moment, moments_by, stretch_moments}
+pub use Rattle.cp_endless.specs.Moments.{AnyOf, Moment, moments_by}
+unfoldable pub use Rattle.cp_endless.specs.Moments.{stretch_moments}
 pub use Rattle.cp_endless.specs.Reachable.{EndsAfter, LeadsTo, node_after}
 pub use Rattle.cp_endless.specs.Repeats.{Repeats, repeated_part}
 pub use Rattle.cp_endless.specs.Rounds.{SetsOut, chosen_spot, spot_after, spot_by}
@@ -28,7 +29,8 @@ pub use Rattle.cp_machine.specs.System.{IsStateOf, Machine, is_pending, is_ready
 pub use Rattle.cp_machine.specs.declared.event.Event.{Event}
 pub use Rattle.cp_machine.specs.declared.gates.Gates.{Gates}
 pub use Rattle.cp_machine.specs.declared.shown.Shown.{Shown}
-pub use Rattle.cp_run.specs.Run.{Choosing, Halted, Node, chosen, may, node_at, opened, settled_turn, stretch, those_below, turn_after}
+pub use Rattle.cp_run.specs.Run.{Choosing, Halted, Node, chosen, node_at, opened, settled_turn, those_below, turn_after}
+unfoldable pub use Rattle.cp_run.specs.Run.{may, stretch}
 pub use Rattle.cp_run.specs.Slots.{slots}
 pub use Rattle.cp_run.specs.System.{System}
 pub use Rattle.cp_run.specs.Table.{each}
@@ -45,8 +47,10 @@ pub use Rattle.cp_ends.specs.Arrivals.{goal_at, goal_of, has_call, is_call, retu
 pub use Rattle.cp_ends.specs.Ends.{EndsSo, ShowsSo}
 pub use Rattle.cp_ends.specs.Firsts.{AreFirstOnes, AreFirsts, Within, is_up_to, is_within}
 pub use Rattle.cp_ends.specs.Graph.{Arrival, ArrivesAt, End, Goal, Graph, LeadsToEnd, LeadsToPlace, Place, ShowsLast}
-pub use Rattle.cp_ends.specs.Holds.{AreFound, Holds, IsWordOf, SlotArrival, SlotFindings, end_origin, same_key, value_origin}
-pub use Rattle.cp_ends.specs.Searched.{Findings, Tests, arrived, gone_on, has, searched, with_first, with_values}
+pub use Rattle.cp_ends.specs.Holds.{AreFound, Holds, IsWordOf, SlotArrival, SlotFindings, end_origin, value_origin}
+unfoldable pub use Rattle.cp_ends.specs.Holds.{same_key}
+pub use Rattle.cp_ends.specs.Searched.{Findings, Tests, arrived, gone_on, has, with_first, with_values}
+unfoldable pub use Rattle.cp_ends.specs.Searched.{searched}
 pub use Rattle.cp_ends.specs.Told.{end_line, is_told}
 pub use Rattle.cp_ends.specs.declared.end.End.TheVariants.{Alone, Over, Spins}
 pub use Rattle.cp_ends.specs.declared.found.Found.{Found}

@@ -2,7 +2,8 @@
 pub use Rattle.std.proofs.Common.{[], ◌≡◌}
 pub use Rattle.std.specs.Str.{bytes_eq}
 pub use Rattle.cp_check.specs.Faults.{faults_of}
-pub use Rattle.cp_check.specs.Types.{Step, nothing, typed}
+pub use Rattle.cp_check.specs.Types.{Step, nothing}
+unfoldable pub use Rattle.cp_check.specs.Types.{typed}
 pub use Rattle.cp_check.specs.declared.types.Spot.{Spot}
 pub use Rattle.cp_meaning.specs.Declarations.{Variable}
 pub use Rattle.cp_meaning.specs.Names.{Name}

@@ -42,7 +42,8 @@ pub use Rattle.cp_machine.specs.Machine.{is_some, is_uninitialised, is_unstarted
 pub use Rattle.cp_machine.specs.Machine.{readiness_of, thread_at, thread_of, under, with_bindings, with_permanents, with_phase, with_stack, with_status}
 pub use Rattle.cp_machine.specs.Machine.{with_thread}
 pub use Rattle.cp_machine.specs.Memory.{address_of, arguments_of, cells_put, component_of, frame_opened, memory_at, number_put, origin_of, parameters_bound}
-pub use Rattle.cp_machine.specs.Memory.{set_of, set_written, value_of, with_memory}
+pub use Rattle.cp_machine.specs.Memory.{set_of, value_of, with_memory}
+unfoldable pub use Rattle.cp_machine.specs.Memory.{set_written}
 pub use Rattle.cp_machine.specs.Opening.{admitted, admitted_at, opening, still, unstarted_thread, without}
 pub use Rattle.cp_machine.specs.Reach.{AreBound, EndsBegun, Executes, ExecutesAs, FitsComponent, FrameReaches, HasBegunAs, HasCells, IsBehind, Reaches}
 pub use Rattle.cp_machine.specs.Reach.{StackExecutes, StackReaches, ThreadReaches, frame_at}

@@ -11,14 +11,18 @@ pub use Rattle.std.specs.Option.{option_or}
 pub use Rattle.std.specs.Prelude.{int_le, int_lt, min, nat_eq, not, ◌+ℤ◌, ◌-ℤ◌}
 pub use Rattle.std.specs.Str.{bytes_eq}
 pub use Rattle.cp_check.specs.Calls.{all_variable_faults, fault, unless, variable_faults}
-pub use Rattle.cp_check.specs.Declarations.{add_all, add_names, as_declared, part_steps, reserve_name, reserve_names, to_kind}
-pub use Rattle.cp_check.specs.Expressions.{arguments, designator, expression, is_var_at}
-pub use Rattle.cp_check.specs.Faults.{declarations, faults_of, program_context}
+pub use Rattle.cp_check.specs.Declarations.{as_declared, part_steps, to_kind}
+unfoldable pub use Rattle.cp_check.specs.Declarations.{add_all, add_names, reserve_name, reserve_names}
+pub use Rattle.cp_check.specs.Expressions.{arguments, designator, is_var_at}
+unfoldable pub use Rattle.cp_check.specs.Expressions.{expression}
+pub use Rattle.cp_check.specs.Faults.{faults_of, program_context}
+unfoldable pub use Rattle.cp_check.specs.Faults.{declarations}
 pub use Rattle.cp_check.specs.Headings.{after_faults, may_enter}
 pub use Rattle.cp_check.specs.Operands.{is_assignable, is_function, is_queue_in, value}
-pub use Rattle.cp_check.specs.Routines.{routine_step, routine_steps}
+unfoldable pub use Rattle.cp_check.specs.Routines.{routine_step, routine_steps}
 pub use Rattle.cp_check.specs.Systems.{definition_step, program_part_step, program_part_steps}
-pub use Rattle.cp_check.specs.Types.{Step, Typed, nothing, typed}
+pub use Rattle.cp_check.specs.Types.{Step, Typed, nothing}
+unfoldable pub use Rattle.cp_check.specs.Types.{typed}
 pub use Rattle.cp_check.specs.declared.case.Label.{Label}
 pub use Rattle.cp_check.specs.declared.constant.ConstantNumber.{ConstantNumber}
 pub use Rattle.cp_check.specs.declared.operand.Context.{Context}
@@ -33,15 +37,21 @@ pub use Rattle.cp_lawful.proofs.Loud.{Heard, Loud, statements_loud}
 pub use Rattle.cp_lawful.proofs.Once.{defined_sound, inside_sound, itself, no_first, no_first as none_first, no_left, no_right, none_before, or_left}
 pub use Rattle.cp_lawful.proofs.Once.{or_right, parts_sound}
 pub use Rattle.cp_lawful.specs.Accepted.{IsAccepted}
-pub use Rattle.cp_layout.specs.Kinds.{Compounds, array, least, most, plus, times}
-pub use Rattle.cp_layout.specs.Laid.{PlainTables, laid, no_room, plain, room_for, room_from, system_type, system_types, tables_laid, types_of}
-pub use Rattle.cp_layout.specs.LaidComponents.{Listing, byte, contained_by, contents_least, next_kind, nothing_listed, process_at, program_listed}
+pub use Rattle.cp_layout.specs.Kinds.{Compounds, array, most, plus, times}
+unfoldable pub use Rattle.cp_layout.specs.Kinds.{least}
+pub use Rattle.cp_layout.specs.Laid.{PlainTables, no_room, plain, room_for, system_type, system_types, tables_laid, types_of}
+unfoldable pub use Rattle.cp_layout.specs.Laid.{laid, room_from}
+pub use Rattle.cp_layout.specs.LaidComponents.{Listing, byte, contained_by, next_kind, nothing_listed, process_at, program_listed}
+unfoldable pub use Rattle.cp_layout.specs.LaidComponents.{contents_least}
 pub use Rattle.cp_layout.specs.LaidComponents.{with_component}
-pub use Rattle.cp_layout.specs.LaidDeclarations.{Parameters, component_cell, constant_groups, heading, heading_with, opened, program, program_part}
-pub use Rattle.cp_layout.specs.LaidDeclarations.{program_parts, routine, routines, system_definition, with_heading}
+pub use Rattle.cp_layout.specs.LaidDeclarations.{Parameters, component_cell, constant_groups, heading_with, opened, program_part}
+unfoldable pub use Rattle.cp_layout.specs.LaidDeclarations.{heading, program}
+pub use Rattle.cp_layout.specs.LaidDeclarations.{program_parts, routine, system_definition, with_heading}
+unfoldable pub use Rattle.cp_layout.specs.LaidDeclarations.{routines}
 pub use Rattle.cp_layout.specs.LaidExpressions.{as_integer, count_in, entry_among, entry_in, entry_of, signed, with_count}
 pub use Rattle.cp_layout.specs.LaidStatements.{assigned, assigned_as, statement, statements}
-pub use Rattle.cp_layout.specs.LaidTypes.{fields_of_type, named_type, simple_type, type_meant, written_type}
+pub use Rattle.cp_layout.specs.LaidTypes.{named_type, type_meant, written_type}
+unfoldable pub use Rattle.cp_layout.specs.LaidTypes.{fields_of_type, simple_type}
 pub use Rattle.cp_layout.specs.Layers.{Frame, Layer, Names, Owned, Pending, System, added, find_type, is_open, need_of, no_frame, nothing_laid, outermost}
 pub use Rattle.cp_layout.specs.Layers.{own_result, result_of, routine_of, settled, settled_all, without_pending}
 pub use Rattle.cp_layout.specs.Values.{place_at}

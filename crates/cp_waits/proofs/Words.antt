@@ -16,7 +16,7 @@ pub use Rattle.cp_endless.specs.Silent.{in_call_on_slots, silent_slots, waits_on
 pub use Rattle.cp_ends.proofs.Searching.Lists.{contains_at, contains_cases, place_of}
 pub use Rattle.cp_ends.proofs.named.Keys.{key_self}
 pub use Rattle.cp_ends.proofs.words.Edges.{some_same}
-pub use Rattle.cp_ends.specs.Holds.{same_key}
+unfoldable pub use Rattle.cp_ends.specs.Holds.{same_key}
 pub use Rattle.cp_ends.specs.declared.origin.Origin.{Origin}
 pub use Rattle.cp_machine.proofs.CallOutcomes.{none_well}
 pub use Rattle.cp_machine.proofs.CallerLemmas.{threads_count}
@@ -25,7 +25,8 @@ pub use Rattle.cp_machine.specs.Machine.{thread_of}
 pub use Rattle.cp_machine.specs.System.{IsStateOf, Machine, is_pending, is_ready, machine_of, output_of}
 pub use Rattle.cp_machine.specs.declared.process.ProcessState.{ProcessState}
 pub use Rattle.cp_run.proofs.Tracing.{ok_as as ok_to}
-pub use Rattle.cp_run.specs.Run.{Choosing, Halted, Node, chosen, may, opened, stretch, those_below}
+pub use Rattle.cp_run.specs.Run.{Choosing, Halted, Node, chosen, opened, stretch, those_below}
+unfoldable pub use Rattle.cp_run.specs.Run.{may}
 pub use Rattle.cp_run.specs.Slots.{slots}
 pub use Rattle.cp_run.specs.System.{System}
 pub use Rattle.cp_run.specs.declared.outcome.Turn.{Turn}

@@ -12,7 +12,8 @@ pub use Rattle.cp_board.specs.declared.views.View.{View}
 pub use Rattle.cp_machine.specs.System.{IsStateOf, machine_of}
 pub use Rattle.cp_machine.specs.declared.shown.Shown.{Shown}
 pub use Rattle.cp_run.specs.Code.{node_of}
-pub use Rattle.cp_run.specs.Run.{Answer, Choosing, Ended, Halted, Node, NotReady, Wants, chosen, joined_below, may, opened, run, those_below}
+pub use Rattle.cp_run.specs.Run.{Answer, Choosing, Ended, Halted, Node, NotReady, Wants, chosen, joined_below, opened, run, those_below}
+unfoldable pub use Rattle.cp_run.specs.Run.{may}
 pub use Rattle.cp_run.specs.Slots.{slots}
 pub use Rattle.cp_run.specs.System.{System}
 pub use Rattle.cp_run.specs.Table.{Line, each, table}
@@ -24,7 +25,8 @@ pub use Rattle.cp_run.specs.declared.outcome.OutcomeKind.TheVariants.{ChoiceLimi
 pub use Rattle.cp_slots.specs.Tables.{Tables}
 pub use lib.Pointwise.{pointwise}
 pub use Rattle.cp_walk.specs.Beginnings.{beginnings, beginnings_of, common, with_new, words_in, words_of_rows}
-pub use Rattle.cp_walk.specs.Cutting.{Each, IsUsed, Pairwise, Parts, begins, children, parts_before, rows_behind, rows_from, word_at}
+pub use Rattle.cp_walk.specs.Cutting.{Each, IsUsed, Pairwise, Parts, begins, children, parts_before, word_at}
+unfoldable pub use Rattle.cp_walk.specs.Cutting.{rows_behind, rows_from}
 pub use Rattle.cp_walk.specs.Deepening.{Advanced}
 pub use Rattle.cp_walk.specs.Ends.{IsDone, IsHonest}
 pub use Rattle.cp_walk.specs.Groups.{tallies_of}
@@ -32,7 +34,8 @@ pub use Rattle.cp_walk.specs.Members.{CutsTable, words_of}
 pub use Rattle.cp_walk.specs.Rows.{IsTooMany, line_of}
 pub use Rattle.cp_walk.specs.Tables.{rows_at, table_of}
 pub use Rattle.cp_walk.specs.Text.{behind_each}
-pub use Rattle.cp_walk.specs.Walk.{IsDue, behind, walk}
+pub use Rattle.cp_walk.specs.Walk.{IsDue, behind}
+unfoldable pub use Rattle.cp_walk.specs.Walk.{walk}
 pub use Rattle.cp_walk.specs.Walked.{AreWalked, begun}
 pub use Rattle.cp_walk.specs.declared.fault.SplitFault.TheVariants.{Full}
 pub use Rattle.cp_walk.specs.declared.row.Row.{Row}
