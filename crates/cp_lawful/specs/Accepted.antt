@@ -14,7 +14,7 @@ use Rattle.cp_meaning.specs.WellFormed.{IsWellFormed}
 abbrev pub IsAccepted : Tree → Type 0
 IsAccepted t = faults_of t ≡ []
 
--- What the rules C1, C2 and C14 say of an accepted program's components. The laws need no other rule: what C5, C6, C11, C12, C13, C15 and C17 say of
+-- What the rules C2 and C14 say of an accepted program's components. The laws need no other rule: what C5, C6, C11, C12, C13, C15 and C17 say of
 -- arguments, component names and queues, the meaning tests itself (`Calls.of_system`, `Places.component_by`, `Kernel.continuing`, `Kernel.starting`),
 -- and an accepted program always passes these tests.
 abbrev pub WellFormedLaw : Type 0

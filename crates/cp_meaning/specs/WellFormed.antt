@@ -19,12 +19,12 @@ abbrev pub HasEarlier : ℕ → List Parameter → Type 0
 HasEarlier k [] = Unit {0}
 HasEarlier k (q ∷ qs) = ((j : ℕ) → q.ty ≡ component_of j → j < k) × HasEarlier k qs
 
--- each fact is named with the rule of the checker that carries it
+-- each fact is named with the rule of the checker that carries it, if one does
 pub record IsWellFormed (p : Program) : Type 0 where
   -- no two components have one path, since no name is declared twice in a scope (C2)
   pub paths : (n m : ℕ) → n < length (first_components p) → m < length (first_components p) → (component_at (first_components p) n).path ≡ (component_at (first_components p) m).path → n ≡ m
   -- no parameter of a monitor or process is of a class type (C14)
   pub class_parameters : (k : ℕ) → ((system_of p k).kind ≡ system_kind.Class → ⊥) → HasNoClass p (system_of p k).parameters
-  -- a component is of a type declared before those of the components that contain it or have it as a parameter, since names are declared before use (C1)
+  -- a component is of a type declared before those of the components that contain it or have it as a parameter, since a type sees only what stands before it (the first also by C2)
   pub contained_earlier : (n m : ℕ) (s : PathStep) → n < length (first_components p) → m < length (first_components p) → (component_at (first_components p) m).path ≡ (component_at (first_components p) n).path ++ s ∷ [] → (component_at (first_components p) m).system < (component_at (first_components p) n).system
   pub parameters_earlier : (k : ℕ) → HasEarlier k (system_of p k).parameters
