@@ -22,7 +22,7 @@ pub use Rattle.cp_machine.specs.System.{IsStateOf, Machine, is_pending, machine_
 pub use Rattle.cp_machine.specs.declared.gates.Gates.{Gates}
 pub use Rattle.cp_machine.specs.declared.gates.Gates.TheVariants.{First}
 pub use Rattle.cp_machine.specs.declared.shown.Shown.{Shown}
-pub use Rattle.cp_run.specs.Run.{may}
+unfoldable pub use Rattle.cp_run.specs.Run.{may}
 pub use Rattle.cp_run.specs.Slots.{slots}
 pub use Rattle.cp_slots.specs.Tables.{Tables}
 pub use Rattle.cp_at_once.specs.Following.{GoesOn, IsGoneThrough, NotesValues, SlotGraph}

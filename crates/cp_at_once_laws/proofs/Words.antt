@@ -5,14 +5,16 @@ pub use Rattle.std.proofs.lemmas.Bool.{cases_eq}
 pub use Rattle.std.specs.Prelude.{Contains}
 pub use Rattle.cp_endless.proofs.Basics.{distance}
 pub use Rattle.cp_endless.proofs.steps.Rounds.{from_there}
-pub use Rattle.cp_endless.specs.Moments.{AnyOf, stretch_moments}
+pub use Rattle.cp_endless.specs.Moments.{AnyOf}
+unfoldable pub use Rattle.cp_endless.specs.Moments.{stretch_moments}
 pub use Rattle.cp_endless.specs.Reachable.{EndsAfter}
 pub use Rattle.cp_endless.specs.Repeats.{IsKernelCall, Repeats, repeated_part}
 pub use Rattle.cp_endless.specs.Rounds.{SetsOut, spot_after, spot_by}
 pub use Rattle.cp_endless.specs.Silent.{silent_slots}
 pub use Rattle.cp_lawful.proofs.Accepting.{well_formed}
 pub use Rattle.cp_lawful.specs.Accepted.{IsAccepted}
-pub use Rattle.cp_layout.specs.Laid.{laid, plain}
+pub use Rattle.cp_layout.specs.Laid.{plain}
+unfoldable pub use Rattle.cp_layout.specs.Laid.{laid}
 pub use Rattle.cp_machine.specs.Machine.{Machine}
 pub use Rattle.cp_machine.specs.declared.event.Event.{Event}
 pub use Rattle.cp_machine.specs.declared.event.Event.TheVariants.{Local}
@@ -53,8 +55,8 @@ pub use Rattle.cp_refine.specs.Named.{event_of, is_some}
 pub use Rattle.cp_refine.specs.Running.{met_first}
 pub use Rattle.cp_resolved.proofs.names.Alike.{same_inside as some_same}
 pub use Rattle.cp_resolved.proofs.names.PermanentNames.{left_true as or_left}
-pub use Rattle.cp_run.specs.Run.{Choosing, opened, settled_turn, turn_after, turn_at}
-unfoldable pub use Rattle.cp_run.specs.Run.{may}
+pub use Rattle.cp_run.specs.Run.{Choosing, settled_turn, turn_after, turn_at}
+unfoldable pub use Rattle.cp_run.specs.Run.{opened, may}
 pub use Rattle.cp_run.specs.System.{System}
 pub use Rattle.cp_run.specs.declared.outcome.OutcomeKind.{OutcomeKind}
 pub use Rattle.cp_run.specs.declared.outcome.OutcomeKind.TheVariants.{AllWaiting, Finished, StepLimit}

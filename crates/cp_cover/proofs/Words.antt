@@ -4,13 +4,14 @@ pub use Rattle.std.specs.Prelude.{Contains}
 pub use Rattle.cp_machine.specs.Machine.{Machine}
 pub use Rattle.cp_machine.specs.System.{IsStateOf, machine_of}
 pub use Rattle.cp_run.proofs.Tracing.{ok_as}
-pub use Rattle.cp_run.specs.Run.{Node, chosen, may, those_below}
+pub use Rattle.cp_run.specs.Run.{Node, those_below}
+unfoldable pub use Rattle.cp_run.specs.Run.{chosen, may}
 pub use Rattle.cp_run.specs.Slots.{slots}
 pub use Rattle.cp_run.specs.System.{System}
 pub use Rattle.cp_run.specs.declared.outcome.Turn.TheVariants.{Due, Goes, Over}
 pub use Rattle.cp_slots.specs.Tables.{Tables}
 pub use Rattle.cp_cover.specs.Layers.{AddsNode, AreReached, FromLayer, FromState, IsLayer}
 pub use Rattle.cp_cover.specs.Marks.{Adds}
-pub use Rattle.cp_cover.specs.Reached.{chosen_marks, opened_marks}
+unfoldable pub use Rattle.cp_cover.specs.Reached.{chosen_marks, opened_marks}
 pub use Rattle.cp_cover.specs.declared.keys.CoverStateKey.{CoverStateKey}
 pub use Rattle.cp_cover.specs.declared.mark.CoverMark.{CoverMark}

@@ -12,11 +12,12 @@ pub use Rattle.cp_meaning.specs.State.{State, ready}
 pub use Rattle.cp_refine.specs.InStep.{CanGo, GoInStep}
 pub use Rattle.cp_refine.specs.Named.{named}
 pub use Rattle.cp_resolved.proofs.names.Alike.{same_inside as some_same}
-pub use Rattle.cp_run.specs.Run.{Choosing, Halted, Node, chosen, may, node_at, opened, settled_turn, turn_after, turn_at}
-unfoldable pub use Rattle.cp_run.specs.Run.{stretch}
+pub use Rattle.cp_run.specs.Run.{Choosing, Halted, Node, node_at, settled_turn, turn_after, turn_at}
+unfoldable pub use Rattle.cp_run.specs.Run.{chosen, may, opened, stretch}
 pub use Rattle.cp_run.specs.Slots.{slots}
 pub use Rattle.cp_run.specs.System.{System}
-pub use Rattle.cp_run.specs.Table.{Line, each, table}
+pub use Rattle.cp_run.specs.Table.{Line, each}
+unfoldable pub use Rattle.cp_run.specs.Table.{table}
 pub use Rattle.cp_run.specs.declared.outcome.OutcomeKind.{OutcomeKind}
 pub use Rattle.cp_run.specs.declared.outcome.OutcomeKind.TheVariants.{StepLimit}
 pub use Rattle.cp_run.specs.declared.outcome.Turn.{Turn}

@@ -21,16 +21,17 @@ pub use Rattle.cp_endless.specs.Repeats.{Repeats, repeated_part}
 pub use Rattle.cp_endless.specs.Rounds.{SetsOut, chosen_spot, spot_after, spot_by}
 pub use Rattle.cp_endless.specs.Shown.{ShowsAfter, shown_at}
 pub use Rattle.cp_endless.specs.Silent.{silent_slots, without_output}
-pub use Rattle.cp_key.specs.Key.{key_of}
+unfoldable pub use Rattle.cp_key.specs.Key.{key_of}
 pub use Rattle.cp_lawful.specs.Accepted.{IsAccepted}
-pub use Rattle.cp_layout.specs.Laid.{laid, plain}
+pub use Rattle.cp_layout.specs.Laid.{plain}
+unfoldable pub use Rattle.cp_layout.specs.Laid.{laid}
 pub use Rattle.cp_machine.specs.Statements.{Stepped}
 pub use Rattle.cp_machine.specs.System.{IsStateOf, Machine, is_pending, is_ready, machine_of, output_of}
 pub use Rattle.cp_machine.specs.declared.event.Event.{Event}
 pub use Rattle.cp_machine.specs.declared.gates.Gates.{Gates}
 pub use Rattle.cp_machine.specs.declared.shown.Shown.{Shown}
-pub use Rattle.cp_run.specs.Run.{Choosing, Halted, Node, chosen, node_at, opened, settled_turn, those_below, turn_after}
-unfoldable pub use Rattle.cp_run.specs.Run.{may, stretch}
+pub use Rattle.cp_run.specs.Run.{Choosing, Halted, Node, node_at, settled_turn, those_below, turn_after}
+unfoldable pub use Rattle.cp_run.specs.Run.{chosen, opened, may, stretch}
 pub use Rattle.cp_run.specs.Slots.{slots}
 pub use Rattle.cp_run.specs.System.{System}
 pub use Rattle.cp_run.specs.Table.{each}
@@ -43,9 +44,11 @@ pub use Rattle.cp_tree.specs.Read.{IsRead}
 pub use Rattle.cp_tree.specs.Syntax.{Tree}
 pub use lib.Pointwise.{pointwise}
 pub use Rattle.cp_ends.specs.Answer.{HoldsFew, ends_tests, slot_graph, with_shown}
-pub use Rattle.cp_ends.specs.Arrivals.{goal_at, goal_of, has_call, is_call, return_within, stretch_arrival}
+pub use Rattle.cp_ends.specs.Arrivals.{goal_at, goal_of, has_call, is_call}
+unfoldable pub use Rattle.cp_ends.specs.Arrivals.{return_within, stretch_arrival}
 pub use Rattle.cp_ends.specs.Ends.{EndsSo, ShowsSo}
-pub use Rattle.cp_ends.specs.Firsts.{AreFirstOnes, AreFirsts, Within, is_up_to, is_within}
+pub use Rattle.cp_ends.specs.Firsts.{AreFirstOnes, AreFirsts, Within, is_within}
+unfoldable pub use Rattle.cp_ends.specs.Firsts.{is_up_to}
 pub use Rattle.cp_ends.specs.Graph.{Arrival, ArrivesAt, End, Goal, Graph, LeadsToEnd, LeadsToPlace, Place, ShowsLast}
 pub use Rattle.cp_ends.specs.Holds.{AreFound, Holds, IsWordOf, SlotArrival, SlotFindings, end_origin, value_origin}
 unfoldable pub use Rattle.cp_ends.specs.Holds.{same_key}

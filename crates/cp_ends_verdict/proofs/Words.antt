@@ -14,7 +14,8 @@ pub use Rattle.cp_ends.specs.declared.end.End.{End}
 pub use Rattle.cp_ends.specs.declared.end.End.TheVariants.{Alone, Over, Spins}
 pub use Rattle.cp_ends.specs.declared.found.TheConstants.{MOST_VALUES}
 pub use Rattle.cp_lawful.specs.Accepted.{IsAccepted}
-pub use Rattle.cp_layout.specs.Laid.{laid, plain}
+pub use Rattle.cp_layout.specs.Laid.{plain}
+unfoldable pub use Rattle.cp_layout.specs.Laid.{laid}
 pub use Rattle.cp_machine.specs.System.{Machine}
 pub use Rattle.cp_machine.specs.declared.gates.Gates.{Gates}
 pub use Rattle.cp_machine.specs.declared.gates.Gates.TheVariants.{First}

@@ -7,7 +7,8 @@ pub use Rattle.cp_machine.proofs.CopyLemmas.{set_each}
 pub use Rattle.cp_machine.specs.Bodies.{body_of, has_moved}
 pub use Rattle.cp_machine.specs.Machine.{Machine, Monitor, Thread, monitor_of, no_monitor, no_thread, thread_at, thread_of}
 pub use Rattle.cp_machine.specs.declared.process.ProcessState.{ProcessState}
-pub use Rattle.cp_key.specs.Key.{body_key, key_of, monitor_key, status_key}
+pub use Rattle.cp_key.specs.Key.{body_key, monitor_key, status_key}
+unfoldable pub use Rattle.cp_key.specs.Key.{key_of}
 pub use Rattle.cp_key.specs.Known.{AreSameInside, inside, rest_at}
 pub use Rattle.cp_key.specs.Numbers.{byte_key, integer_key, list_key, number_key}
 pub use Rattle.cp_key.specs.Room.{HaveThreadRoom}

@@ -13,7 +13,8 @@ pub use Rattle.std.specs.declared.alloc.Global.{Global}
 pub use Rattle.std.specs.declared.vec.Vec.{Vec}
 pub use Rattle.cp_lawful.proofs.Accepting.{well_formed}
 pub use Rattle.cp_lawful.specs.Accepted.{IsAccepted}
-pub use Rattle.cp_layout.specs.Laid.{laid, plain}
+pub use Rattle.cp_layout.specs.Laid.{plain}
+unfoldable pub use Rattle.cp_layout.specs.Laid.{laid}
 pub use Rattle.cp_machine.specs.Calls.{frame_behind}
 pub use Rattle.cp_machine.specs.Fits.{MachineFits, StackFits, ThreadFits, size_of}
 pub use Rattle.cp_machine.specs.Machine.{Machine, Monitor, Thread, is_uninitialised, monitor_at, no_monitor, no_thread, phase_at, thread_at, with_stack}

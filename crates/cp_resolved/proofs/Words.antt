@@ -11,16 +11,16 @@ pub use Rattle.std.specs.Option.{option_or}
 pub use Rattle.std.specs.Prelude.{int_le, int_lt, min, nat_eq, not, ◌+ℤ◌, ◌-ℤ◌}
 pub use Rattle.std.specs.Str.{bytes_eq}
 pub use Rattle.cp_check.specs.Calls.{all_variable_faults, fault, unless, variable_faults}
-pub use Rattle.cp_check.specs.Declarations.{as_declared, part_steps, to_kind}
-unfoldable pub use Rattle.cp_check.specs.Declarations.{add_all, add_names, reserve_name, reserve_names}
-pub use Rattle.cp_check.specs.Expressions.{arguments, designator, is_var_at}
-unfoldable pub use Rattle.cp_check.specs.Expressions.{expression}
-pub use Rattle.cp_check.specs.Faults.{faults_of, program_context}
-unfoldable pub use Rattle.cp_check.specs.Faults.{declarations}
+pub use Rattle.cp_check.specs.Declarations.{as_declared, to_kind}
+unfoldable pub use Rattle.cp_check.specs.Declarations.{part_steps, add_all, add_names, reserve_name, reserve_names}
+pub use Rattle.cp_check.specs.Expressions.{is_var_at}
+unfoldable pub use Rattle.cp_check.specs.Expressions.{arguments, designator, expression}
+pub use Rattle.cp_check.specs.Faults.{program_context}
+unfoldable pub use Rattle.cp_check.specs.Faults.{faults_of, declarations}
 pub use Rattle.cp_check.specs.Headings.{after_faults, may_enter}
 pub use Rattle.cp_check.specs.Operands.{is_assignable, is_function, is_queue_in, value}
 unfoldable pub use Rattle.cp_check.specs.Routines.{routine_step, routine_steps}
-pub use Rattle.cp_check.specs.Systems.{definition_step, program_part_step, program_part_steps}
+unfoldable pub use Rattle.cp_check.specs.Systems.{definition_step, program_part_step, program_part_steps}
 pub use Rattle.cp_check.specs.Types.{Step, Typed, nothing}
 unfoldable pub use Rattle.cp_check.specs.Types.{typed}
 pub use Rattle.cp_check.specs.declared.case.Label.{Label}
@@ -39,19 +39,20 @@ pub use Rattle.cp_lawful.proofs.Once.{or_right, parts_sound}
 pub use Rattle.cp_lawful.specs.Accepted.{IsAccepted}
 pub use Rattle.cp_layout.specs.Kinds.{Compounds, array, most, plus, times}
 unfoldable pub use Rattle.cp_layout.specs.Kinds.{least}
-pub use Rattle.cp_layout.specs.Laid.{PlainTables, no_room, plain, room_for, system_type, system_types, tables_laid, types_of}
-unfoldable pub use Rattle.cp_layout.specs.Laid.{laid, room_from}
-pub use Rattle.cp_layout.specs.LaidComponents.{Listing, byte, contained_by, next_kind, nothing_listed, process_at, program_listed}
-unfoldable pub use Rattle.cp_layout.specs.LaidComponents.{contents_least}
+pub use Rattle.cp_layout.specs.Laid.{PlainTables, no_room, plain, room_for, system_type, system_types, types_of}
+unfoldable pub use Rattle.cp_layout.specs.Laid.{tables_laid, laid, room_from}
+pub use Rattle.cp_layout.specs.LaidComponents.{Listing, byte, next_kind, nothing_listed, process_at}
+unfoldable pub use Rattle.cp_layout.specs.LaidComponents.{contained_by, program_listed, contents_least}
 pub use Rattle.cp_layout.specs.LaidComponents.{with_component}
-pub use Rattle.cp_layout.specs.LaidDeclarations.{Parameters, component_cell, constant_groups, heading_with, opened, program_part}
-unfoldable pub use Rattle.cp_layout.specs.LaidDeclarations.{heading, program}
-pub use Rattle.cp_layout.specs.LaidDeclarations.{program_parts, routine, system_definition, with_heading}
-unfoldable pub use Rattle.cp_layout.specs.LaidDeclarations.{routines}
+pub use Rattle.cp_layout.specs.LaidDeclarations.{Parameters, component_cell, heading_with, opened, program_part}
+unfoldable pub use Rattle.cp_layout.specs.LaidDeclarations.{constant_groups, heading, program}
+pub use Rattle.cp_layout.specs.LaidDeclarations.{routine, system_definition, with_heading}
+unfoldable pub use Rattle.cp_layout.specs.LaidDeclarations.{program_parts, routines}
 pub use Rattle.cp_layout.specs.LaidExpressions.{as_integer, count_in, entry_among, entry_in, entry_of, signed, with_count}
-pub use Rattle.cp_layout.specs.LaidStatements.{assigned, assigned_as, statement, statements}
-pub use Rattle.cp_layout.specs.LaidTypes.{named_type, type_meant, written_type}
-unfoldable pub use Rattle.cp_layout.specs.LaidTypes.{fields_of_type, simple_type}
+pub use Rattle.cp_layout.specs.LaidStatements.{assigned_as}
+unfoldable pub use Rattle.cp_layout.specs.LaidStatements.{assigned, statement, statements}
+pub use Rattle.cp_layout.specs.LaidTypes.{named_type, type_meant}
+unfoldable pub use Rattle.cp_layout.specs.LaidTypes.{written_type, fields_of_type, simple_type}
 pub use Rattle.cp_layout.specs.Layers.{Frame, Layer, Names, Owned, Pending, System, added, find_type, is_open, need_of, no_frame, nothing_laid, outermost}
 pub use Rattle.cp_layout.specs.Layers.{own_result, result_of, routine_of, settled, settled_all, without_pending}
 pub use Rattle.cp_layout.specs.Values.{place_at}
@@ -82,8 +83,10 @@ pub use Rattle.cp_meaning.specs.Types.{length_of_range, natural_of, ordinal, ran
 pub use Rattle.cp_meaning.specs.Values.{number_value}
 pub use Rattle.cp_scope.specs.Counts.{both_uses, no_use}
 pub use Rattle.cp_scope.specs.Judged.{Judged, both, broken, faults, ◌>>=◌}
-pub use Rattle.cp_scope.specs.Scopes.{Scopes, Shapes, add, add_around, body_at, body_shape, census, enter, heading_at, is_among, is_declared, keep, new_scope}
-pub use Rattle.cp_scope.specs.Scopes.{parameters_in, settle, shape_in, start}
+pub use Rattle.cp_scope.specs.Scopes.{Scopes, Shapes, body_at, body_shape, census, heading_at, is_among, is_declared, new_scope}
+unfoldable pub use Rattle.cp_scope.specs.Scopes.{add, add_around, enter, keep}
+pub use Rattle.cp_scope.specs.Scopes.{shape_in, start}
+unfoldable pub use Rattle.cp_scope.specs.Scopes.{parameters_in, settle}
 pub use Rattle.cp_scope.specs.Types.{agree, is_of, is_ordinal, same_base, values_of, whole}
 pub use Rattle.cp_scope.specs.declared.count.Use.{Use}
 pub use Rattle.cp_scope.specs.declared.fault.CheckFault.{CheckFault}

@@ -7,7 +7,8 @@ pub use Rattle.std.proofs.lemmas.Option.{slice_get_within}
 pub use Rattle.std.specs.List.{AllByRecursion as Each, list_any}
 pub use Rattle.std.specs.Prelude.{Contains, nat_eq, nat_lt, not, slice_get, slice_index_or, ◌&&◌, ◌||◌}
 pub use Rattle.cp_endless.specs.Fair.{IsServed}
-pub use Rattle.cp_endless.specs.Moments.{AnyOf, Moment, moments, stretch_moments}
+pub use Rattle.cp_endless.specs.Moments.{AnyOf, Moment}
+unfoldable pub use Rattle.cp_endless.specs.Moments.{moments, stretch_moments}
 pub use Rattle.cp_endless.specs.Reachable.{LeadsTo, node_after}
 pub use Rattle.cp_endless.specs.Repeats.{Repeats}
 pub use Rattle.cp_endless.specs.Rounds.{spot_after}
@@ -25,8 +26,8 @@ pub use Rattle.cp_machine.specs.Machine.{thread_of}
 pub use Rattle.cp_machine.specs.System.{IsStateOf, Machine, is_pending, is_ready, machine_of, output_of}
 pub use Rattle.cp_machine.specs.declared.process.ProcessState.{ProcessState}
 pub use Rattle.cp_run.proofs.Tracing.{ok_as as ok_to}
-pub use Rattle.cp_run.specs.Run.{Choosing, Halted, Node, chosen, opened, stretch, those_below}
-unfoldable pub use Rattle.cp_run.specs.Run.{may}
+pub use Rattle.cp_run.specs.Run.{Choosing, Halted, Node, those_below}
+unfoldable pub use Rattle.cp_run.specs.Run.{chosen, opened, stretch, may}
 pub use Rattle.cp_run.specs.Slots.{slots}
 pub use Rattle.cp_run.specs.System.{System}
 pub use Rattle.cp_run.specs.declared.outcome.Turn.{Turn}

@@ -12,11 +12,12 @@ pub use Rattle.cp_board.specs.declared.views.View.{View}
 pub use Rattle.cp_machine.specs.System.{IsStateOf, machine_of}
 pub use Rattle.cp_machine.specs.declared.shown.Shown.{Shown}
 pub use Rattle.cp_run.specs.Code.{node_of}
-pub use Rattle.cp_run.specs.Run.{Answer, Choosing, Ended, Halted, Node, NotReady, Wants, chosen, joined_below, opened, run, those_below}
-unfoldable pub use Rattle.cp_run.specs.Run.{may}
+pub use Rattle.cp_run.specs.Run.{Answer, Choosing, Ended, Halted, Node, NotReady, Wants, joined_below, run, those_below}
+unfoldable pub use Rattle.cp_run.specs.Run.{chosen, opened, may}
 pub use Rattle.cp_run.specs.Slots.{slots}
 pub use Rattle.cp_run.specs.System.{System}
-pub use Rattle.cp_run.specs.Table.{Line, each, table}
+pub use Rattle.cp_run.specs.Table.{Line, each}
+unfoldable pub use Rattle.cp_run.specs.Table.{table}
 pub use Rattle.cp_run.specs.declared.limits.Limits.{Limits}
 pub use Rattle.cp_run.specs.declared.outcome.Halt.{Halt}
 pub use Rattle.cp_run.specs.declared.outcome.Outcome.{Outcome}
