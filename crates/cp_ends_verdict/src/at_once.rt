@@ -29,13 +29,13 @@ pub fn mark_in_turn<O: ObserveProgress>(
 {
     let marked = mark_list(alloc, subject, list, observer)?;
     match marked.mark {
-        EndsMark::TooMany => marked_again(alloc, subject, list, marked, observer),
+        EndsMark::TooMany => mark_again(alloc, subject, list, marked, observer),
         _ => Ok(marked),
     }
 }
 
 // The same, where there are too many states.
-fn marked_again<O: ObserveProgress>(
+fn mark_again<O: ObserveProgress>(
     alloc: Global,
     subject: MarkSubject<'_>,
     list: &[EndsExpectation],
@@ -46,14 +46,14 @@ fn marked_again<O: ObserveProgress>(
 {
     if can_be_at_once(subject.limits.gates, list) {
         let again = mark_at_once(alloc, subject, list, observer)?;
-        told_again(alloc, subject, marked, again)
+        tell_again(alloc, subject, marked, again)
     } else {
         Ok(marked)
     }
 }
 
 // The mark that kernel calls at once give, if there are not too many states then as well.
-fn told_again(
+fn tell_again(
     alloc: Global,
     subject: MarkSubject<'_>,
     marked: MarkedEnds,

@@ -27,7 +27,7 @@ pub fn known_of(
     ensures known { IfOk result (λ k. (gates : Gates) (steps most : ℕ) → IsAnswer program.now gates steps most found.now → spec.KnowsWaits program.now gates steps waits → spec.IsKnown program.now gates steps most k) }
     ensures waits { IfOk result (λ k. k.waits ≡ waits) }
 {
-    let looked = looked_at(alloc, found)?;
+    let looked = numbers_looked_at(alloc, found)?;
     let ends = known_ends(alloc, found, looked)?;
     let values = known_values(alloc, program, found, looked)?;
     Ok(KnownEnds {
@@ -39,7 +39,7 @@ pub fn known_of(
 }
 
 /// Of how many numbers the words are that were looked at, where not all were.
-fn looked_at(alloc: Global, found: &Found) -> Result<Option<usize>, AllocError>
+fn numbers_looked_at(alloc: Global, found: &Found) -> Result<Option<usize>, AllocError>
     ensures { IfOk result (λ looked. (r : Tables) (f : SlotFindings) → Holds r found.now f → spec.IsLookedAt f.states found.now.stopped looked) }
 {
     let Some(stopped) = found.stopped else {

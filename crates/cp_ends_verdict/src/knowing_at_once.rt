@@ -32,12 +32,12 @@ pub fn known_at_once(
         ends,
         values,
         waits: None,
-        looked: looked_at(found),
+        looked: numbers_looked_at(found),
     })
 }
 
 /// Where there were too many states, the schedules of no choice were looked at.
-fn looked_at(found: &FoundAtOnce) -> Option<usize>
+fn numbers_looked_at(found: &FoundAtOnce) -> Option<usize>
     ensures { result ≡ None → found.now.is_whole ≡ true }
 {
     if found.is_whole { None } else { Some(0) }

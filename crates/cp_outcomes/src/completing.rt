@@ -30,7 +30,7 @@ pub fn greatest_known<O: ObserveProgress>(
         }
         // Few choices are tried first, since many take long.
         let choices = (low + (high - low) / 2).min(low.saturating_mul(2));
-        match known_with(alloc, job, most, choices, observer)? {
+        match merge_with(alloc, job, most, choices, observer)? {
             Some(found) => {
                 known = Some(found);
                 low = choices.saturating_add(1);
@@ -42,7 +42,7 @@ pub fn greatest_known<O: ObserveProgress>(
 }
 
 // The outcomes for so many choices, if there is not too much.
-fn known_with<O: ObserveProgress>(
+fn merge_with<O: ObserveProgress>(
     alloc: Global,
     job: Job,
     most: u32,

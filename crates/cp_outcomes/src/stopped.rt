@@ -79,13 +79,13 @@ pub fn stopped_at(limit: Limit, tallies: &[Tally]) -> Natural
 {
     let mut sum = Natural::zero();
     for tally in tallies {
-        sum = sum.plus(&counted_at(limit, tally));
+        sum = sum.plus(&count_stopped_at(limit, tally));
     }
     sum
 }
 
 // How many schedules of an outcome did.
-fn counted_at(limit: Limit, tally: &Tally) -> Natural
+fn count_stopped_at(limit: Limit, tally: &Tally) -> Natural
     ensures { result ≡ count_at limit (tally_of tally.now) }
 {
     if limit.stops(tally.outcome.kind) {

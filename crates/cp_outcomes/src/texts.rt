@@ -17,7 +17,7 @@ use crate::share::share_of;
 use crate::simples::Simples;
 use crate::stopped::{Limit, schedules_in, stopped_at};
 use crate::subject::{Excess, Subject};
-use crate::told::{ToldOutcome, told_outcomes};
+use crate::told::{ToldOutcome, tell_outcomes};
 use cp_machine::Ticks;
 use cp_merged::{Tallies, Tally};
 use cp_natural::Natural;
@@ -46,7 +46,7 @@ pub fn text<L: Ledger>(
     ensures { IfOk result (λ t. IsTextOf (setting_of subject.entry subject.entry.limits.choices) (map tally_of tallies.now) (string_bytes t)) }
 {
     let all = tallies.as_slice();
-    let told = told_outcomes(alloc, subject, all, simples, ticks)?;
+    let told = tell_outcomes(alloc, subject, all, simples, ticks)?;
     outcomes_text(alloc, subject, all, &told, simples.is_searched())
 }
 

@@ -27,7 +27,7 @@ pub struct ToldOutcome<'a> {
 }
 
 /// The outcomes in the order in which they are told: first those of runs that ended, then those of runs that a limit stopped.
-pub fn told_outcomes<'a, L: Ledger>(
+pub fn tell_outcomes<'a, L: Ledger>(
     alloc: Global,
     subject: Subject<'_>,
     tallies: &'a [Tally],
@@ -57,7 +57,7 @@ fn push_told<'a, L: Ledger>(
 {
     for (place, tally) in tallies.iter().enumerate() {
         if is_among(stopped, tally) {
-            told.push(told_outcome(alloc, subject, simples, place, tally, ticks)?)?;
+            told.push(tell_outcome(alloc, subject, simples, place, tally, ticks)?)?;
         }
     }
     Ok(())
@@ -75,7 +75,7 @@ fn is_among(stopped: bool, tally: &Tally) -> bool
 }
 
 // The outcome at a place.
-fn told_outcome<'a, L: Ledger>(
+fn tell_outcome<'a, L: Ledger>(
     alloc: Global,
     subject: Subject<'_>,
     simples: &'a Simples,

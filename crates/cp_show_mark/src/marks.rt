@@ -51,7 +51,7 @@ pub fn mark_answer<O: ObserveProgress>(
             "no expectation: none was given, and the source has no comment that begins (* expect\n",
         );
     }
-    marked_by(alloc, examinee, observer, text.as_str())
+    mark_by(alloc, examinee, observer, text.as_str())
 }
 
 // The expectations as they are written.
@@ -87,14 +87,14 @@ fn misread(alloc: Global, examinee: Examinee<'_>, said: &str) -> Result<ShowAnsw
 }
 
 // What is said by the expectations of a text.
-fn marked_by<O: ObserveProgress>(
+fn mark_by<O: ObserveProgress>(
     alloc: Global,
     examinee: Examinee<'_>,
     observer: &mut O,
     text: &str,
 ) -> Result<ShowAnswer, AllocError> {
     if examinee.options.ends {
-        return marked_ends(alloc, examinee, observer, text);
+        return mark_ends(alloc, examinee, observer, text);
     }
     match expectations(alloc, text) {
         Ok(reading) => mark_of(alloc, examinee, observer, &reading),
@@ -108,14 +108,14 @@ fn marked_by<O: ObserveProgress>(
 }
 
 // The same of schedules of any length.
-fn marked_ends<O: ObserveProgress>(
+fn mark_ends<O: ObserveProgress>(
     alloc: Global,
     examinee: Examinee<'_>,
     observer: &mut O,
     text: &str,
 ) -> Result<ShowAnswer, AllocError> {
     match ends_expectations(alloc, examinee.legend, text)? {
-        EndsReading::Expectations(list) => judged_ends(alloc, examinee, observer, &list),
+        EndsReading::Expectations(list) => judge_ends(alloc, examinee, observer, &list),
         EndsReading::Misread { wanted, place } => misread(
             alloc,
             examinee,
@@ -125,7 +125,7 @@ fn marked_ends<O: ObserveProgress>(
 }
 
 // What schedules of any length say of the expectations.
-fn judged_ends<O: ObserveProgress>(
+fn judge_ends<O: ObserveProgress>(
     alloc: Global,
     examinee: Examinee<'_>,
     observer: &mut O,
@@ -135,14 +135,14 @@ fn judged_ends<O: ObserveProgress>(
     ensures at_once { examinee.entry.options.now.at_once ≡ true → can_be_at_once examinee.entry.options.now.gates list.now ≡ true → IfOk result (λ a. spec.TellsMarkAtOnce examinee.entry.program.now examinee.entry.options.now.steps list.now a.verdict) }
 {
     if examinee.options.at_once {
-        judged_at_once(alloc, examinee, observer, list)
+        judge_at_once(alloc, examinee, observer, list)
     } else {
-        judged_in_turn(alloc, examinee, observer, list)
+        judge_in_turn(alloc, examinee, observer, list)
     }
 }
 
 // The same without calls at once, but where there are too many states.
-fn judged_in_turn<O: ObserveProgress>(
+fn judge_in_turn<O: ObserveProgress>(
     alloc: Global,
     examinee: Examinee<'_>,
     observer: &mut O,
@@ -167,7 +167,7 @@ fn judged_in_turn<O: ObserveProgress>(
 }
 
 // The same with calls at once.
-fn judged_at_once<O: ObserveProgress>(
+fn judge_at_once<O: ObserveProgress>(
     alloc: Global,
     examinee: Examinee<'_>,
     observer: &mut O,

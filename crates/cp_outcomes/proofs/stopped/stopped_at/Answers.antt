@@ -20,7 +20,7 @@ plus-sum-requires c =
     let part = counts_at-le c.args.limit xs in
     let few = c.requires in
     let sum = c.loop-tally.invariant in
-    let counted = c.counted_at.ensures in
+    let counted = c.count_stopped_at.ensures in
     omega (arith, le, here, all, part, few, sum, counted)
 
 pub returns-clause-rows : goal.returns-clause-rows

@@ -2,7 +2,7 @@ use Rattle.std.proofs.Common.{map}
 use Rattle.cp_merged.specs.Code.{tally_of}
 use Rattle.cp_outcomes.specs.Told.{setting_of}
 use Rattle.cp_outcomes.proofs.Ordering.{all_told}
-use Rattle.cp_outcomes.proofs.told.told_outcomes.Goals as goal
+use Rattle.cp_outcomes.proofs.told.tell_outcomes.Goals as goal
 
 pub returns : goal.returns
 returns g c =

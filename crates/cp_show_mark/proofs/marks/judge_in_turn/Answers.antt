@@ -3,7 +3,7 @@ use Rattle.std.proofs.lemmas.Result.{IfOk-weaker}
 use Rattle.cp_machine.specs.declared.gates.Gates.{Gates}
 use Rattle.cp_ends_verdict.specs.Marked.{can_be_asked}
 use Rattle.cp_show_mark.proofs.Telling.{told_ends}
-use Rattle.cp_show_mark.proofs.marks.judged_in_turn.Goals as goal
+use Rattle.cp_show_mark.proofs.marks.judge_in_turn.Goals as goal
 
 pub returns : goal.returns
 returns g c = λ some can.

@@ -3,7 +3,7 @@ use Rattle.std.proofs.lemmas.Result.{IfOk-weaker}
 use Rattle.cp_machine.specs.declared.gates.Gates.{Gates}
 use Rattle.cp_ends_verdict.specs.AtOnce.{can_be_at_once}
 use Rattle.cp_show_mark.proofs.Telling.{told_at_once}
-use Rattle.cp_show_mark.proofs.marks.judged_at_once.Goals as goal
+use Rattle.cp_show_mark.proofs.marks.judge_at_once.Goals as goal
 
 pub returns : goal.returns
 returns g c = λ can.
