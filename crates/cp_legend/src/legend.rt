@@ -1,7 +1,11 @@
 //! The legend of a program: what its numbers are called in the source.
 
+ghost use Rattle.std.specs.Prelude.{◌≡◌, map, option_map, slice_get, IfOk};
+ghost use Rattle.cp_legend.specs.Names as spec;
+ghost use Rattle.cp_legend.specs.Names.{IsLegendOf, component_seen, routine_names_seen, source_seen, system_seen};
+
 use crate::components::components_of;
-use crate::sorting::SortedSymbols;
+use crate::sorting::{all_permanents, all_routines, all_systems};
 use crate::types::LegendTypes;
 use cp_layout::{CellType, Symbols};
 use cp_slots::{ComponentKind, Resolved};
@@ -76,33 +80,24 @@ pub struct Legend {
 }
 
 /// The legend of a program, from its symbols.
-pub fn legend_of(
-    alloc: Global,
-    program: &Resolved,
-    symbols: Symbols,
-) -> Result<Legend, AllocError> {
+pub fn legend_of(alloc: Global, program: &Resolved, symbols: Symbols) -> Result<Legend, AllocError>
+    ensures { IfOk result (λ l. IsLegendOf l (source_seen symbols) program.now.components) }
+{
+    let systems = all_systems(alloc, &symbols)?;
+    let permanents = all_permanents(alloc, &symbols)?;
+    let routines = all_routines(alloc, &symbols)?;
+    let components = components_of(alloc, program, &symbols)?;
     let Symbols {
-        declared,
-        routines,
-        systems,
         types,
         constants,
+        ..
     } = symbols;
-    let shapes = LegendTypes { compounds: types };
-    let sorted = SortedSymbols::of(alloc, &shapes, &systems, &routines, declared)?;
-    let components = components_of(alloc, program, &sorted.systems, &constants)?;
-    let mut systems = Vec::new(alloc);
-    let mut permanents = Vec::new(alloc);
-    for symbols in sorted.systems {
-        systems.push(symbols.system)?;
-        permanents.push(symbols.permanents)?;
-    }
     Ok(Legend {
-        shapes,
+        shapes: LegendTypes { compounds: types },
         constants,
         systems,
         permanents,
-        routines: sorted.routines,
+        routines,
         components,
     })
 }
@@ -131,7 +126,9 @@ impl Legend {
     }
 
     /// The path of a process.
-    pub fn process_name(&self, process: u8) -> &str {
+    pub fn process_name(&self, process: u8) -> &str
+        ensures { result.now ≡ spec.path_in (spec.process_in (map component_seen self.now.components.items) process) }
+    {
         match self.process(process) {
             Some(component) => component.path.as_str(),
             None => "",
@@ -139,7 +136,9 @@ impl Legend {
     }
 
     /// The name of the type of a process; the program has none.
-    pub fn process_type(&self, process: u8) -> &str {
+    pub fn process_type(&self, process: u8) -> &str
+        ensures { result.now ≡ spec.type_in (map system_seen self.now.systems.items) (spec.process_in (map component_seen self.now.components.items) process) }
+    {
         match self.process(process) {
             Some(component) => self.type_name(component.system),
             None => "",
@@ -147,7 +146,9 @@ impl Legend {
     }
 
     /// The path of a monitor.
-    pub fn monitor_name(&self, monitor: u8) -> &str {
+    pub fn monitor_name(&self, monitor: u8) -> &str
+        ensures { result.now ≡ spec.path_in (spec.monitor_in (map component_seen self.now.components.items) monitor) }
+    {
         match self.monitor(monitor) {
             Some(component) => component.path.as_str(),
             None => "",
@@ -155,7 +156,9 @@ impl Legend {
     }
 
     /// The name of the type of a monitor.
-    pub fn monitor_type(&self, monitor: u8) -> &str {
+    pub fn monitor_type(&self, monitor: u8) -> &str
+        ensures { result.now ≡ spec.type_in (map system_seen self.now.systems.items) (spec.monitor_in (map component_seen self.now.components.items) monitor) }
+    {
         match self.monitor(monitor) {
             Some(component) => self.type_name(component.system),
             None => "",
@@ -163,41 +166,59 @@ impl Legend {
     }
 
     /// The name of a routine.
-    pub fn routine_name(&self, routine: usize) -> &str {
+    pub fn routine_name(&self, routine: usize) -> &str
+        ensures { result.now ≡ spec.name_of_routine (slice_get (map routine_names_seen self.now.routines.items) routine) }
+    {
         match self.routines.get(routine) {
             Some(routine) => routine.name.as_str(),
             None => "",
         }
     }
 
-    fn type_name(&self, system: usize) -> &str {
+    fn type_name(&self, system: usize) -> &str
+        ensures { result.now ≡ spec.name_at (map system_seen self.now.systems.items) system }
+    {
         match self.systems.get(system) {
             Some(system) => system.name.as_str(),
             None => "",
         }
     }
 
-    fn process(&self, process: u8) -> Option<&LegendComponent> {
-        self.components
-            .iter()
-            .find(|component| is_process(component.kind, process))
+    fn process(&self, process: u8) -> Option<&LegendComponent>
+        ensures { option_map (λ c. component_seen c.now) result ≡ spec.process_in (map component_seen self.now.components.items) process }
+    {
+        for component in &self.components {
+            if is_process(component.kind, process) {
+                return Some(component);
+            }
+        }
+        None
     }
 
-    fn monitor(&self, monitor: u8) -> Option<&LegendComponent> {
-        self.components
-            .iter()
-            .find(|component| is_monitor(component.kind, monitor))
+    fn monitor(&self, monitor: u8) -> Option<&LegendComponent>
+        ensures { option_map (λ c. component_seen c.now) result ≡ spec.monitor_in (map component_seen self.now.components.items) monitor }
+    {
+        for component in &self.components {
+            if is_monitor(component.kind, monitor) {
+                return Some(component);
+            }
+        }
+        None
     }
 }
 
-fn is_process(kind: ComponentKind, process: u8) -> bool {
+fn is_process(kind: ComponentKind, process: u8) -> bool
+    ensures { result ≡ spec.is_process kind process }
+{
     match kind {
         ComponentKind::Process(number) => number == process,
         ComponentKind::Monitor(_) | ComponentKind::Class => false,
     }
 }
 
-fn is_monitor(kind: ComponentKind, monitor: u8) -> bool {
+fn is_monitor(kind: ComponentKind, monitor: u8) -> bool
+    ensures { result ≡ spec.is_monitor kind monitor }
+{
     match kind {
         ComponentKind::Monitor(number) => number == monitor,
         ComponentKind::Process(_) | ComponentKind::Class => false,

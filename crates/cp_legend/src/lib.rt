@@ -3,6 +3,7 @@
 
 mod components;
 pub mod legend;
+mod parts;
 mod places;
 mod sorting;
 pub mod types;

@@ -1,247 +1,251 @@
 //! The symbols of a program, sorted by what they belong to.
 
+ghost use Rattle.std.specs.Prelude.{◌≡◌, ◌++◌, ◌+◌, flat_map, map, length, slice_get, IfOk, OnOk};
+ghost use Rattle.std.specs.String.{string_bytes};
+ghost use Rattle.cp_layout.specs.Symbols.{routine_seen, symbol_seen};
+ghost use Rattle.cp_legend.specs.Names as spec;
+ghost use Rattle.cp_legend.specs.Names.{routine_names_seen, source_seen, system_seen, variable_seen, variables_seen};
+
 use crate::legend::{LegendParameter, LegendPassing, LegendRoutine, LegendSystem, Variable};
-use crate::types::LegendTypes;
-use cp_layout::{
-    CellRange, CellType, FunctionResult, LayoutMeaning, RoutineSymbol, Symbol, SystemSymbol,
-};
+use crate::parts::home_of;
+use cp_layout::{CellType, FunctionResult, LayoutMeaning, RoutineSymbol, Symbol, Symbols};
 use cp_slots::PlaceOrigin;
 use cp_tree::SystemKind;
 use std::alloc::{AllocError, Global};
 
-/// Component variables of one name.
-#[derive(Drop)]
-pub struct ContainedSymbol {
-    pub name: String,
-    /// The number of the first above that of its container.
-    pub first: usize,
-    /// The index of an array of components.
-    pub index: Option<CellRange>,
-    /// How many components one is, with those that it contains.
-    pub each: usize,
+/// The system types; the program is the last.
+#[tactic(auto, using(crate::proofs::Naming::each_step, crate::proofs::Naming::each_none))]
+pub fn all_systems(alloc: Global, symbols: &Symbols) -> Result<Vec<LegendSystem>, AllocError>
+    ensures { IfOk result (λ v. map system_seen v.items ≡ spec.at_each (spec.system_of (source_seen symbols.now)) (length symbols.now.systems.items + 1)) }
+{
+    let mut all = Vec::new(alloc);
+    for number in 0..symbols.systems.len() + 1 {
+        all.push(system_of(alloc, symbols, number)?)?;
+    }
+    Ok(all)
 }
 
-/// A system type, or the program, which is the last.
-#[derive(Drop)]
-pub struct SystemSymbols {
-    pub system: LegendSystem,
-    pub permanents: Vec<Variable>,
-    pub contained: Vec<ContainedSymbol>,
+fn system_of(alloc: Global, symbols: &Symbols, number: usize) -> Result<LegendSystem, AllocError>
+    ensures { IfOk result (λ s. system_seen s ≡ spec.system_of (source_seen symbols.now) number) }
+{
+    Ok(LegendSystem {
+        name: String::from_str(alloc, type_name(&symbols.declared, number))?,
+        kind: kind_of(symbols, number),
+    })
 }
 
-/// The symbols, by the numbers of system types and routines.
-#[derive(Drop)]
-pub struct SortedSymbols {
-    pub systems: Vec<SystemSymbols>,
-    pub routines: Vec<LegendRoutine>,
-}
-
-impl SystemSymbols {
-    fn new(alloc: Global, kind: Option<SystemKind>) -> SystemSymbols {
-        SystemSymbols {
-            system: LegendSystem {
-                name: String::new(alloc),
-                kind,
-            },
-            permanents: Vec::new(alloc),
-            contained: Vec::new(alloc),
+// A system type has the name that is declared first.
+fn type_name(declared: &[Symbol], number: usize) -> &str
+    ensures { result.now ≡ spec.type_name (map symbol_seen declared.now) number }
+{
+    for symbol in declared {
+        if is_system(symbol.meaning, number) {
+            return symbol.name.as_str();
         }
     }
+    ""
+}
+
+fn is_system(meaning: LayoutMeaning, number: usize) -> bool
+    ensures { result ≡ spec.is_system meaning number }
+{
+    match meaning {
+        LayoutMeaning::Kind(CellType::System(system)) => system == number,
+        _ => false,
+    }
+}
+
+fn kind_of(symbols: &Symbols, number: usize) -> Option<SystemKind>
+    ensures { result ≡ spec.kind_in (slice_get symbols.now.systems.items number) }
+{
+    match symbols.systems.get(number) {
+        Some(system) => Some(system.kind),
+        None => None,
+    }
+}
+
+/// The permanent variables of each system type.
+#[tactic(auto, using(crate::proofs::Naming::each_step, crate::proofs::Naming::each_none))]
+pub fn all_permanents(alloc: Global, symbols: &Symbols) -> Result<Vec<Vec<Variable>>, AllocError>
+    ensures { IfOk result (λ v. map variables_seen v.items ≡ spec.at_each (spec.permanents_of (source_seen symbols.now)) (length symbols.now.systems.items + 1)) }
+{
+    let mut all = Vec::new(alloc);
+    for number in 0..symbols.systems.len() + 1 {
+        all.push(permanents_of(alloc, symbols, number)?)?;
+    }
+    Ok(all)
+}
+
+#[tactic(auto, using(crate::proofs::Naming::declared_step, crate::proofs::Naming::declared_none))]
+fn permanents_of(
+    alloc: Global,
+    symbols: &Symbols,
+    number: usize,
+) -> Result<Vec<Variable>, AllocError>
+    ensures { IfOk result (λ v. map variable_seen v.items ≡ spec.permanents_of (source_seen symbols.now) number) }
+{
+    let mut variables = Vec::new(alloc);
+    for symbol in &symbols.declared {
+        add_permanent(&mut variables, symbols, symbol, number)?;
+    }
+    Ok(variables)
+}
+
+// A name, if it is a permanent variable of the system type of this number.
+fn add_permanent(
+    variables: &mut Vec<Variable>,
+    symbols: &Symbols,
+    symbol: &Symbol,
+    number: usize,
+) -> Result<(), AllocError>
+    ensures { OnOk result (map variable_seen variables.new.items ≡ map variable_seen variables.old.items ++ spec.permanent_named (source_seen symbols.now) number (symbol_seen symbol.now)) }
+{
+    if home_of(symbols, symbol) != number {
+        return Ok(());
+    }
+    if let LayoutMeaning::Variable(PlaceOrigin::Permanent(slot), shape) = symbol.meaning {
+        let name = symbol.name.clone()?;
+        variables.push(Variable { name, slot, shape })?;
+    }
+    Ok(())
+}
+
+/// The routines.
+#[tactic(auto, using(crate::proofs::Naming::routines_step, crate::proofs::Naming::routines_none))]
+pub fn all_routines(alloc: Global, symbols: &Symbols) -> Result<Vec<LegendRoutine>, AllocError>
+    ensures { IfOk result (λ v. map routine_names_seen v.items ≡ spec.routines_from (source_seen symbols.now) 0 (map routine_seen symbols.now.routines.items)) }
+{
+    let mut all = Vec::new(alloc);
+    for (number, routine) in symbols.routines.iter().enumerate() {
+        all.push(routine_of(alloc, symbols, number, routine)?)?;
+    }
+    Ok(all)
+}
+
+fn routine_of(
+    alloc: Global,
+    symbols: &Symbols,
+    number: usize,
+    heading: &RoutineSymbol,
+) -> Result<LegendRoutine, AllocError>
+    ensures { IfOk result (λ r. routine_names_seen r ≡ spec.routine_of (source_seen symbols.now) number (routine_seen heading.now)) }
+{
+    let mut routine = bare_routine(alloc, symbols, number, heading)?;
+    if let Some(returned) = heading.result {
+        routine.add_result(returned)?;
+    }
+    Ok(routine)
+}
+
+fn bare_routine(
+    alloc: Global,
+    symbols: &Symbols,
+    number: usize,
+    heading: &RoutineSymbol,
+) -> Result<LegendRoutine, AllocError>
+    ensures { IfOk result (λ r. routine_names_seen r ≡ spec.bare_routine (source_seen symbols.now) number (routine_seen heading.now)) }
+{
+    let mut parameters = parameters_of(alloc, symbols, number)?;
+    parameters.truncate(heading.parameters);
+    Ok(LegendRoutine {
+        name: heading.name.clone()?,
+        parameters,
+        variables: locals_of(alloc, symbols, number)?,
+        result: None,
+    })
+}
+
+// The parameters of a routine, followed by its local variables.
+#[tactic(auto, using(crate::proofs::Naming::declared_step, crate::proofs::Naming::declared_none))]
+fn parameters_of(
+    alloc: Global,
+    symbols: &Symbols,
+    number: usize,
+) -> Result<Vec<LegendParameter>, AllocError>
+    ensures { IfOk result (λ v. v.items ≡ flat_map (spec.parameter_named number) (map symbol_seen symbols.now.declared.items)) }
+{
+    let mut parameters = Vec::new(alloc);
+    for symbol in &symbols.declared {
+        add_parameter(&mut parameters, symbol, number)?;
+    }
+    Ok(parameters)
+}
+
+fn add_parameter(
+    parameters: &mut Vec<LegendParameter>,
+    symbol: &Symbol,
+    number: usize,
+) -> Result<(), AllocError>
+    ensures { OnOk result (parameters.new.items ≡ parameters.old.items ++ spec.parameter_named number (symbol_seen symbol.now)) }
+{
+    if symbol.routine != number {
+        return Ok(());
+    }
+    let LayoutMeaning::Variable(origin, shape) = symbol.meaning else {
+        return Ok(());
+    };
+    let (slot, passing) = match origin {
+        PlaceOrigin::Local(slot) => (slot, LegendPassing::Value),
+        PlaceOrigin::Reference(slot) => (slot, LegendPassing::Reference),
+        PlaceOrigin::Permanent(_) => return Ok(()),
+    };
+    parameters.push(LegendParameter {
+        slot,
+        shape,
+        passing,
+    })?;
+    Ok(())
+}
+
+// The parameters with values and the local variables of a routine.
+#[tactic(auto, using(crate::proofs::Naming::declared_step, crate::proofs::Naming::declared_none))]
+fn locals_of(alloc: Global, symbols: &Symbols, number: usize) -> Result<Vec<Variable>, AllocError>
+    ensures { IfOk result (λ v. map variable_seen v.items ≡ spec.locals_of (source_seen symbols.now) number) }
+{
+    let mut variables = Vec::new(alloc);
+    for symbol in &symbols.declared {
+        add_local(&mut variables, symbol, number)?;
+    }
+    Ok(variables)
+}
+
+fn add_local(
+    variables: &mut Vec<Variable>,
+    symbol: &Symbol,
+    number: usize,
+) -> Result<(), AllocError>
+    ensures { OnOk result (map variable_seen variables.new.items ≡ map variable_seen variables.old.items ++ spec.local_named number (symbol_seen symbol.now)) }
+{
+    if symbol.routine != number {
+        return Ok(());
+    }
+    if let LayoutMeaning::Variable(PlaceOrigin::Local(slot), shape) = symbol.meaning {
+        let name = symbol.name.clone()?;
+        variables.push(Variable { name, slot, shape })?;
+    }
+    Ok(())
 }
 
 impl LegendRoutine {
-    fn new(alloc: Global, name: String) -> LegendRoutine {
-        LegendRoutine {
-            name,
-            parameters: Vec::new(alloc),
-            variables: Vec::new(alloc),
-            result: None,
-        }
-    }
-
-    // A variable of the frame. The first ones are parameters.
-    fn add_local(&mut self, variable: Variable, parameters: usize) -> Result<(), AllocError> {
-        if self.parameters.len() < parameters {
-            self.parameters.push(LegendParameter {
-                slot: variable.slot,
-                shape: variable.shape,
-                passing: LegendPassing::Value,
-            })?;
-        }
-        self.variables.push(variable)?;
-        Ok(())
-    }
-
     // A function's result stands behind its parameters.
-    fn add_result(&mut self, returned: FunctionResult) -> Result<(), AllocError> {
+    fn add_result(&mut self, returned: FunctionResult) -> Result<(), AllocError>
+        ensures { OnOk result (routine_names_seen self.new ≡ spec.with_result (routine_names_seen self.old) returned) }
+    {
         let at = self.parameters.len().min(self.variables.len());
-        let variable = Variable {
-            name: self.name.clone()?,
-            slot: returned.slot,
-            shape: returned.value_type,
-        };
+        let variable = self.result_variable(returned)?;
         self.variables.insert(at, variable)?;
         self.result = Some(at);
         Ok(())
     }
-}
 
-impl SortedSymbols {
-    /// Sorts the names that are declared.
-    pub fn of(
-        alloc: Global,
-        types: &LegendTypes,
-        systems: &[SystemSymbol],
-        routines: &[RoutineSymbol],
-        declared: Vec<Symbol>,
-    ) -> Result<SortedSymbols, AllocError> {
-        let mut sorted = SortedSymbols {
-            systems: unnamed_systems(alloc, systems)?,
-            routines: bare_routines(alloc, routines)?,
-        };
-        for symbol in declared {
-            match symbol.meaning {
-                LayoutMeaning::Variable(origin, shape) => {
-                    sorted.add_variable(routines, symbol, origin, shape)?;
-                }
-                LayoutMeaning::Contained(first, shape) => {
-                    sorted.add_contained(types, systems, symbol, first, shape)?;
-                }
-                LayoutMeaning::Kind(CellType::System(number)) => {
-                    sorted.name_system(number, symbol.name);
-                }
-                _ => {}
-            }
-        }
-        sorted.add_results(routines)?;
-        Ok(sorted)
-    }
-
-    fn add_variable(
-        &mut self,
-        routines: &[RoutineSymbol],
-        symbol: Symbol,
-        origin: PlaceOrigin,
-        shape: CellType,
-    ) -> Result<(), AllocError> {
-        let Symbol {
-            name,
-            routine,
-            system,
-            ..
-        } = symbol;
-        match origin {
-            PlaceOrigin::Permanent(slot) => {
-                if let Some(system) = self.system_of(system) {
-                    system.permanents.push(Variable { name, slot, shape })?;
-                }
-            }
-            PlaceOrigin::Local(slot) => {
-                if let Some(drawn) = self.routines.get_mut(routine) {
-                    let parameters = parameter_count(routines, routine);
-                    drawn.add_local(Variable { name, slot, shape }, parameters)?;
-                }
-            }
-            PlaceOrigin::Reference(slot) => {
-                if let Some(drawn) = self.routines.get_mut(routine) {
-                    drawn.parameters.push(LegendParameter {
-                        slot,
-                        shape,
-                        passing: LegendPassing::Reference,
-                    })?;
-                }
-            }
-        }
-        Ok(())
-    }
-
-    fn add_contained(
-        &mut self,
-        types: &LegendTypes,
-        systems: &[SystemSymbol],
-        symbol: Symbol,
-        first: usize,
-        shape: CellType,
-    ) -> Result<(), AllocError> {
-        let (number, index) = match shape {
-            CellType::System(number) => (number, None),
-            CellType::Array(number) => match types.array(number) {
-                Some(array) => match array.element {
-                    CellType::System(number) => (number, Some(array.index)),
-                    _ => return Ok(()),
-                },
-                None => return Ok(()),
-            },
-            _ => return Ok(()),
-        };
-        let each = match systems.get(number) {
-            Some(system) => system.components,
-            None => 0,
-        };
-        if let Some(system) = self.system_of(symbol.system) {
-            system.contained.push(ContainedSymbol {
-                name: symbol.name,
-                first,
-                index,
-                each,
-            })?;
-        }
-        Ok(())
-    }
-
-    // A system type has the name that is declared first.
-    fn name_system(&mut self, number: usize, name: String) {
-        if let Some(symbols) = self.systems.get_mut(number) {
-            if symbols.system.name.is_empty() {
-                symbols.system.name = name;
-            }
-        }
-    }
-
-    fn add_results(&mut self, routines: &[RoutineSymbol]) -> Result<(), AllocError> {
-        for (number, routine) in routines.iter().enumerate() {
-            if let Some(returned) = routine.result {
-                if let Some(drawn) = self.routines.get_mut(number) {
-                    drawn.add_result(returned)?;
-                }
-            }
-        }
-        Ok(())
-    }
-
-    // The system type, or the program.
-    fn system_of(&mut self, system: Option<usize>) -> Option<&mut SystemSymbols> {
-        let last = self.systems.len().saturating_sub(1);
-        self.systems.get_mut(system.unwrap_or(last))
-    }
-}
-
-fn unnamed_systems(
-    alloc: Global,
-    systems: &[SystemSymbol],
-) -> Result<Vec<SystemSymbols>, AllocError> {
-    let mut all = Vec::new(alloc);
-    for system in systems {
-        all.push(SystemSymbols::new(alloc, Some(system.kind)))?;
-    }
-    all.push(SystemSymbols::new(alloc, None))?;
-    Ok(all)
-}
-
-fn bare_routines(
-    alloc: Global,
-    routines: &[RoutineSymbol],
-) -> Result<Vec<LegendRoutine>, AllocError> {
-    let mut all = Vec::new(alloc);
-    for routine in routines {
-        all.push(LegendRoutine::new(alloc, routine.name.clone()?))?;
-    }
-    Ok(all)
-}
-
-fn parameter_count(routines: &[RoutineSymbol], number: usize) -> usize {
-    match routines.get(number) {
-        Some(routine) => routine.parameters,
-        None => 0,
+    // It has the function's name.
+    fn result_variable(&self, returned: FunctionResult) -> Result<Variable, AllocError>
+        ensures { IfOk result (λ v. variable_seen v ≡ spec.variable (string_bytes self.now.name) returned.slot returned.value_type) }
+    {
+        Ok(Variable {
+            name: self.name.clone()?,
+            slot: returned.slot,
+            shape: returned.value_type,
+        })
     }
 }

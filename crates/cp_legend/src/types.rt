@@ -1,7 +1,8 @@
 //! The types of a program, as far as its values are to be written.
 
 ghost use Rattle.std.specs.Prelude.{◌≡◌, length, map, slice_get};
-ghost use Rattle.cp_layout.specs.Symbols.{field_symbol_seen};
+ghost use Rattle.cp_layout.specs.Symbols.{field_symbol_seen, type_symbol_seen};
+ghost use Rattle.cp_legend.specs.Names as names;
 ghost use Rattle.cp_legend.specs.Values as spec;
 ghost use Rattle.cp_legend.specs.Values.{types_seen};
 
@@ -17,9 +18,21 @@ pub struct LegendTypes {
 }
 
 /// The value that comes so many after the least.
-pub fn nth(range: CellRange, number: usize) -> i16 {
-    let number = i16::try_from(number).unwrap_or(i16::MAX);
-    range.low.saturating_add(number)
+pub fn nth(range: CellRange, number: usize) -> i16
+    ensures { result ≡ names.nth range number }
+{
+    let number = number.min(usize::from(u16::MAX)) as u16;
+    range.low.saturating_add_unsigned(number)
+}
+
+/// The array of a number.
+pub fn array_in(types: &[TypeSymbol], number: usize) -> Option<ArrayType>
+    ensures { result ≡ spec.as_array (slice_get (map type_symbol_seen types.now) number) }
+{
+    match types.get(number) {
+        Some(TypeSymbol::Array(array)) => Some(*array),
+        _ => None,
+    }
 }
 
 impl LegendTypes {
@@ -52,10 +65,7 @@ impl LegendTypes {
     pub fn array(&self, number: usize) -> Option<ArrayType>
         ensures { result ≡ spec.as_array (slice_get (types_seen self.now) number) }
     {
-        match self.compounds.get(number) {
-            Some(TypeSymbol::Array(array)) => Some(*array),
-            _ => None,
-        }
+        array_in(&self.compounds, number)
     }
 
     /// The fields of the record of a number.

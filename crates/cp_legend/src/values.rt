@@ -4,10 +4,12 @@ ghost use Rattle.std.specs.Prelude.{◌≡◌, ◌++◌, map, slice_get, IfOk, O
 ghost use Rattle.std.specs.String.{string_bytes};
 ghost use Rattle.cp_layout.specs.Kinds.{count_of};
 ghost use Rattle.cp_layout.specs.Symbols.{field_symbol_seen};
+ghost use Rattle.cp_legend.specs.Names as names;
 ghost use Rattle.cp_legend.specs.Values as spec;
 ghost use Rattle.cp_legend.specs.Values.{types_seen, value_seen};
 
 use crate::legend::Legend;
+use crate::types::nth;
 use crate::value::{Member, SourceValue};
 use cp_layout::{ArrayType, CellBase, CellRange, CellType, FieldSymbol};
 use std::alloc::{AllocError, Global};
@@ -33,6 +35,20 @@ pub fn push_ordinal(
             push_constant(constants, text, place, number)
         }
     }
+}
+
+/// Appends the index of an element as the source writes it.
+pub fn push_index(
+    constants: &[String],
+    text: &mut String,
+    index: CellRange,
+    place: usize,
+) -> Result<(), AllocError>
+    ensures { OnOk result (string_bytes text.new ≡ string_bytes text.old ++ names.index_text (map string_bytes constants.now) index place) }
+{
+    text.push('[')?;
+    push_ordinal(constants, text, index.base, nth(index, place))?;
+    text.push(']')
 }
 
 // The constant at a place, or the number where there is none.

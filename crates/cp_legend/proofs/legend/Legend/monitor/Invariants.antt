@@ -1,0 +1,7 @@
+use Rattle.std.proofs.Common.{◌≡◌, drop, map}
+use Rattle.cp_legend.specs.Names.{component_seen, monitor_in}
+use Rattle.cp_legend.proofs.legend.Legend.monitor.Given as goal
+
+-- what is left leads where all lead
+abbrev pub invariant-loop-component : goal.invariant-loop-component
+invariant-loop-component l = monitor_in (map component_seen l.self.components.items) l.monitor ≡ monitor_in (map component_seen (drop l.component-index l.self.components.items)) l.monitor
