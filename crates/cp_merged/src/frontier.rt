@@ -8,6 +8,7 @@ ghost use Rattle.cp_machine.specs.Bodies.{has_moved, KeepBodies};
 ghost use Rattle.cp_machine.specs.System.{Machine, machine_of, output_of, IsStateOf};
 ghost use Rattle.cp_machine.specs.declared.gates.Gates.{Gates};
 ghost use Rattle.cp_states.specs.Rows.{IsRowOf, KeepParts};
+ghost use Rattle.cp_states.specs.Starts.{KeepBindings};
 ghost use Rattle.cp_run.specs.Slots.{slots};
 ghost use Rattle.cp_run.specs.Code.{node_of};
 ghost use Rattle.cp_walk.specs.Groups.{Tally};
@@ -138,6 +139,7 @@ impl Frontier {
         requires small { (r : Tables) × (xs : List (layers.Lead Machine)) × AreLeads r self.old.store self.old.layer.entries xs × (words_of xs + prefixes.now.count < 10 ^ 126) }
         requires known { IsRowOf self.old.store row.old.numbers (machine_of before.now) }
         requires moved { KeepBodies (has_moved moved.now) (machine_of before.now) (machine_of state.now) }
+        requires bound { KeepBindings (machine_of before.now) (machine_of state.now) }
         ensures layer { IfOk result (λ _. (r : Tables) (xs : List (layers.Lead Machine)) → IsStateOf r state.now → AreLeads r self.old.store self.old.layer.entries xs → AreLeads r self.new.store self.new.layer.entries (with_lead same_key xs (record { state = machine_of state.now; first = prefixes.now.first.items; count = prefixes.now.count }))) }
         ensures row { IfOk result (λ _. IsRowOf self.new.store row.new.numbers (machine_of state.now)) }
         ensures ended { self.new.ended.entries ≡ self.old.ended.entries }
@@ -164,6 +166,7 @@ impl Frontier {
         requires small { (r : Tables) × (f : layers.Front Machine) × Holds r self.old.store self.old.ended.entries self.old.layer.entries f × (total f + prefixes.now.count < 10 ^ 126) }
         requires known { IsRowOf self.old.store row.old.numbers (machine_of before.now) }
         requires moved { KeepBodies (has_moved moved.now) (machine_of before.now) (machine_of state.now) }
+        requires bound { KeepBindings (machine_of before.now) (machine_of state.now) }
         ensures front { IfOk result (λ _. (r : Tables) (gates : Gates) (f : layers.Front Machine) → IsStateOf r state.now → Holds r self.old.store self.old.ended.entries self.old.layer.entries f → Holds r self.new.store self.new.ended.entries self.new.layer.entries (arrived (slots r gates) same_outcome same_key prefixes.now.first.items prefixes.now.count (node_of halt (machine_of state.now)) f)) }
         ensures due { halt ≡ Halt.Choice → IfOk result (λ _. IsRowOf self.new.store row.new.numbers (machine_of state.now)) }
         ensures over { (kind : OutcomeKind) → halt ≡ Halt.Ended kind → row.new ≡ row.old }
