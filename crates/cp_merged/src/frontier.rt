@@ -87,14 +87,18 @@ impl Frontier {
         }
     }
 
-    /// The layer, in whose place an empty one begins.
+    /// The layer, in whose place an empty one begins. It has room for as many states, unless memory for them is refused.
     pub fn take_layer(&mut self, alloc: Global) -> Layer
         ensures layer { result.entries ≡ self.old.layer.entries }
         ensures empty { self.new.layer.entries ≡ [] }
         ensures ended { self.new.ended.entries ≡ self.old.ended.entries }
         ensures store { self.new.store ≡ self.old.store }
     {
-        mem::replace(&mut self.layer, IndexMap::new(alloc))
+        let next = match IndexMap::with_capacity(alloc, self.layer.len()) {
+            Ok(next) => next,
+            Err(_) => IndexMap::new(alloc),
+        };
+        mem::replace(&mut self.layer, next)
     }
 
     /// The outcomes.

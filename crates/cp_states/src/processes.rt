@@ -4,7 +4,7 @@ ghost use Rattle.std.specs.Prelude.{◌≡◌, ◌≤◌, length, true, IfOk, ve
 ghost use Rattle.cp_machine.specs.Machine.{thread_of};
 ghost use Rattle.cp_states.specs.Codes.{status_code, thread_hash};
 
-use crate::hashing::{Compared, finish_hash, hash_with, mix};
+use crate::hashing::{Compared, are_one, finish_hash, hash_with, mix};
 use cp_machine::{Entry, ProcessState, Status};
 use cp_store::Room;
 use std::alloc::{AllocError, Global};
@@ -30,8 +30,6 @@ pub fn is_status(status: &Status, other: &Status) -> bool
 {
     match (status, other) {
         (Status::Ready, Status::Ready) => true,
-        (Status::AtGate(monitor), Status::AtGate(same)) => monitor == same,
-        (Status::Delayed(cell), Status::Delayed(same)) => cell == same,
         _ => *status == *other,
     }
 }
@@ -62,7 +60,7 @@ pub fn is_process(process: &ProcessState, other: &ProcessState) -> bool
     if !Compared::are(&process.stack, &other.stack) {
         return false;
     }
-    if !Compared::are(&process.room.cells, &other.room.cells) {
+    if !are_one(&process.room.cells, &other.room.cells) {
         return false;
     }
     Compared::are(&process.room.references, &other.room.references)
