@@ -2,6 +2,7 @@ pub mod Adding
 pub mod Anywhere
 pub mod Arriving
 pub mod Basics
+pub mod Bounding
 pub mod Choosing
 pub mod Completing
 pub mod Exact
@@ -14,6 +15,7 @@ pub mod Reaching
 pub mod Scores
 pub mod Sorted
 pub mod Sorting
+pub mod Starting
 pub mod Telling
 pub mod Totals
 pub mod Unique

@@ -8,6 +8,7 @@ ghost use Rattle.cp_machine.specs.Bodies.{has_moved, KeepBodies};
 ghost use Rattle.cp_machine.specs.System.{Machine, machine_of, output_of, IsStateOf};
 ghost use Rattle.cp_machine.specs.declared.gates.Gates.{Gates};
 ghost use Rattle.cp_states.specs.Rows.{IsRowOf, KeepParts};
+ghost use Rattle.cp_states.specs.Starts.{KeepBindings};
 ghost use Rattle.cp_run.specs.Slots.{slots};
 ghost use Rattle.cp_run.specs.Code.{node_of};
 ghost use Rattle.cp_walk.specs.Groups.{Tally};
@@ -86,14 +87,18 @@ impl Frontier {
         }
     }
 
-    /// The layer, in whose place an empty one begins.
+    /// The layer, in whose place an empty one begins. It has room for as many states, unless memory for them is refused.
     pub fn take_layer(&mut self, alloc: Global) -> Layer
         ensures layer { result.entries ≡ self.old.layer.entries }
         ensures empty { self.new.layer.entries ≡ [] }
         ensures ended { self.new.ended.entries ≡ self.old.ended.entries }
         ensures store { self.new.store ≡ self.old.store }
     {
-        mem::replace(&mut self.layer, IndexMap::new(alloc))
+        let next = match IndexMap::with_capacity(alloc, self.layer.len()) {
+            Ok(next) => next,
+            Err(_) => IndexMap::new(alloc),
+        };
+        mem::replace(&mut self.layer, next)
     }
 
     /// The outcomes.
@@ -138,6 +143,7 @@ impl Frontier {
         requires small { (r : Tables) × (xs : List (layers.Lead Machine)) × AreLeads r self.old.store self.old.layer.entries xs × (words_of xs + prefixes.now.count < 10 ^ 126) }
         requires known { IsRowOf self.old.store row.old.numbers (machine_of before.now) }
         requires moved { KeepBodies (has_moved moved.now) (machine_of before.now) (machine_of state.now) }
+        requires bound { KeepBindings (machine_of before.now) (machine_of state.now) }
         ensures layer { IfOk result (λ _. (r : Tables) (xs : List (layers.Lead Machine)) → IsStateOf r state.now → AreLeads r self.old.store self.old.layer.entries xs → AreLeads r self.new.store self.new.layer.entries (with_lead same_key xs (record { state = machine_of state.now; first = prefixes.now.first.items; count = prefixes.now.count }))) }
         ensures row { IfOk result (λ _. IsRowOf self.new.store row.new.numbers (machine_of state.now)) }
         ensures ended { self.new.ended.entries ≡ self.old.ended.entries }
@@ -164,6 +170,7 @@ impl Frontier {
         requires small { (r : Tables) × (f : layers.Front Machine) × Holds r self.old.store self.old.ended.entries self.old.layer.entries f × (total f + prefixes.now.count < 10 ^ 126) }
         requires known { IsRowOf self.old.store row.old.numbers (machine_of before.now) }
         requires moved { KeepBodies (has_moved moved.now) (machine_of before.now) (machine_of state.now) }
+        requires bound { KeepBindings (machine_of before.now) (machine_of state.now) }
         ensures front { IfOk result (λ _. (r : Tables) (gates : Gates) (f : layers.Front Machine) → IsStateOf r state.now → Holds r self.old.store self.old.ended.entries self.old.layer.entries f → Holds r self.new.store self.new.ended.entries self.new.layer.entries (arrived (slots r gates) same_outcome same_key prefixes.now.first.items prefixes.now.count (node_of halt (machine_of state.now)) f)) }
         ensures due { halt ≡ Halt.Choice → IfOk result (λ _. IsRowOf self.new.store row.new.numbers (machine_of state.now)) }
         ensures over { (kind : OutcomeKind) → halt ≡ Halt.Ended kind → row.new ≡ row.old }

@@ -5,4 +5,5 @@ pub mod Keeping
 pub mod Numbering
 pub mod Piecing
 pub mod Same
+pub mod Starting
 pub mod Taking

@@ -8,4 +8,5 @@ pub mod Kept
 pub mod Numbers
 pub mod Pieces
 pub mod Rows
+pub mod Starts
 pub mod Taking

@@ -89,12 +89,14 @@ pub fn are_guards(guards: &[Gate], others: &[Gate]) -> bool
     true
 }
 
+#[inline(always)]
 fn copy_of_guard(from: &Gate) -> Gate
     ensures { monitor_of result ≡ monitor_of from.now }
 {
+    let waiting = from.line.as_slice();
     let mut line = ArrayVec::new();
-    if !from.line.is_empty() {
-        let _ = line.try_extend_from_slice(from.line.as_slice());
+    for at in 0..waiting.len() {
+        line.push(waiting[at]);
     }
     Gate {
         holder: from.holder,

@@ -65,7 +65,7 @@ impl Hashed for u8 {
 impl Compared for u8 {
     #[inline(always)]
     fn are(list: &[u8], other: &[u8]) -> bool {
-        list == other
+        are_one(list, other)
     }
 }
 

@@ -4,8 +4,8 @@ ghost use Rattle.std.specs.Prelude.{◌≡◌, ◌≤◌, length, true, IfOk, ve
 ghost use Rattle.cp_machine.specs.Machine.{thread_of};
 ghost use Rattle.cp_states.specs.Codes.{status_code, thread_hash};
 
-use crate::hashing::{Compared, finish_hash, hash_with, mix};
-use cp_machine::{ProcessState, Status};
+use crate::hashing::{Compared, are_one, finish_hash, hash_with, mix};
+use cp_machine::{Entry, ProcessState, Status};
 use cp_store::Room;
 use std::alloc::{AllocError, Global};
 
@@ -24,13 +24,13 @@ fn status_number(status: Status) -> u64
 
 /// Whether two statuses are one. Most processes are ready, and this is asked first.
 #[inline(always)]
-pub fn is_status(status: Status, other: Status) -> bool
-    ensures one { result ≡ true → status ≡ other }
-    ensures same { status ≡ other → result ≡ true }
+pub fn is_status(status: &Status, other: &Status) -> bool
+    ensures one { result ≡ true → status.now ≡ other.now }
+    ensures same { status.now ≡ other.now → result ≡ true }
 {
     match (status, other) {
         (Status::Ready, Status::Ready) => true,
-        _ => status == other,
+        _ => *status == *other,
     }
 }
 
@@ -60,7 +60,7 @@ pub fn is_process(process: &ProcessState, other: &ProcessState) -> bool
     if !Compared::are(&process.stack, &other.stack) {
         return false;
     }
-    if !Compared::are(&process.room.cells, &other.room.cells) {
+    if !are_one(&process.room.cells, &other.room.cells) {
         return false;
     }
     Compared::are(&process.room.references, &other.room.references)
@@ -98,6 +98,33 @@ pub fn take_list<T: Copy>(to: &mut Vec<T>, from: &[T])
     }
 }
 
+// A short list becomes another one, for which there is room. A call for all of it would cost more than its few elements.
+#[inline(always)]
+fn take_short<T: Copy>(to: &mut Vec<T>, from: &[T])
+    requires { length from.now ≤ vec_capacity to.old }
+    ensures items { to.new.items ≡ from.now }
+    ensures room { vec_capacity to.old ≤ vec_capacity to.new }
+{
+    to.clear();
+    for at in 0..from.len() {
+        to.push_reserved(from[at]);
+    }
+}
+
+// A control stack becomes another one, for which there is room.
+#[inline(always)]
+fn take_stack(to: &mut Vec<Entry>, from: &[Entry])
+    requires { length from.now ≤ vec_capacity to.old }
+    ensures items { to.new.items ≡ from.now }
+    ensures room { vec_capacity to.old ≤ vec_capacity to.new }
+{
+    if to.len() == from.len() {
+        to.copy_from_slice(from);
+    } else {
+        take_short(to, from);
+    }
+}
+
 /// A process becomes another one, for which there is room.
 #[inline(always)]
 pub fn take_process(to: &mut ProcessState, from: &ProcessState)
@@ -111,7 +138,7 @@ pub fn take_process(to: &mut ProcessState, from: &ProcessState)
 {
     to.status = from.status;
     to.frame = from.frame;
-    take_list(&mut to.stack, &from.stack);
-    take_list(&mut to.room.cells, &from.room.cells);
-    take_list(&mut to.room.references, &from.room.references);
+    take_stack(&mut to.stack, &from.stack);
+    take_short(&mut to.room.cells, &from.room.cells);
+    take_short(&mut to.room.references, &from.room.references);
 }

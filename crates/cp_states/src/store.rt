@@ -11,7 +11,7 @@ use crate::lists::ListStore;
 use crate::processes::{is_status, take_list};
 use crate::row::{ADMISSION, BINDINGS, OUTPUT, PERMANENTS, PHASES, StateRow, THREADS};
 use crate::threads::Threads;
-use cp_machine::{Moved, Phase, ProcessState, Shown, State, Watch};
+use cp_machine::{Moved, Phase, ProcessState, Shown, State, Status, Watch};
 use std::alloc::{AllocError, Global};
 
 // Whether the monitors of two states have the same.
@@ -41,9 +41,10 @@ impl Store {
     ghost use Rattle.cp_key.specs.Room.{IsMachineOf};
     ghost use Rattle.cp_machine.specs.Bodies.{body_of, has_moved, KeepBodies};
     ghost use Rattle.cp_machine.specs.Fits.{IsStateOf};
-    ghost use Rattle.cp_machine.specs.Machine.{Machine, no_thread, output_of, thread_at, thread_of};
+    ghost use Rattle.cp_machine.specs.Machine.{Machine, is_unstarted, no_thread, output_of, thread_at, thread_of};
     ghost use Rattle.cp_states.specs.Kept.{IsAmong};
     ghost use Rattle.cp_states.specs.Rows.{IsRowOf, KeepParts, number_at};
+    ghost use Rattle.cp_states.specs.Starts.{KeepBindings};
 
     /// There is no part.
     pub fn new(alloc: Global) -> Store {
@@ -99,18 +100,25 @@ impl Store {
         Ok(())
     }
 
-    // The number of what components are bound to goes into a row, in which that of the state before stands.
+    // The number of what components are bound to goes into a row, in which that of the state before stands. Where nothing has started since, it
+    // is the same.
     #[inline(always)]
     fn follow_bindings(
         &mut self,
         alloc: Global,
         state: &State,
         before: &State,
+        has_begun: bool,
+        has_started: bool,
         row: &mut StateRow,
     ) -> Result<(), AllocError>
+        requires same { has_begun ≡ false → has_started ≡ false → (machine_of state.now).bindings ≡ (machine_of before.now).bindings }
         ensures row { IfOk result (λ _. (m : Machine) → IsRowOf self.old row.old.numbers m → m.bindings ≡ (machine_of before.now).bindings → IsRowOf self.new row.new.numbers (record m { bindings = (machine_of state.now).bindings })) }
         ensures kept { KeepParts self.old self.new }
     {
+        if !has_begun && !has_started {
+            return Ok(());
+        }
         let list = state.bindings.as_slice();
         let other = before.bindings.as_slice();
         if Compared::are(list, other) {
@@ -120,7 +128,7 @@ impl Store {
         Ok(())
     }
 
-    // The number of how far components are initialised goes into a row, in which that of the state before stands.
+    // The number of how far components are initialised goes into a row, in which that of the state before stands. Whether it is another one.
     #[inline(always)]
     fn follow_phases(
         &mut self,
@@ -128,17 +136,18 @@ impl Store {
         state: &State,
         before: &State,
         row: &mut StateRow,
-    ) -> Result<(), AllocError>
+    ) -> Result<bool, AllocError>
         ensures row { IfOk result (λ _. (m : Machine) → IsRowOf self.old row.old.numbers m → m.phases ≡ (machine_of before.now).phases → IsRowOf self.new row.new.numbers (record m { phases = (machine_of state.now).phases })) }
+        ensures same { IfOk result (λ differ. differ ≡ false → (machine_of state.now).phases ≡ (machine_of before.now).phases) }
         ensures kept { KeepParts self.old self.new }
     {
         let list = state.phases.as_slice();
         let other = before.phases.as_slice();
         if Compared::are(list, other) {
-            return Ok(());
+            return Ok(false);
         }
         row.numbers[PHASES] = self.phases.number_of(alloc, list)?;
-        Ok(())
+        Ok(true)
     }
 
     // The number of what the monitors have goes into a row, in which that of the state before stands.
@@ -163,7 +172,7 @@ impl Store {
         Ok(())
     }
 
-    // The number of a process goes into a row, if it moved or has another status.
+    // The number of a process goes into a row, if it moved or has another status. Whether it may have started since.
     #[inline(always)]
     fn follow_process(
         &mut self,
@@ -173,22 +182,24 @@ impl Store {
         is_moved: bool,
         at: usize,
         row: &mut StateRow,
-    ) -> Result<(), AllocError>
+    ) -> Result<bool, AllocError>
         requires at { 5 + at < 21 }
         requires known { IsAmong no_thread (map thread_of self.old.threads.all.items) (number_at row.old.numbers (5 + at)) (thread_of before.now) }
         requires kept { is_moved ≡ false → body_of (thread_of process.now) ≡ body_of (thread_of before.now) }
         ensures this { IfOk result (λ _. IsAmong no_thread (map thread_of self.new.threads.all.items) (number_at row.new.numbers (5 + at)) (thread_of process.now)) }
+        ensures started { IfOk result (λ started. started ≡ false → is_unstarted (thread_of before.now).status ≡ true → is_unstarted (thread_of process.now).status ≡ true) }
         ensures others { (k : ℕ) → (k ≡ 5 + at → ⊥) → number_at row.new.numbers k ≡ number_at row.old.numbers k }
         ensures long { length row.new.numbers ≡ length row.old.numbers }
         ensures kept { KeepParts self.old self.new }
     {
-        if !is_moved && is_status(process.status, before.status) {
-            return Ok(());
+        if !is_moved && is_status(&process.status, &before.status) {
+            return Ok(false);
         }
-        self.add_process(alloc, process, at, row)
+        self.add_process(alloc, process, at, row)?;
+        Ok(matches!(before.status, Status::Unstarted))
     }
 
-    // The numbers of the processes go into a row, in which those of the state before stand.
+    // The numbers of the processes go into a row, in which those of the state before stand. Whether one may have started since.
     #[inline(always)]
     fn follow_processes(
         &mut self,
@@ -197,19 +208,29 @@ impl Store {
         before: &State,
         moved: &Moved,
         row: &mut StateRow,
-    ) -> Result<(), AllocError>
+    ) -> Result<bool, AllocError>
         requires kept { KeepBodies (has_moved moved.now) (machine_of before.now) (machine_of state.now) }
         requires known { (pid : ℕ) → pid < length (machine_of before.now).threads → IsAmong no_thread (map thread_of self.old.threads.all.items) (number_at row.old.numbers (5 + pid)) (thread_at (machine_of before.now).threads pid) }
         ensures row { IfOk result (λ _. (m : Machine) → IsRowOf self.old row.old.numbers m → length m.threads ≡ length (machine_of before.now).threads → IsRowOf self.new row.new.numbers (record m { threads = (machine_of state.now).threads })) }
+        ensures started { IfOk result (λ started. started ≡ false → (pid : ℕ) → is_unstarted (thread_at (machine_of before.now).threads pid).status ≡ true → is_unstarted (thread_at (machine_of state.now).threads pid).status ≡ true) }
         ensures kept { KeepParts self.old self.new }
     {
         let processes = state.processes.as_slice();
         let others = before.processes.as_slice();
+        let mut has_started = false;
         for at in 0..processes.len() {
             let is_moved = moved.has(at);
-            self.follow_process(alloc, &processes[at], &others[at], is_moved, at, row)?;
+            let is_started = self.follow_process(
+                alloc,
+                &processes[at],
+                &others[at],
+                is_moved,
+                at,
+                row,
+            )?;
+            has_started |= is_started;
         }
-        Ok(())
+        Ok(has_started)
     }
 
     // The number of a process goes into a row.
@@ -353,16 +374,17 @@ impl Store {
         row: &mut StateRow,
     ) -> Result<(), AllocError>
         requires known { IsRowOf self.old row.old.numbers (machine_of before.now) }
+        requires bound { KeepBindings (machine_of before.now) (machine_of state.now) }
         requires kept { KeepBodies (has_moved moved.now) (machine_of before.now) (machine_of state.now) }
         ensures row { IfOk result (λ _. IsRowOf self.new row.new.numbers (machine_of state.now)) }
         ensures kept { KeepParts self.old self.new }
     {
         self.follow_output(alloc, state, before, row)?;
         self.follow_permanents(alloc, state, before, row)?;
-        self.follow_bindings(alloc, state, before, row)?;
-        self.follow_phases(alloc, state, before, row)?;
+        let has_begun = self.follow_phases(alloc, state, before, row)?;
         self.follow_admission(alloc, state, before, row)?;
-        self.follow_processes(alloc, state, before, moved, row)?;
+        let has_started = self.follow_processes(alloc, state, before, moved, row)?;
+        self.follow_bindings(alloc, state, before, has_begun, has_started, row)?;
         Ok(())
     }
 

@@ -1,4 +1,4 @@
-use Rattle.std.proofs.Common.{◌<◌, ◌≤◌, length, arith}
+use Rattle.std.proofs.Common.{◌<◌, ◌≤◌, length, arith, refl}
 use Rattle.cp_machine.specs.Bodies.{has_moved}
 use Rattle.cp_machine.specs.System.{machine_of}
 use Rattle.cp_machine.proofs.Unmoved.{keep_refl}
@@ -16,6 +16,9 @@ add-requires-clause-small g c =
 
 pub add-requires-clause-moved : goal.add-requires-clause-moved
 add-requires-clause-moved g c = keep_refl (has_moved c.nobody-moved.result) (machine_of c.open-halt.new.state)
+
+pub add-requires-clause-bound : goal.add-requires-clause-bound
+add-requires-clause-bound g c = λ nothing. refl
 
 pub returns-then-len-most-clause-fault : goal.returns-then-len-most-clause-fault
 returns-then-len-most-clause-fault g c =

@@ -6,6 +6,7 @@ use Rattle.cp_machine.proofs.Unmoved.{keep_refl}
 use Rattle.cp_run.specs.Code.{node_of}
 use Rattle.cp_run.specs.Slots.{slots}
 use Rattle.cp_states.specs.Rows.{IsRowOf, KeepParts}
+use Rattle.cp_states.specs.Starts.{KeepBindings, NothingStarts}
 use Rattle.cp_states.specs.declared.row.StateRow.{StateRow}
 use Rattle.cp_states.proofs.Following.{row_on}
 use Rattle.cp_walk.specs.Report.{same_outcome}
@@ -13,6 +14,7 @@ use Rattle.cp_merged.specs.Layers as layers
 use Rattle.cp_merged.specs.Holds.{same_key, Holds}
 use Rattle.cp_merged.specs.declared.prefixes.Prefixes as code
 use Rattle.cp_merged.proofs.Arriving.{choice_holds}
+use Rattle.cp_merged.proofs.Bounding.{choice_bounds}
 use Rattle.cp_merged.proofs.Choosing.{ok_to}
 use Rattle.cp_merged.proofs.layering.take_choice.Goals as goal
 
@@ -20,6 +22,13 @@ pub add-added-requires-clause-moved : goal.add-added-requires-clause-moved
 add-added-requires-clause-moved g c =
     let m = machine_of c.args.state.now in
     subst (λ before. KeepBodies (has_moved c.choose-halt.new.watch) before (machine_of c.choose-halt.new.state)) c.requires.copied (c.choose-halt.ensures.kept m (keep_refl (has_moved c.nobody-moved.result) m))
+
+pub add-added-requires-clause-bound : goal.add-added-requires-clause-bound
+add-added-requires-clause-bound g c =
+    let m = machine_of c.args.state.now in
+    let n = machine_of c.choose-halt.new.state in
+    let bounds = choice_bounds c.args.program.now c.args.limits.gates c.args.limits.steps c.args.state.now c.args.process c.choose-halt.result n c.requires.own c.requires.may c.choose-halt.ensures.node in
+    subst (λ before. KeepBindings before n) c.requires.copied (λ (nothing : NothingStarts m n). bounds.bound nothing.0 nothing.1)
 
 pub take_moved-requires-clause-kept : goal.take_moved-requires-clause-kept
 take_moved-requires-clause-kept g c =

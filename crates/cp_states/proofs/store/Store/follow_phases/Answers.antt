@@ -14,6 +14,9 @@ returns-then-are-clause-row c = λ m is e.
     let same = sym c.as_slice-list.ensures.value ∙ one ∙ c.as_slice-other.ensures.value in
     subst (λ xs. IsRowOf c.args.self.now c.args.row.now.numbers (record m { phases = xs })) (e ∙ sym same) is)
 
+pub returns-then-are-clause-same : goal.returns-then-are-clause-same
+returns-then-are-clause-same c = λ e. sym c.as_slice-list.ensures.value ∙ c.are.ensures.one c.if-are.true ∙ c.as_slice-other.ensures.value
+
 pub returns-then-are-clause-kept : goal.returns-then-are-clause-kept
 returns-then-are-clause-kept c = parts_same c.args.self.now
 
