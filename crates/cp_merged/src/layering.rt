@@ -14,8 +14,10 @@ ghost use Rattle.cp_merged.specs.TooMany.{HasTooManyStates};
 
 use crate::fault::MergeFault;
 use crate::frontier::{Frontier, Layer};
-use crate::prefixes::{Prefixes, copy_of};
+use crate::prefixes::Prefixes;
+use crate::word::Word;
 use cp_machine::{Moved, State, Ticks};
+use cp_natural::Natural;
 use cp_progress::{ObserveProgress, Progress, STATES_BETWEEN};
 use cp_run::{Halt, Limits, OutcomeKind, candidates, choose};
 use cp_slots::Resolved;
@@ -65,7 +67,8 @@ fn take_choice<S: Ledger, C: Ledger>(
     }
 }
 
-/// A lead goes one choice on with each process that may be chosen, in a copy of its state. `next`, which has the row `row`, becomes this copy.
+/// A lead goes one choice on with each process that may be chosen, in a copy of its state. `next`, which has the row `row`, becomes this copy, and
+/// `arriving`, whatever it was, the words that arrive.
 fn take_choices<S: Ledger, C: Ledger>(
     alloc: Global,
     program: &Resolved,
@@ -73,6 +76,7 @@ fn take_choices<S: Ledger, C: Ledger>(
     state: &State,
     known: &StateRow,
     prefixes: &Prefixes,
+    arriving: &mut Prefixes,
     next: &mut State,
     row: &mut StateRow,
     frontier: &mut Frontier,
@@ -91,22 +95,12 @@ fn take_choices<S: Ledger, C: Ledger>(
     ensures front { IfOk result (λ _. (f : layers.Front Machine) → Holds program.now frontier.old.store frontier.old.ended.entries frontier.old.layer.entries f → Holds program.now frontier.new.store frontier.new.ended.entries frontier.new.layer.entries (layers.after_choices (slots program.now limits.gates) same_outcome same_key limits.steps (record { state = machine_of state.now; first = prefixes.now.first.items; count = prefixes.now.count }) (processes_of program.now) f)) }
 {
     let numbers = candidates(program, limits, state);
-    let mut arriving = copy_of(prefixes);
+    arriving.take_words(prefixes);
     for process in numbers.as_slice() {
         frontier.store.take(known, row, next);
         *row = *known;
         take_choice(
-            alloc,
-            program,
-            limits,
-            next,
-            row,
-            &mut arriving,
-            *process,
-            state,
-            frontier,
-            steps,
-            calls,
+            alloc, program, limits, next, row, arriving, *process, state, frontier, steps, calls,
         )?;
     }
     Ok(())
@@ -154,6 +148,10 @@ pub fn next_layer<O: ObserveProgress, S: Ledger, C: Ledger>(
     ensures many { IfErr result (λ e. IsStates e (HasTooManyStates (slots program.now limits.gates) limits.steps most (depth + 1))) }
 {
     let mut gone_on: u32 = 0;
+    let mut arriving = Prefixes {
+        count: Natural::one(),
+        first: Word::new(),
+    };
     for (key, prefixes) in layer.iter() {
         gone_on = gone_on.wrapping_add(1);
         if gone_on % STATES_BETWEEN == 0 {
@@ -162,7 +160,18 @@ pub fn next_layer<O: ObserveProgress, S: Ledger, C: Ledger>(
         frontier.store.take(key, row, state);
         *row = *key;
         let Ok(()) = take_choices(
-            alloc, program, limits, state, key, prefixes, next, next_row, frontier, steps, calls,
+            alloc,
+            program,
+            limits,
+            state,
+            key,
+            prefixes,
+            &mut arriving,
+            next,
+            next_row,
+            frontier,
+            steps,
+            calls,
         ) else {
             return Err(MergeFault::Memory);
         };

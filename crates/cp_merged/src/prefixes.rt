@@ -14,6 +14,19 @@ pub struct Prefixes {
 }
 
 impl Prefixes {
+    /// Becomes other words. Mostly the first of them is as long as it was.
+    pub fn take_words(&mut self, other: &Prefixes)
+        ensures { self.new ≡ other.now }
+    {
+        self.count = other.count;
+        let first = other.first.as_slice();
+        if self.first.len() == first.len() {
+            self.first.as_mut_slice().copy_from_slice(first);
+        } else {
+            self.first = word_of(first);
+        }
+    }
+
     /// Counts other words that lead to the same place.
     pub fn merge(&mut self, other: &Prefixes)
         requires { self.old.count + other.now.count < 10 ^ 126 }

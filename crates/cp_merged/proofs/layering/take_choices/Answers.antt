@@ -60,7 +60,7 @@ pub loop-process-init : goal.loop-process-init
 loop-process-init g c =
     record {
       next = c.requires.next;
-      arriving = c.copy_of-arriving.ensures;
+      arriving = c.take_words.ensures;
       row = c.requires.row;
       known = c.requires.known;
       kept = parts_same c.args.frontier.now.store;
