@@ -1,6 +1,7 @@
 //! The types of a program, as far as its values are to be written.
 
 ghost use Rattle.std.specs.Prelude.{◌≡◌, length, map, slice_get};
+ghost use Rattle.cp_layout.specs.Kinds as kinds;
 ghost use Rattle.cp_layout.specs.Symbols.{field_symbol_seen, type_symbol_seen};
 ghost use Rattle.cp_legend.specs.Names as names;
 ghost use Rattle.cp_legend.specs.Values as spec;
@@ -45,7 +46,10 @@ impl LegendTypes {
     }
 
     /// How many cells a value has. A component has none.
-    pub fn cells_of(&self, value_type: CellType) -> usize {
+    #[tactic(auto, unfolding(crate::specs::Values::types_seen))]
+    pub fn cells_of(&self, value_type: CellType) -> usize
+        ensures { result ≡ kinds.cells_of (types_seen self.now) value_type }
+    {
         match value_type {
             CellType::Ordinal(_) | CellType::Queue => 1,
             CellType::Set(_) => SET_CELLS,

@@ -1,4 +1,4 @@
-use Rattle.std.proofs.Common.{◌≡◌, refl}
+use Rattle.std.proofs.Common.{refl}
 use Rattle.cp_legend.specs.Values.{types_seen}
 use Rattle.cp_legend.proofs.legend.legend_of.Goals as goal
 

@@ -1,5 +1,5 @@
 use Rattle.std.proofs.Common.{◌≡◌, map}
-use Rattle.cp_legend.specs.Names.{part_seen, parts_seen, at_each, parts_of, source_seen}
+use Rattle.cp_legend.specs.Names.{parts_seen, at_each, parts_of, source_seen}
 use Rattle.cp_legend.proofs.parts.all_parts.Given as goal
 
 -- those that are gathered
