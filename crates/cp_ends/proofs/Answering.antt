@@ -1,8 +1,8 @@
 -- What the search through the graph found is what the words of the machine that shows nothing lead to.
 use Rattle.std.proofs.Common.{◌≡◌, ◌+◌, ◌<◌, ◌≤◌, ℕ, suc, Bool, true, false, if◌then◌else◌, List, [], ◌∷◌, ◌++◌, Some, length, map, refl, length-append, arith}
 use Rattle.std.specs.Prelude.{◌≢◌, All, AllPairs, Decides, filter, not, nat_lt, slice_get}
-use Rattle.cp_ends.proofs.Words.{Each, Shown, System, may, forgetting_system, EndsSo, ShowsSo, Place, Graph, LeadsToPlace, LeadsToEnd, ShowsLast, Findings}
-use Rattle.cp_ends.proofs.Words.{Tests, has, gone_on, searched, MOST_VALUES}
+use Rattle.cp_ends.proofs.Vocabulary.{Each, Shown, System, may, forgetting_system, EndsSo, ShowsSo, Place, Graph, LeadsToPlace, LeadsToEnd, ShowsLast, Findings}
+use Rattle.cp_ends.proofs.Vocabulary.{Tests, has, gone_on, searched, MOST_VALUES}
 use Rattle.std.proofs.lemmas.Bool.{ltb-true}
 use Rattle.std.proofs.lemmas.List.{get_or-map, length-map}
 use Rattle.std.proofs.lemmas.List.Elements.{All-map, All-weaker, All-from_recursion, recursion_from_All}

@@ -1,7 +1,7 @@
 -- Where a choice leads, by what is pending and by the turn that follows.
 use Rattle.std.proofs.Common.{◌≡◌, ◌∙◌, ℕ, List, [], ◌∷◌, ◌++◌, Bool, true, false, if◌then◌else◌, refl, sym, ap}
-use Rattle.cp_ends.proofs.Words.{append-nil, Tables, Event, Gates, Shown, Machine, is_pending, is_ready, Turn, Due, System, slots, forgetting_system}
-use Rattle.cp_ends.proofs.Words.{silent_slots, without_output, Arrival}
+use Rattle.cp_ends.proofs.Vocabulary.{append-nil, Tables, Event, Gates, Shown, Machine, is_pending, is_ready, Turn, Due, System, slots, forgetting_system}
+use Rattle.cp_ends.proofs.Vocabulary.{silent_slots, without_output, Arrival}
 use Rattle.cp_machine.specs.declared.event.Event.TheVariants.{Local, Fault, OutputFull}
 use Rattle.cp_run.specs.Run.{settled_turn, those_below, turn_after, turn_among, turn_at}
 use Rattle.cp_ends.specs.Arrivals.{arrival_by, first_arrival, next_arrival, stretch_arrival}

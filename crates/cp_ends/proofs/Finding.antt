@@ -1,7 +1,7 @@
 -- Ends and values of the code, with their origins, are those of the search, with their words.
 use Rattle.std.proofs.Common.{◌≡◌, ◌∙◌, ◌<◌, ◌≤◌, ℕ, suc, Bool, true, false, if◌then◌else◌, List, [], ◌∷◌, ◌++◌, length, map, refl, sym, ap, subst, arith}
-use Rattle.cp_ends.proofs.Words.{nat_lt, ◌||◌, list_any, lt-ltb, le-ltb, Tables, Shown, ends_tests, AreFound, Holds, IsWordOf, SlotFindings, end_origin}
-use Rattle.cp_ends.proofs.Words.{value_origin, has, with_first, with_values, Found, FoundEnd, FoundValue, Origin}
+use Rattle.cp_ends.proofs.Vocabulary.{nat_lt, ◌||◌, list_any, lt-ltb, le-ltb, Tables, Shown, ends_tests, AreFound, Holds, IsWordOf, SlotFindings, end_origin}
+use Rattle.cp_ends.proofs.Vocabulary.{value_origin, has, with_first, with_values, Found, FoundEnd, FoundValue, Origin}
 use Rattle.std.specs.declared.vec.Vec.{Vec}
 use Rattle.std.specs.declared.alloc.Global.{Global}
 use Rattle.std.proofs.lemmas.List.{length-map, map-append}

@@ -1,8 +1,8 @@
 -- What the code finds when words arrive, and when a state is gone on from.
 use Rattle.std.proofs.Common.{◌≡◌, ◌∙◌, ⊎_elim, ◌<◌, ◌≤◌, ℕ, zero, suc, Bool, true, false, if◌then◌else◌, List, [], ◌∷◌, ◌++◌, length, take, get_or, Some, ◌+◌, refl, sym, ap, subst, arith}
 use Rattle.std.specs.Prelude.{Result, Ok, Err, IfOk, slice_get}
-use Rattle.cp_ends.proofs.Words.{cases_lt, slice_get_within, Tables, Machine, those_below, Goal, Place, End, Graph, has, with_first, arrived, gone_on}
-use Rattle.cp_ends.proofs.Words.{searched, Found, Choice, States, Shown}
+use Rattle.cp_ends.proofs.Vocabulary.{cases_lt, slice_get_within, Tables, Machine, those_below, Goal, Place, End, Graph, has, with_first, arrived, gone_on}
+use Rattle.cp_ends.proofs.Vocabulary.{searched, Found, Choice, States, Shown}
 use Rattle.std.proofs.Math.ListN.{get_or-append}
 use Rattle.std.proofs.Math.Seq.{get_or-append_seam, take-append_seam}
 use Rattle.std.proofs.lemmas.List.{append-nil, length-append, take-append-le, take_more}

@@ -1,6 +1,6 @@
 -- The states of the code are those of the search.
 use Rattle.std.proofs.Common.{◌≡◌, ◌∙◌, ◌⊎◌, inl, inr, ◌<◌, ◌≤◌, ℕ, zero, suc, Bool, true, false, cond, if◌then◌else◌, List, [], ◌∷◌, ◌++◌, length, None, Some, is_some, get_or, refl, sym, ap, subst, arith}
-use Rattle.cp_ends.proofs.Words.{nat_eq, slice_get, bytes_decides, pointwise, Tables, Machine, has, Origin, States}
+use Rattle.cp_ends.proofs.Vocabulary.{nat_eq, slice_get, bytes_decides, pointwise, Tables, Machine, has, Origin, States}
 use Rattle.std.specs.Map.{lookup}
 use Rattle.std.proofs.lemmas.Cmp.{nat_list_eq_equiv}
 use Rattle.std.proofs.lemmas.List.Elements.{All-push}

@@ -14,6 +14,6 @@ pub mod Stretches
 pub mod Telling
 pub mod Unwinding
 pub mod Wanted
-mod Words
+mod Vocabulary
 pub mod named
 pub mod words

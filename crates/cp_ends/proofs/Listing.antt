@@ -1,7 +1,7 @@
 -- Lines for what was found, one after another.
 use Rattle.std.proofs.Common.{◌≡◌, ◌∙◌, ◌⊎◌, inl, inr, ◌+◌, ◌<◌, ◌≤◌, ℕ, zero, suc, Bool, true, false, if◌then◌else◌, List, [], ◌∷◌, ◌++◌, Option, None, Some, length, map, get_or, take, refl, sym, ap, subst, arith, add-one, nat_lt, codes, min}
-use Rattle.cp_ends.proofs.Words.{slice_get, cases_lt, lt-ltb, le-ltb, slice_get_cases, slice_get_within, Tables, each, is_within, FoundEnd, FoundValue}
-use Rattle.cp_ends.proofs.Words.{MOST_VALUES, Origin, States, each_append}
+use Rattle.cp_ends.proofs.Vocabulary.{slice_get, cases_lt, lt-ltb, le-ltb, slice_get_cases, slice_get_within, Tables, each, is_within, FoundEnd, FoundValue}
+use Rattle.cp_ends.proofs.Vocabulary.{MOST_VALUES, Origin, States, each_append}
 use Rattle.std.proofs.lemmas.List.{append-nil, append_assoc, length-append, length-map, length-take, take_all, take-append-le}
 use Rattle.std.proofs.lemmas.List.Elements.{filter-append}
 use Rattle.cp_walk.specs.Text.{Spellings}

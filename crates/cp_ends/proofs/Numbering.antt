@@ -2,7 +2,7 @@
 use Rattle.std.proofs.Common.{◌≡◌, ◌⊎◌, inl, inr, ◌<◌, ◌≤◌, ◌∙◌, ℕ, zero, suc, Bool, true, false, if◌then◌else◌, List, [], ◌∷◌, Option, None, Some, is_some, length, get_or, refl, sym, ap, subst, arith}
 use Rattle.std.specs.Prelude.{nat_eq, position, slice_get}
 use Rattle.std.specs.Map.{keys_of, lookup}
-use Rattle.cp_ends.proofs.Words.{bytes_decides, same_Some, slice_get_cases, pointwise, Tables, Machine, has, States}
+use Rattle.cp_ends.proofs.Vocabulary.{bytes_decides, same_Some, slice_get_cases, pointwise, Tables, Machine, has, States}
 use Rattle.std.proofs.lemmas.List.Quantifiers.{position-Some}
 use Rattle.cp_key.specs.Room.{IsMachineOf}
 use Rattle.cp_states.specs.Rows.{IsRowOf}

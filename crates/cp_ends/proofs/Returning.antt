@@ -1,7 +1,7 @@
 -- Whether a stretch that was cut comes back to where it is, by what is seen of it in so many steps.
 use Rattle.std.proofs.Common.{◌≡◌, ◌∙◌, ◌+◌, ◌<◌, ℕ, zero, suc, List, [], ◌∷◌, ◌++◌, Bool, true, false, if◌then◌else◌, Option, None, Some, refl, sym, ap, arith}
-use Rattle.cp_ends.proofs.Words.{◌==◌, ◌&&◌, ◌||◌, Shown, Turn, Goes, System, turn_after, each, Moment, stretch_moments, spot_after, spot_by, shown_at, End}
-use Rattle.cp_ends.proofs.Words.{Arrival, Alone, Spins, distance}
+use Rattle.cp_ends.proofs.Vocabulary.{◌==◌, ◌&&◌, ◌||◌, Shown, Turn, Goes, System, turn_after, each, Moment, stretch_moments, spot_after, spot_by, shown_at, End}
+use Rattle.cp_ends.proofs.Vocabulary.{Arrival, Alone, Spins, distance}
 use Rattle.cp_ends.specs.Arrivals.{cut_arrival, first_return, has_call, is_call, return_at, return_within}
 use Rattle.cp_ends.specs.declared.end.End as code
 use Rattle.cp_ends.proofs.Stretches.{moments_next}

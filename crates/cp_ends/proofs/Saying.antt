@@ -1,8 +1,8 @@
 -- What the code's search answers is what the words of the machine that shows nothing lead to.
 use Rattle.std.proofs.Common.{◌≡◌, ℕ, [], ◌∷◌, ◌++◌, Option, None, Some, suc, length, ap, refl, subst, arith}
 use Rattle.std.specs.Prelude.{Decides, IfOk, Result}
-use Rattle.cp_ends.proofs.Words.{bytes_decides, IsRead, Tree, plain, laid, Tables, IsAccepted, key_of, Machine, Gates, Shown, slots, without_output, Graph}
-use Rattle.cp_ends.proofs.Words.{Findings, gone_on, searched, Found, MOST_VALUES}
+use Rattle.cp_ends.proofs.Vocabulary.{bytes_decides, IsRead, Tree, plain, laid, Tables, IsAccepted, key_of, Machine, Gates, Shown, slots, without_output, Graph}
+use Rattle.cp_ends.proofs.Vocabulary.{Findings, gone_on, searched, Found, MOST_VALUES}
 use Rattle.cp_meaning.specs.State.{first_gates, any_gates}
 use Rattle.cp_refine.specs.Named.{named_gates}
 use Rattle.cp_key.proofs.Keys.{key_tells}

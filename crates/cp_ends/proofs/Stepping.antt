@@ -1,6 +1,6 @@
 -- A step of the slot machine, after which what it displayed is taken away.
-use Rattle.cp_ends.proofs.Words.{◌≡◌, ◌∙◌, ℕ, List, ◌++◌, Bool, true, false, refl, sym, ap, subst, Tables, Event, Gates, Shown, Stepped, Turn, Goes}
-use Rattle.cp_ends.proofs.Words.{turn_after, slots, silent_slots, without_output, is_call}
+use Rattle.cp_ends.proofs.Vocabulary.{◌≡◌, ◌∙◌, ℕ, List, ◌++◌, Bool, true, false, refl, sym, ap, subst, Tables, Event, Gates, Shown, Stepped, Turn, Goes}
+use Rattle.cp_ends.proofs.Vocabulary.{turn_after, slots, silent_slots, without_output, is_call}
 use Rattle.cp_machine.specs.declared.event.Event.TheVariants.{Kernel}
 use Rattle.cp_machine.specs.declared.event.Kernel as kernel
 use Rattle.cp_machine.specs.System.{Machine, is_pending, is_ready, step_at}

@@ -1,7 +1,7 @@
 -- Where a stretch of a machine that shows nothing comes to, by where it stands after so many steps.
 use Rattle.std.proofs.Common.{◌≡◌, ◌∙◌, ◌+◌, ◌<◌, ℕ, zero, suc, List, [], ◌∷◌, ◌++◌, Bool, Option, None, Some, refl, sym, ap, arith}
-use Rattle.cp_ends.proofs.Words.{append-nil, append_assoc, Shown, OutcomeKind, Turn, System, Node, Halted, Choosing, node_at, turn_after, stretch, each}
-use Rattle.cp_ends.proofs.Words.{forgetting_system, Moment, moments_by, stretch_moments, spot_after, spot_by, shown_at, from_there, Goal, Place, End, Arrival}
+use Rattle.cp_ends.proofs.Vocabulary.{append-nil, append_assoc, Shown, OutcomeKind, Turn, System, Node, Halted, Choosing, node_at, turn_after, stretch, each}
+use Rattle.cp_ends.proofs.Vocabulary.{forgetting_system, Moment, moments_by, stretch_moments, spot_after, spot_by, shown_at, from_there, Goal, Place, End, Arrival}
 use Rattle.cp_run.specs.declared.outcome.Turn.TheVariants.{Over, Due, Goes}
 use Rattle.cp_ends.specs.Arrivals.{cut_arrival, goal_of, return_within, stretch_arrival, stretch_by}
 use Rattle.cp_ends.specs.declared.end.End as code

@@ -1,6 +1,6 @@
 -- When two ends are one, and two values: what the comparison of the code answers.
 use Rattle.std.proofs.Common.{◌≡◌, ◌==◌, ℕ, Bool, true, false, ap, refl}
-use Rattle.cp_ends.proofs.Words.{◌&&◌, Decides, Shown, OutcomeKind, ends_tests, Over, Alone, Spins}
+use Rattle.cp_ends.proofs.Vocabulary.{◌&&◌, Decides, Shown, OutcomeKind, ends_tests, Over, Alone, Spins}
 use Rattle.std.proofs.lemmas.Bool.Decides.{Decides-eqb, Decides-int_eq}
 use Rattle.cp_store.specs.contracts.error.ErrorNamePartialEq.TheImpl as name_eq
 use Rattle.cp_store.specs.declared.error.ErrorName.{ErrorName}

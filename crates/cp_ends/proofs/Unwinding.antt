@@ -1,6 +1,6 @@
 -- The numbers of a word, from its last one back.
 use Rattle.std.proofs.Common.{◌≡◌, ◌∙◌, ◌⊎◌, inl, inr, ◌+◌, ◌<◌, ◌≤◌, ℕ, suc, List, [], ◌∷◌, ◌++◌, length, reverse, None, Some, get_or, sym, ap, subst, arith}
-use Rattle.cp_ends.proofs.Words.{slice_get, slice_get_cases, slice_get_within, Tables, Origin, States}
+use Rattle.cp_ends.proofs.Vocabulary.{slice_get, slice_get_cases, slice_get_within, Tables, Origin, States}
 use Rattle.std.proofs.lemmas.List.{append-nil, append_assoc, reverse-append}
 use Rattle.cp_ends.specs.Holds.{AreStates, IsBefore, IsWordOf, origin_at, origin_or}
 use Rattle.cp_ends.specs.declared.origin.Origin.TheVariants.{Start, Choice}

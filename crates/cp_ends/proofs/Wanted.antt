@@ -1,6 +1,6 @@
 -- The numbers that a due choice may take.
 use Rattle.std.proofs.Common.{◌≡◌, ◌∙◌, ⊎_elim, ◌<◌, ◌≤◌, get_or, ℕ, zero, suc, Bool, true, false, if◌then◌else◌, List, [], ◌∷◌, ◌++◌, length, refl, ap, arith}
-use Rattle.cp_ends.proofs.Words.{cases_lt, System, may, those_below}
+use Rattle.cp_ends.proofs.Vocabulary.{cases_lt, System, may, those_below}
 use Rattle.std.proofs.Math.ListN.{get_or-append}
 use Rattle.std.proofs.Math.Seq.{get_or-append_seam}
 use Rattle.std.proofs.lemmas.List.{append-nil, length-append}

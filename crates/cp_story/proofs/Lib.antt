@@ -1,4 +1,6 @@
 pub mod Calls
 pub mod Folding
 pub mod Lists
+pub mod Stops
 pub mod Telling
+pub mod Waits

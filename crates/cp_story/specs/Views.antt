@@ -1,5 +1,5 @@
 -- What is seen of a story's values.
-use Rattle.std.specs.Prelude.{ℕ, List, Bool, map, option_map}
+use Rattle.std.specs.Prelude.{List, Bool, map, option_map}
 use Rattle.std.specs.declared.alloc.Global.{Global}
 use Rattle.std.specs.declared.vec.Vec.{Vec}
 use Rattle.cp_machine.specs.declared.process.Status.{Status}
@@ -11,6 +11,8 @@ use Rattle.cp_story.specs.declared.event.StoryEvent.{StoryEvent}
 use Rattle.cp_story.specs.declared.observer.Observer.{Observer}
 use Rattle.cp_story.specs.declared.statuses.Waited.{Waited}
 use Rattle.cp_story.specs.declared.statuses.Waited.TheVariants as waited
+use Rattle.cp_story.specs.declared.story.Wait.{Wait}
+use Rattle.cp_story.specs.Waiting.{Waiting}
 use Rattle.cp_story.specs.Story.{Decision, Happened, Enters, Leaves, Delays, Continues, Starts, Displays, Ends, IsAdmitted, Told, Past, Telling, is_gated, is_queued}
 
 abbrev pub decision_of : Choice → Decision
@@ -51,3 +53,6 @@ telling_of o events = record { events = map told_of events; past = past_of o }
 abbrev pub has_waited : Waited → Status → Bool
 has_waited waited.AtGate status = is_gated status
 has_waited waited.Delayed status = is_queued status
+
+abbrev pub wait_of : Wait → Waiting
+wait_of w = record { process = w.process; status = w.status; call = w.call; inside = w.inside.items }

@@ -8,6 +8,7 @@ ghost use Rattle.cp_run.specs.declared.line.TraceEvent.TheVariants as event;
 ghost use Rattle.cp_story.specs.Events.{event_of};
 ghost use Rattle.cp_story.specs.Story.{Enters, call_begun, calls_after, innermost_call, is_gated, last_or, line_told, no_call, nothing_told, past_after, statuses_in, told_event, what_happened, with_call, with_calls};
 ghost use Rattle.cp_story.specs.Views.{happened_of, past_of, told_of};
+ghost use Rattle.cp_story.specs.Waiting.{innermost_open};
 
 use crate::aim::Aim;
 use crate::changes::changes;
@@ -103,7 +104,8 @@ impl<'a> Observer<'a> {
 
     /// The innermost open call of a process.
     pub fn call_of(&self, process: u8) -> Option<OpenCall>
-        ensures { unwrap_or result no_call ≡ innermost_call (past_of self.now).calls process }
+        ensures call { unwrap_or result no_call ≡ innermost_call (past_of self.now).calls process }
+        ensures open { result ≡ innermost_open (past_of self.now).calls process }
     {
         innermost_call(&self.calls, process)
     }

@@ -5,6 +5,7 @@ ghost use Rattle.cp_machine.specs.Machine.{machine_of, thread_at};
 ghost use Rattle.cp_machine.specs.Stack.{top_first};
 ghost use Rattle.cp_story.specs.Story.{call_begun, innermost_call, monitor_left, no_call, with_call, without_call};
 ghost use Rattle.cp_story.specs.Views.{items_of};
+ghost use Rattle.cp_story.specs.Waiting.{innermost_open};
 
 use crate::event::OpenCall;
 use cp_machine::{Entry, ProcessState, State};
@@ -47,7 +48,8 @@ fn monitor_left(process: &ProcessState) -> u8
 
 /// The innermost open call of a process.
 pub fn innermost_call(calls: &[Vec<OpenCall>], process: u8) -> Option<OpenCall>
-    ensures { unwrap_or result no_call ≡ innermost_call (map items_of calls.now) process }
+    ensures call { unwrap_or result no_call ≡ innermost_call (map items_of calls.now) process }
+    ensures open { result ≡ innermost_open (map items_of calls.now) process }
 {
     calls.get(process as usize)?.last().copied()
 }

@@ -1,20 +1,24 @@
 //! A run of one schedule word, told event by event.
 
-ghost use Rattle.std.specs.Prelude.{◌≡◌, ◌≤◌, ◌+◌, ◌-◌, ◌*◌, ◌++◌, ◌∷◌, [], true, false, IfOk, length, map, option_map};
+ghost use Rattle.std.specs.Prelude.{◌≡◌, ◌<◌, ◌≤◌, ◌+◌, ◌-◌, ◌*◌, ◌++◌, ◌∷◌, [], true, false, if◌then◌else◌, IfOk, length, map, option_map};
 ghost use Rattle.cp_machine.specs.System.{machine_of, is_ready, is_pending, opening, IsStateOf};
-ghost use Rattle.cp_run.specs.Run.{run, stretch, chosen, opened, may};
+ghost use Rattle.cp_machine.specs.Machine.{thread_at};
+ghost use Rattle.cp_run.specs.Run.{run, stretch, chosen, opened, may, those_below};
 ghost use Rattle.cp_run.specs.Slots.{slots};
 ghost use Rattle.cp_run.specs.Code.{answer_of, node_of};
 ghost use Rattle.cp_run.specs.Trace.{holders_in, step_lines, stretch_lines, opened_lines, chosen_lines, trace};
 ghost use Rattle.cp_story.specs.Story.{nothing_told, story_of, decision_in, teller, telling, told_more, told_step};
+ghost use Rattle.cp_story.specs.Stop.{last_state};
 ghost use Rattle.cp_story.specs.Told.{lines_of};
-ghost use Rattle.cp_story.specs.Views.{past_of, decision_of, telling_of, told_of};
+ghost use Rattle.cp_story.specs.Views.{past_of, decision_of, telling_of, told_of, wait_of};
+ghost use Rattle.cp_story.specs.Waiting as waiting;
+ghost use Rattle.cp_story.specs.Waiting.{waiting_at, waits_at, waits_in, who_waits};
 ghost use Rattle.cp_story.specs.Fold.{fold_chosen, fold_opened, fold_run, fold_stretch};
 
 use crate::aim::{Aim, NONE, aim_of};
 use crate::event::{Choice, OpenCall, StoryEvent};
 use crate::observer::Observer;
-use crate::statuses::statuses_of;
+use crate::statuses::status_of;
 use crate::stopping::{AbruptEnd, abrupt_end};
 use cp_legend::Legend;
 use cp_machine::{Event as Step, State, Status, Ticks, step};
@@ -258,20 +262,37 @@ fn waits_of(
     observer: &Observer<'_>,
 ) -> Result<Vec<Wait>, AllocError>
     requires { IsStateOf program.now state.now }
+    ensures { IfOk result (λ v. map wait_of v.items ≡ waits_in program.now (machine_of state.now) (past_of observer.now).calls) }
 {
     let mut waits = Vec::new(alloc);
-    for (number, status) in statuses_of(alloc, state)?.iter().enumerate() {
-        if status.waits() {
-            let process = u8::try_from(number).unwrap_or(0);
-            waits.push(Wait {
-                process,
-                status: *status,
-                call: observer.call_of(process),
-                inside: held_by(alloc, program, state, process)?,
-            })?;
-        }
+    for process in 0..state.processes.len() {
+        push_wait(alloc, program, state, observer, process as u8, &mut waits)?;
     }
     Ok(waits)
+}
+
+// Appends how a process waits, if it does.
+fn push_wait(
+    alloc: Global,
+    program: &Resolved,
+    state: &State,
+    observer: &Observer<'_>,
+    process: u8,
+    waits: &mut Vec<Wait>,
+) -> Result<(), AllocError>
+    requires { IsStateOf program.now state.now }
+    ensures { IfOk result (λ _. map wait_of waits.new.items ≡ map wait_of waits.old.items ++ map (waiting_at program.now (machine_of state.now) (past_of observer.now).calls) (if waits_at (machine_of state.now) process then process ∷ [] else [])) }
+{
+    let status = status_of(state, process);
+    if status.waits() {
+        waits.push(Wait {
+            process,
+            status,
+            call: observer.call_of(process),
+            inside: held_by(alloc, program, state, process)?,
+        })?;
+    }
+    Ok(())
 }
 
 // The monitors that a process is inside.
@@ -282,14 +303,26 @@ fn held_by(
     process: u8,
 ) -> Result<Vec<u8>, AllocError>
     requires { IsStateOf program.now state.now }
+    ensures { IfOk result (λ v. v.items ≡ those_below program.now.monitors (waiting.is_inside (machine_of state.now) process)) }
 {
     let mut held = Vec::new(alloc);
     for monitor in 0..program.monitors() {
-        if state.holder(monitor) == Some(process) {
+        if is_inside(state, monitor, process) {
             held.push(monitor)?;
         }
     }
     Ok(held)
+}
+
+// Whether a process is inside a monitor.
+fn is_inside(state: &State, monitor: u8, process: u8) -> bool
+    requires { monitor < length state.now.guards.items }
+    ensures { result ≡ waiting.is_inside (machine_of state.now) process monitor }
+{
+    match state.holder(monitor) {
+        Some(holder) => holder == process,
+        None => false,
+    }
 }
 
 /// Runs a word from the opening state, and appends its events; the answer is the run's end.
@@ -311,6 +344,7 @@ fn tell_word<L: Ledger>(
     ensures lines { IfOk result (λ _. lines_of events.new.items ≡ trace (slots program.now limits.gates) limits.choices limits.steps word.now) }
     ensures told { IfOk result (λ _. telling_of observer.new events.new.items ≡ telling program.now limits.gates limits.choices limits.steps word.now) }
     ensures answer { IfOk result (λ end. answer_of end ≡ run (slots program.now limits.gates) limits.choices limits.steps word.now) }
+    ensures stop { IfOk result (λ _. machine_of state.new ≡ last_state (slots program.now limits.gates) limits.choices limits.steps word.now) }
     ensures own { IsStateOf program.now state.new }
     ensures ticks { ticks.new ≤ ticks.old + (limits.choices + 1) * limits.steps }
 {
@@ -346,6 +380,7 @@ pub fn tell<L: Ledger>(
     ensures lines { IfOk result (λ s. lines_of s.events.items ≡ trace (slots program.now limits.gates) limits.choices limits.steps word.now) }
     ensures told { IfOk result (λ s. map told_of s.events.items ≡ story_of program.now limits.gates limits.choices limits.steps word.now) }
     ensures choice { IfOk result (λ s. option_map decision_of s.last_choice ≡ (telling program.now limits.gates limits.choices limits.steps word.now).past.choice) }
+    ensures waits { IfOk result (λ s. map wait_of s.waits.items ≡ who_waits program.now limits.gates limits.choices limits.steps word.now) }
     ensures answer { IfOk result (λ s. answer_of s.end ≡ run (slots program.now limits.gates) limits.choices limits.steps word.now) }
     ensures ticks { ticks.new ≤ ticks.old + (limits.choices + 1) * limits.steps }
 {
@@ -389,6 +424,7 @@ fn finish_story(
     ensures lines { IfOk result (λ s. lines_of s.events.items ≡ lines_of events.items) }
     ensures told { IfOk result (λ s. map told_of s.events.items ≡ map told_of events.items) }
     ensures choice { IfOk result (λ s. option_map decision_of s.last_choice ≡ (past_of observer.entry).choice) }
+    ensures waits { IfOk result (λ s. map wait_of s.waits.items ≡ waits_in program.now (machine_of state.now) (past_of observer.entry).calls) }
     ensures end { IfOk result (λ s. s.end ≡ end) }
 {
     let waits = waits_of(alloc, program, state, &observer)?;

@@ -1,7 +1,7 @@
 -- Lists by the places of their elements, lists that grow at their end, and lists of things with words.
 use Rattle.std.proofs.Common.{◌≡◌, ◌⊎◌, inl, inr, ⊎_elim, ◌<◌, ◌≤◌, ℕ, true, List, [], ◌∷◌, ◌++◌, length, get_or, refl, ap, sym, ◌∙◌, subst, arith, length-append, append_assoc}
 use Rattle.std.specs.Prelude.{◌≢◌, All, AllPairs, Contains, Option, Some, slice_get}
-use Rattle.cp_ends.proofs.Words.{cases_lt, append-nil, is_up_to}
+use Rattle.cp_ends.proofs.Vocabulary.{cases_lt, append-nil, is_up_to}
 use Rattle.std.proofs.lemmas.List.Elements.{All-get_or, Contains-append_left, Contains-append_right, Contains-append_cases, Contains-push_cases}
 use Rattle.std.proofs.lemmas.Option.{same_Some, slice_get_read, slice_get_within, get_or_from_slice_get}
 use Rattle.cp_ends.proofs.Searching.Words.{up_to_joined}

@@ -1,6 +1,6 @@
 -- What a word meets is recorded, if the edges of the places that shorter words lead to are.
 use Rattle.std.proofs.Common.{◌≡◌, ◌⊎◌, inl, inr, ◌<◌, ◌≤◌, ℕ, zero, suc, true, List, [], ◌∷◌, ◌++◌, length, sym, subst, arith}
-use Rattle.cp_ends.proofs.Words.{Contains, All-weaker, same_Some, Arrival, Graph, ArrivesAt, LeadsToPlace, LeadsToEnd, ShowsLast, is_up_to, Findings, Tests}
+use Rattle.cp_ends.proofs.Vocabulary.{Contains, All-weaker, same_Some, Arrival, Graph, ArrivesAt, LeadsToPlace, LeadsToEnd, ShowsLast, is_up_to, Findings, Tests}
 use Rattle.cp_ends.proofs.Searching.Words.{push_length, up_to_joined, up_to_length, up_to_push}
 use Rattle.cp_ends.proofs.Searching.Lists.{Before, before_later}
 use Rattle.cp_ends.proofs.Searching.Adding.{IsKept}

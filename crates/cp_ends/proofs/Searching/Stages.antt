@@ -1,7 +1,7 @@
 -- When the first n places were gone on from: words lead to what was found, and the edges of those places are recorded.
 use Rattle.std.proofs.Common.{◌≡◌, ◌⊎◌, inl, inr, ◌<◌, ◌≤◌, ℕ, zero, suc, true, List, [], ◌∷◌, ◌++◌, length, get_or, refl, ap, sym, ◌∙◌, subst, arith}
 use Rattle.std.specs.Prelude.{◌≢◌, Option, Some, None, slice_get}
-use Rattle.cp_ends.proofs.Words.{slice_get_cases, Graph, LeadsToPlace, LeadsToEnd, ShowsLast, is_up_to}
+use Rattle.cp_ends.proofs.Vocabulary.{slice_get_cases, Graph, LeadsToPlace, LeadsToEnd, ShowsLast, is_up_to}
 use Rattle.cp_ends.specs.Searched.{Findings, Tests, gone_on, gone_on_from, searched}
 use Rattle.cp_ends.proofs.Searching.Words.{up_to_empty, up_to_push}
 use Rattle.cp_ends.proofs.Searching.Lists.{all_at, pair_at}

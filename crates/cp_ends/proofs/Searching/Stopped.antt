@@ -1,8 +1,8 @@
 -- When one place too many is found: how many places there are at least, and what shorter words lead to was found, each with its first word.
 use Rattle.std.proofs.Common.{◌≡◌, ◌⊎◌, inl, inr, ◌+◌, ◌<◌, ◌≤◌, ℕ, true, false, List, [], ◌∷◌, ◌++◌, length, get_or, ap, sym, ◌∙◌, arith}
 use Rattle.std.specs.Prelude.{◌≢◌, All, AllPairs, Some, None, filter, slice_get}
-use Rattle.cp_ends.proofs.Words.{cases_lt, same_Some, slice_get_cases, slice_get_within, Place, Graph, ArrivesAt, LeadsToPlace, LeadsToEnd, ShowsLast}
-use Rattle.cp_ends.proofs.Words.{is_up_to, is_within, AreFirsts, AreFirstOnes, Within, Findings, Tests, has, with_values, gone_on, searched, All-weaker}
+use Rattle.cp_ends.proofs.Vocabulary.{cases_lt, same_Some, slice_get_cases, slice_get_within, Place, Graph, ArrivesAt, LeadsToPlace, LeadsToEnd, ShowsLast}
+use Rattle.cp_ends.proofs.Vocabulary.{is_up_to, is_within, AreFirsts, AreFirstOnes, Within, Findings, Tests, has, with_values, gone_on, searched, All-weaker}
 use Rattle.cp_ends.proofs.Searching.Words.{up_to_length, push_length}
 use Rattle.cp_ends.proofs.Searching.Lists.{pair_at, place_of}
 use Rattle.cp_ends.proofs.Searching.Adding.{AreGood, good_push, has_none}

@@ -1,9 +1,9 @@
 -- Where each stretch that was cut goes on for ever, a greater limit of steps shows no other values.
 use Rattle.std.proofs.Common.{◌≡◌, ◌⊎◌, inl, inr, ⊎_elim, ◌∙◌, ◌+◌, ℕ, zero, suc, Bool, true, if◌then◌else◌, List, [], ◌∷◌, ◌++◌, Option, None, Some, refl, sym, ap, subst, arith}
-use Rattle.cp_ends.proofs.Words.{Contains, append_assoc, Contains-append_cases, Shown, StepLimit, Turn, System, Node, Halted, Choosing, may, turn_after}
-use Rattle.cp_ends.proofs.Words.{stretch, opened, chosen, each, forgetting_system, Moment, AnyOf, moments_by, stretch_moments, node_after, LeadsTo, Repeats}
-use Rattle.cp_ends.proofs.Words.{repeated_part, shown_at, ShowsAfter, after_first, after_append, happens_early, goal_of, ShowsSo, AreFirsts, EndsSo, Over}
-use Rattle.cp_ends.proofs.Words.{each_append}
+use Rattle.cp_ends.proofs.Vocabulary.{Contains, append_assoc, Contains-append_cases, Shown, StepLimit, Turn, System, Node, Halted, Choosing, may, turn_after}
+use Rattle.cp_ends.proofs.Vocabulary.{stretch, opened, chosen, each, forgetting_system, Moment, AnyOf, moments_by, stretch_moments, node_after, LeadsTo, Repeats}
+use Rattle.cp_ends.proofs.Vocabulary.{repeated_part, shown_at, ShowsAfter, after_first, after_append, happens_early, goal_of, ShowsSo, AreFirsts, EndsSo, Over}
+use Rattle.cp_ends.proofs.Vocabulary.{each_append}
 use Rattle.cp_run.specs.declared.outcome.Turn.TheVariants as turn
 use Rattle.cp_endless.specs.Rounds.{IsCut, spot_after, spot_by}
 use Rattle.cp_endless.proofs.steps.Alone.{alone}

@@ -1,6 +1,6 @@
 -- A stretch that is seen to repeat goes on for ever, and calls the kernel again and again or not at all.
 use Rattle.std.proofs.Common.{◌≡◌, inl, inr, ◌∙◌, ◌+◌, ◌≤◌, ℕ, zero, suc, List, Option, None, Some, refl, sym, ap, subst, arith}
-use Rattle.cp_ends.proofs.Words.{Each, Turn, System, turn_after, AnyOf, Moment, moments_by, stretch_moments}
+use Rattle.cp_ends.proofs.Vocabulary.{Each, Turn, System, turn_after, AnyOf, Moment, moments_by, stretch_moments}
 use Rattle.cp_run.specs.declared.outcome.Turn.TheVariants.{Over, Due, Goes}
 use Rattle.cp_endless.specs.Repeats.{CallsAt, IsAloneAfter, Repeats, SpinsAfter}
 use Rattle.cp_endless.specs.Rounds.{IsRound, SetsOut, spot_after, spot_by}

@@ -1,6 +1,6 @@
 -- What goes on for ever on slots does so on the program's own names.
-use Rattle.cp_ends.proofs.Words.{◌≡◌, inl, inr, ◌∙◌, ℕ, zero, suc, List, Some, sym, ap, subst, Tree, IsRead, plain, laid, Tables, IsAccepted, Machine, Event}
-use Rattle.cp_ends.proofs.Words.{slots, System, Choosing, opened, from_there}
+use Rattle.cp_ends.proofs.Vocabulary.{◌≡◌, inl, inr, ◌∙◌, ℕ, zero, suc, List, Some, sym, ap, subst, Tree, IsRead, plain, laid, Tables, IsAccepted, Machine, Event}
+use Rattle.cp_ends.proofs.Vocabulary.{slots, System, Choosing, opened, from_there}
 use Rattle.cp_meaning.specs.State.{Gates, State}
 use Rattle.cp_resolved.specs.TreeLayouts.{layouts_of}
 use Rattle.cp_refine.specs.InStep.{CanGo, GoInStep}

@@ -1,6 +1,6 @@
 -- Machines of one key are one.
 use Rattle.std.proofs.Common.{◌≡◌, ◌∙◌, ℕ, true, ◌&&◌, List, [], ◌∷◌, refl, ap}
-use Rattle.cp_ends.proofs.Words.{nat_eq, pointwise, key_of, Machine, same_key}
+use Rattle.cp_ends.proofs.Vocabulary.{nat_eq, pointwise, key_of, Machine, same_key}
 use Rattle.std.proofs.lemmas.Bool.{eqb-true, eq-eqb}
 use Rattle.cp_key.proofs.Keys.{key_tells}
 use Rattle.cp_resolved.proofs.frames.LeastCells.{right_true as both_second}

@@ -1,7 +1,7 @@
 -- Ends by their kinds, and what a complete answer says of the states: they are settled.
 use Rattle.std.proofs.Common.{◌≡◌, ◌⊎◌, inl, inr, ◌∙◌, ◌+◌, ℕ, zero, suc, Bool, true, false, if◌then◌else◌, List, [], ◌∷◌, ◌++◌, map, None, Some, refl, sym, ap, subst, arith}
-use Rattle.cp_ends.proofs.Words.{Contains, OutcomeKind, StepLimit, Turn, System, Node, Halted, Choosing, may, opened, chosen, forgetting_system, node_after}
-use Rattle.cp_ends.proofs.Words.{LeadsTo, EndsAfter, Repeats, repeated_part, after_append, repeating, has_call, EndsSo, AreFirsts, Over, Alone, Spins}
+use Rattle.cp_ends.proofs.Vocabulary.{Contains, OutcomeKind, StepLimit, Turn, System, Node, Halted, Choosing, may, opened, chosen, forgetting_system, node_after}
+use Rattle.cp_ends.proofs.Vocabulary.{LeadsTo, EndsAfter, Repeats, repeated_part, after_append, repeating, has_call, EndsSo, AreFirsts, Over, Alone, Spins}
 use Rattle.cp_endless.specs.MoreSteps.{CutsAreRounds}
 use Rattle.cp_endless.specs.Rounds.{IsCut, IsRound, SetsOut, opening_spot, chosen_spot}
 use Rattle.cp_endless.specs.Settled.{IsIn, IsSettled}

@@ -1,7 +1,7 @@
 -- What a stretch that repeats shows it shows in twice as many steps as the limit.
 use Rattle.std.proofs.Common.{◌≡◌, inl, inr, ◌∙◌, ◌+◌, ℕ, zero, suc, List, ◌∷◌, ◌++◌, Some, sym, ap, subst, arith}
-use Rattle.cp_ends.proofs.Words.{Contains, Contains-append_left, Contains-append_right, Shown, Turn, System, turn_after, each, forgetting_system, Moment}
-use Rattle.cp_ends.proofs.Words.{moments_by, stretch_moments, SetsOut, spot_after, spot_by, shown_at, ShowsAfter, each_append, distance}
+use Rattle.cp_ends.proofs.Vocabulary.{Contains, Contains-append_left, Contains-append_right, Shown, Turn, System, turn_after, each, forgetting_system, Moment}
+use Rattle.cp_ends.proofs.Vocabulary.{moments_by, stretch_moments, SetsOut, spot_after, spot_by, shown_at, ShowsAfter, each_append, distance}
 use Rattle.cp_run.specs.declared.outcome.Turn.TheVariants as turn
 use Rattle.cp_endless.specs.Repeats.{Repeats, repeated_part, EndsAtEachLimit}
 use Rattle.cp_endless.proofs.steps.Alone.{alone, leads_more}

@@ -1,8 +1,8 @@
 -- What is found on slots is so of the program on its own names.
 use Rattle.std.proofs.Common.{◌≡◌, ◌≢◌, ◌⊎◌, inl, inr, ⊎_elim, ◌∙◌, ◌+◌, ◌<◌, ◌≤◌, ℕ, true, List, length, Option, None, Some, ap, subst, arith, ◌||◌, ◌&&◌, ◌==◌}
 use Rattle.std.specs.List.{AllPairs}
-use Rattle.cp_ends.proofs.Words.{All, Contains, Tree, IsRead, plain, laid, Tables, IsAccepted, Shown, Machine, OutcomeKind, StepLimit, slots, System}
-use Rattle.cp_ends.proofs.Words.{EndsAfter, repeating, EndsSo, ShowsSo, same_key, Over, Alone, Spins}
+use Rattle.cp_ends.proofs.Vocabulary.{All, Contains, Tree, IsRead, plain, laid, Tables, IsAccepted, Shown, Machine, OutcomeKind, StepLimit, slots, System}
+use Rattle.cp_ends.proofs.Vocabulary.{EndsAfter, repeating, EndsSo, ShowsSo, same_key, Over, Alone, Spins}
 use Rattle.std.proofs.lemmas.Bool.{cases_order, lt-ltb}
 use Rattle.cp_meaning.specs.State.{Gates}
 use Rattle.cp_refine.specs.Named.{gates_of}

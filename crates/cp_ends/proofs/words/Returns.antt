@@ -1,7 +1,7 @@
 -- What a stretch that was cut arrives at: an end at the limit of steps, or its round.
 use Rattle.std.proofs.Common.{◌≡◌, ◌≢◌, ◌⊎◌, inl, inr, ⊎_elim, ◌∙◌, ◌<◌, ℕ, zero, suc, Bool, true, false, ◌&&◌, ◌||◌, ◌==◌, eqb, if◌then◌else◌, List, [], ◌∷◌, ◌++◌, Option, None, Some, refl, sym, ap, subst, arith}
-use Rattle.cp_ends.proofs.Words.{Each, Event, Shown, StepLimit, Turn, System, Halted, node_at, turn_after, stretch, each, forgetting_system, Moment, AnyOf}
-use Rattle.cp_ends.proofs.Words.{stretch_moments, spot_after, spot_by, shown_at, End, Arrival, Alone, Spins}
+use Rattle.cp_ends.proofs.Vocabulary.{Each, Event, Shown, StepLimit, Turn, System, Halted, node_at, turn_after, stretch, each, forgetting_system, Moment, AnyOf}
+use Rattle.cp_ends.proofs.Vocabulary.{stretch_moments, spot_after, spot_by, shown_at, End, Arrival, Alone, Spins}
 use Rattle.std.proofs.lemmas.Bool.{cases_order, eq-eqb}
 use Rattle.std.proofs.lemmas.Bool.Decides.{eqb_tells}
 use Rattle.cp_machine.specs.declared.event.Event.TheVariants.{Kernel}

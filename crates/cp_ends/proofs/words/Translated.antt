@@ -1,8 +1,8 @@
 -- What the words of the graph lead to is what they lead to in the machine that shows nothing.
 use Rattle.std.proofs.Common.{◌≡◌, ◌⊎◌, inl, inr, ⊎_elim, ◌∙◌, ◌+◌, ℕ, suc, Bool, true, false, if◌then◌else◌, List, [], ◌∷◌, ◌++◌, Option, None, Some, refl, sym, ap, subst, arith}
-use Rattle.cp_ends.proofs.Words.{Contains, Contains-append_left, Contains-append_right, Contains-append_cases, Shown, OutcomeKind, Turn, System, Node, Halted}
-use Rattle.cp_ends.proofs.Words.{Choosing, may, settled_turn, opened, chosen, each, forgetting_system, Moment, AnyOf, stretch_moments, node_after, LeadsTo}
-use Rattle.cp_ends.proofs.Words.{EndsAfter, SetsOut, spot_after, shown_at, after_first, repeating, happens_early, EndsSo, ShowsSo, Over, Alone, Spins}
+use Rattle.cp_ends.proofs.Vocabulary.{Contains, Contains-append_left, Contains-append_right, Contains-append_cases, Shown, OutcomeKind, Turn, System, Node, Halted}
+use Rattle.cp_ends.proofs.Vocabulary.{Choosing, may, settled_turn, opened, chosen, each, forgetting_system, Moment, AnyOf, stretch_moments, node_after, LeadsTo}
+use Rattle.cp_ends.proofs.Vocabulary.{EndsAfter, SetsOut, spot_after, shown_at, after_first, repeating, happens_early, EndsSo, ShowsSo, Over, Alone, Spins}
 use Rattle.cp_run.specs.declared.outcome.OutcomeKind.TheVariants.{Finished, AllWaiting, RunError, ChoiceLimit, StepLimit, OutputLimit}
 use Rattle.cp_endless.specs.Repeats.{Repeats, repeated_part, IsAloneAfter, SpinsAfter}
 use Rattle.cp_ends.specs.Graph.{Goal, Place, End, Arrival, Graph, further, arrival_from, ArrivesAt, LeadsToPlace, LeadsToEnd, ShowsLast}

@@ -1,5 +1,5 @@
-use Rattle.cp_ends.proofs.Words.{◌≡◌, ◌∙◌, ◌++◌, true, false, sym, ap, subst, IfOk, Machine, machine_of, is_pending, Shown, slots, without_output, goal_at}
-use Rattle.cp_ends.proofs.Words.{Arrival, same_key}
+use Rattle.cp_ends.proofs.Vocabulary.{◌≡◌, ◌∙◌, ◌++◌, true, false, sym, ap, subst, IfOk, Machine, machine_of, is_pending, Shown, slots, without_output, goal_at}
+use Rattle.cp_ends.proofs.Vocabulary.{Arrival, same_key}
 use Rattle.cp_machine.proofs.CallerLemmas.{pending_is, line_within, admitted_free}
 use Rattle.cp_run.specs.declared.outcome.Turn.TheVariants.{Over, Due, Goes}
 use Rattle.cp_run.proofs.Choosing.{may_in_line, may_be_ready}

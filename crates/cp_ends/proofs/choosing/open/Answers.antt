@@ -1,4 +1,4 @@
-use Rattle.cp_ends.proofs.Words.{◌∙◌, ◌++◌, sym, ap, subst, Machine, machine_of, Shown, slots, without_output, goal_at, Arrival, same_key}
+use Rattle.cp_ends.proofs.Vocabulary.{◌∙◌, ◌++◌, sym, ap, subst, Machine, machine_of, Shown, slots, without_output, goal_at, Arrival, same_key}
 use Rattle.std.specs.Prelude.{◌≡◌, IfOk}
 use Rattle.cp_machine.proofs.CallerLemmas.{opening_ready}
 use Rattle.cp_run.specs.declared.outcome.Turn.TheVariants.{Over, Goes}

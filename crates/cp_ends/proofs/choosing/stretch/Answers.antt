@@ -1,5 +1,5 @@
-use Rattle.cp_ends.proofs.Words.{◌≡◌, ◌∙◌, ◌<◌, ◌++◌, true, false, sym, ap, arith, machine_of, is_ready, is_pending, slots, each, stretch_moments, shown_at}
-use Rattle.cp_ends.proofs.Words.{silent_slots, without_output, return_within, stretch_arrival, End, same_key}
+use Rattle.cp_ends.proofs.Vocabulary.{◌≡◌, ◌∙◌, ◌<◌, ◌++◌, true, false, sym, ap, arith, machine_of, is_ready, is_pending, slots, each, stretch_moments, shown_at}
+use Rattle.cp_ends.proofs.Vocabulary.{silent_slots, without_output, return_within, stretch_arrival, End, same_key}
 use Rattle.cp_ends.proofs.Stepping.{if_goes}
 use Rattle.cp_ends.proofs.Stretches.{cut_goal, cut_shown, cut_there, due_there, over_there, spot_before, spot_next, told_before, told_next}
 use Rattle.cp_ends.proofs.choosing.stretch.Goals as goal

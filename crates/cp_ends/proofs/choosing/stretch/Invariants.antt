@@ -1,5 +1,5 @@
-use Rattle.cp_ends.proofs.Words.{◌≡◌, ◌++◌, [], Some, true, false, machine_of, output_of, is_ready, is_pending, IsStateOf, slots, each, stretch_moments}
-use Rattle.cp_ends.proofs.Words.{spot_after, shown_at, silent_slots}
+use Rattle.cp_ends.proofs.Vocabulary.{◌≡◌, ◌++◌, [], Some, true, false, machine_of, output_of, is_ready, is_pending, IsStateOf, slots, each, stretch_moments}
+use Rattle.cp_ends.proofs.Vocabulary.{spot_after, shown_at, silent_slots}
 use Rattle.cp_ends.proofs.choosing.stretch.Given as goal
 
 abbrev pub invariant-loop : goal.invariant-loop

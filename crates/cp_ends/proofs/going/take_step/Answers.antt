@@ -1,4 +1,4 @@
-use Rattle.cp_ends.proofs.Words.{◌∙◌, ◌++◌, ◌<◌, [], length, arith, sym, ap, Stepped, silent_slots, without_output}
+use Rattle.cp_ends.proofs.Vocabulary.{◌∙◌, ◌++◌, ◌<◌, [], length, arith, sym, ap, Stepped, silent_slots, without_output}
 use Rattle.cp_machine.specs.System.{machine_of, step_at}
 use Rattle.cp_machine.proofs.CallerLemmas.{local_ready, ready_thread, threads_count}
 use Rattle.cp_run.proofs.Stretching.{after_local}

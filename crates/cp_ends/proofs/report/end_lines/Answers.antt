@@ -1,4 +1,4 @@
-use Rattle.cp_ends.proofs.Words.{◌≡◌, ◌∙◌, true, false, string_bytes, sym, ap, subst, arith, end_origin, end_line, is_told}
+use Rattle.cp_ends.proofs.Vocabulary.{◌≡◌, ◌∙◌, true, false, string_bytes, sym, ap, subst, arith, end_origin, end_line, is_told}
 use Rattle.cp_ends.proofs.Listing.{SoFar, ends_more, ends_left_out, take_found}
 use Rattle.cp_ends.proofs.report.end_lines.Goals as goal
 use Rattle.cp_ends.proofs.report.end_lines.Goals.{then-is_told+in_ok-push_end_line, else-is_told}

@@ -1,4 +1,4 @@
-use Rattle.cp_ends.proofs.Words.{◌≡◌, ◌∙◌, true, false, string_bytes, sym, ap, subst, arith, value_origin, MOST_VALUES}
+use Rattle.cp_ends.proofs.Vocabulary.{◌≡◌, ◌∙◌, true, false, string_bytes, sym, ap, subst, arith, value_origin, MOST_VALUES}
 use Rattle.cp_ends.specs.Told.{value_line, is_told}
 use Rattle.cp_ends.proofs.Listing.{FirstSoFar, values_more, values_left_out, take_found}
 use Rattle.cp_ends.proofs.report.value_lines.Goals as goal

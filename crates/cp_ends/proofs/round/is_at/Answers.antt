@@ -1,4 +1,4 @@
-use Rattle.cp_ends.proofs.Words.{◌∙◌, ap, nat_eq, pointwise, key_of, machine_of, same_key}
+use Rattle.cp_ends.proofs.Vocabulary.{◌∙◌, ap, nat_eq, pointwise, key_of, machine_of, same_key}
 use Rattle.cp_ends.proofs.round.is_at.Goals as goal
 
 pub returns : goal.returns

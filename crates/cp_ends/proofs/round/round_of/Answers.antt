@@ -1,5 +1,5 @@
-use Rattle.cp_ends.proofs.Words.{◌≡◌, ◌∙◌, ◌+◌, ◌<◌, true, false, if◌then◌else◌, sym, ap, arith, ◌==◌, ◌&&◌, ◌||◌, machine_of, is_ready, is_pending, slots}
-use Rattle.cp_ends.proofs.Words.{each, stretch_moments, shown_at, silent_slots, return_within, same_key, Alone, Spins}
+use Rattle.cp_ends.proofs.Vocabulary.{◌≡◌, ◌∙◌, ◌+◌, ◌<◌, true, false, if◌then◌else◌, sym, ap, arith, ◌==◌, ◌&&◌, ◌||◌, machine_of, is_ready, is_pending, slots}
+use Rattle.cp_ends.proofs.Vocabulary.{each, stretch_moments, shown_at, silent_slots, return_within, same_key, Alone, Spins}
 use Rattle.std.proofs.lemmas.Bool.{eq-eqb, ne_eqb}
 use Rattle.cp_ends.proofs.Returning.{called_next, is_back, never_back, none_called, none_yet, not_back, round_there}
 use Rattle.cp_ends.proofs.Stepping.{if_goes}

@@ -1,5 +1,5 @@
-use Rattle.cp_ends.proofs.Words.{◌≡◌, ◌++◌, [], None, Some, true, false, key_of, machine_of, output_of, is_ready, is_pending, IsStateOf, slots, each}
-use Rattle.cp_ends.proofs.Words.{stretch_moments, spot_after, shown_at, silent_slots, has_call, return_within, same_key}
+use Rattle.cp_ends.proofs.Vocabulary.{◌≡◌, ◌++◌, [], None, Some, true, false, key_of, machine_of, output_of, is_ready, is_pending, IsStateOf, slots, each}
+use Rattle.cp_ends.proofs.Vocabulary.{stretch_moments, spot_after, shown_at, silent_slots, has_call, return_within, same_key}
 use Rattle.cp_ends.proofs.round.round_of.Given as goal
 
 abbrev pub invariant-loop : goal.invariant-loop

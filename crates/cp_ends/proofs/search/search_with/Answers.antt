@@ -1,4 +1,4 @@
-use Rattle.cp_ends.proofs.Words.{◌∙◌, ◌++◌, [], refl, ap, arith, slot_graph, SlotArrival, searched}
+use Rattle.cp_ends.proofs.Vocabulary.{◌∙◌, ◌++◌, [], refl, ap, arith, slot_graph, SlotArrival, searched}
 use Rattle.cp_ends.proofs.GoingOn.{nothing, start_found}
 use Rattle.cp_ends.proofs.search.search_with.Goals as goal
 

@@ -1,7 +1,12 @@
 use Rattle.std.proofs.Common.{◌∙◌, ap}
 use Rattle.cp_run.specs.Code.{answer_of}
 use Rattle.cp_run.proofs.Tracing.{ok_as}
+use Rattle.cp_machine.specs.Machine.{Machine}
+use Rattle.cp_run.specs.Slots.{slots}
+use Rattle.cp_story.specs.Stop.{last_state}
 use Rattle.cp_story.specs.Story.{Telling}
+use Rattle.cp_story.specs.Views.{past_of}
+use Rattle.cp_story.specs.Waiting.{waits_in}
 use Rattle.cp_story.proofs.story.tell.Goals as goal
 
 pub returns-clause-lines : goal.returns-clause-lines
@@ -15,3 +20,10 @@ returns-clause-told g c = ok_as c.finish_story.result _ _ c.finish_story.ensures
 
 pub returns-clause-choice : goal.returns-clause-choice
 returns-clause-choice g c = ok_as c.finish_story.result _ _ c.finish_story.ensures.choice (λ s is. is ∙ ap (λ (t : Telling). t.past.choice) c.in_ok-end.ensures.told)
+
+pub returns-clause-waits : goal.returns-clause-waits
+returns-clause-waits g c =
+    let r = c.args.program.now in
+    let last = last_state (slots r c.args.limits.gates) c.args.limits.choices c.args.limits.steps c.args.word.now in
+    let calls = (past_of c.tell_word.new.observer).calls in
+    ok_as c.finish_story.result _ _ c.finish_story.ensures.waits (λ s is. is ∙ ap (λ (m : Machine). waits_in r m calls) c.in_ok-end.ensures.stop ∙ ap (λ (t : Telling). waits_in r last t.past.calls) c.in_ok-end.ensures.told)

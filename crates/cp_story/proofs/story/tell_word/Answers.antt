@@ -12,10 +12,12 @@ use Rattle.cp_run.proofs.TraceRuns.{over_run, over_lines, no_word_lines, not_ove
 use Rattle.cp_run.proofs.Tracing.{no_more}
 use Rattle.std.specs.Prelude.{Some}
 use Rattle.cp_story.specs.Story.{Decision, teller}
+use Rattle.cp_story.specs.Stop.{last_state_from}
 use Rattle.cp_story.specs.Told.{lines_of}
 use Rattle.cp_story.specs.Views.{telling_of}
 use Rattle.cp_story.specs.Fold.{fold_chosen, fold_from}
 use Rattle.cp_story.proofs.Folding.{fold_over, fold_no_word, fold_refused, fold_chosen_further}
+use Rattle.cp_story.proofs.Stops.{stops_over, stops_with_word, stops_refused, stops_further}
 use Rattle.cp_story.proofs.story.tell_word.Goals as goal
 
 pub returns-then-is_over-clause-lines : goal.returns-then-is_over-clause-lines
@@ -90,6 +92,7 @@ loop-place-preserved g c =
       within = omega (arith, more);
       same = c.loop-place.invariant.same ∙ ap (λ h. further n (run_from sys c.args.limits.steps k w (node_of h m))) due ∙ goes_at sys c.args.limits.steps k j n p w rest m (omega (arith, more)) (drop_next c.args.word.now n (omega arith)) on ∙ ap (λ x. further (n + 1) (run_from sys c.args.limits.steps j rest x)) c.in_ok-halt-2.ensures.node;
       lines = c.loop-place.invariant.lines ∙ ap (λ h. (lines_of c.loop-place.events.items) ++ trace_from sys c.args.limits.steps k w (node_of h m)) due ∙ ap (λ l. (lines_of c.loop-place.events.items) ++ l) (chosen_further sys c.args.limits.steps k j p w rest m (omega (arith, more)) (drop_next c.args.word.now n (omega arith)) on) ∙ sym (append_assoc (lines_of c.loop-place.events.items) (chosen_lines sys c.args.limits.steps m p) (trace_from sys c.args.limits.steps j rest (chosen sys c.args.limits.steps m p))) ∙ ap (λ l. l ++ trace_from sys c.args.limits.steps j rest (chosen sys c.args.limits.steps m p)) (sym c.in_ok-halt-2.ensures.lines) ∙ ap (λ x. (lines_of c.tell_choice.new.events.items) ++ trace_from sys c.args.limits.steps j rest x) c.in_ok-halt-2.ensures.node;
+      stop = c.loop-place.invariant.stop ∙ ap (λ h. last_state_from sys c.args.limits.steps k w (node_of h m)) due ∙ stops_further sys c.args.limits.steps k j p w rest m (omega (arith, more)) (drop_next c.args.word.now n (omega arith)) on ∙ ap (λ node. last_state_from sys c.args.limits.steps j rest node) c.in_ok-halt-2.ensures.node;
       told = c.loop-place.invariant.told ∙ ap (λ h. fold_from sys t c.args.limits.steps k w (node_of h m) x) due ∙ fold_chosen_further sys t c.args.limits.steps k j p w rest m x (omega (arith, more)) (drop_next c.args.word.now n (omega arith)) on ∙ ap (λ y. fold_from sys t c.args.limits.steps j rest (chosen sys c.args.limits.steps m p) y) (ap (λ y. fold_chosen sys t c.args.limits.steps m p y) taken ∙ sym c.in_ok-halt-2.ensures.told) ∙ ap (λ node. fold_from sys t c.args.limits.steps j rest node (telling_of c.tell_choice.new.observer c.tell_choice.new.events.items)) c.in_ok-halt-2.ensures.node;
       ticks = omega (arith, so_far, added);
     }
@@ -151,3 +154,27 @@ returns-clause-told g c =
     let n = c.loop-place.place in
     let x = telling_of c.loop-place.observer c.loop-place.events.items in
     sym (c.loop-place.invariant.told ∙ fold_no_word sys w c.args.limits.steps (c.args.limits.choices - n) (drop n c.args.word.now) (node_of c.loop-place.halt (machine_of c.loop-place.state)) x (drop_all c.args.word.now n (omega arith)))
+
+pub returns-then-is_over-clause-stop : goal.returns-then-is_over-clause-stop
+returns-then-is_over-clause-stop g c =
+    let sys = slots c.args.program.now c.args.limits.gates in
+    let n = c.loop-place.place in
+    sym (c.loop-place.invariant.stop ∙ stops_over sys c.args.limits.steps (c.args.limits.choices - n) (drop n c.args.word.now) c.loop-place.halt (machine_of c.loop-place.state) (sym c.is_over.ensures ∙ c.if-is_over.true))
+
+pub returns-then-not-may-clause-stop : goal.returns-then-not-may-clause-stop
+returns-then-not-may-clause-stop g c =
+    let sys = slots c.args.program.now c.args.limits.gates in
+    let m = machine_of c.loop-place.state in
+    let n = c.loop-place.place in
+    let k = c.args.limits.choices - n in
+    let rest = drop n c.args.word.now in
+    let p = get_or c.args.word.now n 0 in
+    let going = sym c.is_over.ensures ∙ c.if-is_over.false in
+    let more = some_left k c.loop-place.halt going in
+    sym (c.loop-place.invariant.stop ∙ ap (λ h. last_state_from sys c.args.limits.steps k rest (node_of h m)) (not_over k c.loop-place.halt going) ∙ stops_refused sys c.args.limits.steps k (c.args.limits.choices - (n + 1)) p rest (drop (n + 1) c.args.word.now) m (omega (arith, more)) (drop_next c.args.word.now n (omega arith)) (sym c.may.ensures ∙ c.if-not-may.true))
+
+pub returns-clause-stop : goal.returns-clause-stop
+returns-clause-stop g c =
+    let sys = slots c.args.program.now c.args.limits.gates in
+    let n = c.loop-place.place in
+    sym (c.loop-place.invariant.stop ∙ stops_with_word sys c.args.limits.steps (c.args.limits.choices - n) (drop n c.args.word.now) c.loop-place.halt (machine_of c.loop-place.state) (drop_all c.args.word.now n (omega arith)))

@@ -1,4 +1,4 @@
-use Rattle.cp_ends.proofs.Words.{◌≡◌, ◌∙◌, true, false, sym, ap, list_any, ends_tests, FoundEnd}
+use Rattle.cp_ends.proofs.Vocabulary.{◌≡◌, ◌∙◌, true, false, sym, ap, list_any, ends_tests, FoundEnd}
 use Rattle.cp_ends.proofs.Finding.{end_again, end_new}
 use Rattle.cp_ends.proofs.found.Found.add_end.Goals as goal
 

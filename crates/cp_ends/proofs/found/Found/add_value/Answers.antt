@@ -1,4 +1,4 @@
-use Rattle.cp_ends.proofs.Words.{◌≡◌, ◌∙◌, ◌<◌, true, false, length, sym, ap, arith, list_any, ends_tests, FoundValue}
+use Rattle.cp_ends.proofs.Vocabulary.{◌≡◌, ◌∙◌, ◌<◌, true, false, length, sym, ap, arith, list_any, ends_tests, FoundValue}
 use Rattle.cp_ends.proofs.Finding.{value_again, value_full, value_new}
 use Rattle.cp_ends.proofs.found.Found.add_value.Goals as goal
 use Rattle.cp_ends.proofs.found.Found.add_value.Goals.{else-len-le-MOST_VALUES-via-then-len-le-MOST_VALUES+else-not-has_value, else-len-le-MOST_VALUES-via-else-len-le-MOST_VALUES}

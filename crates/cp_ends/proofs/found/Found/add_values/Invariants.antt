@@ -1,4 +1,4 @@
-use Rattle.cp_ends.proofs.Words.{ℕ, List, take, Tables, Holds, IsWordOf, SlotFindings}
+use Rattle.cp_ends.proofs.Vocabulary.{ℕ, List, take, Tables, Holds, IsWordOf, SlotFindings}
 use Rattle.cp_ends.proofs.Finding.{with_all}
 use Rattle.cp_ends.proofs.found.Found.add_values.Given as goal
 

@@ -1,4 +1,4 @@
-use Rattle.cp_ends.proofs.Words.{◌≡◌, ◌∙◌, ℕ, List, [], true, false, sym, ap, subst, arith, Machine, machine_of, output_of, searched}
+use Rattle.cp_ends.proofs.Vocabulary.{◌≡◌, ◌∙◌, ℕ, List, [], true, false, sym, ap, subst, arith, Machine, machine_of, output_of, searched}
 use Rattle.cp_ends.specs.Answer.{GoesOn, HoldsFew, ends_tests, slot_graph}
 use Rattle.cp_ends.specs.Holds.{IsAt, SlotFindings}
 use Rattle.cp_ends.proofs.GoingOn.{search_done}

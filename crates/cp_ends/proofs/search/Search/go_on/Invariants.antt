@@ -1,4 +1,4 @@
-use Rattle.cp_ends.proofs.Words.{IsStateOf, HoldsFew, ends_tests, slot_graph, searched}
+use Rattle.cp_ends.proofs.Vocabulary.{IsStateOf, HoldsFew, ends_tests, slot_graph, searched}
 use Rattle.cp_ends.proofs.search.Search.go_on.Given as goal
 
 abbrev pub invariant-loop-number : goal.invariant-loop-number

@@ -1,5 +1,5 @@
 use Rattle.std.proofs.Common.{rules, ◌≡◌, ◌∙◌, ◌<◌, true, false, [], ◌∷◌, ◌++◌, get_or, length, take, ap, subst, arith}
-use Rattle.cp_ends.proofs.Words.{take_all, machine_of, may, those_below, slots, gone_on}
+use Rattle.cp_ends.proofs.Vocabulary.{take_all, machine_of, may, those_below, slots, gone_on}
 use Rattle.cp_ends.specs.Answer.{Arrives, HoldsFew, ends_tests, slot_graph}
 use Rattle.cp_ends.proofs.GoingOn.{gone_list, list_first, list_those, one_more, stops_here, taken}
 use Rattle.cp_ends.proofs.Wanted.{may_those}

@@ -1,4 +1,4 @@
-use Rattle.cp_ends.proofs.Words.{◌≡◌, ℕ, List, Some, take, slice_get, Machine, machine_of, IsStateOf, HoldsFew, slot_graph, SlotFindings}
+use Rattle.cp_ends.proofs.Vocabulary.{◌≡◌, ℕ, List, Some, take, slice_get, Machine, machine_of, IsStateOf, HoldsFew, slot_graph, SlotFindings}
 use Rattle.cp_ends.proofs.GoingOn.{gone_list}
 use Rattle.cp_ends.proofs.search.Search.take_choices.Given as goal
 
