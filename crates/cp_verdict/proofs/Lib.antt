@@ -6,4 +6,3 @@ pub mod Marks
 pub mod Meant
 pub mod Tallied
 pub mod Verdicts
-mod Words

@@ -1,4 +1,7 @@
-use Rattle.cp_verdict.proofs.Words.{◌≡◌, List, map, take, Line, outcomes_of, line_of}
+use Rattle.std.proofs.Common.{◌≡◌, List, map, take}
+use Rattle.cp_run.specs.Table.{Line}
+use Rattle.cp_walk.specs.Report.{outcomes_of}
+use Rattle.cp_verdict.specs.Judged.{line_of}
 use Rattle.cp_verdict.specs.Marked.{AreJudged}
 use Rattle.cp_verdict.proofs.marking.judge_each.Given as goal
 

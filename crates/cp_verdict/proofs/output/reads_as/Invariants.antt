@@ -1,4 +1,6 @@
-use Rattle.cp_verdict.proofs.Words.{◌≡◌, drop, map, string_bytes, some_rest}
+use Rattle.std.proofs.Common.{◌≡◌, drop, map}
+use Rattle.std.specs.Prelude.{string_bytes}
+use Rattle.cp_verdict.specs.Marks.{some_rest}
 use Rattle.cp_verdict.specs.Outputs.{reads_as}
 use Rattle.cp_verdict.proofs.output.reads_as.Given as goal
 
