@@ -1,7 +1,7 @@
 -- What is found first in a list, as the code finds it.
 use Rattle.std.proofs.Common.{◌≡◌, ◌∙◌, ℕ, zero, suc, ◌<◌, Bool, true, false, nat_eq, List, [], ◌∷◌, map, cond, refl, sym, ap, subst, arith}
 use Rattle.std.specs.Prelude.{find, Option, None, Some, option_map, slice_get, string_bytes, ◌&&◌}
-use Rattle.cp_ends_verdict.proofs.Words.{list_all, Bor, pointwise, Finding, HasTexts, KnownValue}
+use Rattle.cp_ends_verdict.proofs.Vocabulary.{list_all, Bor, pointwise, Finding, HasTexts, KnownValue}
 use Rattle.cp_walk.specs.Text.{Spellings, output_text}
 
 find_map : {A B : Type 0} (f : A → B) (t : B → Bool) (xs : List A) → find t (map f xs) ≡ option_map f (find (λ x. t (f x)) xs)

@@ -1,9 +1,9 @@
 -- What is known of an expectation, by what the code finds.
 use Rattle.std.proofs.Common.{◌≡◌, inl, inr, ◌∙◌, ℕ, suc, Bool, true, false, not, ◌&&◌, List, [], ◌∷◌, map, length, cond, refl, sym, ap, subst, arith, vec_len}
 use Rattle.std.specs.Prelude.{find, Option, None, Some, option_map, nat_le, is_none, is_some}
-use Rattle.cp_ends_verdict.proofs.Words.{list_all, Vec, Global, length-map, Tables, Gates, Shown, StepLimit, slots, without_output, Spellings, End, Over}
-use Rattle.cp_ends_verdict.proofs.Words.{MOST_VALUES, Waiting, EndPattern, EndsExpectation, Never, Sometimes, Only, EndsJudgement, KnownEnds, KnownEnd}
-use Rattle.cp_ends_verdict.proofs.Words.{Witness}
+use Rattle.cp_ends_verdict.proofs.Vocabulary.{list_all, Vec, Global, length-map, Tables, Gates, Shown, StepLimit, slots, without_output, Spellings, End, Over}
+use Rattle.cp_ends_verdict.proofs.Vocabulary.{MOST_VALUES, Waiting, EndPattern, EndsExpectation, Never, Sometimes, Only, EndsJudgement, KnownEnds, KnownEnd}
+use Rattle.cp_ends_verdict.proofs.Vocabulary.{Witness}
 use Rattle.std.specs.declared.string.String.{String}
 use Rattle.std.proofs.lemmas.Bool.{leb-true}
 use Rattle.cp_ends.specs.Firsts.{is_up_to, AreFirsts, AreFirstOnes}

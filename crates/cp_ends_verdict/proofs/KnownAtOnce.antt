@@ -4,9 +4,9 @@ use Rattle.std.specs.Prelude.{All, None, Some, Option, is_none, nat_lt, string_b
 use Rattle.std.specs.List.{list_all, list_any}
 use Rattle.std.proofs.lemmas.List.{length-map, map-append, take_all, take_more}
 use Rattle.std.proofs.lemmas.List.Elements.{All-append, All-cons, All-get_or, All-nil}
-use Rattle.cp_ends_verdict.proofs.Words.{Tree, Tables, Machine, First, Shown, StepLimit, silent_slots, without_output, EndsSo, ShowsSo, slots, End, Over}
-use Rattle.cp_ends_verdict.proofs.Words.{Alone, Spins, MOST_VALUES, HasWord, IsWordOf, is_cut, HasTexts, end_pair, is_whole, value_pair, KnownEnds, KnownEnd}
-use Rattle.cp_ends_verdict.proofs.Words.{KnownValue}
+use Rattle.cp_ends_verdict.proofs.Vocabulary.{Tree, Tables, Machine, First, Shown, StepLimit, silent_slots, without_output, EndsSo, ShowsSo, slots, End, Over}
+use Rattle.cp_ends_verdict.proofs.Vocabulary.{Alone, Spins, MOST_VALUES, HasWord, IsWordOf, is_cut, HasTexts, end_pair, is_whole, value_pair, KnownEnds, KnownEnd}
+use Rattle.cp_ends_verdict.proofs.Vocabulary.{KnownValue}
 use Rattle.cp_run.specs.declared.outcome.OutcomeKind.{OutcomeKind}
 use Rattle.cp_walk.specs.Text.{Spellings, output_text}
 use Rattle.cp_ends.specs.Answer.{ends_tests}

@@ -1,6 +1,6 @@
 -- Who is told to wait for ever is exactly who may.
 use Rattle.std.proofs.Common.{◌≡◌, ◌⊎◌, inl, inr, ◌<◌, ◌^◌, ℕ, List, map, subst}
-use Rattle.cp_ends_verdict.proofs.Words.{Contains, None, Option, Some, Global, Vec, Tables, Machine, Gates, slots, StepLimit, Over, Waiting, on_slots}
+use Rattle.cp_ends_verdict.proofs.Vocabulary.{Contains, None, Option, Some, Global, Vec, Tables, Machine, Gates, slots, StepLimit, Over, Waiting, on_slots}
 use Rattle.cp_run.specs.System.{System}
 use Rattle.cp_endless.specs.Silent.{in_call_on_slots, silent_slots, waits_on_slots, without_output}
 use Rattle.cp_endless.specs.Standstill.{MayStandStill}

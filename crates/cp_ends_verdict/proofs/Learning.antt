@@ -1,7 +1,7 @@
 -- What a search found is what is known of the schedules.
 use Rattle.std.proofs.Common.{◌≡◌, ◌∙◌, ◌+◌, ◌<◌, ◌≤◌, ℕ, zero, suc, Bool, true, false, List, [], ◌∷◌, ◌++◌, length, map, take, get_or, cond, refl, sym, ap, subst, arith}
-use Rattle.cp_ends_verdict.proofs.Words.{Option, None, Some, slice_get, Tables, Machine, Gates, Shown, slots, without_output, End, MOST_VALUES, on_slots}
-use Rattle.cp_ends_verdict.proofs.Words.{KnownEnds}
+use Rattle.cp_ends_verdict.proofs.Vocabulary.{Option, None, Some, slice_get, Tables, Machine, Gates, Shown, slots, without_output, End, MOST_VALUES, on_slots}
+use Rattle.cp_ends_verdict.proofs.Vocabulary.{KnownEnds}
 use Rattle.std.proofs.lemmas.List.{append-nil, length-map, map-append, take_all, take_more}
 use Rattle.std.proofs.lemmas.List.Elements.{filter-append}
 use Rattle.std.proofs.lemmas.Option.{slice_get_within, get_or_from_slice_get}

@@ -10,4 +10,4 @@ pub mod MeantAtOnce
 pub mod MeantMarks
 pub mod Telling
 pub mod Verdicts
-mod Words
+mod Vocabulary

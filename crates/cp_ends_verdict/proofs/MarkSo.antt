@@ -1,5 +1,5 @@
 -- A verdict by what is known is the mark.
-use Rattle.cp_ends_verdict.proofs.Words.{◌≡◌, ℕ, List, Tables, Gates, on_slots, IsKnown, EndsExpectation, KnownEnds, EndsVerdict}
+use Rattle.cp_ends_verdict.proofs.Vocabulary.{◌≡◌, ℕ, List, Tables, Gates, on_slots, IsKnown, EndsExpectation, KnownEnds, EndsVerdict}
 use Rattle.std.specs.Prelude.{IfOk, Result}
 use Rattle.std.proofs.lemmas.Result.{IfOk-weaker}
 use Rattle.cp_ends_verdict.specs.Marked.{IsMarked, IsMarkOf, IsMeantMark, mark_of}

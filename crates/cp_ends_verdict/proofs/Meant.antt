@@ -1,7 +1,7 @@
 -- What is so of the slot machine is so of the program on its own names; and where no stretch is cut, nothing else is.
 use Rattle.std.proofs.Common.{◌≡◌, ◌⊎◌, inl, inr, ◌∙◌, ◌+◌, ◌<◌, ℕ, Bool, true, false, not, ◌&&◌, ◌||◌, List, [], ◌∷◌, map, refl, sym, ap, subst}
-use Rattle.cp_ends_verdict.proofs.Words.{Tree, IsRead, plain, laid, Tables, IsAccepted, Machine, Shown, slots, Spellings, EndsSo, ShowsSo, End, Over, Alone}
-use Rattle.cp_ends_verdict.proofs.Words.{Spins, IsKnown, end_pair, is_whole, EndPattern, EndsExpectation, Never, Sometimes, Only, KnownEnds}
+use Rattle.cp_ends_verdict.proofs.Vocabulary.{Tree, IsRead, plain, laid, Tables, IsAccepted, Machine, Shown, slots, Spellings, EndsSo, ShowsSo, End, Over, Alone}
+use Rattle.cp_ends_verdict.proofs.Vocabulary.{Spins, IsKnown, end_pair, is_whole, EndPattern, EndsExpectation, Never, Sometimes, Only, KnownEnds}
 use Rattle.cp_meaning.specs.State.{Gates, State}
 use Rattle.cp_run.specs.declared.outcome.OutcomeKind.{OutcomeKind}
 use Rattle.cp_run.specs.declared.outcome.OutcomeKind.TheVariants.{Finished, AllWaiting, RunError, ChoiceLimit, StepLimit, OutputLimit}

@@ -4,9 +4,9 @@ use Rattle.std.specs.Prelude.{Contains, IfOk, None, Option, Result, Some, find, 
 use Rattle.std.specs.List.{list_any}
 use Rattle.std.proofs.lemmas.Bool.{leb-true, ltb-true}
 use Rattle.std.proofs.lemmas.Result.{IfOk-weaker}
-use Rattle.cp_ends_verdict.proofs.Words.{Tree, IsRead, plain, laid, Tables, IsAccepted, Gates, Shown, slots, silent_slots, without_output, Spellings, EndsSo}
-use Rattle.cp_ends_verdict.proofs.Words.{ShowsSo, End, Over, Alone, Spins, MOST_VALUES, IsJudgedBy, judgement_of, EndsExpectation, Never, Sometimes, Only}
-use Rattle.cp_ends_verdict.proofs.Words.{EndsJudgement, KnownEnds, KnownEnd, KnownValue, Witness, EndsVerdict}
+use Rattle.cp_ends_verdict.proofs.Vocabulary.{Tree, IsRead, plain, laid, Tables, IsAccepted, Gates, Shown, slots, silent_slots, without_output, Spellings, EndsSo}
+use Rattle.cp_ends_verdict.proofs.Vocabulary.{ShowsSo, End, Over, Alone, Spins, MOST_VALUES, IsJudgedBy, judgement_of, EndsExpectation, Never, Sometimes, Only}
+use Rattle.cp_ends_verdict.proofs.Vocabulary.{EndsJudgement, KnownEnds, KnownEnd, KnownValue, Witness, EndsVerdict}
 use Rattle.cp_machine.specs.declared.gates.Gates.TheVariants.{First, Any}
 use Rattle.cp_meaning.specs.State.{first_gates}
 use Rattle.cp_ends.specs.Answer.{ends_tests}

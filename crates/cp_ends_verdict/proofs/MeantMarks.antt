@@ -1,6 +1,6 @@
 -- A mark by what is known of the slot machine is true of the program on its own names.
-use Rattle.cp_ends_verdict.proofs.Words.{◌≡◌, inl, inr, ℕ, true, List, sym, subst, Option, None, Some, Tree, IsRead, plain, laid, Tables, IsAccepted, IsKnown}
-use Rattle.cp_ends_verdict.proofs.Words.{finding_of, is_kept, is_settled, is_whole, EndsExpectation, Never, Sometimes, Only, KnownEnds, Witness, EndsVerdict}
+use Rattle.cp_ends_verdict.proofs.Vocabulary.{◌≡◌, inl, inr, ℕ, true, List, sym, subst, Option, None, Some, Tree, IsRead, plain, laid, Tables, IsAccepted, IsKnown}
+use Rattle.cp_ends_verdict.proofs.Vocabulary.{finding_of, is_kept, is_settled, is_whole, EndsExpectation, Never, Sometimes, Only, KnownEnds, Witness, EndsVerdict}
 use Rattle.cp_machine.specs.declared.gates.Gates as slot_gates
 use Rattle.cp_machine.specs.declared.gates.Gates.TheVariants.{First, Any}
 use Rattle.cp_meaning.specs.State.{Gates, first_gates, any_gates}

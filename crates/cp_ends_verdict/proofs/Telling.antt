@@ -1,6 +1,6 @@
 -- What the code finds first is what settles a topic first.
-use Rattle.cp_ends_verdict.proofs.Words.{◌≡◌, ◌∙◌, ℕ, Bool, List, map, nat_eq, sym, ap, subst, find, Option, Some, option_map, string_bytes, Bor, Vec, Global}
-use Rattle.cp_ends_verdict.proofs.Words.{pointwise, Spellings, Waiting, EndPattern, EndsExpectation, Only, KnownEnds, KnownEnd, KnownValue, Witness}
+use Rattle.cp_ends_verdict.proofs.Vocabulary.{◌≡◌, ◌∙◌, ℕ, Bool, List, map, nat_eq, sym, ap, subst, find, Option, Some, option_map, string_bytes, Bor, Vec, Global}
+use Rattle.cp_ends_verdict.proofs.Vocabulary.{pointwise, Spellings, Waiting, EndPattern, EndsExpectation, Only, KnownEnds, KnownEnd, KnownValue, Witness}
 use Rattle.std.specs.declared.string.String.{String}
 use Rattle.cp_ends_verdict.specs.Expectations.{is_about, is_meant, is_named, is_other, settles}
 use Rattle.cp_ends_verdict.specs.Knowledge.{HasTexts, ended, end_pair, finding_of, shown, speaks_of, those_waiting, told_of, value_pair, waiting_for_ever}

@@ -1,6 +1,6 @@
 -- Verdicts on some expectations and one more.
 use Rattle.std.proofs.Common.{◌≡◌, ◌⊎◌, inl, inr, ⊎_elim, ◌∙◌, ◌+◌, ◌<◌, ◌≤◌, ℕ, List, [], ◌∷◌, ◌++◌, length, get_or, take, sym, ap, subst, arith}
-use Rattle.cp_ends_verdict.proofs.Words.{Contains, Bor, take_all, take_more, EndsExpectation, EndsJudgement, EndsVerdict}
+use Rattle.cp_ends_verdict.proofs.Vocabulary.{Contains, Bor, take_all, take_more, EndsExpectation, EndsJudgement, EndsVerdict}
 use Rattle.std.proofs.lemmas.List.Elements.{Contains-append_left, Contains-push, Contains-push_cases}
 use Rattle.cp_ends_verdict.specs.Marked.{AreJudged, joined}
 use Rattle.cp_ends_verdict.specs.declared.judging.EndsJudgement.TheVariants as judgement

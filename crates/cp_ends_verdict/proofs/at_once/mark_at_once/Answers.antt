@@ -1,4 +1,4 @@
-use Rattle.cp_ends_verdict.proofs.Words.{subst, Gates, IsKnownAtOnce}
+use Rattle.cp_ends_verdict.proofs.Vocabulary.{subst, Gates, IsKnownAtOnce}
 use Rattle.cp_at_once.specs.Whole.{IsAnswer}
 use Rattle.cp_ends_verdict.proofs.MeantAtOnce.{marked_at_once, of_first}
 use Rattle.cp_ends_verdict.proofs.at_once.mark_at_once.Goals as goal

@@ -1,4 +1,4 @@
-use Rattle.cp_ends_verdict.proofs.Words.{◌≡◌, drop, not, list_all, is_cut}
+use Rattle.cp_ends_verdict.proofs.Vocabulary.{◌≡◌, drop, not, list_all, is_cut}
 use Rattle.cp_ends_verdict.proofs.judging.has_no_cut.Given as goal
 
 abbrev pub invariant-loop-end : goal.invariant-loop-end

@@ -1,4 +1,4 @@
-use Rattle.cp_ends_verdict.proofs.Words.{◌∙◌, ap, asks_some, judgement_of}
+use Rattle.cp_ends_verdict.proofs.Vocabulary.{◌∙◌, ap, asks_some, judgement_of}
 use Rattle.cp_ends_verdict.proofs.Judgements.{judged}
 use Rattle.cp_ends_verdict.proofs.judging.judge.Goals as goal
 

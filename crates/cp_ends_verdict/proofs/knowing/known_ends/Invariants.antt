@@ -1,4 +1,4 @@
-use Rattle.cp_ends_verdict.proofs.Words.{◌≡◌, map, take, Tables, Holds, SlotFindings}
+use Rattle.cp_ends_verdict.proofs.Vocabulary.{◌≡◌, map, take, Tables, Holds, SlotFindings}
 use Rattle.cp_ends_verdict.specs.Knowledge as spec
 use Rattle.cp_ends_verdict.proofs.knowing.known_ends.Given as goal
 

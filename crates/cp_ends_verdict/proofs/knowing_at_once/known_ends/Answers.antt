@@ -1,4 +1,4 @@
-use Rattle.cp_ends_verdict.proofs.Words.{ap, sym, subst, First, silent_slots, EndsSo, IsWordOf}
+use Rattle.cp_ends_verdict.proofs.Vocabulary.{ap, sym, subst, First, silent_slots, EndsSo, IsWordOf}
 use Rattle.cp_at_once.specs.declared.found.EndAtOnce.{EndAtOnce}
 use Rattle.cp_ends_verdict.proofs.KnownAtOnce.{end_more, end_words, ends_done}
 use Rattle.cp_ends_verdict.proofs.knowing_at_once.known_ends.Goals as goal

@@ -1,4 +1,4 @@
-use Rattle.cp_ends_verdict.proofs.Words.{◌≡◌, ℕ, List, map, take, All, Tables, Machine, First, silent_slots, EndsSo, end_pair}
+use Rattle.cp_ends_verdict.proofs.Vocabulary.{◌≡◌, ℕ, List, map, take, All, Tables, Machine, First, silent_slots, EndsSo, end_pair}
 use Rattle.cp_at_once.specs.Holds.{AreStates, HasWord}
 use Rattle.cp_ends_verdict.proofs.knowing_at_once.known_ends.Given as goal
 

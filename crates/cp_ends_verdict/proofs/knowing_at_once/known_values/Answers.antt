@@ -1,4 +1,4 @@
-use Rattle.cp_ends_verdict.proofs.Words.{ap, sym, subst, IsWordOf, First, slots, without_output, ShowsSo}
+use Rattle.cp_ends_verdict.proofs.Vocabulary.{ap, sym, subst, IsWordOf, First, slots, without_output, ShowsSo}
 use Rattle.cp_at_once.specs.declared.found.ValueAtOnce.{ValueAtOnce}
 use Rattle.cp_ends_verdict.proofs.KnownAtOnce.{text_more, value_more, value_words, values_done}
 use Rattle.cp_ends_verdict.proofs.knowing_at_once.known_values.Goals as goal

@@ -1,4 +1,4 @@
-use Rattle.cp_ends_verdict.proofs.Words.{◌≡◌, ℕ, List, map, take, All, Tables, Machine, First, slots, without_output, ShowsSo, HasTexts, value_pair}
+use Rattle.cp_ends_verdict.proofs.Vocabulary.{◌≡◌, ℕ, List, map, take, All, Tables, Machine, First, slots, without_output, ShowsSo, HasTexts, value_pair}
 use Rattle.cp_at_once.specs.Holds.{AreStates, HasWord}
 use Rattle.cp_ends_verdict.proofs.knowing_at_once.known_values.Given as goal
 

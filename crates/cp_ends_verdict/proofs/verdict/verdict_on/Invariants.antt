@@ -1,4 +1,4 @@
-use Rattle.cp_ends_verdict.proofs.Words.{ℕ, take, Gates, Tables, Spellings, on_slots, IsJudgedBy, HasTexts, IsKnown}
+use Rattle.cp_ends_verdict.proofs.Vocabulary.{ℕ, take, Gates, Tables, Spellings, on_slots, IsJudgedBy, HasTexts, IsKnown}
 use Rattle.cp_ends_verdict.specs.Marked as spec
 use Rattle.cp_ends_verdict.proofs.verdict.verdict_on.Given as goal
 
