@@ -1,9 +1,9 @@
 ghost use Rattle.std.specs.Prelude.{◌≡◌, ◌+◌, ◌<◌, ◌≤◌, [], All, length, map, IfOk, vec_len};
 ghost use Rattle.cp_board.specs.Seats.{IsSeatOf, IsDealt, seats_of};
 
+use crate::answers::{CallAnswer, ample_answer, are_right};
 use cp_board::{Board, BoardFault, Closed, Seat};
 use std::alloc::{AllocError, Global};
-use std::test::Fail;
 use std::thread;
 use std::thread::Threads;
 
@@ -99,22 +99,29 @@ fn play<R: Threads + Sync>(
     })
 }
 
-// Whether these are the numbers below the count, each once, and each was noted with one row.
-fn is_each_once(game: Game, count: u32) -> Result<bool, AllocError> {
+// Whether these are the numbers below the count, each once, in rising order.
+fn are_numbers_below(drawn: &[u32], count: u32) -> bool {
+    let mut next = 0u32;
+    let mut are_numbers = true;
+    for task in drawn {
+        are_numbers = are_numbers && *task == next;
+        next = next.saturating_add(1);
+    }
+    are_numbers && next == count
+}
+
+// Whether each task below the count was drawn once, and each was noted with one row.
+fn is_each_once(game: Game, count: u32) -> bool {
     let Game {
         mut drawn,
         closed,
         is_whole,
     } = game;
-    drawn.sort()?;
-    let mut next = 0;
-    for task in &drawn {
-        if *task != next || next >= count {
-            return Ok(false);
-        }
-        next += 1;
-    }
-    Ok(is_whole && next == count && closed.claimed == count && closed.total == u64::from(count))
+    drawn.sort().is_ok()
+        && are_numbers_below(&drawn, count)
+        && is_whole
+        && closed.claimed == count
+        && closed.total == u64::from(count)
 }
 
 // Tasks, seats, and how many of these are idle.
@@ -125,20 +132,22 @@ fn are_drawn_once<R: Threads + Sync>(
     rt: &R,
     alloc: Global,
     (tasks, seats, idle): (u32, u8, u8),
-) -> Result<bool, Fail> {
+) -> bool {
     if idle > seats {
-        return Ok(false);
+        return false;
     }
-    Ok(is_each_once(play(rt, alloc, tasks, seats, idle)?, tasks)?)
+    match play(rt, alloc, tasks, seats, idle) {
+        Ok(game) => is_each_once(game, tasks),
+        Err(_) => false,
+    }
 }
 
 // Four threads, no tasks, and idle seats.
 #[test]
-fn board_games(rt: HostRuntime) -> Result<(), Fail> {
+fn board_games(rt: HostRuntime) {
     for game in &GAMES {
-        assert!(rt; are_drawn_once(&rt, rt.alloc(), *game)?, "{}", game.0);
+        assert!(rt; are_drawn_once(&rt, rt.alloc(), *game), "{}", game.0);
     }
-    Ok(())
 }
 
 // Whether a seat draws this task, and hears this total where it notes so many rows of it.
@@ -162,13 +171,16 @@ fn draws_two_alone(board: &Board, seat: &mut Seat) -> bool
     two && board.claim(seat).is_none() && board.claim(seat).is_none()
 }
 
-#[test]
-fn board_one_seat(rt: HostRuntime) -> Result<(), Fail> {
-    let (board, mut seats) = Board::new(rt.alloc(), 2, 1)?;
-    let are_drawn = draws_two_alone(&board, &mut seats[0]);
-    let closed = board.close(seats);
-    assert!(rt; are_drawn && closed.claimed == 2 && closed.total == 50_002);
-    Ok(())
+// Whether one seat draws the two tasks of a board.
+fn is_drawn_by_one_seat(alloc: Global) -> bool {
+    match Board::new(alloc, 2, 1) {
+        Ok((board, mut seats)) => {
+            let are_drawn = draws_two_alone(&board, &mut seats[0]);
+            let closed = board.close(seats);
+            are_drawn && closed.claimed == 2 && closed.total == 50_002
+        }
+        Err(_) => false,
+    }
 }
 
 // Why there is no board of so many tasks and seats.
@@ -188,38 +200,41 @@ fn board_refusals(rt: HostRuntime) {
     assert!(rt; matches!(fault_of(rt.alloc(), 1, 17), Some(BoardFault::BadSeats)));
 }
 
-// One seat draws the first of three tasks and notes nothing, and the other one draws the rest and notes its rows.
-#[test]
-fn board_claim_without_note(rt: HostRuntime) -> Result<(), Fail> {
-    let (board, mut seats) = Board::new(rt.alloc(), 3, 2)?;
-    let is_first = board.claim(&mut seats[1]) == Some(0);
-    let are_drawn = draws(&board, &mut seats[0], 1, 7, 7) && draws(&board, &mut seats[0], 2, 5, 12);
-    let closed = board.close(seats);
-    assert!(rt; is_first && are_drawn && closed.claimed == 3 && closed.total == 12);
-    Ok(())
+// Whether one seat can draw the first of three tasks and note nothing, while the other one draws the rest and notes its rows.
+fn is_drawn_without_note(alloc: Global) -> bool {
+    match Board::new(alloc, 3, 2) {
+        Ok((board, mut seats)) => {
+            let is_first = board.claim(&mut seats[1]) == Some(0);
+            let are_drawn = draws(&board, &mut seats[0], 1, 7, 7)
+                && draws(&board, &mut seats[0], 2, 5, 12);
+            let closed = board.close(seats);
+            is_first && are_drawn && closed.claimed == 3 && closed.total == 12
+        }
+        Err(_) => false,
+    }
 }
 
-// Whether memory was refused; else there is a board with nothing drawn.
-fn is_refused(alloc: Global) -> Result<bool, Fail> {
+#[test]
+fn board_seats(rt: HostRuntime) {
+    assert!(rt; is_drawn_by_one_seat(rt.alloc()));
+    assert!(rt; is_drawn_without_note(rt.alloc()));
+}
+
+// A board with nothing drawn.
+fn new_answer(alloc: Global) -> CallAnswer {
     match Board::new(alloc, 1, 16) {
         Ok((board, seats)) => {
             let closed = board.close(seats);
-            if closed.claimed == 0 && closed.total == 0 {
-                Ok(false)
-            } else {
-                Err(Fail::new("a new board has draws"))
-            }
+            ample_answer(closed.claimed == 0 && closed.total == 0)
         }
-        Err(BoardFault::Memory(_)) => Ok(true),
-        Err(fault) => Err(Fail::from(fault)),
+        Err(BoardFault::Memory(_)) => CallAnswer::Memory,
+        Err(_) => CallAnswer::Other,
     }
 }
 
 // Also to be run with each allocation refused in turn: the answer is then `Memory`, and the next call gives a board.
 #[test]
-fn board_growths_refused(rt: HostRuntime) -> Result<(), Fail> {
-    let first = is_refused(rt.alloc())?;
-    let second = is_refused(rt.alloc())?;
-    assert!(rt; !(first && second));
-    Ok(())
+fn board_growths_refused(rt: HostRuntime) {
+    let answers = [new_answer(rt.alloc()), new_answer(rt.alloc())];
+    assert!(rt; are_right(&answers));
 }

@@ -1,6 +1,6 @@
 //! Cuttings, pieces that are put together, and beginnings.
 
-ghost use Rattle.std.specs.Prelude.{◌≡◌, ◌≤◌, map, IfOk};
+ghost use Rattle.std.specs.Prelude.{◌≡◌, ◌≤◌, map, IfSome};
 ghost use Rattle.cp_run.specs.Slots.{slots};
 ghost use Rattle.cp_run.specs.Table.{table};
 ghost use Rattle.cp_walk.specs.Rows.{line_of};
@@ -19,12 +19,11 @@ use cp_slots::Resolved;
 use std::alloc::{AllocError, Global};
 use std::marker::Brand;
 use std::sync::ledger::{Blank, Ledger};
-use std::test::Fail;
 
-/// A job's table.
-fn table_of(alloc: Global, program: &Resolved, limits: Limits) -> Result<Table, Fail>
+/// A job's table; none where there is none.
+fn table_of(alloc: Global, program: &Resolved, limits: Limits) -> Option<Table>
     requires { limits.choices ≤ 20 }
-    ensures { IfOk result (λ t. map line_of t.rows ≡ table (slots program.now limits.gates) limits.choices limits.steps) }
+    ensures { IfSome result (λ t. map line_of t.rows ≡ table (slots program.now limits.gates) limits.choices limits.steps) }
 {
     table_counted::<Brand>(alloc, program, limits, Blank::new(1))
 }
@@ -34,52 +33,58 @@ fn table_counted<L: Ledger>(
     program: &Resolved,
     limits: Limits,
     blank: Blank,
-) -> Result<Table, Fail>
+) -> Option<Table>
     requires name { blank.name ≡ L.name }
     requires parts { blank.parts ≡ L.parts }
     requires one { L.parts ≡ 1 }
     requires few { limits.choices ≤ 20 }
-    ensures { IfOk result (λ t. map line_of t.rows ≡ table (slots program.now limits.gates) limits.choices limits.steps) }
+    ensures { IfSome result (λ t. map line_of t.rows ≡ table (slots program.now limits.gates) limits.choices limits.steps) }
 {
     let mut calls: Ticks<L> = Ticks::new(blank);
     match explore_one(alloc, Job { program, limits }, &mut calls) {
-        Ok(table) => Ok(table),
-        Err(_) => Err(Fail::from("there is no table")),
+        Ok(table) => Some(table),
+        Err(_) => None,
     }
 }
 
-/// The table of a source's program within this many choices.
-fn table_at(alloc: Global, source: &str, choices: u8) -> Result<Table, Fail> {
-    let limits = limits_of(choices, Gates::First)?;
-    let program = program_of(alloc, source)?;
-    let table = table_of(alloc, &program, limits);
-    drop_program(program);
-    table
-}
-
-/// The cutting of one empty word, within this many choices.
-fn whole<'a>(alloc: Global, program: &'a Resolved, choices: u8) -> Result<Cutting<'a>, Fail> {
-    let limits = limits_of(choices, Gates::First)?;
-    Ok(Cutting::whole(alloc, Job { program, limits })?)
+/// The table of a source's program within this many choices; none where there is none.
+fn table_at(alloc: Global, source: &str, choices: u8) -> Option<Table> {
+    match program_of(alloc, source) {
+        Some(program) => {
+            let table = table_of(alloc, &program, limits_of(choices, Gates::First));
+            drop_program(program);
+            table
+        }
+        None => None,
+    }
 }
 
 /// Whether these are the members.
 pub fn are_members(cutting: &Cutting, words: &[&[u8]]) -> bool {
     let members = cutting.members();
+    let mut are_members = members.len() == words.len();
     for (member, word) in members.iter().zip(words) {
-        if member.as_slice() != *word {
-            return false;
-        }
+        are_members = are_members && member.as_slice() == *word;
     }
-    members.len() == words.len()
+    are_members
+}
+
+/// The cutting of one empty word, within this many choices; none where memory was refused.
+fn whole<'a>(alloc: Global, program: &'a Resolved, choices: u8) -> Option<Cutting<'a>> {
+    let limits = limits_of(choices, Gates::First);
+    Cutting::whole(alloc, Job { program, limits }).ok()
 }
 
 /// Whether a word that is complete can't be split, and stays the one member.
-fn keeps_leaf(alloc: Global, program: &Resolved) -> Result<bool, Fail> {
-    let mut leaf = whole(alloc, program, 0)?;
-    let is_refused = leaf.members().is_empty()
-        || matches!(leaf.split(alloc, 0), Err(SplitFault::Leaf));
-    Ok(is_refused && are_members(&leaf, &[&[]]))
+fn keeps_leaf(alloc: Global, program: &Resolved) -> bool {
+    match whole(alloc, program, 0) {
+        Some(mut leaf) => {
+            let is_refused = leaf.members().is_empty()
+                || matches!(leaf.split(alloc, 0), Err(SplitFault::Leaf));
+            is_refused && are_members(&leaf, &[&[]])
+        }
+        None => false,
+    }
 }
 
 /// Whether these are the members after the first is split.
@@ -89,42 +94,48 @@ fn splits_to(alloc: Global, cutting: &mut Cutting, words: &[&[u8]]) -> bool {
 }
 
 /// Whether the first member is split into its choices, and again.
-fn splits_twice(alloc: Global, program: &Resolved) -> Result<bool, Fail> {
-    let mut cutting = whole(alloc, program, 5)?;
-    let is_split = splits_to(alloc, &mut cutting, &[&[0], &[1]]);
-    Ok(is_split && splits_to(alloc, &mut cutting, &[&[0, 0], &[0, 1], &[0, 2], &[1]]))
-}
-
-fn splits_but_leaf(alloc: Global, program: &Resolved) -> Result<bool, Fail> {
-    Ok(keeps_leaf(alloc, program)? && splits_twice(alloc, program)?)
-}
-
-#[test]
-fn split_leaf(rt: HostRuntime) -> Result<(), Fail> {
-    let program = program_of(rt.alloc(), TWO_DISPLAYS)?;
-    let holds = splits_but_leaf(rt.alloc(), &program);
-    drop_program(program);
-    assert!(rt; holds?);
-    Ok(())
+fn splits_twice(alloc: Global, program: &Resolved) -> bool {
+    match whole(alloc, program, 5) {
+        Some(mut cutting) => {
+            splits_to(alloc, &mut cutting, &[&[0], &[1]])
+                && splits_to(alloc, &mut cutting, &[&[0, 0], &[0, 1], &[0, 2], &[1]])
+        }
+        None => false,
+    }
 }
 
 /// The members of depth 2 of `TWO_DISPLAYS`.
 pub static MEMBERS: [&[u8]; 5] = [&[0, 0], &[0, 1], &[0, 2], &[1, 0], &[1, 1]];
 
 /// Whether a cutting to depth 2 has these members.
-fn has_members_of_two(alloc: Global, program: &Resolved) -> Result<bool, Fail> {
-    let mut cutting = whole(alloc, program, 5)?;
-    cutting.to_depth(alloc, 2, &mut Unobserved)?;
-    Ok(are_members(&cutting, &MEMBERS))
+fn has_members_of_two(alloc: Global, program: &Resolved) -> bool {
+    match whole(alloc, program, 5) {
+        Some(mut cutting) => {
+            cutting.to_depth(alloc, 2, &mut Unobserved).is_ok() && are_members(&cutting, &MEMBERS)
+        }
+        None => false,
+    }
+}
+
+fn is_cut(alloc: Global, program: &Resolved) -> bool {
+    keeps_leaf(alloc, program) && splits_twice(alloc, program) && has_members_of_two(alloc, program)
+}
+
+/// Whether `TWO_DISPLAYS` is cut so.
+fn are_two_displays_cut(alloc: Global) -> bool {
+    match program_of(alloc, TWO_DISPLAYS) {
+        Some(program) => {
+            let is_cut = is_cut(alloc, &program);
+            drop_program(program);
+            is_cut
+        }
+        None => false,
+    }
 }
 
 #[test]
-fn to_depth_members(rt: HostRuntime) -> Result<(), Fail> {
-    let program = program_of(rt.alloc(), TWO_DISPLAYS)?;
-    let has_members = has_members_of_two(rt.alloc(), &program);
-    drop_program(program);
-    assert!(rt; has_members?);
-    Ok(())
+fn members(rt: HostRuntime) {
+    assert!(rt; are_two_displays_cut(rt.alloc()));
 }
 
 /// How many rows begin with a word.
@@ -138,13 +149,15 @@ fn count_after(rows: &[Row], word: &[u8]) -> usize {
     count
 }
 
-#[test]
-fn rows_of_each_member(rt: HostRuntime) -> Result<(), Fail> {
-    let table = table_at(rt.alloc(), TWO_DISPLAYS, 5)?;
-    for (member, count) in MEMBERS.iter().zip([6, 12, 12, 12, 3]) {
-        assert!(rt; count_after(table.rows.as_slice(), member) == count);
+/// How many rows begin with each of `MEMBERS`.
+static ROW_COUNTS: [usize; 5] = [6, 12, 12, 12, 3];
+
+fn has_rows_of_each_member(rows: &[Row]) -> bool {
+    let mut has_rows = true;
+    for (member, count) in MEMBERS.iter().zip(&ROW_COUNTS) {
+        has_rows = has_rows && count_after(rows, member) == *count;
     }
-    Ok(())
+    has_rows
 }
 
 /// A row with nothing displayed.
@@ -159,7 +172,7 @@ fn empty_row(alloc: Global) -> Row {
 }
 
 /// A piece of this many rows with nothing displayed.
-fn empty_piece(alloc: Global, task: u32, count: u32) -> Result<RowPiece, Fail> {
+fn empty_piece(alloc: Global, task: u32, count: u32) -> Result<RowPiece, AllocError> {
     let mut rows = Vec::new(alloc);
     for _ in 0..count {
         rows.push(empty_row(alloc))?;
@@ -170,69 +183,94 @@ fn empty_piece(alloc: Global, task: u32, count: u32) -> Result<RowPiece, Fail> {
     })
 }
 
-/// Pieces without rows, of these tasks.
-fn pieces_of(alloc: Global, tasks: &[u32]) -> Result<Vec<RowPiece>, Fail> {
+/// Pieces of these tasks with so many rows each.
+fn pieces_of(alloc: Global, sizes: &[(u32, u32)]) -> Result<Vec<RowPiece>, AllocError> {
     let mut pieces = Vec::new(alloc);
-    for task in tasks {
-        pieces.push(empty_piece(alloc, *task, 0)?)?;
+    for (task, count) in sizes {
+        pieces.push(empty_piece(alloc, *task, *count)?)?;
     }
     Ok(pieces)
 }
 
-/// How many rows are gathered of three pieces with 12,500 rows, and of one with so many; none where there are too many.
-fn count_gathered(alloc: Global, last: u32) -> Result<Option<usize>, Fail> {
-    let mut pieces = Vec::new(alloc);
-    for (task, count) in [(3, last), (0, 12_500), (2, 12_500), (1, 12_500)] {
-        pieces.push(empty_piece(alloc, task, count)?)?;
-    }
-    match gather(alloc, 4, pieces) {
-        Ok(table) => Ok(Some(table.rows.as_slice().len())),
-        Err(GatherFault::TooManyRows) => Ok(None),
-        Err(_) => Err(Fail::from("another fault")),
-    }
-}
-
-#[test]
-fn gather_sizes(rt: HostRuntime) -> Result<(), Fail> {
-    assert!(rt; count_gathered(rt.alloc(), 12_500)? == Some(50_000));
-    assert!(rt; count_gathered(rt.alloc(), 12_501)?.is_none());
-    Ok(())
-}
-
-/// What is wrong with pieces.
-#[derive(Clone, Copy, PartialEq, Eq)]
-enum Wrong {
-    Nothing,
+/// What comes of pieces.
+#[derive(Clone, Copy)]
+enum Gathering {
+    /// A table of so many rows.
+    Rows(usize),
+    TooManyRows,
     Double(u32),
     Stranger(u32),
     Missing(u32),
-    Other,
 }
 
-/// What is wrong with these pieces of a table.
-fn wrong_of(alloc: Global, tasks: u32, pieces: Vec<RowPiece>) -> Wrong {
-    match gather(alloc, tasks, pieces) {
-        Ok(_) => Wrong::Nothing,
-        Err(GatherFault::Double(task)) => Wrong::Double(task),
-        Err(GatherFault::Stranger(task)) => Wrong::Stranger(task),
-        Err(GatherFault::Missing(task)) => Wrong::Missing(task),
-        Err(_) => Wrong::Other,
+fn is_fault(fault: &GatherFault, wanted: Gathering) -> bool {
+    match (fault, wanted) {
+        (GatherFault::TooManyRows, Gathering::TooManyRows) => true,
+        (GatherFault::Double(task), Gathering::Double(other)) => *task == other,
+        (GatherFault::Stranger(task), Gathering::Stranger(other)) => *task == other,
+        (GatherFault::Missing(task), Gathering::Missing(other)) => *task == other,
+        _ => false,
     }
 }
 
-static FAULTS: [(&[u32], Wrong); 3] = [
-    (&[0, 0], Wrong::Double(0)),
-    (&[2], Wrong::Stranger(2)),
-    (&[1], Wrong::Missing(0)),
+/// Whether this comes of pieces.
+fn gathers_to(alloc: Global, tasks: u32, pieces: Vec<RowPiece>, wanted: Gathering) -> bool {
+    match gather(alloc, tasks, pieces) {
+        Ok(table) => match wanted {
+            Gathering::Rows(count) => table.rows.as_slice().len() == count,
+            _ => false,
+        },
+        Err(fault) => is_fault(&fault, wanted),
+    }
+}
+
+/// How many tasks there are, pieces of some with so many rows each, and what comes of them.
+struct GatherRow {
+    tasks: u32,
+    sizes: &'static [(u32, u32)],
+    wanted: Gathering,
+}
+
+static GATHERINGS: [GatherRow; 5] = [
+    GatherRow {
+        tasks: 4,
+        sizes: &[(3, 12_500), (0, 12_500), (2, 12_500), (1, 12_500)],
+        wanted: Gathering::Rows(50_000),
+    },
+    GatherRow {
+        tasks: 4,
+        sizes: &[(3, 12_501), (0, 12_500), (2, 12_500), (1, 12_500)],
+        wanted: Gathering::TooManyRows,
+    },
+    GatherRow {
+        tasks: 2,
+        sizes: &[(0, 0), (0, 0)],
+        wanted: Gathering::Double(0),
+    },
+    GatherRow {
+        tasks: 2,
+        sizes: &[(2, 0)],
+        wanted: Gathering::Stranger(2),
+    },
+    GatherRow {
+        tasks: 2,
+        sizes: &[(1, 0)],
+        wanted: Gathering::Missing(0),
+    },
 ];
 
-#[test]
-fn gather_faults(rt: HostRuntime) -> Result<(), Fail> {
-    for (tasks, wrong) in &FAULTS {
-        let pieces = pieces_of(rt.alloc(), tasks)?;
-        assert!(rt; wrong_of(rt.alloc(), 2, pieces) == *wrong);
+fn is_gathered_so(alloc: Global, row: &GatherRow) -> bool {
+    match pieces_of(alloc, row.sizes) {
+        Ok(pieces) => gathers_to(alloc, row.tasks, pieces, row.wanted),
+        Err(_) => false,
     }
-    Ok(())
+}
+
+#[test]
+fn gatherings(rt: HostRuntime) {
+    for (number, row) in GATHERINGS.iter().enumerate() {
+        assert!(rt; is_gathered_so(rt.alloc(), row), "{number}");
+    }
 }
 
 /// A row like this one.
@@ -281,12 +319,11 @@ pub fn cut_pieces(
 
 /// Whether these rows are the same.
 pub fn are_same(rows: &[Row], others: &[Row]) -> bool {
+    let mut are_same = rows.len() == others.len();
     for (row, other) in rows.iter().zip(others) {
-        if !is_same(row, other) {
-            return false;
-        }
+        are_same = are_same && is_same(row, other);
     }
-    rows.len() == others.len()
+    are_same
 }
 
 fn is_same(row: &Row, other: &Row) -> bool {
@@ -307,51 +344,44 @@ fn digits_of(code: u32) -> [u32; 5] {
 }
 
 fn is_order(digits: [u32; 5]) -> bool {
+    let mut is_order = true;
     for task in 0..5u32 {
-        if !digits.contains(&task) {
-            return false;
-        }
+        is_order = is_order && digits.contains(&task);
     }
-    true
-}
-
-/// The orders of the five tasks.
-fn orders(alloc: Global) -> Result<Vec<[u32; 5]>, Fail> {
-    let mut orders = Vec::new(alloc);
-    for code in 0u32..3125 {
-        let digits = digits_of(code);
-        if is_order(digits) {
-            orders.push(digits)?;
-        }
-    }
-    Ok(orders)
+    is_order
 }
 
 /// Whether the pieces of a table in this order are put together to it.
-fn is_gathered(alloc: Global, table: &Table, order: &[u32]) -> Result<bool, Fail> {
-    let pieces = cut_pieces(alloc, table, order)?;
-    match gather(alloc, 5, pieces) {
-        Ok(gathered) => Ok(are_same(gathered.rows.as_slice(), table.rows.as_slice())),
-        Err(_) => Ok(false),
+fn is_gathered(alloc: Global, table: &Table, order: &[u32]) -> bool {
+    match cut_pieces(alloc, table, order) {
+        Ok(pieces) => match gather(alloc, 5, pieces) {
+            Ok(gathered) => are_same(gathered.rows.as_slice(), table.rows.as_slice()),
+            Err(_) => false,
+        },
+        Err(_) => false,
     }
 }
 
-/// The pieces of a cutting in each order.
-#[test]
-fn gather_orders(rt: HostRuntime) -> Result<(), Fail> {
-    let table = table_at(rt.alloc(), TWO_DISPLAYS, 5)?;
-    let orders = orders(rt.alloc())?;
-    assert!(rt; orders.len() == 120);
-    for order in &orders {
-        assert!(rt; is_gathered(rt.alloc(), &table, order)?);
+/// Whether the pieces of a table are put together to it in each of the 120 orders of the five tasks.
+fn is_gathered_in_each_order(alloc: Global, table: &Table) -> bool {
+    let mut orders = 0u32;
+    let mut is_gathered_each = true;
+    for code in 0u32..3125 {
+        let digits = digits_of(code);
+        if is_order(digits) {
+            orders = orders.saturating_add(1);
+            is_gathered_each = is_gathered_each && is_gathered(alloc, table, &digits);
+        }
     }
-    Ok(())
+    is_gathered_each && orders == 120
 }
 
-/// What is wrong with the pieces of these tasks, cut from a table.
-fn wrong_in(alloc: Global, table: &Table, tasks: &[u32]) -> Result<Wrong, Fail> {
-    let pieces = cut_pieces(alloc, table, tasks)?;
-    Ok(wrong_of(alloc, 5, pieces))
+/// Whether this comes of the pieces of these tasks, cut from a table.
+fn cuts_to(alloc: Global, table: &Table, tasks: &[u32], wanted: Gathering) -> bool {
+    match cut_pieces(alloc, table, tasks) {
+        Ok(pieces) => gathers_to(alloc, 5, pieces, wanted),
+        Err(_) => false,
+    }
 }
 
 /// The five tasks but one.
@@ -365,34 +395,77 @@ fn less(wrong: u32) -> ArrayVec<u32, 5> {
     tasks
 }
 
-/// The pieces of a cutting with one too many or one too few.
-#[test]
-fn gather_wrong_pieces(rt: HostRuntime) -> Result<(), Fail> {
-    let table = table_at(rt.alloc(), TWO_DISPLAYS, 5)?;
+/// Whether the pieces of a cutting are refused with one too many or one too few.
+fn refuses_wrong_pieces(alloc: Global, table: &Table) -> bool {
+    let mut refuses = cuts_to(alloc, table, &[0, 1, 2, 3, 4, 5], Gathering::Stranger(5));
     for wrong in 0u32..5 {
-        let twice = wrong_in(rt.alloc(), &table, &[0, 1, 2, 3, 4, wrong])?;
-        let less = wrong_in(rt.alloc(), &table, less(wrong).as_slice())?;
-        assert!(rt; twice == Wrong::Double(wrong) && less == Wrong::Missing(wrong));
+        let twice = [0, 1, 2, 3, 4, wrong];
+        refuses = refuses
+            && cuts_to(alloc, table, &twice, Gathering::Double(wrong))
+            && cuts_to(
+                alloc,
+                table,
+                less(wrong).as_slice(),
+                Gathering::Missing(wrong),
+            );
     }
-    let more = wrong_in(rt.alloc(), &table, &[0, 1, 2, 3, 4, 5])?;
-    assert!(rt; more == Wrong::Stranger(5));
-    Ok(())
+    refuses
 }
 
-/// How many words begin those of a job's table.
-fn beginnings_of(alloc: Global, program: &Resolved, limits: Limits) -> Result<u64, Fail>
+/// What is asked of the table of `TWO_DISPLAYS`.
+#[derive(Clone, Copy)]
+enum TableTrial {
+    /// So many rows of each member.
+    Rows,
+    /// The same table from its pieces in each order.
+    Orders,
+    /// A fault for wrong pieces.
+    Faults,
+}
+
+static TRIALS: [(TableTrial, &str); 3] = [
+    (TableTrial::Rows, "rows"),
+    (TableTrial::Orders, "orders"),
+    (TableTrial::Faults, "faults"),
+];
+
+fn passes(alloc: Global, trial: TableTrial) -> bool {
+    match table_at(alloc, TWO_DISPLAYS, 5) {
+        Some(table) => match trial {
+            TableTrial::Rows => has_rows_of_each_member(table.rows.as_slice()),
+            TableTrial::Orders => is_gathered_in_each_order(alloc, &table),
+            TableTrial::Faults => refuses_wrong_pieces(alloc, &table),
+        },
+        None => false,
+    }
+}
+
+#[test]
+fn table_of_two_displays(rt: HostRuntime) {
+    for (trial, name) in &TRIALS {
+        assert!(rt; passes(rt.alloc(), *trial), "{name}");
+    }
+}
+
+/// How many words begin those of a job's table; none where there is no table.
+fn beginnings_of(alloc: Global, program: &Resolved, limits: Limits) -> Option<u64>
     requires { limits.choices ≤ 20 }
 {
-    let table = table_of(alloc, program, limits)?;
-    Ok(beginnings(&table))
+    match table_of(alloc, program, limits) {
+        Some(table) => Some(beginnings(&table)),
+        None => None,
+    }
 }
 
-fn beginnings_at(alloc: Global, source: &str, choices: u8) -> Result<u64, Fail> {
-    let limits = limits_of(choices, Gates::First)?;
-    let program = program_of(alloc, source)?;
-    let count = beginnings_of(alloc, &program, limits);
-    drop_program(program);
-    count
+fn beginnings_at(alloc: Global, source: &str, choices: u8) -> Option<u64> {
+    match program_of(alloc, source) {
+        Some(program) => {
+            let count = beginnings_of(alloc, &program, limits_of(choices, Gates::First));
+            drop_program(program);
+            count
+        }
+        None => None,
+    }
 }
 
 /// A source, the choices of its table, and how many words begin those of its rows.
@@ -403,9 +476,8 @@ static COUNTS: [(&str, u8, u64); 3] = [
 ];
 
 #[test]
-fn beginnings_counts(rt: HostRuntime) -> Result<(), Fail> {
+fn beginnings_counts(rt: HostRuntime) {
     for (source, choices, count) in &COUNTS {
-        assert!(rt; beginnings_at(rt.alloc(), source, *choices)? == *count);
+        assert!(rt; beginnings_at(rt.alloc(), source, *choices) == Some(*count));
     }
-    Ok(())
 }

@@ -1,129 +1,113 @@
 //! The worked rows of the grammar, from source texts to trees and faults.
 
-use crate::programs::{tokens_of, tree_of};
+use crate::programs::tree_of;
 use cp_drops::drop_tree;
-use cp_text::Tokens;
+use cp_prose::Prose;
+use cp_text::{Tokens, scan};
 use cp_tree::{FactorKind, ParseFault, StatementKind, Tree, parse};
-use std::test::Fail;
+use std::alloc::Global;
 
 // A space stands between any two tokens.
 const BUFFER: &str =
     "type buffer = monitor ; var full : boolean ; slot : integer ; sender , receiver : queue ; procedure entry put ( x : integer ) ; begin if full then delay ( sender ) ; slot := x ; full := true ; continue ( receiver ) end ; procedure entry get ( var x : integer ) ; begin if not full then delay ( receiver ) ; x := slot ; full := false ; continue ( sender ) end ; begin full := false end ; producer = process ( b : buffer ) ; begin b . put ( 7 ) end ; consumer = process ( b : buffer ) ; var v : integer ; begin b . get ( v ) ; display ( v ) end ; var b : buffer ; p : producer ; c : consumer ; begin init b , p ( b ) , c ( b ) end .";
 
 /// How the reading of a program ends.
-#[derive(Clone, Copy, PartialEq, Eq)]
+#[derive(Clone, Copy)]
 enum ParseEnding {
     Read,
     Unexpected(usize),
     OutsideProfile(usize),
     TooDeep(usize),
-    Memory,
 }
 
-fn ending_after(rt: &HostRuntime, tokens: &Tokens) -> ParseEnding {
-    match parse(rt.alloc(), tokens) {
+fn is_fault(fault: &ParseFault, ending: ParseEnding) -> bool {
+    match (fault, ending) {
+        (ParseFault::Unexpected(at), ParseEnding::Unexpected(wanted)) => *at == wanted,
+        (ParseFault::OutsideProfile(at), ParseEnding::OutsideProfile(wanted)) => *at == wanted,
+        (ParseFault::TooDeep(at), ParseEnding::TooDeep(wanted)) => *at == wanted,
+        _ => false,
+    }
+}
+
+fn is_ended(alloc: Global, tokens: &Tokens, ending: ParseEnding) -> bool {
+    match parse(alloc, tokens) {
         Ok(tree) => {
             drop_tree(tree);
-            ParseEnding::Read
+            matches!(ending, ParseEnding::Read)
         }
-        Err(ParseFault::Unexpected(at)) => ParseEnding::Unexpected(at),
-        Err(ParseFault::OutsideProfile(at)) => ParseEnding::OutsideProfile(at),
-        Err(ParseFault::TooDeep(at)) => ParseEnding::TooDeep(at),
-        Err(ParseFault::Memory) => ParseEnding::Memory,
+        Err(fault) => is_fault(&fault, ending),
     }
 }
 
-fn ending_of(rt: &HostRuntime, source: &str) -> Result<ParseEnding, Fail> {
-    Ok(ending_after(rt, &tokens_of(rt.alloc(), source)?))
-}
-
-// The statements of `begin .. end.` with this many `begin` before as many `end`.
-fn nested_text(rt: &HostRuntime, levels: usize) -> Result<String, Fail> {
-    let mut text = String::new(rt.alloc());
-    for _ in 0..levels {
-        text.push_str("begin ")?;
+fn ends_so(alloc: Global, source: &str, ending: ParseEnding) -> bool {
+    match scan(alloc, source.as_bytes()) {
+        Ok(tokens) => is_ended(alloc, &tokens, ending),
+        Err(_) => false,
     }
-    for _ in 0..levels {
-        text.push_str("end ")?;
+}
+
+// Whether the reading of a text ends so for whose pieces memory was not refused.
+fn prose_ends_so(alloc: Global, text: &Prose, ending: ParseEnding) -> bool {
+    match text.as_str() {
+        Ok(source) => ends_so(alloc, source, ending),
+        Err(_) => false,
     }
-    text.push_str(".")?;
-    Ok(text)
 }
 
-fn ending_of_nested(rt: &HostRuntime, levels: usize) -> Result<ParseEnding, Fail> {
-    let text = nested_text(rt, levels)?;
-    ending_of(rt, text.as_str())
-}
-
-// The first tokens of the buffer, with token `at` replaced by `with`.
-fn copy_with(rt: &HostRuntime, count: usize, at: usize) -> Result<Tokens, Fail> {
-    let words: Vec<&str> = BUFFER.split_whitespace().collect(rt.alloc())?;
-    let mut text = String::new(rt.alloc());
-    for i in 0..count.min(words.len()) {
-        text.push_str(if i == at { "with" } else { words[i] })?;
-        text.push_str(" ")?;
+fn put_often(text: &mut Prose, piece: &str, times: usize) {
+    for _ in 0..times {
+        text.put(piece);
     }
-    tokens_of(rt.alloc(), text.as_str())
 }
 
-fn ending_of_copy(rt: &HostRuntime, count: usize, at: usize) -> Result<ParseEnding, Fail> {
-    Ok(ending_after(rt, &copy_with(rt, count, at)?))
-}
-
-// Whether the second statement has no `else`, and the `if` in it has one.
-fn has_inner_else(tree: &Tree) -> bool {
-    match tree.program.body.statements.get(1) {
-        Some(outer) => match &outer.kind {
-            StatementKind::If(_, chosen, None) => {
-                matches!(chosen.kind, StatementKind::If(_, _, Some(_)))
-            }
-            _ => false,
-        },
-        None => false,
-    }
+// Whether the statements of `begin .. end.` are read so, with this many `begin` before as many `end`.
+fn nested_end_so(alloc: Global, levels: usize, ending: ParseEnding) -> bool {
+    let mut text = Prose::new(alloc);
+    put_often(&mut text, "begin ", levels);
+    put_often(&mut text, "end ", levels);
+    text.put(".");
+    prose_ends_so(alloc, &text, ending)
 }
 
 #[test]
-fn dangling_else(rt: HostRuntime) -> Result<(), Fail> {
-    let source =
-        "var a, b: boolean; x: integer; begin a := true; if a then if b then x := 1 else x := 2; display(x) end.";
-    let tree = tree_of(rt.alloc(), source)?;
-    let is_inner = has_inner_else(&tree);
-    let line = tree.line(3);
-    drop_tree(tree);
-    assert!(rt; is_inner && line == 1);
-    Ok(())
+fn levels(rt: HostRuntime) {
+    assert!(rt; nested_end_so(rt.alloc(), 50, ParseEnding::Read));
+    assert!(rt; nested_end_so(rt.alloc(), 51, ParseEnding::TooDeep(51)));
 }
 
-#[test]
-fn with_at_each_token(rt: HostRuntime) -> Result<(), Fail> {
-    let tokens = tokens_of(rt.alloc(), BUFFER)?;
-    assert!(rt; ending_after(&rt, &tokens) == ParseEnding::Read);
-    for at in 0..tokens.count() {
-        let ending = ending_of_copy(&rt, tokens.count(), at)?;
-        assert!(rt; ending == ParseEnding::OutsideProfile(at), "{at}");
+// Whether the first tokens of the buffer are read so, with token `at` replaced by `with`.
+fn copy_ends_so(alloc: Global, count: usize, at: usize, ending: ParseEnding) -> bool {
+    let mut text = Prose::new(alloc);
+    for (number, word) in BUFFER.split_whitespace().enumerate() {
+        if number < count {
+            text.put(if number == at { "with" } else { word });
+            text.put(" ");
+        }
     }
-    Ok(())
+    prose_ends_so(alloc, &text, ending)
 }
 
-#[test]
-fn cut_at_each_token(rt: HostRuntime) -> Result<(), Fail> {
-    let tokens = tokens_of(rt.alloc(), BUFFER)?;
-    for count in 0..tokens.count() {
-        let ending = ending_of_copy(&rt, count, count)?;
-        assert!(rt; ending == ParseEnding::Unexpected(count), "{count}");
+// How many tokens the buffer has; none where it is not scanned.
+fn count_tokens(alloc: Global) -> usize {
+    match scan(alloc, BUFFER.as_bytes()) {
+        Ok(tokens) => tokens.count(),
+        Err(_) => 0,
     }
-    Ok(())
 }
 
+/// With `with` at each token, and cut before each token.
 #[test]
-fn levels(rt: HostRuntime) -> Result<(), Fail> {
-    assert!(rt; ending_of_nested(&rt, 50)? == ParseEnding::Read);
-    assert!(rt; ending_of_nested(&rt, 51)? == ParseEnding::TooDeep(51));
-    Ok(())
+fn broken_at_each_token(rt: HostRuntime) {
+    let count = count_tokens(rt.alloc());
+    assert!(rt; count > 0);
+    for at in 0..count {
+        let is_refused = copy_ends_so(rt.alloc(), count, at, ParseEnding::OutsideProfile(at))
+            && copy_ends_so(rt.alloc(), at, at, ParseEnding::Unexpected(at));
+        assert!(rt; is_refused, "{at}");
+    }
 }
 
-static ENDINGS: [(&str, ParseEnding); 21] = [
+static ENDINGS: [(&str, ParseEnding); 23] = [
     ("", ParseEnding::Unexpected(0)),
     ("begin with x do end.", ParseEnding::OutsideProfile(1)),
     ("begin cycle end.", ParseEnding::Unexpected(3)),
@@ -154,14 +138,31 @@ static ENDINGS: [(&str, ParseEnding); 21] = [
         ParseEnding::Unexpected(2),
     ),
     ("begin for i := 1 do end.", ParseEnding::Unexpected(5)),
+    (BUFFER, ParseEnding::Read),
+    (
+        "const c = -1; d = 'a'; type t = (a, b); u = array [t] of set of 1..c; v = record x, y: t; z: 0..+9; end; var q: v; function f(n: t): t; begin end; begin case c of 1, -d: ; 'x': begin end; end; repeat until not [] = [1, 2] * [q.x]; for i := 1 downto 2 do while x in y do; if a then else begin end end.",
+        ParseEnding::Read,
+    ),
 ];
 
 #[test]
-fn endings_of_sources(rt: HostRuntime) -> Result<(), Fail> {
-    for (source, wanted) in &ENDINGS {
-        assert!(rt; ending_of(&rt, source)? == *wanted, "{source}");
+fn endings_of_sources(rt: HostRuntime) {
+    for (source, ending) in &ENDINGS {
+        assert!(rt; ends_so(rt.alloc(), source, *ending), "{source}");
     }
-    Ok(())
+}
+
+// Whether the second statement has no `else`, and the `if` in it has one.
+fn has_inner_else(tree: &Tree) -> bool {
+    match tree.program.body.statements.get(1) {
+        Some(outer) => match &outer.kind {
+            StatementKind::If(_, chosen, None) => {
+                matches!(chosen.kind, StatementKind::If(_, _, Some(_)))
+            }
+            _ => false,
+        },
+        None => false,
+    }
 }
 
 // Whether the first statement assigns a negated group.
@@ -178,20 +179,33 @@ fn negates_a_group(tree: &Tree) -> bool {
     }
 }
 
-#[test]
-fn accepted_forms(rt: HostRuntime) -> Result<(), Fail> {
+// Whether an `else` is that of the inner `if`, on the first line.
+fn reads_dangling_else(alloc: Global) -> bool {
     let source =
-        "const c = -1; d = 'a'; type t = (a, b); u = array [t] of set of 1..c; v = record x, y: t; z: 0..+9; end; var q: v; function f(n: t): t; begin end; begin case c of 1, -d: ; 'x': begin end; end; repeat until not [] = [1, 2] * [q.x]; for i := 1 downto 2 do while x in y do; if a then else begin end end.";
-    assert!(rt; ending_of(&rt, source)? == ParseEnding::Read);
-    Ok(())
+        "var a, b: boolean; x: integer; begin a := true; if a then if b then x := 1 else x := 2; display(x) end.";
+    match tree_of(alloc, source) {
+        Some(tree) => {
+            let is_read = has_inner_else(&tree) && tree.line(3) == 1;
+            drop_tree(tree);
+            is_read
+        }
+        None => false,
+    }
+}
+
+fn reads_negated_group(alloc: Global) -> bool {
+    match tree_of(alloc, "begin x := -(1) end.") {
+        Some(tree) => {
+            let is_read = negates_a_group(&tree) && tree.program.period == 8;
+            drop_tree(tree);
+            is_read
+        }
+        None => false,
+    }
 }
 
 #[test]
-fn negated_group(rt: HostRuntime) -> Result<(), Fail> {
-    let tree = tree_of(rt.alloc(), "begin x := -(1) end.")?;
-    let is_negated = negates_a_group(&tree);
-    let period = tree.program.period;
-    drop_tree(tree);
-    assert!(rt; is_negated && period == 8);
-    Ok(())
+fn forms_of_trees(rt: HostRuntime) {
+    assert!(rt; reads_dangling_else(rt.alloc()));
+    assert!(rt; reads_negated_group(rt.alloc()));
 }

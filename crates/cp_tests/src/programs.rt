@@ -1,6 +1,6 @@
 //! Programs of the worked rows, resolved, and what is asked of them by words.
 
-ghost use Rattle.std.specs.Prelude.{◌≡◌, ◌≤◌, IfOk, length};
+ghost use Rattle.std.specs.Prelude.{◌≡◌, ◌≤◌};
 
 use arrayvec::ArrayVec;
 use cp_check::{CheckFault, Checked, check};
@@ -9,12 +9,11 @@ use cp_machine::{Gates, Shown, Ticks};
 use cp_resolved::resolve;
 use cp_run::{Limits, OutcomeKind, RunEnd, run};
 use cp_slots::Resolved;
-use cp_text::{Tokens, scan};
+use cp_text::scan;
 use cp_tree::{Tree, parse};
 use std::alloc::Global;
 use std::marker::Brand;
 use std::sync::ledger::{Blank, Ledger};
-use std::test::Fail;
 
 pub const TWO_DISPLAYS: &str =
     "type p = process(n: integer); begin display(n) end; var a, b: p; begin init a(1), b(2) end.";
@@ -43,32 +42,25 @@ pub const BUFFER: &str =
 pub const INNER_DELAY: &str =
     "type inner = monitor; var q: queue; procedure entry hold; begin delay(q) end; procedure entry free; begin continue(q) end; begin end; outer = monitor(i: inner); procedure entry go; begin i.hold end; begin end; a = process(o: outer); begin o.go end; b = process(i: inner); begin i.free end; var i: inner; o: outer; p, r: a; s: b; begin init i, o(i), p(o), r(o), s(i) end.";
 
-/// The tokens of a source without a fault.
-pub fn tokens_of(alloc: Global, source: &str) -> Result<Tokens, Fail> {
-    Ok(
-        scan(alloc, source.as_bytes())
-            .ok()
-            .ok_or("it is not scanned")?,
-    )
+/// The tree of a source; none where it is no program, or memory was refused.
+pub fn tree_of(alloc: Global, source: &str) -> Option<Tree> {
+    match scan(alloc, source.as_bytes()) {
+        Ok(tokens) => parse(alloc, &tokens).ok(),
+        Err(_) => None,
+    }
 }
 
-/// The tree of a source that is a program.
-pub fn tree_of(alloc: Global, source: &str) -> Result<Tree, Fail> {
-    let tokens = tokens_of(alloc, source)?;
-    Ok(parse(alloc, &tokens).ok().ok_or("it is not parsed")?)
-}
-
-/// The program of an accepted source.
-pub fn program_of(alloc: Global, source: &str) -> Result<Resolved, Fail> {
+/// The program of an accepted source; none where it is not accepted, or memory was refused.
+pub fn program_of(alloc: Global, source: &str) -> Option<Resolved> {
     match check(alloc, tree_of(alloc, source)?) {
         Ok(checked) => {
             let program = resolve(alloc, &checked);
             drop_checked(checked);
-            Ok(program?)
+            program.ok()
         }
         Err((_fault, tree)) => {
             drop_tree(tree);
-            Err(Fail::from("it is not accepted"))
+            None
         }
     }
 }
@@ -88,22 +80,17 @@ pub fn fault_of(checked: Result<Checked, (CheckFault, Tree)>) -> Option<CheckFau
 }
 
 /// Limits with 1,000 steps, and no more choices than tables have.
-pub fn limits_of(choices: u8, gates: Gates) -> Result<Limits, Fail>
-    ensures { IfOk result (λ l. l.choices ≤ 20) }
+pub fn limits_of(choices: u8, gates: Gates) -> Limits
+    ensures { result.choices ≤ 20 }
 {
-    if choices > 20 {
-        return Err(Fail::from("too many choices"));
-    }
-    Ok(Limits::new(choices, 1000, gates).ok_or("no such limits")?)
+    let Some(limits) = Limits::new(choices.min(20), 1000, gates) else {
+        unreachable!()
+    };
+    limits
 }
 
-/// How the run of a word ends.
-pub fn end_of(
-    alloc: Global,
-    program: &Resolved,
-    limits: Limits,
-    word: &[u8],
-) -> Result<RunEnd, Fail> {
+/// How the run of a word ends; none where the word is too long, or memory was refused.
+fn end_of(alloc: Global, program: &Resolved, limits: Limits, word: &[u8]) -> Option<RunEnd> {
     end_counted::<Brand>(alloc, program, limits, word, Blank::new(1))
 }
 
@@ -113,45 +100,48 @@ fn end_counted<L: Ledger>(
     limits: Limits,
     word: &[u8],
     blank: Blank,
-) -> Result<RunEnd, Fail>
+) -> Option<RunEnd>
     requires name { blank.name ≡ L.name }
     requires parts { blank.parts ≡ L.parts }
     requires one { L.parts ≡ 1 }
 {
     let mut ticks: Ticks<L> = Ticks::new(blank);
     if word.len() > 20 {
-        return Err(Fail::from("the word is too long"));
+        return None;
     }
-    Ok(
-        run(alloc, program, limits, word, &mut ticks)
-            .ok()
-            .ok_or("memory was refused")?,
-    )
+    run(alloc, program, limits, word, &mut ticks).ok()
 }
 
-/// How the run of a word of a source's program ends.
-pub fn end_at(alloc: Global, source: &str, limits: Limits, word: &[u8]) -> Result<RunEnd, Fail> {
-    let program = program_of(alloc, source)?;
-    let end = end_of(alloc, &program, limits, word);
-    drop_program(program);
-    end
-}
-
-/// Whether a run ended in this way after this many numbers of its word, with this displayed.
-pub fn has_ended(end: &RunEnd, used: usize, kind: OutcomeKind, output: &[Shown]) -> bool {
-    match end {
-        RunEnd::Ended {
-            outcome,
-            used: found,
-        } => { *found == used && outcome.kind == kind && outcome.output.as_slice() == output }
-        _ => false,
+/// How the run of a word of a source's program ends; none where there is no program, or memory was refused.
+pub fn end_at(alloc: Global, source: &str, limits: Limits, word: &[u8]) -> Option<RunEnd> {
+    match program_of(alloc, source) {
+        Some(program) => {
+            let end = end_of(alloc, &program, limits, word);
+            drop_program(program);
+            end
+        }
+        None => None,
     }
 }
 
-/// Whether a run wants a choice among these processes.
-pub fn has_wanted(end: &RunEnd, wanted: &[u8]) -> bool {
-    match end {
-        RunEnd::Wants { ready } => ready.as_slice() == wanted,
+/// How a run ends that is wanted.
+pub enum WantedEnd {
+    /// In this way, after its whole word, with this displayed.
+    Ended(OutcomeKind, &'static [Shown]),
+    /// By the want of a choice among these processes.
+    Wants(&'static [u8]),
+    /// At this number of its word, which may not be chosen.
+    NotReady(usize),
+}
+
+/// Whether the run of a word of this length ended as is wanted.
+pub fn has_ended(end: &RunEnd, length: usize, wanted: &WantedEnd) -> bool {
+    match (end, wanted) {
+        (RunEnd::Ended { outcome, used }, WantedEnd::Ended(kind, output)) => {
+            *used == length && outcome.kind == *kind && outcome.output.as_slice() == *output
+        }
+        (RunEnd::Wants { ready }, WantedEnd::Wants(numbers)) => ready.as_slice() == *numbers,
+        (RunEnd::NotReady { place }, WantedEnd::NotReady(number)) => *place == *number,
         _ => false,
     }
 }

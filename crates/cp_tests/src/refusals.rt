@@ -5,63 +5,43 @@ ghost use Rattle.std.specs.Prelude.{◌≡◌, ◌≤◌};
 
 use crate::answers::{CallAnswer, ample_answer, are_right, memory_answer};
 use crate::cuttings::{MEMBERS, are_members, are_same, cut_pieces};
-use crate::programs::{BUFFER, TWO_DISPLAYS, fault_of, has_ended, limits_of};
+use crate::programs::{
+    BUFFER, TWO_DISPLAYS, WantedEnd, fault_of, has_ended, limits_of, program_of, tree_of,
+};
 use crate::steps::{LAST_STEPS, step_alone};
 use crate::traces::is_first_trace;
 use crate::workers::REPORT;
 use cp_check::check;
-use cp_drops::{drop_checked, drop_program, drop_tree};
+use cp_drops::drop_program;
 use cp_explore::{
     Cutting, ExploreFault, GatherFault, Job, NoGate, SplitFault, Table, explore, explore_one,
     gather, report,
 };
 use cp_machine::{Gates, Shown, Ticks};
 use cp_progress::Unobserved;
-use cp_resolved::resolve;
 use cp_run::{Limits, OutcomeKind, RunEnd, run, trace};
 use cp_scope::{CheckFault, Rule};
 use cp_slots::Resolved;
-use cp_text::scan;
-use cp_tree::{Tree, parse};
+use cp_tree::Tree;
 use std::alloc::Global;
 use std::marker::Brand;
 use std::sync::ledger::{Blank, Ledger};
-use std::test::Fail;
 use std::thread::Threads;
 
-fn tree_of(alloc: Global, source: &str) -> Option<Tree> {
-    let tokens = scan(alloc, source.as_bytes()).ok()?;
-    parse(alloc, &tokens).ok()
-}
-
-fn program_of(alloc: Global, source: &str) -> Option<Resolved> {
-    match check(alloc, tree_of(alloc, source)?) {
-        Ok(checked) => {
-            let program = resolve(alloc, &checked);
-            drop_checked(checked);
-            program.ok()
-        }
-        Err((_fault, tree)) => {
-            drop_tree(tree);
-            None
-        }
-    }
-}
-
 /// The tree of a source. It is made again where memory was refused.
-fn tree_at_last(alloc: Global, source: &str) -> Result<Tree, Fail> {
-    if let Some(tree) = tree_of(alloc, source) {
-        return Ok(tree);
+fn tree_at_last(alloc: Global, source: &str) -> Option<Tree> {
+    match tree_of(alloc, source) {
+        Some(tree) => Some(tree),
+        None => tree_of(alloc, source),
     }
-    Ok(tree_of(alloc, source).ok_or("there is no tree")?)
 }
 
 /// The program of a source. It is made again where memory was refused.
-fn program_at_last(alloc: Global, source: &str) -> Result<Resolved, Fail> {
-    if let Some(program) = program_of(alloc, source) {
-        return Ok(program);
+fn program_at_last(alloc: Global, source: &str) -> Option<Resolved> {
+    match program_of(alloc, source) {
+        Some(program) => Some(program),
+        None => program_of(alloc, source),
     }
-    Ok(program_of(alloc, source).ok_or("there is no program")?)
 }
 
 /// A table as a report of `TWO_DISPLAYS`.
@@ -125,8 +105,10 @@ fn answers_to_two_gatherings<L: Ledger>(alloc: Global, job: Job, blank: Blank) -
 
 static WORD: [u8; 5] = [0, 0, 2, 2, 1];
 
+static END: WantedEnd = WantedEnd::Ended(OutcomeKind::Finished, &[Shown::Integer(7)]);
+
 fn is_end(end: &RunEnd) -> bool {
-    has_ended(end, 5, OutcomeKind::Finished, &[Shown::Integer(7)])
+    has_ended(end, 5, &END)
 }
 
 /// The end of a run of the buffer.
@@ -182,23 +164,36 @@ fn answers_to_runs_and_traces<L: Ledger>(
     ]
 }
 
+/// Whether the answers are right that concern runs and traces.
+fn runs_and_traces_well(alloc: Global) -> bool {
+    match program_at_last(alloc, BUFFER) {
+        Some(program) => {
+            let limits = limits_of(8, Gates::First);
+            let answers = answers_to_runs_and_traces::<Brand>(
+                alloc,
+                &program,
+                limits,
+                Blank::new(1),
+            );
+            drop_program(program);
+            are_right(&answers)
+        }
+        None => false,
+    }
+}
+
 #[test]
-fn refused_growth_of_a_run_and_its_trace(rt: HostRuntime) -> Result<(), Fail> {
-    let limits = limits_of(8, Gates::First)?;
-    let program = program_at_last(rt.alloc(), BUFFER)?;
-    let answers = answers_to_runs_and_traces::<Brand>(rt.alloc(), &program, limits, Blank::new(1));
-    drop_program(program);
-    assert!(rt; are_right(&answers));
-    Ok(())
+fn refused_growth_of_a_run_and_its_trace(rt: HostRuntime) {
+    assert!(rt; runs_and_traces_well(rt.alloc()));
 }
 
 /// The cutting of one empty word. It is made again where memory was refused.
-fn whole_at_last<'a>(alloc: Global, job: Job<'a>) -> Result<Cutting<'a>, Fail>
+fn whole_at_last<'a>(alloc: Global, job: Job<'a>) -> Option<Cutting<'a>>
     requires { job.limits.choices ≤ 20 }
 {
     match Cutting::whole(alloc, job) {
-        Ok(cutting) => Ok(cutting),
-        Err(_) => Ok(Cutting::whole(alloc, job)?),
+        Ok(cutting) => Some(cutting),
+        Err(_) => Cutting::whole(alloc, job).ok(),
     }
 }
 
@@ -235,16 +230,13 @@ fn split_at_last(
     }
 }
 
-fn answers_to_two_splits(alloc: Global, job: Job) -> Result<[CallAnswer; 2], Fail>
-    requires { job.limits.choices ≤ 20 }
-{
-    let mut cutting = whole_at_last(alloc, job)?;
+fn answers_to_two_splits(alloc: Global, cutting: &mut Cutting) -> [CallAnswer; 2] {
     let two: [&[u8]; 2] = [&[0], &[1]];
     let four: [&[u8]; 4] = [&[0, 0], &[0, 1], &[0, 2], &[1]];
-    Ok([
-        split_at_last(alloc, &mut cutting, &[&[]], &two),
-        split_at_last(alloc, &mut cutting, &two, &four),
-    ])
+    [
+        split_at_last(alloc, cutting, &[&[]], &two),
+        split_at_last(alloc, cutting, &two, &four),
+    ]
 }
 
 /// A cutting's members are split to a depth.
@@ -271,17 +263,14 @@ fn answer_of_two_workers<X: Threads + Sync>(
 fn answers_to_a_cutting<X: Threads + Sync>(
     rt: &X,
     alloc: Global,
-    job: Job,
-) -> Result<[CallAnswer; 4], Fail>
-    requires { job.limits.choices ≤ 20 }
-{
-    let mut cutting = whole_at_last(alloc, job)?;
-    Ok([
-        depth_answer(alloc, &mut cutting),
-        answer_of_two_workers(rt, alloc, &cutting),
-        depth_answer(alloc, &mut cutting),
-        answer_of_two_workers(rt, alloc, &cutting),
-    ])
+    cutting: &mut Cutting,
+) -> [CallAnswer; 4] {
+    [
+        depth_answer(alloc, cutting),
+        answer_of_two_workers(rt, alloc, cutting),
+        depth_answer(alloc, cutting),
+        answer_of_two_workers(rt, alloc, cutting),
+    ]
 }
 
 /// What is asked of a job twice.
@@ -293,60 +282,60 @@ enum Trial {
     Cutting,
 }
 
-fn answers_well<X: Threads + Sync>(
-    rt: &X,
-    alloc: Global,
-    job: Job,
-    trial: Trial,
-) -> Result<bool, Fail>
+fn answers_well<X: Threads + Sync>(rt: &X, alloc: Global, job: Job, trial: Trial) -> bool
     requires { job.limits.choices ≤ 20 }
 {
-    Ok(match trial {
+    match trial {
         Trial::Walk => are_right(&answers_to_two_walks::<Brand>(alloc, job, Blank::new(1))),
         Trial::Gathering => {
             are_right(&answers_to_two_gatherings::<Brand>(alloc, job, Blank::new(1)))
         }
-        Trial::Split => are_right(&answers_to_two_splits(alloc, job)?),
-        Trial::Cutting => are_right(&answers_to_a_cutting(rt, alloc, job)?),
-    })
+        Trial::Split => match whole_at_last(alloc, job) {
+            Some(mut cutting) => are_right(&answers_to_two_splits(alloc, &mut cutting)),
+            None => false,
+        },
+        Trial::Cutting => match whole_at_last(alloc, job) {
+            Some(mut cutting) => are_right(&answers_to_a_cutting(rt, alloc, &mut cutting)),
+            None => false,
+        },
+    }
 }
 
 /// Whether the answers are right that concern `TWO_DISPLAYS`.
-fn is_right<X: Threads + Sync>(rt: &X, alloc: Global, trial: Trial) -> Result<bool, Fail> {
-    let limits = limits_of(5, Gates::First)?;
-    let program = program_at_last(alloc, TWO_DISPLAYS)?;
-    let job = Job {
-        program: &program,
-        limits,
-    };
-    let answers_well = answers_well(rt, alloc, job, trial);
-    drop_program(program);
-    answers_well
+fn is_right<X: Threads + Sync>(rt: &X, alloc: Global, trial: Trial) -> bool {
+    match program_at_last(alloc, TWO_DISPLAYS) {
+        Some(program) => {
+            let job = Job {
+                program: &program,
+                limits: limits_of(5, Gates::First),
+            };
+            let answers_well = answers_well(rt, alloc, job, trial);
+            drop_program(program);
+            answers_well
+        }
+        None => false,
+    }
 }
 
 #[test]
-fn refused_growth_of_a_walk(rt: HostRuntime) -> Result<(), Fail> {
-    assert!(rt; is_right(&rt, rt.alloc(), Trial::Walk)?);
-    Ok(())
+fn refused_growth_of_a_walk(rt: HostRuntime) {
+    assert!(rt; is_right(&rt, rt.alloc(), Trial::Walk));
 }
 
 #[test]
-fn refused_growth_of_gathering(rt: HostRuntime) -> Result<(), Fail> {
-    assert!(rt; is_right(&rt, rt.alloc(), Trial::Gathering)?);
-    Ok(())
+fn refused_growth_of_gathering(rt: HostRuntime) {
+    assert!(rt; is_right(&rt, rt.alloc(), Trial::Gathering));
 }
 
 #[test]
-fn refused_growth_of_a_split(rt: HostRuntime) -> Result<(), Fail> {
-    assert!(rt; is_right(&rt, rt.alloc(), Trial::Split)?);
-    Ok(())
+fn refused_growth_of_a_split(rt: HostRuntime) {
+    assert!(rt; is_right(&rt, rt.alloc(), Trial::Split));
 }
 
 /// Where a depth was not reached for want of memory, the cutting is explored all the same.
 #[test]
-fn refused_growth_of_a_cutting(rt: HostRuntime) -> Result<(), Fail> {
-    assert!(rt; is_right(&rt, rt.alloc(), Trial::Cutting)?);
-    Ok(())
+fn refused_growth_of_a_cutting(rt: HostRuntime) {
+    assert!(rt; is_right(&rt, rt.alloc(), Trial::Cutting));
 }
 
 /// A tree is checked. Where memory is refused, it comes back, and is checked again.
@@ -357,22 +346,25 @@ fn check_answer(alloc: Global, tree: Tree, wanted: Option<CheckFault>) -> CallAn
     }
 }
 
+/// The answer to a source whose tree is checked.
+fn source_answer(alloc: Global, source: &str, wanted: Option<CheckFault>) -> CallAnswer {
+    match tree_at_last(alloc, source) {
+        Some(tree) => check_answer(alloc, tree, wanted),
+        None => CallAnswer::Other,
+    }
+}
+
 #[test]
-fn refused_growth_of_a_check(rt: HostRuntime) -> Result<(), Fail> {
+fn refused_growth_of_a_check(rt: HostRuntime) {
     let broken = CheckFault::Rule {
         at: 1,
         rule: Rule::C1,
     };
     let answers = [
-        check_answer(rt.alloc(), tree_at_last(rt.alloc(), BUFFER)?, None),
-        check_answer(
-            rt.alloc(),
-            tree_at_last(rt.alloc(), "begin x := 1; y := 2 end.")?,
-            Some(broken),
-        ),
+        source_answer(rt.alloc(), BUFFER, None),
+        source_answer(rt.alloc(), "begin x := 1; y := 2 end.", Some(broken)),
     ];
     assert!(rt; are_right(&answers));
-    Ok(())
 }
 
 /// A process goes its steps, though the copy of its state before one of them is refused.
@@ -390,15 +382,23 @@ fn answer_beside_copies(alloc: Global, program: &Resolved, limits: Limits) -> Ca
     }
 }
 
+/// Whether the answers are right beside copies.
+fn copies_well(alloc: Global) -> bool {
+    match program_at_last(alloc, LAST_STEPS.source) {
+        Some(program) => {
+            let limits = limits_of(8, Gates::First);
+            let answers = [
+                answer_beside_copies(alloc, &program, limits),
+                answer_beside_copies(alloc, &program, limits),
+            ];
+            drop_program(program);
+            are_right(&answers)
+        }
+        None => false,
+    }
+}
+
 #[test]
-fn refused_growth_of_a_copy(rt: HostRuntime) -> Result<(), Fail> {
-    let limits = limits_of(8, Gates::First)?;
-    let program = program_at_last(rt.alloc(), LAST_STEPS.source)?;
-    let answers = [
-        answer_beside_copies(rt.alloc(), &program, limits),
-        answer_beside_copies(rt.alloc(), &program, limits),
-    ];
-    drop_program(program);
-    assert!(rt; are_right(&answers));
-    Ok(())
+fn refused_growth_of_a_copy(rt: HostRuntime) {
+    assert!(rt; copies_well(rt.alloc()));
 }

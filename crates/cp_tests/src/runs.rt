@@ -1,10 +1,10 @@
 //! Runs that end by an error or a limit, and what they display before it.
 
-use crate::programs::{TWO_IN_A_QUEUE, end_at, has_ended};
+use crate::programs::{TWO_IN_A_QUEUE, WantedEnd, end_at, has_ended};
 use cp_machine::{ErrorName, Gates, Shown};
+use cp_prose::Prose;
 use cp_run::{Limits, OutcomeKind, RunEnd};
 use std::alloc::Global;
-use std::test::Fail;
 
 /// A source, the steps of a stretch, a word that its run uses wholly, and how it ends, with this many times 1 displayed.
 struct RunEnding {
@@ -142,12 +142,11 @@ static ENDINGS: [RunEnding; 13] = [
 ];
 
 fn are_ones(output: &[Shown], count: usize) -> bool {
+    let mut are_ones = output.len() == count;
     for shown in output {
-        if *shown != Shown::Integer(1) {
-            return false;
-        }
+        are_ones = are_ones && *shown == Shown::Integer(1);
     }
-    output.len() == count
+    are_ones
 }
 
 fn is_as_wanted(end: &RunEnd, ending: &RunEnding) -> bool {
@@ -161,37 +160,62 @@ fn is_as_wanted(end: &RunEnd, ending: &RunEnding) -> bool {
     }
 }
 
-fn ends_as_wanted(alloc: Global, ending: &RunEnding) -> Result<bool, Fail> {
-    let limits = Limits::new(8, ending.steps, Gates::First).ok_or("no such limits")?;
-    let end = end_at(alloc, ending.source, limits, ending.word)?;
-    Ok(is_as_wanted(&end, ending))
+/// How the run of a word ends with stretches of so many steps; none where there is no program, or memory was refused.
+fn end_within(alloc: Global, source: &str, steps: u32, word: &[u8]) -> Option<RunEnd> {
+    match Limits::new(8, steps, Gates::First) {
+        Some(limits) => end_at(alloc, source, limits, word),
+        None => None,
+    }
+}
+
+fn ends_as_wanted(alloc: Global, ending: &RunEnding) -> bool {
+    match end_within(alloc, ending.source, ending.steps, ending.word) {
+        Some(end) => is_as_wanted(&end, ending),
+        None => false,
+    }
 }
 
 #[test]
-fn errors_and_limits(rt: HostRuntime) -> Result<(), Fail> {
+fn errors_and_limits(rt: HostRuntime) {
     for ending in &ENDINGS {
-        assert!(rt; ends_as_wanted(rt.alloc(), ending)?, "{}", ending.source);
+        assert!(rt; ends_as_wanted(rt.alloc(), ending), "{}", ending.source);
     }
-    Ok(())
 }
 
-/// Thirty procedures, each of which calls the one before twice.
-fn doubling_source(alloc: Global) -> Result<String, Fail> {
-    let mut source = format!(in alloc; "procedure f1; begin end; ")?;
+/// A procedure that calls the one before twice.
+fn put_doubling(source: &mut Prose, number: u32) {
+    let before = number.saturating_sub(1);
+    source.put("procedure f");
+    source.put_display(number);
+    source.put("; begin f");
+    source.put_display(before);
+    source.put("; f");
+    source.put_display(before);
+    source.put(" end; ");
+}
+
+/// Whether the steps of thirty procedures, each of which calls the one before twice, come to their limit.
+fn doubles_to_the_limit(alloc: Global) -> bool {
+    let mut source = Prose::new(alloc);
+    source.put("procedure f1; begin end; ");
     for number in 2..31u32 {
-        let before = number - 1;
-        let text = format!(in alloc; "procedure f{number}; begin f{before}; f{before} end; ")?;
-        source.push_str(&text)?;
+        put_doubling(&mut source, number);
     }
-    source.push_str("begin f30 end.")?;
-    Ok(source)
+    source.put("begin f30 end.");
+    match source.as_str() {
+        Ok(source) => is_stopped(alloc, source),
+        Err(_) => false,
+    }
+}
+
+fn is_stopped(alloc: Global, source: &str) -> bool {
+    match end_within(alloc, source, 100_000, &[]) {
+        Some(end) => has_ended(&end, 0, &WantedEnd::Ended(OutcomeKind::StepLimit, &[])),
+        None => false,
+    }
 }
 
 #[test]
-fn doubling_calls(rt: HostRuntime) -> Result<(), Fail> {
-    let source = doubling_source(rt.alloc())?;
-    let limits = Limits::new(8, 100_000, Gates::First).ok_or("no such limits")?;
-    let end = end_at(rt.alloc(), &source, limits, &[])?;
-    assert!(rt; has_ended(&end, 0, OutcomeKind::StepLimit, &[]));
-    Ok(())
+fn doubling_calls(rt: HostRuntime) {
+    assert!(rt; doubles_to_the_limit(rt.alloc()));
 }

@@ -1,12 +1,8 @@
 //! The worked rows of scanning: tokens, their lines, and faults.
 
-use cp_text::{Kind, Mark, ScanCause, ScanFault, Tokens, scan};
+use cp_prose::Prose;
+use cp_text::{Kind, Mark, ScanCause, Tokens, scan};
 use std::alloc::Global;
-use std::test::Fail;
-
-fn tokens(alloc: Global, source: &[u8]) -> Result<Tokens, Fail> {
-    Ok(scan(alloc, source).ok().ok_or("it has a fault")?)
-}
 
 /// A token that is wanted.
 enum WantedToken {
@@ -116,44 +112,54 @@ static SAMPLES: [Sample; 11] = [
     },
 ];
 
-fn is_wanted(kind: Option<&Kind>, wanted: &WantedToken) -> bool {
-    match (kind, wanted) {
-        (Some(Kind::Number(number)), WantedToken::Number(other)) => *number == *other,
-        (Some(Kind::Character(code)), WantedToken::Character(other)) => *code == *other,
-        (Some(Kind::Name(name)), WantedToken::Name(other)) => name.as_str() == *other,
-        (Some(Kind::Mark(mark)), WantedToken::Mark(other)) => *mark == *other,
-        _ => false,
+fn is_wanted(kind: &Kind, wanted: &WantedToken) -> bool {
+    match kind {
+        Kind::Number(number) => matches!(wanted, WantedToken::Number(other) if *number == *other),
+        Kind::Character(code) => matches!(wanted, WantedToken::Character(other) if *code == *other),
+        Kind::Name(name) => matches!(wanted, WantedToken::Name(other) if name.as_str() == *other),
+        Kind::Mark(mark) => matches!(wanted, WantedToken::Mark(other) if *mark == *other),
+    }
+}
+
+/// Whether the token at a place is this one, on this line.
+fn has_token(tokens: &Tokens, at: usize, wanted: &WantedToken, line: u32) -> bool {
+    match tokens.get(at) {
+        Some(kind) => is_wanted(kind, wanted) && at < tokens.count() && tokens.line(at) == line,
+        None => false,
     }
 }
 
 fn are_wanted(tokens: &Tokens, sample: &Sample) -> bool {
     let count = sample.wanted.len();
-    if tokens.count() != count
-        || tokens.get(count).is_some()
-        || tokens.line(count) != sample.last_line
-    {
-        return false;
-    }
+    let mut are_wanted = tokens.count() == count
+        && tokens.get(count).is_none()
+        && tokens.line(count) == sample.last_line;
     for (at, (wanted, line)) in sample.wanted.iter().enumerate() {
-        if !is_wanted(tokens.get(at), wanted) || at > count || tokens.line(at) != *line {
-            return false;
-        }
+        are_wanted = are_wanted && has_token(tokens, at, wanted, *line);
     }
-    true
+    are_wanted
+}
+
+fn is_read_so(alloc: Global, sample: &Sample) -> bool {
+    match scan(alloc, sample.source) {
+        Ok(tokens) => are_wanted(&tokens, sample),
+        Err(_) => false,
+    }
 }
 
 #[test]
-fn pieces_and_lines(rt: HostRuntime) -> Result<(), Fail> {
+fn pieces_and_lines(rt: HostRuntime) {
     for sample in &SAMPLES {
-        let tokens = tokens(rt.alloc(), sample.source)?;
-        assert!(rt; are_wanted(&tokens, sample));
+        assert!(rt; is_read_so(rt.alloc(), sample));
     }
-    Ok(())
 }
 
-fn has_fault(alloc: Global, source: &[u8], line: u32, cause: ScanCause) -> Result<bool, Fail> {
-    let fault = scan(alloc, source).err().ok_or("it has tokens")?;
-    Ok(fault == ScanFault { line, cause })
+/// Whether a source has this fault.
+fn has_fault(alloc: Global, source: &[u8], line: u32, cause: ScanCause) -> bool {
+    match scan(alloc, source) {
+        Ok(_) => false,
+        Err(fault) => fault.line == line && fault.cause == cause,
+    }
 }
 
 static FAULTS: [(&[u8], u32, ScanCause); 17] = [
@@ -181,63 +187,110 @@ static FAULTS: [(&[u8], u32, ScanCause); 17] = [
 ];
 
 #[test]
-fn each_fault_with_its_line(rt: HostRuntime) -> Result<(), Fail> {
+fn each_fault_with_its_line(rt: HostRuntime) {
     for (source, line, cause) in &FAULTS {
-        assert!(rt; has_fault(rt.alloc(), source, *line, *cause)?);
+        assert!(rt; has_fault(rt.alloc(), source, *line, *cause));
     }
-    Ok(())
 }
 
-/// A text of this length that begins with these bytes and goes on with that one.
-fn filled_text(alloc: Global, start: &[u8], next: u8, length: usize) -> Result<Vec<u8>, Fail> {
-    let mut text = Vec::from_slice(alloc, start)?;
-    for _ in start.len()..length {
-        text.push(next)?;
-    }
-    Ok(text)
+/// What a long source is read as.
+enum LongReading {
+    Tokens(usize),
+    Fault(u32, ScanCause),
 }
 
-/// How many tokens a source has that begins with these bytes and goes on with that one.
-fn count_of(alloc: Global, start: &[u8], next: u8, length: usize) -> Result<usize, Fail> {
-    let text = filled_text(alloc, start, next, length)?;
-    Ok(tokens(alloc, text.as_slice())?.count())
+/// A source that begins so, goes on with a piece that stands there so often, and ends so; and what it is read as.
+struct LongSource {
+    start: &'static str,
+    next: &'static str,
+    times: usize,
+    last: &'static str,
+    reading: LongReading,
 }
 
-/// Whether such a source has this fault, where another byte follows.
-fn has_fault_after(
-    alloc: Global,
-    (start, next, length): (&[u8], u8, usize),
-    last: u8,
-    line: u32,
-    cause: ScanCause,
-) -> Result<bool, Fail> {
-    let mut text = filled_text(alloc, start, next, length)?;
-    text.push(last)?;
-    has_fault(alloc, text.as_slice(), line, cause)
-}
-
-#[test]
-fn longest_source(rt: HostRuntime) -> Result<(), Fail> {
-    assert!(rt; count_of(rt.alloc(), b"begin end.", b' ', 65535)? == 3);
-    let longer = (b"!".as_slice(), b' ', 65535);
-    assert!(rt; has_fault_after(rt.alloc(), longer, b' ', 0, ScanCause::TooLong)?);
-    Ok(())
-}
-
-// What may stand after 20,000 tokens, and its fault.
-static AFTER_MOST: [(u8, ScanCause); 4] = [
-    (b';', ScanCause::TooManyTokens),
-    (b'\'', ScanCause::TooManyTokens),
-    (b'!', ScanCause::BadByte),
-    (b'"', ScanCause::OpenComment),
+// The longest one, and one with the most tokens; and what may stand after them.
+static LONG: [LongSource; 7] = [
+    LongSource {
+        start: "begin end.",
+        next: " ",
+        times: 65525,
+        last: "",
+        reading: LongReading::Tokens(3),
+    },
+    LongSource {
+        start: "!",
+        next: " ",
+        times: 65534,
+        last: " ",
+        reading: LongReading::Fault(0, ScanCause::TooLong),
+    },
+    LongSource {
+        start: "\n",
+        next: ";",
+        times: 20000,
+        last: "",
+        reading: LongReading::Tokens(20000),
+    },
+    LongSource {
+        start: "\n",
+        next: ";",
+        times: 20000,
+        last: ";",
+        reading: LongReading::Fault(2, ScanCause::TooManyTokens),
+    },
+    LongSource {
+        start: "\n",
+        next: ";",
+        times: 20000,
+        last: "'",
+        reading: LongReading::Fault(2, ScanCause::TooManyTokens),
+    },
+    LongSource {
+        start: "\n",
+        next: ";",
+        times: 20000,
+        last: "!",
+        reading: LongReading::Fault(2, ScanCause::BadByte),
+    },
+    LongSource {
+        start: "\n",
+        next: ";",
+        times: 20000,
+        last: "\"",
+        reading: LongReading::Fault(2, ScanCause::OpenComment),
+    },
 ];
 
-#[test]
-fn most_tokens(rt: HostRuntime) -> Result<(), Fail> {
-    assert!(rt; count_of(rt.alloc(), b"\n", b';', 20001)? == 20000);
-    for (last, cause) in &AFTER_MOST {
-        let most = (b"\n".as_slice(), b';', 20001);
-        assert!(rt; has_fault_after(rt.alloc(), most, *last, 2, *cause)?);
+fn has_count(alloc: Global, source: &[u8], count: usize) -> bool {
+    match scan(alloc, source) {
+        Ok(tokens) => tokens.count() == count,
+        Err(_) => false,
     }
-    Ok(())
+}
+
+fn has_reading(alloc: Global, source: &str, reading: &LongReading) -> bool {
+    match reading {
+        LongReading::Tokens(count) => has_count(alloc, source.as_bytes(), *count),
+        LongReading::Fault(line, cause) => has_fault(alloc, source.as_bytes(), *line, *cause),
+    }
+}
+
+fn is_long_read_so(alloc: Global, long: &LongSource) -> bool {
+    let mut text = Prose::new(alloc);
+    text.put(long.start);
+    for _ in 0..long.times {
+        text.put(long.next);
+    }
+    text.put(long.last);
+    match text.as_str() {
+        Ok(source) => has_reading(alloc, source, &long.reading),
+        Err(_) => false,
+    }
+}
+
+#[test]
+fn longest_sources(rt: HostRuntime) {
+    for long in &LONG {
+        assert!(rt; is_long_read_so(rt.alloc(), long));
+    }
 }

@@ -3,7 +3,7 @@
 ghost use Rattle.std.specs.Prelude.{◌≡◌};
 
 use crate::programs::{
-    BUFFER, CONTINUED, INNER_DELAY, THREE_CALLERS, TWO_DISPLAYS, has_ended, has_wanted, limits_of,
+    BUFFER, CONTINUED, INNER_DELAY, THREE_CALLERS, TWO_DISPLAYS, WantedEnd, has_ended, limits_of,
     numbers_of, program_of,
 };
 use cp_drops::drop_program;
@@ -13,15 +13,12 @@ use cp_slots::Resolved;
 use std::alloc::Global;
 use std::marker::Brand;
 use std::sync::ledger::{Blank, Ledger};
-use std::test::Fail;
 
-/// The trace of a word.
-fn trace_of(
-    alloc: Global,
-    program: &Resolved,
-    limits: Limits,
-    word: &[u8],
-) -> Result<(Vec<TraceLine>, RunEnd), Fail> {
+/// A trace, and how it ends.
+type Trace = (Vec<TraceLine>, RunEnd);
+
+/// The trace of a word; none where the word is too long, or memory was refused.
+fn trace_of(alloc: Global, program: &Resolved, limits: Limits, word: &[u8]) -> Option<Trace> {
     trace_counted::<Brand>(alloc, program, limits, word, Blank::new(1))
 }
 
@@ -31,20 +28,28 @@ fn trace_counted<L: Ledger>(
     limits: Limits,
     word: &[u8],
     blank: Blank,
-) -> Result<(Vec<TraceLine>, RunEnd), Fail>
+) -> Option<Trace>
     requires name { blank.name ≡ L.name }
     requires parts { blank.parts ≡ L.parts }
     requires one { L.parts ≡ 1 }
 {
     let mut ticks: Ticks<L> = Ticks::new(blank);
     if word.len() > 20 {
-        return Err(Fail::from("the word is too long"));
+        return None;
     }
-    Ok(
-        trace(alloc, program, limits, word, &mut ticks)
-            .ok()
-            .ok_or("memory was refused")?,
-    )
+    trace(alloc, program, limits, word, &mut ticks).ok()
+}
+
+/// The trace of a word of a source's program; none where there is no program, or memory was refused.
+fn trace_at(alloc: Global, source: &str, limits: Limits, word: &[u8]) -> Option<Trace> {
+    match program_of(alloc, source) {
+        Some(program) => {
+            let traced = trace_of(alloc, &program, limits, word);
+            drop_program(program);
+            traced
+        }
+        None => None,
+    }
 }
 
 /// A process, what it did, and who is inside each monitor then.
@@ -64,17 +69,16 @@ const DISPLAY: TraceEvent = TraceEvent::Kernel(Kernel::Display);
 
 const END: TraceEvent = TraceEvent::End;
 
-/// A program with a word that its run uses wholly, the lines of its trace, and how it ends.
+/// A program with a word, the lines of its trace, and how it ends.
 struct Traced {
     source: &'static str,
     choices: u8,
     word: &'static str,
     lines: &'static [Told],
-    kind: OutcomeKind,
-    output: &'static [Shown],
+    end: WantedEnd,
 }
 
-static TRACES: [Traced; 3] = [
+static TRACES: [Traced; 5] = [
     Traced {
         source: BUFFER,
         choices: 8,
@@ -92,8 +96,7 @@ static TRACES: [Traced; 3] = [
             (2, DISPLAY, &[None]),
             (2, END, &[None]),
         ],
-        kind: OutcomeKind::Finished,
-        output: &[Shown::Integer(7)],
+        end: WantedEnd::Ended(OutcomeKind::Finished, &[Shown::Integer(7)]),
     },
     Traced {
         source: CONTINUED,
@@ -112,8 +115,10 @@ static TRACES: [Traced; 3] = [
             (2, CONTINUE, &[None]),
             (2, END, &[None]),
         ],
-        kind: OutcomeKind::Finished,
-        output: &[Shown::Integer(1), Shown::Integer(2)],
+        end: WantedEnd::Ended(
+            OutcomeKind::Finished,
+            &[Shown::Integer(1), Shown::Integer(2)],
+        ),
     },
     // The first holder is that of the inner monitor.
     Traced {
@@ -138,8 +143,22 @@ static TRACES: [Traced; 3] = [
             (2, ENTER, &[Some(2), Some(2)]),
             (2, DELAY, &[None, Some(2)]),
         ],
-        kind: OutcomeKind::AllWaiting,
-        output: &[],
+        end: WantedEnd::Ended(OutcomeKind::AllWaiting, &[]),
+    },
+    // A trace stops where its word is used up, and where a number may not be chosen.
+    Traced {
+        source: TWO_DISPLAYS,
+        choices: 8,
+        word: "none",
+        lines: &[(0, START, &[])],
+        end: WantedEnd::Wants(&[0, 1]),
+    },
+    Traced {
+        source: TWO_DISPLAYS,
+        choices: 8,
+        word: "2",
+        lines: &[(0, START, &[])],
+        end: WantedEnd::NotReady(0),
     },
 ];
 
@@ -148,12 +167,11 @@ fn is_told(line: &TraceLine, told: &Told) -> bool {
 }
 
 fn are_told(lines: &[TraceLine], told: &[Told]) -> bool {
+    let mut are_told = lines.len() == told.len();
     for (line, told) in lines.iter().zip(told) {
-        if !is_told(line, told) {
-            return false;
-        }
+        are_told = are_told && is_told(line, told);
     }
-    lines.len() == told.len()
+    are_told
 }
 
 /// Whether these are the lines of the first of `TRACES`.
@@ -161,104 +179,70 @@ pub fn is_first_trace(lines: &[TraceLine]) -> bool {
     are_told(lines, TRACES[0].lines)
 }
 
-/// How the run of a word ends whose trace has these lines.
-fn end_after(
-    alloc: Global,
-    program: &Resolved,
-    limits: Limits,
-    word: &[u8],
-    told: &[Told],
-) -> Result<RunEnd, Fail> {
-    let (lines, end) = trace_of(alloc, program, limits, word)?;
-    if are_told(&lines, told) {
-        Ok(end)
-    } else {
-        Err(Fail::from("a trace has other lines"))
-    }
-}
-
-/// How the run of a word of a source's program ends whose trace has these lines.
-fn end_at(
-    alloc: Global,
-    source: &str,
-    limits: Limits,
-    word: &[u8],
-    told: &[Told],
-) -> Result<RunEnd, Fail> {
-    let program = program_of(alloc, source)?;
-    let end = end_after(alloc, &program, limits, word, told);
-    drop_program(program);
-    end
-}
-
 /// Whether a run has the trace that is told, and ends so.
-fn is_traced(alloc: Global, traced: &Traced) -> Result<bool, Fail> {
-    let limits = limits_of(traced.choices, Gates::First)?;
+fn is_traced(alloc: Global, traced: &Traced) -> bool {
     let word = numbers_of(traced.word);
-    let end = end_at(alloc, traced.source, limits, word.as_slice(), traced.lines)?;
-    Ok(has_ended(&end, word.len(), traced.kind, traced.output))
+    let limits = limits_of(traced.choices, Gates::First);
+    match trace_at(alloc, traced.source, limits, word.as_slice()) {
+        Some((lines, end)) => {
+            are_told(&lines, traced.lines) && has_ended(&end, word.len(), &traced.end)
+        }
+        None => false,
+    }
 }
 
 #[test]
-fn worked_traces(rt: HostRuntime) -> Result<(), Fail> {
+fn worked_traces(rt: HostRuntime) {
     for traced in &TRACES {
-        assert!(rt; is_traced(rt.alloc(), traced)?, "{}", traced.word);
+        assert!(rt; is_traced(rt.alloc(), traced), "{}", traced.word);
     }
-    Ok(())
 }
+
+/// A word, and the process that it lets in at a gate.
+struct Admission {
+    word: &'static str,
+    process: u8,
+}
+
+static ADMISSIONS: [Admission; 2] = [
+    Admission {
+        word: "0.0.0.1.2.3.2.2.2.3.3.1.2",
+        process: 2,
+    },
+    Admission {
+        word: "0.0.0.1.2.3.3.3.3.2.2.1.2",
+        process: 3,
+    },
+];
 
 /// Whether one line tells of an admission, which is of this process and lets it in.
 fn is_admitted_once(lines: &[TraceLine], process: u8) -> bool {
     let holders = [Some(process)];
     let mut count = 0usize;
+    let mut is_right = true;
     for line in lines {
         if line.event == TraceEvent::Admit {
-            if line.process != process
-                || line.holders.as_slice() != holders.as_slice()
-                || count > 0
-            {
-                return false;
-            }
-            count = 1;
+            count = count.saturating_add(1);
+            is_right = line.process == process && line.holders.as_slice() == holders.as_slice();
         }
     }
-    count == 1
+    count == 1 && is_right
 }
 
 /// Whether one line of the trace of a word tells of an admission under the gates Any, of this process.
-fn admits_once(alloc: Global, word: &str, process: u8) -> Result<bool, Fail> {
-    let limits = limits_of(13, Gates::Any)?;
-    let program = program_of(alloc, THREE_CALLERS)?;
-    let traced = trace_of(alloc, &program, limits, numbers_of(word).as_slice());
-    drop_program(program);
-    let (lines, _end) = traced?;
-    Ok(is_admitted_once(&lines, process))
+fn admits_once(alloc: Global, admission: &Admission) -> bool {
+    let word = numbers_of(admission.word);
+    let limits = limits_of(13, Gates::Any);
+    match trace_at(alloc, THREE_CALLERS, limits, word.as_slice()) {
+        Some((lines, _end)) => is_admitted_once(&lines, admission.process),
+        None => false,
+    }
 }
-
-/// A word, and the process that it lets in at a gate.
-static ADMISSIONS: [(&str, u8); 2] = [
-    ("0.0.0.1.2.3.2.2.2.3.3.1.2", 2),
-    ("0.0.0.1.2.3.3.3.3.2.2.1.2", 3),
-];
 
 /// Where the gate wants a choice, one line tells of it.
 #[test]
-fn one_line_of_an_admission(rt: HostRuntime) -> Result<(), Fail> {
-    for (word, process) in &ADMISSIONS {
-        assert!(rt; admits_once(rt.alloc(), word, *process)?, "{word}");
+fn one_line_of_an_admission(rt: HostRuntime) {
+    for admission in &ADMISSIONS {
+        assert!(rt; admits_once(rt.alloc(), admission), "{}", admission.word);
     }
-    Ok(())
-}
-
-static FIRST_LINES: [Told; 1] = [(0, START, &[])];
-
-/// A trace stops where its word is used up, and where a number may not be chosen.
-#[test]
-fn wants_and_not_ready(rt: HostRuntime) -> Result<(), Fail> {
-    let limits = limits_of(8, Gates::First)?;
-    let end = end_at(rt.alloc(), TWO_DISPLAYS, limits, &[], &FIRST_LINES)?;
-    assert!(rt; has_wanted(&end, &[0, 1]));
-    let end = end_at(rt.alloc(), TWO_DISPLAYS, limits, &[2], &FIRST_LINES)?;
-    assert!(rt; matches!(end, RunEnd::NotReady { place: 0 }));
-    Ok(())
 }

@@ -1,6 +1,6 @@
 //! Values of small expressions, worked by hand.
 
-ghost use Rattle.std.specs.Prelude.{◌≡◌, ◌≤◌, [], IfOk, IsTrue};
+ghost use Rattle.std.specs.Prelude.{◌≡◌, ◌≤◌, [], IfOk, IfSome, IsTrue};
 ghost use Rattle.cp_slots.specs.Inside.{expression_inside, has, place_room};
 ghost use Rattle.cp_slots.specs.Tables.{RoutineView};
 
@@ -15,7 +15,7 @@ use cp_store::{
     Address, Bound, ErrorName, Frame, Room, address, bind_frame, cell, close_frame, evaluate,
     evaluate_arguments, open_frame, write_set,
 };
-use std::test::Fail;
+use std::alloc::{AllocError, Global};
 
 const FRAME: Frame = Frame {
     routine: 0,
@@ -25,14 +25,14 @@ const FRAME: Frame = Frame {
     references: 0,
 };
 
-// No frames.
-fn room(rt: &HostRuntime) -> Result<Room, Fail>
-    ensures { IfOk result (λ room. (room.cells.items ≡ []) × (room.references.items ≡ [])) }
+// No frames, and room for none.
+fn empty_room(alloc: Global) -> Room
+    ensures { (result.cells.items ≡ []) × (result.references.items ≡ []) }
 {
-    Ok(Room {
-        cells: Vec::with_capacity(rt.alloc(), 8)?,
-        references: Vec::with_capacity(rt.alloc(), 8)?,
-    })
+    Room {
+        cells: Vec::new(alloc),
+        references: Vec::new(alloc),
+    }
 }
 
 fn set_of(members: &[i16]) -> SetValue {
@@ -44,16 +44,16 @@ fn set_of(members: &[i16]) -> SetValue {
 }
 
 // Two sets, as they are read back from the cells 0 to 7 and 8 to 15.
-fn two_sets(rt: &HostRuntime) -> Result<(SetValue, SetValue), Fail> {
+fn two_sets(alloc: Global) -> (SetValue, SetValue) {
     let mut cells = [0; 16];
-    let mut room = room(rt)?;
+    let mut room = empty_room(alloc);
     let left = set_of(&[1, 3, 5, 127]);
     let right = set_of(&[3, 4, 127]);
     write_set(&mut cells, &mut room, Address::Permanent(0), left);
     write_set(&mut cells, &mut room, Address::Permanent(8), right);
     let left = set::load_set(&cells, &room, Address::Permanent(0));
     let right = set::load_set(&cells, &room, Address::Permanent(8));
-    Ok((left, right))
+    (left, right)
 }
 
 // An operation of two sets, and whether it has a member.
@@ -69,18 +69,17 @@ static MEMBERS: [(SetOperation, i16, bool); 8] = [
 ];
 
 #[test]
-fn set_operations(rt: HostRuntime) -> Result<(), Fail> {
-    let (left, right) = two_sets(&rt)?;
+fn set_operations(rt: HostRuntime) {
+    let (left, right) = two_sets(rt.alloc());
     for (operation, member, is_in) in &MEMBERS {
         let whole = set::combine_sets(*operation, left, right);
         assert!(rt; set::is_member(whole, *member) == *is_in, "{member}");
     }
-    Ok(())
 }
 
 #[test]
-fn set_comparisons(rt: HostRuntime) -> Result<(), Fail> {
-    let (left, right) = two_sets(&rt)?;
+fn set_comparisons(rt: HostRuntime) {
+    let (left, right) = two_sets(rt.alloc());
     let union = set::combine_sets(SetOperation::Union, left, right);
     let whole = set_of(&[1, 3, 4, 5, 127]);
     let (equal, unequal) = (
@@ -88,7 +87,6 @@ fn set_comparisons(rt: HostRuntime) -> Result<(), Fail> {
         set::compare_sets(false, union, whole),
     );
     assert!(rt; equal == 1 && unequal == 0);
-    Ok(())
 }
 
 // An operation of two integers, and its result.
@@ -106,18 +104,17 @@ static RESULTS: [(Arithmetic, i16, i16, Result<i16, ErrorName>); 10] = [
 ];
 
 #[test]
-fn integers(rt: HostRuntime) -> Result<(), Fail> {
+fn integers(rt: HostRuntime) {
     for (operator, left, right, result) in &RESULTS {
         assert!(rt; calculate(*operator, *left, *right) == *result);
     }
-    Ok(())
 }
 
 // `table[2]`, a row of two cells in an array of rows 1 .. 3, after a cell of something else.
-fn row(rt: &HostRuntime, index: i16) -> Result<Place, Fail>
+fn row(alloc: Global, index: i16) -> Result<Place, AllocError>
     ensures { IfOk result (λ p. (r : RoutineView) → 7 ≤ r.own → IsTrue (has 2 (place_room r p))) }
 {
-    let mut indices = Vec::with_capacity(rt.alloc(), 1)?;
+    let mut indices = Vec::with_capacity(alloc, 1)?;
     indices.push(Index {
         at: OrdinalExpression::Number(index),
         low: 1,
@@ -139,101 +136,132 @@ static PLACES: [(i16, Result<Address, ErrorName>); 4] = [
     (0, Err(ErrorName::Range)),
 ];
 
-#[test]
-fn addresses(rt: HostRuntime) -> Result<(), Fail> {
-    let room = room(&rt)?;
+fn has_address(alloc: Global, index: i16, wanted: Result<Address, ErrorName>) -> bool {
+    let room = empty_room(alloc);
     let cells = [0, 1, 2, 3, 4, 5, 6];
-    for (index, wanted) in &PLACES {
-        let place = row(&rt, *index)?;
-        assert!(rt;
-            address(&place, &cells, &room, &FRAME) == *wanted,
-            "{index}"
-        );
+    match row(alloc, index) {
+        Ok(place) => address(&place, &cells, &room, &FRAME) == wanted,
+        Err(_) => false,
     }
-    Ok(())
+}
+
+#[test]
+fn addresses(rt: HostRuntime) {
+    for (index, wanted) in &PLACES {
+        assert!(rt; has_address(rt.alloc(), *index, *wanted), "{index}");
+    }
 }
 
 // The first cell of a row.
 #[tactic(auto, using(crate::proofs::OwnCells::one_of_two))]
-fn load(rt: &HostRuntime, index: i16) -> Result<OrdinalExpression, Fail>
+fn load(alloc: Global, index: i16) -> Result<OrdinalExpression, AllocError>
     ensures { IfOk result (λ e. (r : RoutineView) → 7 ≤ r.own → IsTrue (expression_inside r e)) }
 {
-    let place = row(rt, index)?;
+    let place = row(alloc, index)?;
     Ok(OrdinalExpression::Load(place))
 }
 
-#[test]
-fn loads(rt: HostRuntime) -> Result<(), Fail> {
-    let room = room(&rt)?;
+fn loads_third(alloc: Global) -> bool {
+    let room = empty_room(alloc);
     let cells = [0, 1, 2, 3, 4, 5, 6];
-    let load = load(&rt, 2)?;
-    assert!(rt; evaluate(&load, &cells, &room, &FRAME) == Ok(3));
-    Ok(())
+    match load(alloc, 2) {
+        Ok(load) => evaluate(&load, &cells, &room, &FRAME) == Ok(3),
+        Err(_) => false,
+    }
 }
 
-fn variable(rt: &HostRuntime) -> Place
+fn variable(alloc: Global) -> Place
     ensures { (r : RoutineView) → 1 ≤ r.own → IsTrue (has 1 (place_room r result)) }
 {
     Place {
         origin: PlaceOrigin::Permanent(0),
         offset: 0,
-        indices: Vec::new(rt.alloc()),
+        indices: Vec::new(alloc),
     }
 }
 
-// A routine with a `var` parameter, to which a permanent variable is passed.
-#[test]
-fn references(rt: HostRuntime) -> Result<(), Fail> {
+// No frames, and room for one.
+fn room(alloc: Global) -> Result<Room, AllocError>
+    ensures { IfOk result (λ room. (room.cells.items ≡ []) × (room.references.items ≡ [])) }
+{
+    Ok(Room {
+        cells: Vec::with_capacity(alloc, 8)?,
+        references: Vec::with_capacity(alloc, 8)?,
+    })
+}
+
+// Whether a routine with a `var` parameter, to which a permanent variable is passed, reads it.
+fn passes_reference(alloc: Global) -> bool {
     let mut cells = [7];
-    let mut room = room(&rt)?;
-    let mut bounds: Vec<Bound> = Vec::with_capacity(rt.alloc(), 1)?;
+    let Ok(mut room) = room(alloc) else {
+        return false;
+    };
+    let mut bounds: Vec<Bound> = Vec::new(alloc);
     let arguments = [Argument {
         slot: 0,
-        value: ArgumentValue::Reference(variable(&rt)),
+        value: ArgumentValue::Reference(variable(alloc)),
     }];
-    assert!(rt; 1 <= bounds.capacity());
-    let evaluated = evaluate_arguments(&arguments, &cells, &[], &room, FRAME, &mut bounds);
-    assert_eq!(rt; evaluated, Ok(()));
-    assert!(rt; room.cells.len() == 0 && room.references.len() == 0);
-    assert!(rt; room.cells.capacity() >= 2 && room.references.capacity() >= 1);
-    open_frame(&mut room, &[0, 0], 1);
-    assert!(rt; bounds.len() == 1 && room.references.len() == 1);
-    assert_eq!(rt; bounds[0], Bound::Reference(Address::Permanent(0)));
-    bind_frame(
-        &mut cells,
-        &mut room,
-        FRAME,
-        &arguments,
-        &[Bound::Reference(Address::Permanent(0))],
-    );
-    assert_eq!(rt; room.references[0], Address::Permanent(0));
-    assert_eq!(rt; cell(&cells, &room, room.references[0]), 7);
-    close_frame(&mut room, 0, 0);
-    assert_eq!(rt; room.cells.len(), 0);
-    Ok(())
+    if bounds.reserve(1).is_ok() && 1 <= bounds.capacity() {
+        let evaluated = evaluate_arguments(&arguments, &cells, &[], &room, FRAME, &mut bounds);
+        if evaluated.is_ok()
+            && room.cells.len() == 0
+            && room.references.len() == 0
+            && room.cells.capacity() >= 2
+            && room.references.capacity() >= 1
+        {
+            open_frame(&mut room, &[0, 0], 1);
+            if bounds.len() == 1
+                && room.references.len() == 1
+                && bounds[0] == Bound::Reference(Address::Permanent(0))
+            {
+                bind_frame(
+                    &mut cells,
+                    &mut room,
+                    FRAME,
+                    &arguments,
+                    &[Bound::Reference(Address::Permanent(0))],
+                );
+                let is_bound = room.references[0] == Address::Permanent(0)
+                    && cell(&cells, &room, room.references[0]) == 7;
+                close_frame(&mut room, 0, 0);
+                is_bound && room.cells.len() == 0
+            } else {
+                false
+            }
+        } else {
+            false
+        }
+    } else {
+        false
+    }
 }
 
-fn number(rt: &HostRuntime, value: i16) -> Result<Box<OrdinalExpression>, Fail>
-    ensures { IfOk result (λ e. (r : RoutineView) → IsTrue (expression_inside r e.value)) }
+fn number(alloc: Global, value: i16) -> Option<Box<OrdinalExpression>>
+    ensures { IfSome result (λ e. (r : RoutineView) → IsTrue (expression_inside r e.value)) }
 {
-    Ok(
-        Box::new(rt.alloc(), OrdinalExpression::Number(value))
-            .ok()
-            .ok_or("memory")?,
-    )
+    Box::new(alloc, OrdinalExpression::Number(value)).ok()
+}
+
+fn has_component(alloc: Global) -> bool {
+    let room = empty_room(alloc);
+    match number(alloc, 2) {
+        Some(index) => {
+            let element = ComponentPlace::Element {
+                first: 1,
+                low: 1,
+                high: 3,
+                stride: 2,
+                index,
+            };
+            component_of(&element, &[], &[], &room, FRAME) == Ok(3)
+        }
+        None => false,
+    }
 }
 
 #[test]
-fn components(rt: HostRuntime) -> Result<(), Fail> {
-    let room = room(&rt)?;
-    let index = number(&rt, 2)?;
-    let element = ComponentPlace::Element {
-        first: 1,
-        low: 1,
-        high: 3,
-        stride: 2,
-        index,
-    };
-    assert!(rt; component_of(&element, &[], &[], &room, FRAME) == Ok(3));
-    Ok(())
+fn expressions(rt: HostRuntime) {
+    assert!(rt; loads_third(rt.alloc()));
+    assert!(rt; passes_reference(rt.alloc()));
+    assert!(rt; has_component(rt.alloc()));
 }

@@ -1,15 +1,14 @@
 //! Workers on threads: they run at once, no task is kept for one of them, and the report is that of one thread.
 ghost use Rattle.std.specs.Prelude.{◌<◌, ◌≤◌};
 
-use crate::programs::{TWO_DISPLAYS, program_of};
+use crate::programs::{TWO_DISPLAYS, limits_of, program_of};
 use cp_drops::drop_program;
-use cp_explore::{Cutting, Job, NoGate, Report, StartGate, explore, report};
+use cp_explore::{Cutting, Job, NoGate, StartGate, Table, explore, report};
 use cp_machine::Gates;
 use cp_progress::Unobserved;
-use cp_run::Limits;
+use cp_slots::Resolved;
 use std::alloc::Global;
 use std::sync::atomic::{AtomicBool, AtomicU64, Ordering};
-use std::test::Fail;
 use std::thread;
 use std::thread::Threads;
 
@@ -17,43 +16,74 @@ use std::thread::Threads;
 pub static REPORT: &str =
     "schedules 45\noutcomes 2\n30 first 0.0.1.1 finished output 1 2\n15 first 0.0.2.1.1 finished output 2 1\n";
 
-/// Whether workers that draw the words of this many choices give the report of `TWO_DISPLAYS`.
+/// How many threads draw words, and of how many choices.
+#[derive(Clone, Copy)]
+struct Drawing {
+    workers: u8,
+    depth: u8,
+}
+
+/// Whether workers give the report of `TWO_DISPLAYS`.
 fn is_reported<X: Threads + Sync, G: StartGate + Sync>(
     rt: &X,
     alloc: Global,
-    depth: u8,
-    workers: u8,
+    drawing: Drawing,
     gate: &G,
-) -> Result<bool, Fail>
-    requires { (0 < workers) × (workers ≤ 16) }
+) -> bool
+    requires { (0 < drawing.workers) × (drawing.workers ≤ 16) }
 {
-    let limits = Limits::new(5, 1_000, Gates::First).ok_or("no limits")?;
-    let program = program_of(alloc, TWO_DISPLAYS)?;
-    let job = Job {
-        program: &program,
-        limits,
-    };
-    let told = report_by(rt, alloc, job, depth, workers, gate);
-    drop_program(program);
-    Ok(told?.text.as_str() == REPORT)
+    match program_of(alloc, TWO_DISPLAYS) {
+        Some(program) => {
+            let is_reported = is_cut_and_reported(rt, alloc, &program, drawing, gate);
+            drop_program(program);
+            is_reported
+        }
+        None => false,
+    }
 }
 
-/// The report of a job by workers that draw the words of this many choices.
-fn report_by<X: Threads + Sync, G: StartGate + Sync>(
+fn is_cut_and_reported<X: Threads + Sync, G: StartGate + Sync>(
     rt: &X,
     alloc: Global,
-    job: Job,
-    depth: u8,
+    program: &Resolved,
+    drawing: Drawing,
+    gate: &G,
+) -> bool
+    requires { (0 < drawing.workers) × (drawing.workers ≤ 16) }
+{
+    let limits = limits_of(5, Gates::First);
+    match Cutting::whole(alloc, Job { program, limits }) {
+        Ok(mut cutting) => {
+            cutting
+                .to_depth(alloc, drawing.depth, &mut Unobserved)
+                .is_ok()
+                && is_explored(rt, alloc, &cutting, drawing.workers, gate)
+        }
+        Err(_) => false,
+    }
+}
+
+/// Whether workers explore a cutting to the report of `TWO_DISPLAYS`.
+fn is_explored<X: Threads + Sync, G: StartGate + Sync>(
+    rt: &X,
+    alloc: Global,
+    cutting: &Cutting,
     workers: u8,
     gate: &G,
-) -> Result<Report, Fail>
-    requires choices { job.limits.choices ≤ 20 }
-    requires workers { (0 < workers) × (workers ≤ 16) }
+) -> bool
+    requires { (0 < workers) × (workers ≤ 16) }
 {
-    let mut cutting = Cutting::whole(alloc, job)?;
-    cutting.to_depth(alloc, depth, &mut Unobserved)?;
-    let table = explore(rt, alloc, &cutting, workers, gate, &mut Unobserved)?;
-    Ok(report(alloc, job.program, &table, false)?)
+    match explore(rt, alloc, cutting, workers, gate, &mut Unobserved) {
+        Ok(table) => has_report(alloc, cutting.job.program, &table),
+        Err(_) => false,
+    }
+}
+
+fn has_report(alloc: Global, program: &Resolved, table: &Table) -> bool {
+    match report(alloc, program, table, false) {
+        Ok(told) => told.text.as_str() == REPORT,
+        Err(_) => false,
+    }
 }
 
 /// The first to pass waits until a second passes. That one comes from another thread.
@@ -79,14 +109,17 @@ impl StartGate for Pair {
 }
 
 #[test]
-fn two_workers_meet(rt: HostRuntime) -> Result<(), Fail> {
+fn two_workers_meet(rt: HostRuntime) {
     let gate = Pair {
         passed: AtomicU64::new(0),
         is_seen: AtomicBool::new(false),
     };
-    assert!(rt; is_reported(&rt, rt.alloc(), 1, 2, &gate)?);
+    let drawing = Drawing {
+        workers: 2,
+        depth: 1,
+    };
+    assert!(rt; is_reported(&rt, rt.alloc(), drawing, &gate));
     assert!(rt; gate.is_seen.load(Ordering::SeqCst));
-    Ok(())
 }
 
 /// Each pass waits until all five tasks have passed.
@@ -110,14 +143,17 @@ impl StartGate for Together {
 }
 
 #[test]
-fn five_workers_meet(rt: HostRuntime) -> Result<(), Fail> {
+fn five_workers_meet(rt: HostRuntime) {
     let gate = Together {
         passed: AtomicU64::new(0),
         late: AtomicU64::new(0),
     };
-    assert!(rt; is_reported(&rt, rt.alloc(), 2, 5, &gate)?);
+    let drawing = Drawing {
+        workers: 5,
+        depth: 2,
+    };
+    assert!(rt; is_reported(&rt, rt.alloc(), drawing, &gate));
     assert!(rt; gate.late.load(Ordering::SeqCst) == 0);
-    Ok(())
 }
 
 /// One task waits until the four others have passed.
@@ -144,26 +180,33 @@ impl StartGate for LastTask {
     }
 }
 
-#[test]
-fn one_task_waits(rt: HostRuntime) -> Result<(), Fail> {
-    for task in 0..5 {
-        let gate = LastTask {
-            task,
-            passed: AtomicU64::new(0),
-            late: AtomicU64::new(0),
-        };
-        assert!(rt; is_reported(&rt, rt.alloc(), 2, 2, &gate)?);
-        assert!(rt; gate.late.load(Ordering::SeqCst) == 0);
-    }
-    Ok(())
+/// Whether two workers give the report while one task waits.
+fn is_reported_beside<X: Threads + Sync>(rt: &X, alloc: Global, task: u32) -> bool {
+    let gate = LastTask {
+        task,
+        passed: AtomicU64::new(0),
+        late: AtomicU64::new(0),
+    };
+    let drawing = Drawing {
+        workers: 2,
+        depth: 2,
+    };
+    is_reported(rt, alloc, drawing, &gate) && gate.late.load(Ordering::SeqCst) == 0
 }
 
 #[test]
-fn any_workers_and_any_cutting(rt: HostRuntime) -> Result<(), Fail> {
+fn one_task_waits(rt: HostRuntime) {
+    for task in 0..5 {
+        assert!(rt; is_reported_beside(&rt, rt.alloc(), task), "{task}");
+    }
+}
+
+#[test]
+fn any_workers_and_any_cutting(rt: HostRuntime) {
     for workers in [1, 2, 16] {
         for depth in 0..6 {
-            assert!(rt; is_reported(&rt, rt.alloc(), depth, workers, &NoGate)?);
+            let drawing = Drawing { workers, depth };
+            assert!(rt; is_reported(&rt, rt.alloc(), drawing, &NoGate));
         }
     }
-    Ok(())
 }

@@ -1,23 +1,30 @@
-use cp_verdict::{Misread, expectations, expectations_in, misread_text, push_expectation};
+use cp_verdict::{Misread, Reading, expectations, expectations_in, misread_text, push_expectation};
 use std::alloc::Global;
-use std::test::Fail;
 
-/// What is read from a text, written again; or why it is refused.
-fn read_again(alloc: Global, text: &str) -> Result<String, Fail> {
+/// Whether expectations are these, written again.
+fn are_written(alloc: Global, reading: &Reading, wanted: &str) -> bool {
     let mut again = String::new(alloc);
+    let mut are_written = true;
+    for expectation in &reading.expectations {
+        are_written = are_written
+            && push_expectation(&mut again, expectation).is_ok()
+            && again.push_str(";").is_ok();
+    }
+    are_written && again.as_str() == wanted
+}
+
+/// Whether this is read from a text, written again; or why it is refused.
+fn is_read_as(alloc: Global, text: &str, again: &str) -> bool {
     match expectations(alloc, text) {
-        Ok(reading) => {
-            for expectation in &reading.expectations {
-                push_expectation(&mut again, expectation)?;
-                again.push_str(";")?;
+        Ok(reading) => are_written(alloc, &reading, again),
+        Err(Misread::Unexpected { wanted, place }) => {
+            match misread_text(alloc, text, wanted, place) {
+                Ok(said) => said.as_str() == again,
+                Err(_) => false,
             }
         }
-        Err(Misread::Unexpected { wanted, place }) => {
-            return Ok(misread_text(alloc, text, wanted, place)?);
-        }
-        Err(Misread::Memory) => again.push_str("memory")?,
+        Err(Misread::Memory) => false,
     }
-    Ok(again)
 }
 
 /// A text, and what is read from it, written again; or why it is refused.
@@ -76,11 +83,10 @@ static READINGS: [(&str, &str); 15] = [
 ];
 
 #[test]
-fn reads_expectations(rt: HostRuntime) -> Result<(), Fail> {
+fn reads_expectations(rt: HostRuntime) {
     for (text, again) in &READINGS {
-        assert_eq!(rt; read_again(rt.alloc(), text)?.as_str(), *again);
+        assert!(rt; is_read_as(rt.alloc(), text, again), "{text}");
     }
-    Ok(())
 }
 
 /// A source, and the text of the expectations in its comments.
@@ -101,13 +107,16 @@ static COMMENTED: [(&str, &str); 5] = [
     ("\"expect never all-waiting\" begin end.", ""),
 ];
 
-#[test]
-fn finds_expectations_in_comments(rt: HostRuntime) -> Result<(), Fail> {
-    for (source, text) in &COMMENTED {
-        assert_eq!(rt;
-            expectations_in(rt.alloc(), source.as_bytes())?.as_str(),
-            *text
-        );
+fn expects(alloc: Global, source: &str, text: &str) -> bool {
+    match expectations_in(alloc, source.as_bytes()) {
+        Ok(found) => found.as_str() == text,
+        Err(_) => false,
     }
-    Ok(())
+}
+
+#[test]
+fn finds_expectations_in_comments(rt: HostRuntime) {
+    for (source, text) in &COMMENTED {
+        assert!(rt; expects(rt.alloc(), source, text), "{source}");
+    }
 }

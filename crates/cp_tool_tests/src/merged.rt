@@ -1,10 +1,10 @@
 //! Schedules that are counted by their states.
 
-use crate::rows::{WorkedRow, first_other};
+use crate::rows::{WorkedRow, is_answered};
 use crate::streams::{NEVER, answer_by};
+use cp_tests::answers::{CallAnswer, are_right};
 use cp_tool::{OptionFault, read_options};
 use std::alloc::Global;
-use std::test::Fail;
 use std::thread::Threads;
 
 static ROWS: [WorkedRow; 14] = [
@@ -125,52 +125,40 @@ static ROWS: [WorkedRow; 14] = [
 ];
 
 #[test]
-fn merged_rows(rt: HostRuntime) -> Result<(), Fail> {
-    assert_eq!(rt; first_other(&rt, rt.alloc(), &ROWS)?, None);
-    Ok(())
+fn merged_rows(rt: HostRuntime) {
+    for row in &ROWS {
+        assert!(rt; is_answered(&rt, rt.alloc(), row), "{}", row.name);
+    }
 }
 
 /// At most one growth is refused, as by `rt try --test --fail-alloc N`: then one answer is that of refused memory, with nothing
 /// written, and each other one that of ample memory.
 #[test]
-fn a_refused_growth_is_told_alone(rt: HostRuntime) -> Result<(), Fail> {
-    let mut is_refused = false;
-    for row in ROWS.iter().take(4) {
-        match row_answer(&rt, rt.alloc(), row) {
-            RowAnswer::Ample => {}
-            RowAnswer::Memory => {
-                assert!(rt; !is_refused);
-                is_refused = true;
-            }
-            RowAnswer::Other => panic!(rt; "another answer"),
-        }
-    }
-    Ok(())
+fn a_refused_growth_is_told_alone(rt: HostRuntime) {
+    let answers = [
+        row_answer(&rt, rt.alloc(), &ROWS[0]),
+        row_answer(&rt, rt.alloc(), &ROWS[1]),
+        row_answer(&rt, rt.alloc(), &ROWS[2]),
+        row_answer(&rt, rt.alloc(), &ROWS[3]),
+    ];
+    assert!(rt; are_right(&answers));
 }
 
-/// How an answer compares with that of ample memory.
-#[derive(Clone, Copy)]
-enum RowAnswer {
-    Ample,
-    Memory,
-    Other,
-}
-
-fn row_answer<X: Threads + Sync>(rt: &X, alloc: Global, row: &WorkedRow) -> RowAnswer {
+fn row_answer<X: Threads + Sync>(rt: &X, alloc: Global, row: &WorkedRow) -> CallAnswer {
     let options = match read_options(alloc, row.words) {
         Ok(options) => options,
-        Err(OptionFault::Memory) => return RowAnswer::Memory,
-        Err(_fault) => return RowAnswer::Other,
+        Err(OptionFault::Memory) => return CallAnswer::Memory,
+        Err(_fault) => return CallAnswer::Other,
     };
     let answer = answer_by(rt, alloc, &options, row.source.as_bytes(), NEVER);
     let wanted = row.text.as_bytes();
     // The test's own writer takes memory too: where that is refused, a write failed.
     let is_cut_short = answer.status.code == 4 && wanted.starts_with(&answer.text);
     if answer.is(row.code, wanted) {
-        RowAnswer::Ample
+        CallAnswer::Ample
     } else if is_cut_short || answer.is(3, b"") {
-        RowAnswer::Memory
+        CallAnswer::Memory
     } else {
-        RowAnswer::Other
+        CallAnswer::Other
     }
 }

@@ -1,13 +1,16 @@
 //! The worked rows.
 use crate::fakes::FakeRefusal;
-use crate::streams::{NEVER, Refusals, ToolAnswer, answer_to, answer_to_endless};
+use crate::streams::{NEVER, Refusals, ToolAnswer, answer_by, answer_to_endless};
 use cp_tool::read_options;
 use std::alloc::Global;
-use std::test::Fail;
 use std::thread::Threads;
 
 const TWO_DISPLAYS: &str =
     "type p = process(n: integer); begin display(n) end; var a, b: p; begin init a(1), b(2) end.";
+
+/// What the program answers for it within five choices.
+const TWO_DISPLAYS_REPORT: &str =
+    "schedules 45\noutcomes 2\n30 first 0.0.1.1 finished output 1 2\n15 first 0.0.2.1.1 finished output 2 1\n";
 
 /// A source, the words of the call, and what is written, with which status.
 pub struct WorkedRow {
@@ -24,7 +27,7 @@ static ROWS: [WorkedRow; 16] = [
         words: &["cpx", "--choices", "5"],
         source: TWO_DISPLAYS,
         code: 0,
-        text: "schedules 45\noutcomes 2\n30 first 0.0.1.1 finished output 1 2\n15 first 0.0.2.1.1 finished output 2 1\n",
+        text: TWO_DISPLAYS_REPORT,
     },
     WorkedRow {
         name: "two-displays-default",
@@ -133,113 +136,105 @@ static ROWS: [WorkedRow; 16] = [
     },
 ];
 
-/// The name of the first row whose answer is another one.
-pub fn first_other<X: Threads + Sync>(
-    rt: &X,
-    alloc: Global,
-    rows: &'static [WorkedRow],
-) -> Result<Option<&'static str>, Fail> {
-    for row in rows {
-        let answer = answer_to(rt, alloc, row.words, row.source.as_bytes(), NEVER)?;
-        if !answer.is(row.code, row.text.as_bytes()) {
-            return Ok(Some(row.name));
+/// Whether the program answers so.
+pub fn is_answered<X: Threads + Sync>(rt: &X, alloc: Global, row: &WorkedRow) -> bool {
+    match read_options(alloc, row.words) {
+        Ok(options) => {
+            let answer = answer_by(rt, alloc, &options, row.source.as_bytes(), NEVER);
+            answer.is(row.code, row.text.as_bytes())
         }
+        Err(_) => false,
     }
-    Ok(None)
 }
 
 #[test]
-fn worked_rows(rt: HostRuntime) -> Result<(), Fail> {
-    assert_eq!(rt; first_other(&rt, rt.alloc(), &ROWS)?, None);
-    Ok(())
+fn worked_rows(rt: HostRuntime) {
+    for row in &ROWS {
+        assert!(rt; is_answered(&rt, rt.alloc(), row), "{}", row.name);
+    }
+}
+
+fn refuses_endless_source<X: Threads + Sync>(rt: &X, alloc: Global) -> bool {
+    match read_options(alloc, ["cpx"].as_slice()) {
+        Ok(options) => { answer_to_endless(rt, alloc, &options).is(1, b"line 0 scan: too long\n") }
+        Err(_) => false,
+    }
 }
 
 /// The row endless-reader.
 #[test]
-fn endless_reader(rt: HostRuntime) -> Result<(), Fail> {
-    let Ok(options) = read_options(rt.alloc(), ["cpx"].as_slice()) else {
-        return Err(Fail::from("refused words"));
-    };
-    let answer = answer_to_endless(&rt, rt.alloc(), &options);
-    assert!(rt; answer.is(1, b"line 0 scan: too long\n"));
-    Ok(())
+fn endless_reader(rt: HostRuntime) {
+    assert!(rt; refuses_endless_source(&rt, rt.alloc()));
 }
 
-/// What the program answers for `TWO_DISPLAYS` where a read or a write is refused.
+/// What the program answers for `TWO_DISPLAYS` where a read or a write is refused; none where the words are refused.
 fn answer_despite<X: Threads + Sync>(
     rt: &X,
     alloc: Global,
     refusals: Refusals,
-) -> Result<ToolAnswer, Fail> {
-    let words = ["cpx", "--choices", "5"];
-    answer_to(rt, alloc, &words, TWO_DISPLAYS.as_bytes(), refusals)
+) -> Option<ToolAnswer> {
+    match read_options(alloc, ["cpx", "--choices", "5"].as_slice()) {
+        Ok(options) => {
+            let source = TWO_DISPLAYS.as_bytes();
+            Some(answer_by(rt, alloc, &options, source, refusals))
+        }
+        Err(_) => None,
+    }
 }
 
 /// Whether the answer is that of a good reader, or, while reads are left to fail, that there is none.
-fn is_told_of_read<X: Threads + Sync>(
-    rt: &X,
-    alloc: Global,
-    read: u32,
-    good: &[u8],
-) -> Result<bool, Fail> {
+fn is_told_of_read<X: Threads + Sync>(rt: &X, alloc: Global, read: u32) -> bool {
     let refusals = Refusals {
         read,
         write: 0,
         refusal: FakeRefusal::Fails,
     };
-    let answer = answer_despite(rt, alloc, refusals)?;
-    Ok(if read as usize <= TWO_DISPLAYS.len() + 1 {
-        answer.is(4, b"")
-    } else {
-        answer.is(0, good)
-    })
+    match answer_despite(rt, alloc, refusals) {
+        Some(answer) => {
+            if read as usize <= TWO_DISPLAYS.len() + 1 {
+                answer.is(4, b"")
+            } else {
+                answer.is(0, TWO_DISPLAYS_REPORT.as_bytes())
+            }
+        }
+        None => false,
+    }
 }
 
 /// Each read in turn fails, and after the last the answer is that of a good reader.
 #[test]
-fn failing_reader(rt: HostRuntime) -> Result<(), Fail> {
-    let good = answer_despite(&rt, rt.alloc(), NEVER)?;
+fn failing_reader(rt: HostRuntime) {
     for read in 1..200 {
-        assert!(rt;
-            is_told_of_read(&rt, rt.alloc(), read, &good.text)?,
-            "{read}"
-        );
+        assert!(rt; is_told_of_read(&rt, rt.alloc(), read), "{read}");
     }
-    Ok(())
 }
 
 /// Whether the answer is the beginning of that of a good writer, and with its status once no write is left to be refused.
 fn is_told_of_write<X: Threads + Sync>(
     rt: &X,
     alloc: Global,
-    refusals: Refusals,
-    good: &[u8],
-) -> Result<bool, Fail> {
-    let answer = answer_despite(rt, alloc, refusals)?;
-    let wanted = if refusals.write as usize <= good.len() {
-        4
-    } else {
-        0
+    write: u32,
+    refusal: FakeRefusal,
+) -> bool {
+    let refusals = Refusals {
+        read: 0,
+        write,
+        refusal,
     };
-    Ok(answer.status.code == wanted && good.starts_with(&answer.text))
+    let good = TWO_DISPLAYS_REPORT.as_bytes();
+    let code = if write as usize <= good.len() { 4 } else { 0 };
+    match answer_despite(rt, alloc, refusals) {
+        Some(answer) => answer.status.code == code && good.starts_with(&answer.text),
+        None => false,
+    }
 }
 
 /// Each write in turn fails or takes nothing, and after the last the answer is that of a good writer.
 #[test]
-fn failing_writer(rt: HostRuntime) -> Result<(), Fail> {
-    let good = answer_despite(&rt, rt.alloc(), NEVER)?;
-    for refusal in [FakeRefusal::Fails, FakeRefusal::TakesNothing] {
-        for write in 1..200 {
-            let refusals = Refusals {
-                read: 0,
-                write,
-                refusal,
-            };
-            assert!(rt;
-                is_told_of_write(&rt, rt.alloc(), refusals, &good.text)?,
-                "{write}"
-            );
-        }
+fn failing_writer(rt: HostRuntime) {
+    for write in 1..200 {
+        let is_told = is_told_of_write(&rt, rt.alloc(), write, FakeRefusal::Fails)
+            && is_told_of_write(&rt, rt.alloc(), write, FakeRefusal::TakesNothing);
+        assert!(rt; is_told, "{write}");
     }
-    Ok(())
 }

@@ -3,12 +3,11 @@ ghost use Rattle.std.specs.Prelude.{◌≡◌};
 
 use crate::fakes::{EndlessReader, FakeRefusal, OneByteReader, OneByteWriter};
 use cp_progress::Unobserved;
-use cp_tool::{ExitStatus, Options, Wrapped, explore_stream, read_options};
+use cp_tool::{ExitStatus, Options, Wrapped, explore_stream};
 use std::alloc::Global;
 use std::io::Read;
 use std::marker::Brand;
 use std::sync::ledger::{Blank, Ledger};
-use std::test::Fail;
 use std::thread::Threads;
 
 /// At which call a reader and a writer of one byte at a time refuse, counted from 1; 0 for never.
@@ -38,20 +37,6 @@ impl ToolAnswer {
     pub fn is(&self, code: u8, text: &[u8]) -> bool {
         self.status.code == code && self.text.as_slice() == text
     }
-}
-
-/// What the program answers to a source.
-pub fn answer_to<'a, X: Threads + Sync>(
-    rt: &X,
-    alloc: Global,
-    words: &'a [&'a str],
-    source: &[u8],
-    refusals: Refusals,
-) -> Result<ToolAnswer, Fail> {
-    let Ok(options) = read_options(alloc, words) else {
-        return Err(Fail::from("refused words"));
-    };
-    Ok(answer_by(rt, alloc, &options, source, refusals))
 }
 
 /// What the program answers to a source with these options.

@@ -2,7 +2,6 @@ use cp_machine::Gates;
 use cp_tests::answers::{CallAnswer, ample_answer, are_right};
 use cp_tool::{OptionFault, Options, read_options};
 use std::alloc::Global;
-use std::test::Fail;
 
 const ALL: [&str; 13] = [
     "cpx",
@@ -140,10 +139,6 @@ static HELP: [&[&str]; 9] = [
     &["cpx", "--ends", "--choices", "99", "--help"],
 ];
 
-fn options_of(alloc: Global, words: &[&str]) -> Result<Options, Fail> {
-    Ok(read_options(alloc, words).ok().ok_or("refused")?)
-}
-
 fn has_word(options: &Options, numbers: &[u8]) -> bool {
     match &options.schedule {
         Some(word) => word.as_slice() == numbers,
@@ -189,7 +184,7 @@ fn has_values_of_all(options: &Options) -> bool {
 
 /// Where a growth is refused, one answer is Memory, and each other one is that of ample memory.
 #[test]
-fn refused_growth_of_reading_options(rt: HostRuntime) -> Result<(), Fail> {
+fn refused_growth_of_reading_options(rt: HostRuntime) {
     let answers = [
         all_or_memory(rt.alloc()),
         refusal_or_memory(rt.alloc()),
@@ -199,7 +194,6 @@ fn refused_growth_of_reading_options(rt: HostRuntime) -> Result<(), Fail> {
         help_or_memory(rt.alloc()),
     ];
     assert!(rt; are_right(&answers));
-    Ok(())
 }
 
 fn all_or_memory(alloc: Global) -> CallAnswer {
@@ -277,24 +271,29 @@ static ACCEPTED: [(&[&str], WantedValues); 6] = [
     (&LONGEST, WantedValues::Longest),
 ];
 
-#[test]
-fn options_have_the_values_of_their_words(rt: HostRuntime) -> Result<(), Fail> {
-    for (words, values) in &ACCEPTED {
-        let options = options_of(rt.alloc(), words)?;
-        let last = words.last().copied().unwrap_or("");
-        assert!(rt; have_values(&options, *values), "at {last}");
+fn gives(alloc: Global, words: &[&str], values: WantedValues) -> bool {
+    match read_options(alloc, words) {
+        Ok(options) => have_values(&options, values),
+        Err(_) => false,
     }
-    Ok(())
 }
 
 #[test]
-fn other_words_are_refused(rt: HostRuntime) -> Result<(), Fail> {
-    for words in &REFUSED {
-        let is_refused = matches!(read_options(rt.alloc(), words), Err(OptionFault::Refused));
-        let last = words.last().copied().unwrap_or("");
-        assert!(rt; is_refused, "at {last}");
+fn options_have_the_values_of_their_words(rt: HostRuntime) {
+    for (words, values) in &ACCEPTED {
+        assert!(rt; gives(rt.alloc(), words, *values), "{}", words.len());
     }
-    Ok(())
+}
+
+fn is_refused(alloc: Global, words: &[&str]) -> bool {
+    matches!(read_options(alloc, words), Err(OptionFault::Refused))
+}
+
+#[test]
+fn other_words_are_refused(rt: HostRuntime) {
+    for (number, words) in REFUSED.iter().enumerate() {
+        assert!(rt; is_refused(rt.alloc(), words), "{number}");
+    }
 }
 
 /// What help says.
@@ -321,22 +320,24 @@ static HELP_PARTS: [&str; 20] = [
     "cpx --choices 5 < program.cp",
 ];
 
-fn first_missing(text: &str) -> Option<&'static str> {
+fn has_all_parts(text: &str) -> bool {
+    let mut has_all = true;
     for part in &HELP_PARTS {
-        if !text.contains(part) {
-            return Some(part);
-        }
+        has_all = has_all && text.contains(part);
     }
-    None
+    has_all
+}
+
+fn helps(alloc: Global, words: &[&str]) -> bool {
+    match read_options(alloc, words) {
+        Err(OptionFault::Help(text)) => has_all_parts(text.as_str()),
+        _ => false,
+    }
 }
 
 #[test]
-fn help_names_each_option_and_shows_a_call(rt: HostRuntime) -> Result<(), Fail> {
-    for words in &HELP {
-        let Err(OptionFault::Help(text)) = read_options(rt.alloc(), words) else {
-            panic!(rt; "no help")
-        };
-        assert_eq!(rt; first_missing(text.as_str()), None);
+fn help_names_each_option_and_shows_a_call(rt: HostRuntime) {
+    for (number, words) in HELP.iter().enumerate() {
+        assert!(rt; helps(rt.alloc(), words), "{number}");
     }
-    Ok(())
 }

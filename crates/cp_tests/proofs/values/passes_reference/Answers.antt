@@ -6,14 +6,14 @@ use Rattle.cp_slots.specs.declared.place.Argument.{Argument}
 use Rattle.cp_slots.specs.declared.place.ArgumentValue.TheVariants.{Reference}
 use Rattle.cp_store.specs.Inside.{CanGive}
 use Rattle.cp_tests.proofs.OwnCells.{own_reach}
-use Rattle.cp_tests.proofs.values.references.Goals as goal
+use Rattle.cp_tests.proofs.values.passes_reference.Goals as goal
 
 abbrev frame : Frame
 frame = record { routine = 0; component = 0; own = 0; base = 0; references = 0 }
 
 pub evaluate_arguments-evaluated-requires-clause-reads : goal.evaluate_arguments-evaluated-requires-clause-reads
-evaluate_arguments-evaluated-requires-clause-reads g c =
+evaluate_arguments-evaluated-requires-clause-reads c =
     let argument : Argument = record { slot = 0; value = Reference c.variable.result } in
-    All-cons (λ x. CanGive (memory_of (pos 7 ∷ []) c.in_ok-room.room) [] frame x.value) argument []
-    (1, own_reach (memory_of (pos 7 ∷ []) c.in_ok-room.room) frame refl refl refl (lit< tt) c.in_ok-room.ensures.0 c.in_ok-room.ensures.1 c.variable.result 1 c.variable.ensures)
-    (All-nil (λ x. CanGive (memory_of (pos 7 ∷ []) c.in_ok-room.room) [] frame x.value))
+    All-cons (λ x. CanGive (memory_of (pos 7 ∷ []) c.in-Ok.room) [] frame x.value) argument []
+    (1, own_reach (memory_of (pos 7 ∷ []) c.in-Ok.room) frame refl refl refl (lit< tt) c.in-Ok.ensures.0 c.in-Ok.ensures.1 c.variable.result 1 c.variable.ensures)
+    (All-nil (λ x. CanGive (memory_of (pos 7 ∷ []) c.in-Ok.room) [] frame x.value))

@@ -1,4 +1,4 @@
-use Rattle.cp_tests.proofs.readings.has_room.Given as goal
+use Rattle.cp_tests.proofs.readings.state_at.Given as goal
 
 abbrev pub ghosts-state_after-S-Ledger : goal.ghosts-state_after-S-Ledger
 ghosts-state_after-S-Ledger a = record { name = a.blank.name; parts = a.blank.parts }
