@@ -143,7 +143,7 @@ pub fn is_answered<X: Threads + Sync>(rt: &X, alloc: Global, row: &WorkedRow) ->
             let answer = answer_by(rt, alloc, &options, row.source.as_bytes(), NEVER);
             answer.is(row.code, row.text.as_bytes())
         }
-        Err(_) => false,
+        Err(_fault) => false,
     }
 }
 
@@ -157,7 +157,7 @@ fn worked_rows(rt: HostRuntime) {
 fn refuses_endless_source<X: Threads + Sync>(rt: &X, alloc: Global) -> bool {
     match read_options(alloc, ["cpx"].as_slice()) {
         Ok(options) => { answer_to_endless(rt, alloc, &options).is(1, b"line 0 scan: too long\n") }
-        Err(_) => false,
+        Err(_fault) => false,
     }
 }
 
@@ -178,7 +178,7 @@ fn answer_despite<X: Threads + Sync>(
             let source = TWO_DISPLAYS.as_bytes();
             Some(answer_by(rt, alloc, &options, source, refusals))
         }
-        Err(_) => None,
+        Err(_fault) => None,
     }
 }
 

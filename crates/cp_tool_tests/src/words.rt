@@ -274,7 +274,7 @@ static ACCEPTED: [(&[&str], WantedValues); 6] = [
 fn gives(alloc: Global, words: &[&str], values: WantedValues) -> bool {
     match read_options(alloc, words) {
         Ok(options) => have_values(&options, values),
-        Err(_) => false,
+        Err(_fault) => false,
     }
 }
 
