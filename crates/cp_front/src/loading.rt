@@ -11,7 +11,7 @@ ghost use Rattle.cp_front.specs.Loading.{IsTreeOf, IsRefusalOf, Loads};
 use crate::refusal::Refusal;
 use cp_check::{CheckFault, Checked, check};
 use cp_drops::{drop_checked, drop_program, drop_tree};
-use cp_layout::Symbols;
+use cp_symbols::Symbols;
 use cp_resolved::{resolve, resolve_with_symbols};
 use cp_slots::Resolved;
 use cp_text::{ScanCause, Tokens, scan};

@@ -6,9 +6,9 @@ use Rattle.cp_tree.specs.declared.expression.Selector as tree_selector
 use Rattle.cp_tree.specs.declared.expression.FactorKind.{the_lemmas as tree_lemmas}
 use Rattle.cp_tree.specs.Syntax as syntax
 use Rattle.cp_tree.specs.View.{expression_view, selector_view}
-use Rattle.cp_layout.specs.declared.kinds.CellType.TheVariants as types
-use Rattle.cp_layout.specs.declared.kinds.ArrayType.{ArrayType}
-use Rattle.cp_layout.specs.declared.kinds.CellType.{CellType}
+use Rattle.cp_symbols.specs.declared.kinds.CellType.TheVariants as types
+use Rattle.cp_symbols.specs.declared.kinds.ArrayType.{ArrayType}
+use Rattle.cp_symbols.specs.declared.kinds.CellType.{CellType}
 use Rattle.cp_layout.specs.declared.layer.Passing.{Passing}
 use Rattle.cp_layout.specs.declared.layer.Passing.TheVariants as passing
 use Rattle.cp_layout.specs.declared.layer.Layouter as code_layer

@@ -13,9 +13,9 @@ use Rattle.cp_tree.specs.declared.declaration.Routine as tree_routine
 use Rattle.cp_tree.specs.declared.declaration.SystemDefinition as tree_system_definition
 use Rattle.cp_tree.specs.declared.declaration.ProgramPart as tree_program_part
 use Rattle.cp_tree.specs.View.{field_group_view, field_groups_view, field_groups_of, constant_definition_view, type_definition_view, variable_group_view, part_view, group_view, parameter_group_view, routine_view, system_definition_view, program_part_view}
-use Rattle.cp_layout.specs.declared.kinds.CellBase.{CellBase}
-use Rattle.cp_layout.specs.declared.kinds.CellType.{CellType}
-use Rattle.cp_layout.specs.declared.names.LayoutMeaning.TheVariants as meaning
+use Rattle.cp_symbols.specs.declared.kinds.CellBase.{CellBase}
+use Rattle.cp_symbols.specs.declared.kinds.CellType.{CellType}
+use Rattle.cp_symbols.specs.declared.names.LayoutMeaning.TheVariants as meaning
 use Rattle.cp_layout.specs.Kinds.{Fields, with_field}
 use Rattle.cp_layout.specs.LaidExpressions.{as_integer}
 use Rattle.cp_layout.specs.LaidTypes.{with_constant, enumerated, fields_of_type, field_group, field_groups}

@@ -4,7 +4,8 @@ use Rattle.std.proofs.Math.Seq.{drop-cons}
 use Rattle.std.proofs.lemmas.List.{drop_all, append-nil}
 use Rattle.std.proofs.lemmas.Bool.Decides.{nat_tests}
 use Rattle.cp_layout.specs.declared.kinds.Field as code_field
-use Rattle.cp_layout.specs.Kinds.{Compound, Compounds, field_seen, copies, least_by, fields_least, compound_least, compound_below}
+use Rattle.cp_symbols.specs.Kinds.{Compound, Compounds}
+use Rattle.cp_layout.specs.Kinds.{field_seen, copies, least_by, fields_least, compound_least, compound_below}
 
 pub compound_inside : (ts : Compounds) (bound n : ℕ) → n < bound → compound_below ts bound n ≡ compound_least (compound_below ts n) (slice_get ts n)
 unfolding compound_below

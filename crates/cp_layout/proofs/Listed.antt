@@ -5,7 +5,7 @@ use Rattle.std.proofs.lemmas.List.{drop_all, append-nil}
 use Rattle.std.proofs.lemmas.Bool.Decides.{nat_tests}
 use Rattle.cp_layout.specs.declared.layer.Contained.{Contained}
 use Rattle.cp_layout.specs.declared.layer.Content.{Content}
-use Rattle.cp_layout.specs.Kinds.{Compounds}
+use Rattle.cp_symbols.specs.Kinds.{Compounds}
 use Rattle.cp_layout.specs.Layers.{System}
 use Rattle.cp_layout.specs.LaidComponents.{Listing, content_least, contents_least, again_and_again, contained_by, system_by, listed_below}
 

@@ -8,7 +8,7 @@ use Rattle.cp_slots.specs.declared.tables.Process.{Process}
 use Rattle.cp_layout.specs.declared.tables.RoomNeed.{RoomNeed}
 use Rattle.cp_slots.specs.Tables.{Tables, RoutineView, SystemView}
 use Rattle.cp_slots.specs.Code.{Item, item_seen}
-use Rattle.cp_layout.specs.Kinds.{plus}
+use Rattle.cp_symbols.specs.Kinds.{plus}
 use Rattle.cp_layout.specs.Layers.{Layer, Owned, System, need_of, nothing_laid}
 use Rattle.cp_layout.specs.LaidDeclarations.{program}
 use Rattle.cp_layout.specs.LaidComponents.{Listing, program_listed}

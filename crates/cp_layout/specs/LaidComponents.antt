@@ -10,7 +10,8 @@ use Rattle.cp_layout.specs.declared.layer.Contained.{Contained}
 use Rattle.cp_layout.specs.declared.component.Components as code_components
 use Rattle.cp_layout.specs.declared.layer.Content.{Content}
 use Rattle.cp_layout.specs.declared.layer.Content.TheVariants as content
-use Rattle.cp_layout.specs.Kinds.{Compounds, least}
+use Rattle.cp_symbols.specs.Kinds.{Compounds}
+use Rattle.cp_layout.specs.Kinds.{least}
 use Rattle.cp_layout.specs.Layers.{Owned, System}
 
 -- the components so far

@@ -6,19 +6,20 @@ use Rattle.cp_tree.specs.Syntax as syntax
 use Rattle.cp_tree.specs.Syntax.{ConstantDefinition, TypeDefinition, VariableGroup, Part, Group, ParameterGroup, RoutineKind, Routine, Body, Definition, SystemDefinition, ProgramPart, Program}
 use Rattle.cp_slots.specs.declared.place.PlaceOrigin.TheVariants as origin
 use Rattle.cp_slots.specs.declared.tables.ComponentParameter.{ComponentParameter}
-use Rattle.cp_layout.specs.declared.kinds.CellBase.{CellBase}
-use Rattle.cp_layout.specs.declared.kinds.CellType.{CellType}
-use Rattle.cp_layout.specs.declared.kinds.CellType.TheVariants as types
-use Rattle.cp_layout.specs.declared.kinds.ArrayType.{ArrayType}
-use Rattle.cp_layout.specs.declared.names.LayoutMeaning.{LayoutMeaning}
-use Rattle.cp_layout.specs.declared.names.LayoutMeaning.TheVariants as meaning
+use Rattle.cp_symbols.specs.declared.kinds.CellBase.{CellBase}
+use Rattle.cp_symbols.specs.declared.kinds.CellType.{CellType}
+use Rattle.cp_symbols.specs.declared.kinds.CellType.TheVariants as types
+use Rattle.cp_symbols.specs.declared.kinds.ArrayType.{ArrayType}
+use Rattle.cp_symbols.specs.declared.names.LayoutMeaning.{LayoutMeaning}
+use Rattle.cp_symbols.specs.declared.names.LayoutMeaning.TheVariants as meaning
 use Rattle.cp_layout.specs.declared.layer.Contained.{Contained}
 use Rattle.cp_layout.specs.declared.layer.Content.TheVariants as content
 use Rattle.cp_layout.specs.declared.layer.Passing.TheVariants as passing
 use Rattle.cp_layout.specs.declared.layer.ParameterLayout.{ParameterLayout}
-use Rattle.cp_layout.specs.declared.layer.FunctionResult.{FunctionResult}
+use Rattle.cp_symbols.specs.declared.symbols.FunctionResult.{FunctionResult}
 use Rattle.cp_layout.specs.declared.declaration.Outer as code_outer
-use Rattle.cp_layout.specs.Kinds.{Compounds, array_of, cells_of, count_of, least, plus, times}
+use Rattle.cp_symbols.specs.Kinds.{Compounds, cells_of, count_of, plus, times}
+use Rattle.cp_layout.specs.Kinds.{array_of, least}
 use Rattle.cp_layout.specs.Layers.{Names, names_seen, owned_seen, seen_inside, Layer, Heading, Owned, System, with_name, with_routine, no_frame, no_owned}
 use Rattle.cp_layout.specs.LaidExpressions.{component_count}
 use Rattle.cp_layout.specs.LaidTypes.{constant_of, named_type, written_type}

@@ -6,17 +6,18 @@ use Rattle.cp_tree.specs.declared.constant.Sign.TheVariants as sign
 use Rattle.cp_tree.specs.Syntax as syntax
 use Rattle.cp_tree.specs.Syntax.{Sum, Terms, Term, Factors, Factor, Expressions, Designator, Selectors, Selector}
 use Rattle.cp_slots.specs.declared.place.PlaceOrigin.TheVariants as origin
-use Rattle.cp_layout.specs.declared.kinds.CellBase.TheVariants as base
-use Rattle.cp_layout.specs.declared.kinds.CellType.{CellType}
-use Rattle.cp_layout.specs.declared.kinds.CellType.TheVariants as types
-use Rattle.cp_layout.specs.declared.kinds.ArrayType.{ArrayType}
-use Rattle.cp_layout.specs.declared.names.LayoutMeaning.{LayoutMeaning}
-use Rattle.cp_layout.specs.declared.names.LayoutMeaning.TheVariants as meaning
+use Rattle.cp_symbols.specs.declared.kinds.CellBase.TheVariants as base
+use Rattle.cp_symbols.specs.declared.kinds.CellType.{CellType}
+use Rattle.cp_symbols.specs.declared.kinds.CellType.TheVariants as types
+use Rattle.cp_symbols.specs.declared.kinds.ArrayType.{ArrayType}
+use Rattle.cp_symbols.specs.declared.names.LayoutMeaning.{LayoutMeaning}
+use Rattle.cp_symbols.specs.declared.names.LayoutMeaning.TheVariants as meaning
 use Rattle.cp_layout.specs.declared.layer.Passing.{Passing}
 use Rattle.cp_layout.specs.declared.layer.Passing.TheVariants as passing
 use Rattle.cp_layout.specs.declared.layer.ParameterLayout.{ParameterLayout}
-use Rattle.cp_layout.specs.declared.layer.FunctionResult.{FunctionResult}
-use Rattle.cp_layout.specs.Kinds.{Field, field_of, array_of, cells_of, plus}
+use Rattle.cp_symbols.specs.declared.symbols.FunctionResult.{FunctionResult}
+use Rattle.cp_symbols.specs.Kinds.{Field, cells_of, plus}
+use Rattle.cp_layout.specs.Kinds.{field_of, array_of}
 use Rattle.cp_slots.specs.Code as code
 use Rattle.cp_slots.specs.Code.{Place, Indices, Index, OrdinalExpression, SetExpression, ComponentPlace, ArgumentValue, Argument}
 use Rattle.cp_layout.specs.Values as values

@@ -8,17 +8,17 @@ use Rattle.cp_slots.specs.declared.item.ShownKind.{ShownKind}
 use Rattle.cp_slots.specs.declared.item.ShownKind.TheVariants as shown
 use Rattle.cp_slots.specs.declared.place.PlaceOrigin.{PlaceOrigin}
 use Rattle.cp_slots.specs.declared.place.PlaceOrigin.TheVariants as origin
-use Rattle.cp_layout.specs.declared.kinds.CellBase.TheVariants as base
-use Rattle.cp_layout.specs.declared.kinds.CellType.{CellType}
-use Rattle.cp_layout.specs.declared.kinds.CellType.TheVariants as types
-use Rattle.cp_layout.specs.declared.names.PredeclaredRoutine.{PredeclaredRoutine}
-use Rattle.cp_layout.specs.declared.names.PredeclaredRoutine.TheVariants as predeclared
-use Rattle.cp_layout.specs.declared.layer.FunctionResult.{FunctionResult}
+use Rattle.cp_symbols.specs.declared.kinds.CellBase.TheVariants as base
+use Rattle.cp_symbols.specs.declared.kinds.CellType.{CellType}
+use Rattle.cp_symbols.specs.declared.kinds.CellType.TheVariants as types
+use Rattle.cp_symbols.specs.declared.names.PredeclaredRoutine.{PredeclaredRoutine}
+use Rattle.cp_symbols.specs.declared.names.PredeclaredRoutine.TheVariants as predeclared
+use Rattle.cp_symbols.specs.declared.symbols.FunctionResult.{FunctionResult}
 use Rattle.cp_slots.specs.declared.place.ComponentPlace as code_component
 use Rattle.cp_layout.specs.declared.statement.StatementTarget as code_target
 use Rattle.cp_layout.specs.declared.statement.CalledRoutine as code_callee
 use Rattle.cp_layout.specs.declared.statement.CalledRoutine.TheVariants as callee
-use Rattle.cp_layout.specs.Kinds.{cells_of, values_of}
+use Rattle.cp_symbols.specs.Kinds.{cells_of, values_of}
 use Rattle.cp_slots.specs.Code as code
 use Rattle.cp_slots.specs.Code.{Place, place_seen, ComponentPlace, component_seen, Arm, Action}
 use Rattle.cp_layout.specs.Values.{Value, ordinal_value, Designated, a_variable, a_component, a_routine, an_entry, a_standard, place_at, place_of, ordinal_of, set_of}

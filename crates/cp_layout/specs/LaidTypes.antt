@@ -8,14 +8,15 @@ use Rattle.cp_tree.specs.declared.constant.ConstantKind.{ConstantKind}
 use Rattle.cp_tree.specs.declared.constant.ConstantKind.TheVariants as constant_kind
 use Rattle.cp_tree.specs.Syntax as syntax
 use Rattle.cp_tree.specs.Syntax.{Simple, TypeTerm, FieldGroup, FieldGroups}
-use Rattle.cp_layout.specs.declared.kinds.CellBase.{CellBase}
-use Rattle.cp_layout.specs.declared.kinds.CellBase.TheVariants as base
-use Rattle.cp_layout.specs.declared.kinds.CellRange.{CellRange}
-use Rattle.cp_layout.specs.declared.kinds.CellType.{CellType}
-use Rattle.cp_layout.specs.declared.kinds.CellType.TheVariants as types
-use Rattle.cp_layout.specs.declared.names.LayoutMeaning.{LayoutMeaning}
-use Rattle.cp_layout.specs.declared.names.LayoutMeaning.TheVariants as meaning
-use Rattle.cp_layout.specs.Kinds.{Compounds, whole, values_of, cells_of, with_array, Fields, no_fields, with_field, with_record}
+use Rattle.cp_symbols.specs.declared.kinds.CellBase.{CellBase}
+use Rattle.cp_symbols.specs.declared.kinds.CellBase.TheVariants as base
+use Rattle.cp_symbols.specs.declared.kinds.CellRange.{CellRange}
+use Rattle.cp_symbols.specs.declared.kinds.CellType.{CellType}
+use Rattle.cp_symbols.specs.declared.kinds.CellType.TheVariants as types
+use Rattle.cp_symbols.specs.declared.names.LayoutMeaning.{LayoutMeaning}
+use Rattle.cp_symbols.specs.declared.names.LayoutMeaning.TheVariants as meaning
+use Rattle.cp_symbols.specs.Kinds.{Compounds, whole, values_of, cells_of}
+use Rattle.cp_layout.specs.Kinds.{with_array, Fields, no_fields, with_field, with_record}
 use Rattle.cp_layout.specs.Layers.{Names, find, find_type, Layer}
 use Rattle.cp_layout.specs.LaidExpressions.{as_integer}
 

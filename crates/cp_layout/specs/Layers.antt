@@ -4,16 +4,16 @@ use Rattle.std.specs.String.{string_bytes}
 use Rattle.std.specs.Str.{bytes_eq}
 use Rattle.cp_tree.specs.declared.declaration.SystemKind.{SystemKind}
 use Rattle.cp_slots.specs.declared.tables.ComponentParameter.{ComponentParameter}
-use Rattle.cp_layout.specs.declared.kinds.CellType.{CellType}
-use Rattle.cp_layout.specs.declared.kinds.CellType.TheVariants as types
-use Rattle.cp_layout.specs.declared.kinds.CellBase.TheVariants as base
-use Rattle.cp_layout.specs.declared.names.LayoutMeaning.{LayoutMeaning}
-use Rattle.cp_layout.specs.declared.names.LayoutMeaning.TheVariants as meaning
-use Rattle.cp_layout.specs.declared.names.PredeclaredRoutine.TheVariants as predeclared
+use Rattle.cp_symbols.specs.declared.kinds.CellType.{CellType}
+use Rattle.cp_symbols.specs.declared.kinds.CellType.TheVariants as types
+use Rattle.cp_symbols.specs.declared.kinds.CellBase.TheVariants as base
+use Rattle.cp_symbols.specs.declared.names.LayoutMeaning.{LayoutMeaning}
+use Rattle.cp_symbols.specs.declared.names.LayoutMeaning.TheVariants as meaning
+use Rattle.cp_symbols.specs.declared.names.PredeclaredRoutine.TheVariants as predeclared
 use Rattle.cp_layout.specs.declared.names.Names as code_names
 use Rattle.cp_layout.specs.declared.names.DeclaredName as code_declared
 use Rattle.cp_layout.specs.declared.layer.ParameterLayout.{ParameterLayout}
-use Rattle.cp_layout.specs.declared.layer.FunctionResult.{FunctionResult}
+use Rattle.cp_symbols.specs.declared.symbols.FunctionResult.{FunctionResult}
 use Rattle.cp_layout.specs.declared.layer.Contained.{Contained}
 use Rattle.cp_layout.specs.declared.layer.Content.{Content}
 use Rattle.cp_layout.specs.declared.layer.HeadingLayout as code_heading
@@ -24,8 +24,10 @@ use Rattle.cp_layout.specs.declared.lists.Pending as code_pending
 use Rattle.cp_layout.specs.declared.surroundings.Surroundings as code_surroundings
 use Rattle.cp_layout.specs.declared.layer.Layouter as code_layer
 use Rattle.cp_layout.specs.declared.symbols.NotedName as code_noted
+use Rattle.cp_symbols.specs.Symbols.{Noted}
 use Rattle.cp_slots.specs.Tables.{RoutineView, routine_view}
-use Rattle.cp_layout.specs.Kinds.{Compounds, types_seen, plus, values_of}
+use Rattle.cp_symbols.specs.Kinds.{Compounds, plus, values_of}
+use Rattle.cp_layout.specs.Kinds.{types_seen}
 use Rattle.cp_slots.specs.Code.{Action, action_seen, Item, item_seen}
 
 -- ---- names
@@ -100,14 +102,6 @@ unfoldable pub names_seen : code_names.Names → Names
 names_seen n = latest_first n.items.items []
 
 -- ---- the state
-
--- A name that was declared with what it stands for, how many routines there were then, and the system type that declares it. It stays noted when it is no longer
--- visible.
-pub record Noted : Type 0 where
-  pub name : List ℕ
-  pub meaning : LayoutMeaning
-  pub routine : ℕ
-  pub system : Option ℕ
 
 pub record Heading : Type 0 where
   pub name : List ℕ

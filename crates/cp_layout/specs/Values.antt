@@ -16,17 +16,17 @@ use Rattle.cp_slots.specs.declared.place.Comparison.{Comparison}
 use Rattle.cp_slots.specs.declared.place.Comparison.TheVariants as comparison
 use Rattle.cp_slots.specs.declared.place.SetOperation.{SetOperation}
 use Rattle.cp_slots.specs.declared.place.SetOperation.TheVariants as set_operation
-use Rattle.cp_layout.specs.declared.kinds.CellBase.{CellBase}
-use Rattle.cp_layout.specs.declared.kinds.CellBase.TheVariants as base
-use Rattle.cp_layout.specs.declared.kinds.CellType.{CellType}
-use Rattle.cp_layout.specs.declared.kinds.CellType.TheVariants as types
-use Rattle.cp_layout.specs.declared.names.PredeclaredRoutine.{PredeclaredRoutine}
-use Rattle.cp_layout.specs.declared.names.PredeclaredRoutine.TheVariants as predeclared
+use Rattle.cp_symbols.specs.declared.kinds.CellBase.{CellBase}
+use Rattle.cp_symbols.specs.declared.kinds.CellBase.TheVariants as base
+use Rattle.cp_symbols.specs.declared.kinds.CellType.{CellType}
+use Rattle.cp_symbols.specs.declared.kinds.CellType.TheVariants as types
+use Rattle.cp_symbols.specs.declared.names.PredeclaredRoutine.{PredeclaredRoutine}
+use Rattle.cp_symbols.specs.declared.names.PredeclaredRoutine.TheVariants as predeclared
 use Rattle.cp_layout.specs.declared.value.Value as code_value
 use Rattle.cp_layout.specs.declared.value.Value.TheVariants as value
 use Rattle.cp_layout.specs.declared.value.Designated as code_designated
 use Rattle.cp_layout.specs.declared.value.Designated.TheVariants as designated
-use Rattle.cp_layout.specs.Kinds.{whole}
+use Rattle.cp_symbols.specs.Kinds.{whole}
 use Rattle.cp_slots.specs.Code as code
 use Rattle.cp_slots.specs.Code.{Place, OrdinalExpression, SetExpression, ComponentPlace, place_seen, expression_seen, set_seen, component_seen}
 

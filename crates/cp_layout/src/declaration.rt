@@ -7,9 +7,9 @@ ghost use Rattle.cp_layout.specs.LaidDeclarations as spec;
 ghost use Rattle.cp_layout.specs.LaidDeclarations.{outer_seen};
 
 use crate::frame::RoutineFrame;
-use crate::kinds::CellType;
 use crate::layer::{HeadingLayout, Layouter, Owned, ParameterLayout, SystemCells};
-use crate::names::{LayoutMeaning, Names};
+use crate::names::Names;
+use cp_symbols::{CellType, LayoutMeaning};
 use cp_tree::{
     Body, Definition, Program, ProgramPart, ProgramPartKind, Routine, System as WrittenSystem,
     SystemDefinition, SystemKind,

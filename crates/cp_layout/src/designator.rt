@@ -6,12 +6,12 @@ ghost use Rattle.cp_layout.specs.Values.{designated_seen, a_contained};
 ghost use Rattle.cp_layout.specs.Layers.{around_seen, find, names_seen, system_seen, heading_seen};
 ghost use Rattle.cp_layout.specs.LaidExpressions as spec;
 
-use crate::kinds::CellType;
 use crate::layer::{HeadingLayout, SystemCells};
-use crate::names::{LayoutMeaning, Names};
+use crate::names::Names;
 use crate::surroundings::Surroundings;
 use crate::value::{Designated, number, place_at};
 use cp_slots::{ComponentPlace, Index, OrdinalExpression, Place};
+use cp_symbols::{CellType, LayoutMeaning};
 use cp_tree::Identifier;
 use std::alloc::{AllocError, Global};
 

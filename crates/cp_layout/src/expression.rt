@@ -8,8 +8,7 @@ ghost use Rattle.cp_layout.specs.Values.{value_seen, designated_seen};
 ghost use Rattle.cp_layout.specs.Layers.{layer_seen, around_seen, Lays, parameter_of};
 ghost use Rattle.cp_layout.specs.LaidExpressions as spec;
 
-use crate::kinds::{CellBase, CellType};
-use crate::layer::{FunctionResult, Layouter, Passing};
+use crate::layer::{Layouter, Passing};
 use crate::surroundings::Surroundings;
 use crate::value::{
     Designated, Value, comparison_of, in_two_boxes, load, negation_of, no_value, number, opposite,
@@ -18,6 +17,7 @@ use crate::value::{
 use cp_slots::{
     Action, Argument, ArgumentValue, ComponentPlace, OrdinalExpression, PlaceOrigin, SetExpression,
 };
+use cp_symbols::{CellBase, CellType, FunctionResult};
 use cp_tree::{
     Addition, Designator, Expression as Written, Factor, FactorKind, Multiplication, Selector,
     Sign, Sum, Term,

@@ -6,8 +6,9 @@ ghost use Rattle.cp_layout.specs.Kinds.{types_seen, least};
 ghost use Rattle.cp_layout.specs.Layers as spec;
 ghost use Rattle.cp_layout.specs.Layers.{frame_seen};
 
-use crate::kinds::{CellType, Types};
+use crate::kinds::Types;
 use cp_slots::ResolvedRoutine;
+use cp_symbols::CellType;
 use std::alloc::{AllocError, Global};
 
 /// The frame of the routine that is laid out.

@@ -5,10 +5,9 @@ ghost use Rattle.cp_tree.specs.View.{group_view, parameter_group_view, routine_k
 ghost use Rattle.cp_layout.specs.Layers.{layer_seen, heading_seen, Lays, Leads};
 ghost use Rattle.cp_layout.specs.LaidDeclarations as spec;
 
-use crate::kinds::CellType;
-use crate::layer::{FunctionResult, HeadingLayout, Layouter, ParameterLayout, Passing};
-use crate::names::LayoutMeaning;
+use crate::layer::{HeadingLayout, Layouter, ParameterLayout, Passing};
 use cp_slots::PlaceOrigin;
+use cp_symbols::{CellType, FunctionResult, LayoutMeaning};
 use cp_tree::{Group, Identifier, ParameterGroup, RoutineKind};
 use std::alloc::{AllocError, Global};
 

@@ -1,97 +1,17 @@
 //! The types of a program, with the cells of their values.
 
 ghost use Rattle.std.specs.Prelude.{◌≡◌, ◌++◌, [], map, option_map, slice_get, IfOk, OnOk};
+ghost use Rattle.cp_symbols.specs.Kinds as symbol_kinds;
 ghost use Rattle.cp_layout.specs.Kinds as spec;
 ghost use Rattle.cp_layout.specs.Kinds.{types_seen, compound_seen, field_seen, fields_seen};
-ghost use Rattle.cp_layout.specs.Symbols.{field_symbol_seen, type_symbol_seen};
+ghost use Rattle.cp_symbols.specs.Symbols.{field_symbol_seen, type_symbol_seen};
 
-use crate::symbols::{FieldSymbol, TypeSymbol};
+use cp_symbols::{ArrayType, CellRange, CellType, FieldSymbol, TypeSymbol};
 use cp_text::Name;
 use std::alloc::{AllocError, Global};
 
 /// The cells of a set.
 const SET_CELLS: usize = 8;
-
-/// What the values of an ordinal type are counted in.
-#[derive(Clone, Copy, Drop)]
-pub enum CellBase {
-    Integer,
-    Boolean,
-    Char,
-    /// With the number of the first constant among those of all enumerations, and the `ord` of the last.
-    Enumeration(u16, i16),
-}
-
-impl CellBase {
-    /// All values.
-    pub fn whole(self) -> CellRange
-        ensures { result ≡ spec.whole self }
-    {
-        let (low, high) = match self {
-            CellBase::Integer => (i16::MIN, i16::MAX),
-            CellBase::Boolean => (0, 1),
-            CellBase::Char => (0, 127),
-            CellBase::Enumeration(_, last) => (0, last),
-        };
-        CellRange {
-            base: self,
-            low,
-            high,
-        }
-    }
-}
-
-/// The values of an ordinal type.
-#[derive(Clone, Copy, Drop)]
-pub struct CellRange {
-    pub base: CellBase,
-    pub low: i16,
-    pub high: i16,
-}
-
-impl CellRange {
-    /// How many values there are.
-    pub fn count(self) -> usize
-        ensures { result ≡ spec.count_of self }
-    {
-        let distance = i64::from(self.high) - i64::from(self.low) + 1;
-        if 0 <= distance { distance as usize } else { 0 }
-    }
-
-    /// The value with which a variable begins: 0 for all integers, else the least.
-    pub fn least(self) -> i16
-        ensures { result ≡ spec.least_of self }
-    {
-        if self.low <= i16::MIN { 0 } else { self.low }
-    }
-}
-
-/// A type. Arrays and records are told apart by their numbers among the compound types, and system types by theirs.
-#[derive(Clone, Copy, Drop)]
-pub enum CellType {
-    Ordinal(CellRange),
-    Queue,
-    /// By the values of the base.
-    Set(CellRange),
-    Array(usize),
-    Record(usize),
-    System(usize),
-}
-
-/// The type of all values of a base.
-pub fn values_of(base: CellBase) -> CellType
-    ensures { result ≡ spec.values_of base }
-{
-    CellType::Ordinal(base.whole())
-}
-
-#[derive(Clone, Copy, Drop)]
-pub struct ArrayType {
-    pub index: CellRange,
-    pub element: CellType,
-    pub element_cells: usize,
-    pub cells: usize,
-}
 
 /// A field of a record, with the cells before it.
 #[derive(Clone, Copy, Drop)]
@@ -200,7 +120,7 @@ impl<'a> Types<'a> {
     /// How many cells a value has. A component has none.
     #[tactic(auto, unfolding(crate::specs::Kinds::types_seen))]
     pub fn cells_of(&self, value_type: CellType) -> usize
-        ensures { result ≡ spec.cells_of (types_seen self.now) value_type }
+        ensures { result ≡ symbol_kinds.cells_of (types_seen self.now) value_type }
     {
         match value_type {
             CellType::Ordinal(_) | CellType::Queue => 1,

@@ -3,19 +3,20 @@
 ghost use Rattle.std.specs.Prelude.{◌≡◌, [], ◌∷◌, ◌++◌, map, length, IfOk, OnOk};
 ghost use Rattle.cp_layout.specs.declared.layer.Content.TheVariants as content;
 ghost use Rattle.cp_slots.specs.Code.{action_seen};
-ghost use Rattle.cp_layout.specs.Kinds.{plus, times};
+ghost use Rattle.cp_symbols.specs.Kinds.{plus, times};
 ghost use Rattle.cp_layout.specs.Layers as spec;
 ghost use Rattle.cp_layout.specs.Layers.{layer_seen, owned_seen, pending_seen, Lays, Leads};
 ghost use Rattle.cp_layout.specs.LaidDeclarations.{component_cell};
 ghost use Rattle.cp_layout.specs.Symbols.{AreSymbolsOf};
 
 use crate::frame::RoutineFrame;
-use crate::kinds::{CellType, Types};
+use crate::kinds::Types;
 use crate::lists::{Lists, Pending};
-use crate::names::{LayoutMeaning, Names};
+use crate::names::Names;
 use crate::surroundings::Surroundings;
-use crate::symbols::{NotedName, Symbols, symbols_of};
+use crate::symbols::{NotedName, symbols_of};
 use cp_slots::{Action, ComponentParameter, Item, ResolvedRoutine};
+use cp_symbols::{CellType, FunctionResult, LayoutMeaning, Symbols};
 use cp_tree::{Identifier, SystemKind, Tree};
 use std::alloc::{AllocError, Global};
 use std::mem;
@@ -33,13 +34,6 @@ pub enum Passing {
 pub struct ParameterLayout {
     pub slot: usize,
     pub passing: Passing,
-}
-
-/// A function's result, by its cell.
-#[derive(Clone, Copy, Drop)]
-pub struct FunctionResult {
-    pub slot: usize,
-    pub value_type: CellType,
 }
 
 /// The heading of a routine, or of an initial statement, whose name is empty.

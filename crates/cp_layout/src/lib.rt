@@ -19,8 +19,4 @@ mod tables;
 mod types;
 mod value;
 
-pub use kinds::{ArrayType, CellBase, CellRange, CellType};
-pub use layer::FunctionResult;
-pub use names::LayoutMeaning;
-pub use symbols::{FieldSymbol, RoutineSymbol, Symbol, Symbols, SystemSymbol, TypeSymbol};
 pub use tables::{lay_out, lay_out_with_symbols};

@@ -3,7 +3,7 @@
 ghost use Rattle.std.specs.Prelude.{◌≡◌, max, map, length, IfOk};
 ghost use Rattle.std.specs.String.{string_bytes};
 ghost use Rattle.cp_slots.specs.Code.{item_seen};
-ghost use Rattle.cp_layout.specs.Kinds.{plus};
+ghost use Rattle.cp_symbols.specs.Kinds.{plus};
 ghost use Rattle.cp_layout.specs.Layers as spec;
 ghost use Rattle.cp_layout.specs.Layers.{pending_seen};
 

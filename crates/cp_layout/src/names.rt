@@ -4,49 +4,17 @@ ghost use Rattle.std.specs.Prelude.{◌≡◌, ◌∷◌, ◌-◌, length, drop,
 ghost use Rattle.cp_layout.specs.Layers as spec;
 ghost use Rattle.cp_layout.specs.Layers.{names_seen, declared_seen};
 
-use crate::kinds::{CellBase, CellType, values_of};
 use cp_slots::PlaceOrigin;
+use cp_symbols::{CellBase, CellType, LayoutMeaning, PredeclaredRoutine, values_of};
 use std::alloc::{AllocError, Global};
 
-/// A routine that each program has.
-#[derive(Clone, Copy, Drop)]
-pub enum PredeclaredRoutine {
-    Succ,
-    Pred,
-    Chr,
-    Ord,
-    Abs,
-    Empty,
-    Delay,
-    Continue,
-    Display,
-}
-
-/// What a name stands for.
-#[derive(Clone, Copy, Drop)]
-pub enum LayoutMeaning {
-    Constant(CellBase, i16),
-    Kind(CellType),
-    /// A variable or a parameter.
-    Variable(PlaceOrigin, CellType),
-    /// A component variable, or an array of these, by the number of the first above that of its container.
-    Contained(usize, CellType),
-    /// A component parameter, by its permanent cell, with its system type.
-    Bound(usize, usize),
-    Routine(usize),
-    Predeclared(PredeclaredRoutine),
-}
-
-impl LayoutMeaning {
-    // Whether a system type sees it where it is the program's.
-    fn is_open(self) -> bool
-        ensures { result ≡ spec.is_open self }
-    {
-        match self {
-            LayoutMeaning::Constant(..) | LayoutMeaning::Kind(_) | LayoutMeaning::Predeclared(_) =>
-                true,
-            _ => false,
-        }
+// Whether a system type sees it where it is the program's.
+fn is_open(meaning: LayoutMeaning) -> bool
+    ensures { result ≡ spec.is_open meaning }
+{
+    match meaning {
+        LayoutMeaning::Constant(..) | LayoutMeaning::Kind(_) | LayoutMeaning::Predeclared(_) => true,
+        _ => false,
     }
 }
 
@@ -188,7 +156,7 @@ impl<'a> Names<'a> {
     fn add_open(&mut self, declared: DeclaredName<'a>) -> Result<(), AllocError>
         ensures { OnOk result (names_seen self.new ≡ spec.with_open (declared_seen declared.entry) (names_seen self.old)) }
     {
-        if declared.meaning.is_open() {
+        if is_open(declared.meaning) {
             return self.add(declared.name, declared.meaning);
         }
         Ok(())

@@ -6,10 +6,10 @@ ghost use Rattle.cp_layout.specs.Kinds.{types_seen};
 ghost use Rattle.cp_layout.specs.Layers.{layer_seen, Lays, Leads};
 ghost use Rattle.cp_layout.specs.LaidDeclarations as spec;
 
-use crate::kinds::{CellType, Types};
+use crate::kinds::Types;
 use crate::layer::{Contained, Layouter};
-use crate::names::LayoutMeaning;
 use cp_slots::PlaceOrigin;
+use cp_symbols::{CellType, LayoutMeaning};
 use cp_tree::{ConstantDefinition, Identifier, Part, PartKind, TypeDefinition, VariableGroup};
 use std::alloc::{AllocError, Global};
 

@@ -9,12 +9,11 @@ ghost use Rattle.cp_layout.specs.LaidStatements as spec;
 ghost use Rattle.cp_layout.specs.LaidStatements.{target_seen, callee_seen, placed_seen, token_of};
 
 use crate::expression::byte_or;
-use crate::kinds::{CellBase, CellType, values_of};
 use crate::layer::Layouter;
-use crate::names::PredeclaredRoutine;
 use crate::surroundings::Surroundings;
 use crate::value::{Designated, Value, ordinal, place_at, place_of, set_expression};
 use cp_slots::{Action, ComponentPlace, Place, PlaceOrigin, ResolvedArm, ShownKind};
+use cp_symbols::{CellBase, CellType, PredeclaredRoutine, values_of};
 use cp_tree::{
     Arm as WrittenArm, Designator, Direction, Expression as Written, Identifier, Start, Statement,
     StatementKind,

@@ -5,12 +5,13 @@ ghost use Rattle.cp_layout.specs.Layers as spec;
 ghost use Rattle.cp_layout.specs.Layers.{around_seen, heading_seen, system_seen};
 ghost use Rattle.cp_layout.specs.LaidExpressions as expressions;
 ghost use Rattle.cp_layout.specs.LaidStatements as statements;
-ghost use Rattle.cp_layout.specs.Symbols.{routine_seen, routine_named, system_named};
+ghost use Rattle.cp_symbols.specs.Symbols.{routine_seen};
+ghost use Rattle.cp_layout.specs.Symbols.{routine_named, system_named};
 
 use crate::kinds::Types;
-use crate::layer::{FunctionResult, HeadingLayout, Owned, ParameterLayout, SystemCells};
+use crate::layer::{HeadingLayout, Owned, ParameterLayout, SystemCells};
 use crate::names::Names;
-use crate::symbols::{RoutineSymbol, SystemSymbol};
+use cp_symbols::{FunctionResult, RoutineSymbol, SystemSymbol};
 use std::alloc::{AllocError, Global};
 
 /// What is declared around a statement.

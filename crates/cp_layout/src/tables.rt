@@ -11,8 +11,8 @@ ghost use Rattle.cp_layout.specs.Symbols.{AreSymbolsOf};
 
 use crate::component::Components;
 use crate::layer::{Layouter, Owned, SystemCells};
-use crate::symbols::Symbols;
 use cp_slots::{Layout, Process, ResolvedRoutine, SystemType};
+use cp_symbols::Symbols;
 use cp_tree::Tree;
 use std::alloc::{AllocError, Global};
 

@@ -7,9 +7,10 @@ ghost use Rattle.cp_layout.specs.Layers.{layer_seen, names_seen, find, find_type
 ghost use Rattle.cp_layout.specs.LaidTypes as spec;
 
 use crate::expression::{integer, integer_of};
-use crate::kinds::{CellBase, CellRange, CellType, RecordType, values_of};
+use crate::kinds::RecordType;
 use crate::layer::Layouter;
-use crate::names::{LayoutMeaning, Names};
+use crate::names::Names;
+use cp_symbols::{CellBase, CellRange, CellType, LayoutMeaning, values_of};
 use cp_tree::{
     Constant, ConstantKind, FieldGroup, Identifier, Sign, Simple, SimpleKind, Type, TypeKind,
 };

@@ -5,12 +5,11 @@ ghost use Rattle.cp_slots.specs.Code.{place_seen, expression_seen, set_seen};
 ghost use Rattle.cp_layout.specs.Values as spec;
 ghost use Rattle.cp_layout.specs.Values.{value_seen};
 
-use crate::kinds::{CellBase, CellType};
-use crate::names::PredeclaredRoutine;
 use cp_slots::{
     Arithmetic, Comparison, ComponentPlace, Logic, OrdinalExpression, Place, PlaceOrigin,
     SetExpression, SetOperation,
 };
+use cp_symbols::{CellBase, CellType, PredeclaredRoutine};
 use cp_tree::{Addition, Multiplication, Relation};
 use std::alloc::{AllocError, Global};
 

@@ -3,13 +3,13 @@ use Rattle.std.proofs.Common.{◌≡◌, ◌⊎◌, inl, inr, ℕ, zero, suc, �
 use Rattle.std.proofs.Math.Seq.{take-suc}
 use Rattle.std.proofs.lemmas.List.{take_all, map-append}
 use Rattle.std.proofs.lemmas.Bool.Decides.{nat_tests}
-use Rattle.cp_layout.specs.declared.kinds.ArrayType.{ArrayType}
-use Rattle.cp_layout.specs.declared.kinds.CellBase.{CellBase}
-use Rattle.cp_layout.specs.declared.kinds.CellType.{CellType}
-use Rattle.cp_layout.specs.declared.kinds.CellType.TheVariants as types
-use Rattle.cp_layout.specs.declared.symbols.FieldSymbol as code_field
-use Rattle.cp_layout.specs.Kinds.{Compounds, plus, times}
-use Rattle.cp_layout.specs.Symbols.{field_symbol_seen}
+use Rattle.cp_symbols.specs.declared.kinds.ArrayType.{ArrayType}
+use Rattle.cp_symbols.specs.declared.kinds.CellBase.{CellBase}
+use Rattle.cp_symbols.specs.declared.kinds.CellType.{CellType}
+use Rattle.cp_symbols.specs.declared.kinds.CellType.TheVariants as types
+use Rattle.cp_symbols.specs.declared.symbols.FieldSymbol as code_field
+use Rattle.cp_symbols.specs.Kinds.{Compounds, plus, times}
+use Rattle.cp_symbols.specs.Symbols.{field_symbol_seen}
 use Rattle.cp_legend.specs.Values.{Value, list, no_values, value_by, value_below, field_value, elements_below, compound_value, compound_below, members_below, member_value}
 
 module _ (names : List (List ℕ)) (ts : Compounds) (cells : List ℤ) where

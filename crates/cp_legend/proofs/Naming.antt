@@ -8,12 +8,12 @@ use Rattle.std.specs.Prelude.{flat_map, insert, min}
 use Rattle.std.proofs.lemmas.Option.{slice_get-get_or, slice_get_past}
 use Rattle.cp_slots.specs.declared.tables.Component.{Component}
 use Rattle.cp_slots.specs.Tables.{no_component}
-use Rattle.cp_layout.specs.declared.kinds.CellRange.{CellRange}
-use Rattle.cp_layout.specs.declared.symbols.Symbol as code_symbol
-use Rattle.cp_layout.specs.Layers.{Noted}
-use Rattle.cp_layout.specs.declared.symbols.RoutineSymbol as code_heading
-use Rattle.cp_layout.specs.Symbols.{routine_seen, symbol_seen}
-use Rattle.cp_layout.specs.declared.layer.FunctionResult.{FunctionResult}
+use Rattle.cp_symbols.specs.declared.kinds.CellRange.{CellRange}
+use Rattle.cp_symbols.specs.declared.symbols.Symbol as code_symbol
+use Rattle.cp_symbols.specs.Symbols.{Noted}
+use Rattle.cp_symbols.specs.declared.symbols.RoutineSymbol as code_heading
+use Rattle.cp_symbols.specs.Symbols.{routine_seen, symbol_seen}
+use Rattle.cp_symbols.specs.declared.symbols.FunctionResult.{FunctionResult}
 use Rattle.cp_legend.specs.declared.legend.LegendParameter.{LegendParameter}
 use Rattle.cp_legend.specs.declared.legend.Variable as code_variable
 use Rattle.cp_legend.specs.declared.parts.ComponentPart as code_part

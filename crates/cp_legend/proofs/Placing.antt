@@ -2,7 +2,7 @@
 use Rattle.std.proofs.Common.{◌≡◌, ℕ, zero, suc, ◌-◌, ◌<◌, ◌≤◌, List, [], ◌++◌, refl, sym, ap, ◌∙◌, append_assoc, arith}
 use Rattle.std.proofs.lemmas.List.{append-nil}
 use Rattle.std.proofs.lemmas.Bool.Decides.{nat_tests}
-use Rattle.cp_layout.specs.Kinds.{Compounds, cells_of}
+use Rattle.cp_symbols.specs.Kinds.{Compounds, cells_of}
 use Rattle.cp_legend.specs.declared.places.PlacePart.{PlacePart}
 use Rattle.cp_legend.specs.Places.{step_text, inner_part, parts_text}
 

@@ -9,18 +9,18 @@ use Rattle.cp_slots.specs.declared.tables.ComponentKind.{ComponentKind}
 use Rattle.cp_slots.specs.declared.tables.ComponentKind.TheVariants as component_kind
 use Rattle.cp_slots.specs.declared.place.PlaceOrigin.TheVariants as origin
 use Rattle.cp_tree.specs.declared.declaration.SystemKind.{SystemKind}
-use Rattle.cp_layout.specs.declared.kinds.ArrayType.{ArrayType}
-use Rattle.cp_layout.specs.declared.kinds.CellRange.{CellRange}
-use Rattle.cp_layout.specs.declared.kinds.CellType.{CellType}
-use Rattle.cp_layout.specs.declared.kinds.CellType.TheVariants as types
-use Rattle.cp_layout.specs.declared.layer.FunctionResult.{FunctionResult}
-use Rattle.cp_layout.specs.declared.names.LayoutMeaning.{LayoutMeaning}
-use Rattle.cp_layout.specs.declared.names.LayoutMeaning.TheVariants as meaning
-use Rattle.cp_layout.specs.declared.symbols.SystemSymbol.{SystemSymbol}
-use Rattle.cp_layout.specs.declared.symbols.Symbols as code_symbols
-use Rattle.cp_layout.specs.Kinds.{Compounds, count_of}
-use Rattle.cp_layout.specs.Layers.{Noted}
-use Rattle.cp_layout.specs.Symbols.{RoutineName, symbol_seen, routine_seen, type_symbol_seen}
+use Rattle.cp_symbols.specs.declared.kinds.ArrayType.{ArrayType}
+use Rattle.cp_symbols.specs.declared.kinds.CellRange.{CellRange}
+use Rattle.cp_symbols.specs.declared.kinds.CellType.{CellType}
+use Rattle.cp_symbols.specs.declared.kinds.CellType.TheVariants as types
+use Rattle.cp_symbols.specs.declared.symbols.FunctionResult.{FunctionResult}
+use Rattle.cp_symbols.specs.declared.names.LayoutMeaning.{LayoutMeaning}
+use Rattle.cp_symbols.specs.declared.names.LayoutMeaning.TheVariants as meaning
+use Rattle.cp_symbols.specs.declared.symbols.SystemSymbol.{SystemSymbol}
+use Rattle.cp_symbols.specs.declared.symbols.Symbols as code_symbols
+use Rattle.cp_symbols.specs.Kinds.{Compounds, count_of}
+use Rattle.cp_symbols.specs.Symbols.{Noted}
+use Rattle.cp_symbols.specs.Symbols.{RoutineName, symbol_seen, routine_seen, type_symbol_seen}
 use Rattle.cp_legend.specs.Values.{as_array, ordinal_text, types_seen}
 use Rattle.cp_legend.specs.declared.parts.ComponentPart as code_part
 use Rattle.cp_legend.specs.declared.legend.Legend as code_legend

@@ -1,9 +1,9 @@
 -- The names of places: a variable or a part of one, by its first cell.
 use Rattle.std.specs.Prelude.{ℕ, zero, suc, ◌-◌, ◌/◌, ◌==◌, ◌&&◌, nat_le, nat_lt, if◌then◌else◌, Bool, List, [], ◌∷◌, ◌++◌, length, Option, Some, None, slice_get, unwrap_or, codes}
-use Rattle.cp_layout.specs.declared.kinds.ArrayType.{ArrayType}
-use Rattle.cp_layout.specs.declared.kinds.CellType.{CellType}
-use Rattle.cp_layout.specs.declared.kinds.CellType.TheVariants as types
-use Rattle.cp_layout.specs.Kinds.{Compounds, Field, times, cells_of}
+use Rattle.cp_symbols.specs.declared.kinds.ArrayType.{ArrayType}
+use Rattle.cp_symbols.specs.declared.kinds.CellType.{CellType}
+use Rattle.cp_symbols.specs.declared.kinds.CellType.TheVariants as types
+use Rattle.cp_symbols.specs.Kinds.{Compounds, Field, times, cells_of}
 use Rattle.cp_legend.specs.Values.{as_array, fields_in}
 use Rattle.cp_legend.specs.Names.{Named, Variable, RoutineNames, index_text}
 use Rattle.cp_legend.specs.declared.places.PlacePart.{PlacePart}

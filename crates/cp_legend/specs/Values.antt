@@ -4,13 +4,13 @@ use Rattle.std.specs.Fmt.{signed_decimal}
 use Rattle.std.specs.Int.{cast_unsigned, w16}
 use Rattle.std.specs.Ordering.{int_eq}
 use Rattle.std.specs.String.{string_bytes}
-use Rattle.cp_layout.specs.declared.kinds.ArrayType.{ArrayType}
-use Rattle.cp_layout.specs.declared.kinds.CellBase.{CellBase}
-use Rattle.cp_layout.specs.declared.kinds.CellBase.TheVariants as base
-use Rattle.cp_layout.specs.declared.kinds.CellType.{CellType}
-use Rattle.cp_layout.specs.declared.kinds.CellType.TheVariants as types
-use Rattle.cp_layout.specs.Kinds.{Compound, Compounds, Field, array, record_with, plus, times, count_of}
-use Rattle.cp_layout.specs.Symbols.{type_symbol_seen}
+use Rattle.cp_symbols.specs.declared.kinds.ArrayType.{ArrayType}
+use Rattle.cp_symbols.specs.declared.kinds.CellBase.{CellBase}
+use Rattle.cp_symbols.specs.declared.kinds.CellBase.TheVariants as base
+use Rattle.cp_symbols.specs.declared.kinds.CellType.{CellType}
+use Rattle.cp_symbols.specs.declared.kinds.CellType.TheVariants as types
+use Rattle.cp_symbols.specs.Kinds.{Compound, Compounds, Field, array, record_with, plus, times, count_of}
+use Rattle.cp_symbols.specs.Symbols.{type_symbol_seen}
 use Rattle.cp_legend.specs.declared.types.LegendTypes as code_types
 use Rattle.cp_legend.specs.declared.value.SourceValue as code_value
 use Rattle.cp_legend.specs.declared.value.Member as code_member

@@ -7,7 +7,7 @@ ghost use Rattle.cp_legend.specs.Names.{component_seen, part_seen, parts_seen, s
 
 use crate::legend::LegendComponent;
 use crate::parts::{ComponentPart, all_parts};
-use cp_layout::Symbols;
+use cp_symbols::Symbols;
 use cp_slots::{Component, ComponentKind, Resolved};
 use std::alloc::{AllocError, Global};
 

@@ -2,14 +2,14 @@
 
 ghost use Rattle.std.specs.Prelude.{◌≡◌, ◌++◌, ◌∷◌, [], ◌+◌, map, length, IfOk, OnOk};
 ghost use Rattle.std.specs.String.{string_bytes};
-ghost use Rattle.cp_layout.specs.Kinds.{count_of};
-ghost use Rattle.cp_layout.specs.Symbols.{symbol_seen};
+ghost use Rattle.cp_symbols.specs.Kinds.{count_of};
+ghost use Rattle.cp_symbols.specs.Symbols.{symbol_seen};
 ghost use Rattle.cp_legend.specs.Names as spec;
 ghost use Rattle.cp_legend.specs.Names.{part_seen, parts_seen, source_seen};
 
 use crate::types::array_in;
 use crate::values::push_index;
-use cp_layout::{ArrayType, CellRange, CellType, LayoutMeaning, Symbol, Symbols};
+use cp_symbols::{ArrayType, CellRange, CellType, LayoutMeaning, Symbol, Symbols};
 use std::alloc::{AllocError, Global};
 
 /// A component inside another one, by how the source writes it there, and its system type.

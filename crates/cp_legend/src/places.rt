@@ -2,15 +2,15 @@
 
 ghost use Rattle.std.specs.Prelude.{◌≡◌, ◌++◌, ◌-◌, map, option_map, length, slice_get, IfOk, OnOk};
 ghost use Rattle.std.specs.String.{string_bytes};
-ghost use Rattle.cp_layout.specs.Kinds.{times};
-ghost use Rattle.cp_layout.specs.Symbols.{field_symbol_seen};
+ghost use Rattle.cp_symbols.specs.Kinds.{times};
+ghost use Rattle.cp_symbols.specs.Symbols.{field_symbol_seen};
 ghost use Rattle.cp_legend.specs.Names.{component_seen, routine_names_seen, variable_seen, variables_seen};
 ghost use Rattle.cp_legend.specs.Places as spec;
 ghost use Rattle.cp_legend.specs.Values.{types_seen};
 
 use crate::legend::{Legend, LegendComponent, Variable};
 use crate::values::push_index;
-use cp_layout::{ArrayType, CellType, FieldSymbol};
+use cp_symbols::{ArrayType, CellType, FieldSymbol};
 use std::alloc::{AllocError, Global};
 
 impl Legend {

@@ -2,13 +2,13 @@
 
 ghost use Rattle.std.specs.Prelude.{◌≡◌, ◌++◌, ◌+◌, flat_map, map, length, slice_get, IfOk, OnOk};
 ghost use Rattle.std.specs.String.{string_bytes};
-ghost use Rattle.cp_layout.specs.Symbols.{routine_seen, symbol_seen};
+ghost use Rattle.cp_symbols.specs.Symbols.{routine_seen, symbol_seen};
 ghost use Rattle.cp_legend.specs.Names as spec;
 ghost use Rattle.cp_legend.specs.Names.{routine_names_seen, source_seen, system_seen, variable_seen, variables_seen};
 
 use crate::legend::{LegendParameter, LegendPassing, LegendRoutine, LegendSystem, Variable};
 use crate::parts::home_of;
-use cp_layout::{CellType, FunctionResult, LayoutMeaning, RoutineSymbol, Symbol, Symbols};
+use cp_symbols::{CellType, FunctionResult, LayoutMeaning, RoutineSymbol, Symbol, Symbols};
 use cp_slots::PlaceOrigin;
 use cp_tree::SystemKind;
 use std::alloc::{AllocError, Global};

@@ -1,13 +1,13 @@
 //! The types of a program, as far as its values are to be written.
 
 ghost use Rattle.std.specs.Prelude.{◌≡◌, length, map, slice_get};
-ghost use Rattle.cp_layout.specs.Kinds as kinds;
-ghost use Rattle.cp_layout.specs.Symbols.{field_symbol_seen, type_symbol_seen};
+ghost use Rattle.cp_symbols.specs.Kinds as kinds;
+ghost use Rattle.cp_symbols.specs.Symbols.{field_symbol_seen, type_symbol_seen};
 ghost use Rattle.cp_legend.specs.Names as names;
 ghost use Rattle.cp_legend.specs.Values as spec;
 ghost use Rattle.cp_legend.specs.Values.{types_seen};
 
-use cp_layout::{ArrayType, CellRange, CellType, FieldSymbol, TypeSymbol};
+use cp_symbols::{ArrayType, CellRange, CellType, FieldSymbol, TypeSymbol};
 
 /// The cells of a set.
 const SET_CELLS: usize = 8;

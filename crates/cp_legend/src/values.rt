@@ -2,8 +2,8 @@
 
 ghost use Rattle.std.specs.Prelude.{◌≡◌, ◌++◌, map, slice_get, IfOk, OnOk};
 ghost use Rattle.std.specs.String.{string_bytes};
-ghost use Rattle.cp_layout.specs.Kinds.{count_of};
-ghost use Rattle.cp_layout.specs.Symbols.{field_symbol_seen};
+ghost use Rattle.cp_symbols.specs.Kinds.{count_of};
+ghost use Rattle.cp_symbols.specs.Symbols.{field_symbol_seen};
 ghost use Rattle.cp_legend.specs.Names as names;
 ghost use Rattle.cp_legend.specs.Values as spec;
 ghost use Rattle.cp_legend.specs.Values.{types_seen, value_seen};
@@ -11,7 +11,7 @@ ghost use Rattle.cp_legend.specs.Values.{types_seen, value_seen};
 use crate::legend::Legend;
 use crate::types::nth;
 use crate::value::{Member, SourceValue};
-use cp_layout::{ArrayType, CellBase, CellRange, CellType, FieldSymbol};
+use cp_symbols::{ArrayType, CellBase, CellRange, CellType, FieldSymbol};
 use std::alloc::{AllocError, Global};
 
 /// The values that a cell of a set has a member or none of.

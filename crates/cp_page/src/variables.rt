@@ -2,7 +2,7 @@
 
 use crate::json::Json;
 use crate::register::Register;
-use cp_layout::CellType;
+use cp_symbols::CellType;
 use cp_legend::{Legend, LegendComponent};
 use cp_slots::ComponentKind;
 use std::alloc::{AllocError, Global};

@@ -37,7 +37,7 @@ pub use Rattle.cp_lawful.proofs.Loud.{Heard, Loud, statements_loud}
 pub use Rattle.cp_lawful.proofs.Once.{defined_sound, inside_sound, itself, no_first, no_first as none_first, no_left, no_right, none_before, or_left}
 pub use Rattle.cp_lawful.proofs.Once.{or_right, parts_sound}
 pub use Rattle.cp_lawful.specs.Accepted.{IsAccepted}
-pub use Rattle.cp_layout.specs.Kinds.{Compounds, array, most, plus, times}
+pub use Rattle.cp_symbols.specs.Kinds.{Compounds, array, most, plus, times}
 unfoldable pub use Rattle.cp_layout.specs.Kinds.{least}
 pub use Rattle.cp_layout.specs.Laid.{PlainTables, no_room, plain, room_for, system_type, system_types, types_of}
 unfoldable pub use Rattle.cp_layout.specs.Laid.{tables_laid, laid, room_from}
@@ -56,14 +56,14 @@ unfoldable pub use Rattle.cp_layout.specs.LaidTypes.{written_type, fields_of_typ
 pub use Rattle.cp_layout.specs.Layers.{Frame, Layer, Names, Owned, Pending, System, added, find_type, is_open, need_of, no_frame, nothing_laid, outermost}
 pub use Rattle.cp_layout.specs.Layers.{own_result, result_of, routine_of, settled, settled_all, without_pending}
 pub use Rattle.cp_layout.specs.Values.{place_at}
-pub use Rattle.cp_layout.specs.declared.kinds.ArrayType.{ArrayType}
-pub use Rattle.cp_layout.specs.declared.kinds.CellBase.{CellBase}
-pub use Rattle.cp_layout.specs.declared.kinds.CellType.{CellType}
+pub use Rattle.cp_symbols.specs.declared.kinds.ArrayType.{ArrayType}
+pub use Rattle.cp_symbols.specs.declared.kinds.CellBase.{CellBase}
+pub use Rattle.cp_symbols.specs.declared.kinds.CellType.{CellType}
 pub use Rattle.cp_layout.specs.declared.layer.Contained.{Contained}
 pub use Rattle.cp_layout.specs.declared.layer.Content.{Content}
-pub use Rattle.cp_layout.specs.declared.layer.FunctionResult.{FunctionResult}
-pub use Rattle.cp_layout.specs.declared.names.LayoutMeaning.{LayoutMeaning}
-pub use Rattle.cp_layout.specs.declared.names.PredeclaredRoutine.{PredeclaredRoutine}
+pub use Rattle.cp_symbols.specs.declared.symbols.FunctionResult.{FunctionResult}
+pub use Rattle.cp_symbols.specs.declared.names.LayoutMeaning.{LayoutMeaning}
+pub use Rattle.cp_symbols.specs.declared.names.PredeclaredRoutine.{PredeclaredRoutine}
 pub use Rattle.cp_meaning.specs.Calls.{least_of}
 pub use Rattle.cp_meaning.specs.Components.{Listed, step_down}
 pub use Rattle.cp_meaning.specs.Declarations.{Block, Heading, Parameter, RoutineMeaning, Variable, heading_of, named_variables, names_of, parameters_named}

@@ -1,7 +1,7 @@
 -- That the items of each routine and of each initial statement stand for its statements, as a law.
 use Rattle.std.specs.Prelude.{◌≡◌, ◌≤◌, ℕ, List, [], ◌∷◌, length, Some, None, slice_get}
 use Rattle.cp_tree.specs.Syntax.{Tree}
-use Rattle.cp_layout.specs.Kinds.{most}
+use Rattle.cp_symbols.specs.Kinds.{most}
 use Rattle.cp_slots.specs.Tables.{Tables, routine_at}
 use Rattle.cp_layout.specs.Layers.{Layer}
 use Rattle.cp_layout.specs.Laid.{plain, laid}

@@ -1,7 +1,7 @@
 -- What is wanted of a tree and its tables, besides what its names want, so that its components stand.
 use Rattle.std.specs.Prelude.{◌≡◌, ℕ, ◌<◌, ◌≤◌, ◌++◌, List, Some, length}
 use Rattle.cp_tree.specs.Syntax.{Program}
-use Rattle.cp_layout.specs.Kinds.{most}
+use Rattle.cp_symbols.specs.Kinds.{most}
 use Rattle.cp_slots.specs.Tables.{Tables}
 use Rattle.cp_meaning.specs.Scopes.{permanent_variable, find}
 use Rattle.cp_meaning.specs.Declarations.{Variable}

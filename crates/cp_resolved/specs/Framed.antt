@@ -1,7 +1,7 @@
 -- What is wanted of the declarations of a tree, so that variables lie where the layouts say, and the law of system types.
 use Rattle.std.specs.Prelude.{◌≡◌, ◌<◌, ◌≤◌, ℕ, true, List, [], ◌∷◌, ◌++◌, Option, Some, None}
 use Rattle.cp_tree.specs.Syntax.{Tree}
-use Rattle.cp_layout.specs.Kinds.{most}
+use Rattle.cp_symbols.specs.Kinds.{most}
 use Rattle.cp_layout.specs.Laid.{plain, laid}
 use Rattle.cp_slots.specs.Tables.{Tables, system_at}
 use Rattle.cp_meaning.specs.Types.{Ty, ordinal}

@@ -3,7 +3,7 @@ use Rattle.std.specs.Prelude.{IsTrue, ◌≡◌, ℕ, ◌+◌, ◌*◌, ◌<◌,
 use Rattle.cp_tree.specs.Syntax.{Tree}
 use Rattle.cp_slots.specs.declared.place.ComponentPlace.TheVariants.{Contained, Parameter}
 use Rattle.cp_slots.specs.Inside.{action_inside}
-use Rattle.cp_layout.specs.Kinds.{most}
+use Rattle.cp_symbols.specs.Kinds.{most}
 use Rattle.cp_layout.specs.Laid.{plain, laid}
 use Rattle.cp_layout.specs.Layers.{Layer}
 use Rattle.cp_slots.specs.Systems.{IsOf, Names, ActionNames}

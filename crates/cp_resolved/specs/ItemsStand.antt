@@ -2,7 +2,7 @@
 use Rattle.std.specs.Prelude.{◌≡◌, ◌<◌, ◌≤◌, ◌+◌, ℕ, List, [], length, Some, None, slice_get}
 use Rattle.cp_tree.specs.Syntax.{Statements}
 use Rattle.cp_slots.specs.Code as code
-use Rattle.cp_layout.specs.Kinds.{most}
+use Rattle.cp_symbols.specs.Kinds.{most}
 use Rattle.cp_slots.specs.Tables.{item_at}
 use Rattle.cp_layout.specs.Layers.{Layer}
 use Rattle.cp_layout.specs.LaidStatements.{statements}

@@ -1,7 +1,7 @@
 -- What accepted declarations have, of names that are declared once and of types that have few cells.
 use Rattle.std.specs.Prelude.{◌≡◌, ◌≤◌, ℕ, zero, suc, false, List, [], ◌∷◌, Option, Some}
 use Rattle.cp_tree.specs.Syntax.{Routine, Definition, type_definition, system_definition, ProgramPart, program_constants, program_types, program_variables, Program}
-use Rattle.cp_layout.specs.Kinds.{most}
+use Rattle.cp_symbols.specs.Kinds.{most}
 use Rattle.cp_meaning.specs.Names.{Name, same_name}
 use Rattle.cp_meaning.specs.Types.{Ty}
 use Rattle.cp_meaning.specs.Scopes.{Meaning, local_variable, permanent_variable, Scope, find}

@@ -1,7 +1,7 @@
 -- That the routines and initial statements of the tables stand for those of the tree, as a law: frames, items, own results and permanent variables.
 use Rattle.std.specs.Prelude.{◌≡◌, ◌<◌, ◌≤◌, ℕ, length, Some, slice_get}
 use Rattle.cp_tree.specs.Syntax.{Tree}
-use Rattle.cp_layout.specs.Kinds.{most}
+use Rattle.cp_symbols.specs.Kinds.{most}
 use Rattle.cp_layout.specs.Laid.{plain, laid}
 use Rattle.cp_layout.specs.Layers.{Layer}
 use Rattle.cp_slots.specs.Tables.{Tables}

@@ -5,7 +5,7 @@ use Rattle.cp_slots.specs.declared.item.Action.{Action}
 use Rattle.cp_slots.specs.declared.item.Action.TheVariants.{Call, Start}
 use Rattle.cp_slots.specs.Fits.{IsSound}
 use Rattle.cp_slots.specs.Inside.{action_inside}
-use Rattle.cp_layout.specs.Kinds.{most}
+use Rattle.cp_symbols.specs.Kinds.{most}
 use Rattle.cp_layout.specs.Laid.{plain, laid}
 use Rattle.cp_slots.specs.Systems.{ActionNames, AreWords}
 use Rattle.cp_slots.specs.Tables.{Tables, item_at, routine_at, system_at}

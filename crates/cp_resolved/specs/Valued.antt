@@ -1,7 +1,7 @@
 -- When a value with slots is the form of an expression, and when a name with selectors is.
 use Rattle.std.specs.Prelude.{◌≡◌, ◌+◌, ◌≤◌, ℕ}
-use Rattle.cp_layout.specs.declared.kinds.CellType.{CellType}
-use Rattle.cp_layout.specs.Kinds.{Compounds, most}
+use Rattle.cp_symbols.specs.declared.kinds.CellType.{CellType}
+use Rattle.cp_symbols.specs.Kinds.{Compounds, most}
 use Rattle.cp_slots.specs.Code as code
 use Rattle.cp_layout.specs.Values as values
 use Rattle.cp_layout.specs.Values.{Value, ordinal_value, set_value, whole_value, component_value}

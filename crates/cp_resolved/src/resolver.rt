@@ -8,7 +8,8 @@ ghost use Rattle.cp_slots.specs.Tables.{tables_of};
 ghost use Rattle.cp_resolved.specs.Resolving.{IsProgramOf};
 
 use cp_check::Checked;
-use cp_layout::{Symbols, lay_out, lay_out_with_symbols};
+use cp_layout::{lay_out, lay_out_with_symbols};
+use cp_symbols::Symbols;
 use cp_slots::{Layout, Resolved};
 use std::alloc::{AllocError, Global};
 

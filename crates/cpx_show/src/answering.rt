@@ -19,7 +19,7 @@ use cp_front::{
     Loaded, MOST_BYTES, ReadFault, Refusal, Sink, Source, StreamFault, drop_loaded, drop_refusal,
     load_with_symbols, read_source, refusal_line, write_text,
 };
-use cp_layout::Symbols;
+use cp_symbols::Symbols;
 use cp_legend::{Legend, legend_of};
 use cp_progress::ObserveProgress;
 use cp_progress_line::ObserveWork;

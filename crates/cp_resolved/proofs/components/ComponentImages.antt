@@ -5,6 +5,7 @@ use Rattle.cp_resolved.proofs.Words.{Name, same_name, Ty, FieldTypes, has_compon
 use Rattle.cp_resolved.proofs.Words.{value_held, least_of, parameter_variables, encode, Numbering, CellsAre, PartsAre, BoundIs, cells_in, look, StandsAt}
 use Rattle.cp_resolved.proofs.Words.{first_permanent, Each, slot_in, components_among}
 use Rattle.cp_layout.specs.declared.layer.Content.TheVariants as content
+use Rattle.cp_symbols.specs.Kinds as symbol_kinds
 use Rattle.cp_layout.specs.Kinds as kinds
 use Rattle.cp_layout.specs.Layers as layers
 use Rattle.cp_meaning.specs.Types as named
@@ -102,8 +103,8 @@ module _ (k : Numbering) (end : Layer) (earlier : HoldEarlier end.types) where
   unfolding contents_least
   cells_counted n m [] e h = omega (arith, e)
   cells_counted n m (content.Variable v ∷ cs) e h =
-      let c : kinds.cells_of end.types v ≡ min (length (kinds.least end.types v)) most = least_counted k end.types earlier h.0.0 v h.0.1 in
-      let a = cells_counted (plus n (kinds.cells_of end.types v)) (m + length (kinds.least end.types v)) cs (omega (arith, e, c)) h.1 in
+      let c : symbol_kinds.cells_of end.types v ≡ min (length (kinds.least end.types v)) most = least_counted k end.types earlier h.0.0 v h.0.1 in
+      let a = cells_counted (plus n (symbol_kinds.cells_of end.types v)) (m + length (kinds.least end.types v)) cs (omega (arith, e, c)) h.1 in
       let l = length-append (kinds.least end.types v) (contents_least end.types cs) in
       omega (arith, a, l)
   cells_counted n m (content.Component ∷ cs) e h = let a = cells_counted (plus n 1) (m + 1) cs (omega (arith, e)) h.1 in omega (arith, a)

@@ -6,7 +6,7 @@ use Rattle.cp_resolved.proofs.Words.{PlainTables, Listing, nothing_listed, conte
 use Rattle.cp_resolved.proofs.Words.{has_components, find, permanent_variable, Parameter, SystemMeaning, program_system, system_of, component_with}
 use Rattle.cp_resolved.proofs.Words.{parameter_variables, first_component, first_components, encode, CellsAre, PartsAre, BoundIs, look, is_parameter, Each}
 use Rattle.cp_resolved.proofs.Words.{Ground, numbering_of}
-use Rattle.cp_layout.specs.declared.names.LayoutMeaning.TheVariants as meaning
+use Rattle.cp_symbols.specs.declared.names.LayoutMeaning.TheVariants as meaning
 use Rattle.cp_layout.specs.Layers as layers
 use Rattle.cp_slots.specs.Tables.{Tables, component_at, process_at, no_component, no_process}
 use Rattle.cp_meaning.specs.Values as values

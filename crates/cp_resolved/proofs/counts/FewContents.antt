@@ -7,7 +7,7 @@ use Rattle.cp_text.specs.declared.token.Mark.TheVariants as mark
 use Rattle.cp_tree.specs.Syntax as syntax
 use Rattle.cp_tree.specs.Spelling.{put_optional, put_behind, put_all, put_parameters, put_identifier, put_constant_definition, put_type_definition, put_variable_group, put_type, put_part, put_group, put_body, put_routine, put_system, put_definition, put_system_definition, put_program_part, spell}
 use Rattle.cp_tree.proofs.Grows.{grows_all, grows_optional, grows_type, grows_constant_definition, grows_type_definition, grows_definition}
-use Rattle.cp_layout.specs.declared.kinds.CellType.TheVariants as types
+use Rattle.cp_symbols.specs.declared.kinds.CellType.TheVariants as types
 use Rattle.cp_layout.specs.declared.layer.Content.TheVariants as content
 use Rattle.cp_layout.specs.LaidComponents.{content_least, contents_least}
 use Rattle.cp_layout.specs.LaidDeclarations.{constants, type_definitions, components_of, variable, variable_with, variables_of, variable_group, variables, permanent_part, permanent_parts, Parameters, system_parameter, system_parameters_of, system_group, system_groups, heading_with, with_heading, with_new_frame, initial_statement, entered, routine, routines, system, definition, system_definition, system_definitions, program_part, program_parts, program}

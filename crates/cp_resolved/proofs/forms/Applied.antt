@@ -1,7 +1,7 @@
 -- Where a standard function of a form gives a form, that of the value gives the value of this form.
 use Rattle.std.proofs.Common.{◌≡◌, Bool, true, false, if◌then◌else◌, Some, None, refl, sym, ap, subst, ◌∙◌}
-use Rattle.cp_layout.specs.declared.kinds.CellBase.TheVariants as base
-use Rattle.cp_layout.specs.Kinds.{Compounds, whole}
+use Rattle.cp_symbols.specs.declared.kinds.CellBase.TheVariants as base
+use Rattle.cp_symbols.specs.Kinds.{Compounds, whole}
 use Rattle.cp_slots.specs.Code as code
 use Rattle.cp_layout.specs.Values.{Value, ordinal_value, applied}
 use Rattle.cp_meaning.specs.Types as named

@@ -4,10 +4,11 @@ use Rattle.std.specs.Prelude.{◌⊎◌}
 use Rattle.cp_slots.specs.declared.place.PlaceOrigin.TheVariants as origin
 use Rattle.cp_resolved.proofs.Words.{CellType, LayoutMeaning, place_at, Layer, Name, Ty, has_components, system_of, cells_of, Here, system_here, frame_here}
 use Rattle.cp_resolved.proofs.Words.{is_parameter, PlaceIs, DesignatedIs, Knows}
-use Rattle.cp_layout.specs.declared.kinds.CellType.TheVariants as types
-use Rattle.cp_layout.specs.declared.names.LayoutMeaning.TheVariants as meaning
+use Rattle.cp_symbols.specs.declared.kinds.CellType.TheVariants as types
+use Rattle.cp_symbols.specs.declared.names.LayoutMeaning.TheVariants as meaning
 use Rattle.cp_layout.specs.Kinds as kinds
-use Rattle.cp_layout.specs.Kinds.{as_array, array_of, most}
+use Rattle.cp_symbols.specs.Kinds.{most}
+use Rattle.cp_layout.specs.Kinds.{as_array, array_of}
 use Rattle.cp_slots.specs.Code as code
 use Rattle.cp_layout.specs.Values as values
 use Rattle.cp_layout.specs.Layers as layers

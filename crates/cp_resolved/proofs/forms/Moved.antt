@@ -5,7 +5,7 @@ use Rattle.cp_resolved.proofs.Words.{place_form, cells_of, ValueGiven, PlaceGive
 use Rattle.cp_layout.specs.declared.layer.Passing.{Passing}
 use Rattle.cp_layout.specs.declared.layer.Passing.TheVariants as passing
 use Rattle.cp_slots.specs.Code as code
-use Rattle.cp_layout.specs.Kinds as kinds
+use Rattle.cp_symbols.specs.Kinds as kinds
 use Rattle.cp_layout.specs.Values.{Value, load_place, set_place, place_of, ordinal_of, set_of}
 use Rattle.cp_layout.specs.LaidExpressions.{byte_or, component_in, passed}
 use Rattle.cp_meaning.specs.Types as named

@@ -6,8 +6,8 @@ use Rattle.cp_tree.specs.declared.constant.Sign.TheVariants as sign
 use Rattle.cp_tree.specs.declared.expression.Relation.TheVariants as relation
 use Rattle.cp_tree.specs.declared.expression.Addition.TheVariants as addition
 use Rattle.cp_tree.specs.declared.expression.Multiplication.TheVariants as multiplication
-use Rattle.cp_layout.specs.declared.kinds.CellBase as code_base
-use Rattle.cp_layout.specs.declared.kinds.CellBase.TheVariants as base
+use Rattle.cp_symbols.specs.declared.kinds.CellBase as code_base
+use Rattle.cp_symbols.specs.declared.kinds.CellBase.TheVariants as base
 use Rattle.cp_slots.specs.Code as code
 use Rattle.cp_layout.specs.Values as values
 use Rattle.cp_layout.specs.Values.{Value, ordinal_value, set_value, ordinal_of}

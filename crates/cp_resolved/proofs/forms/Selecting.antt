@@ -2,9 +2,11 @@
 use Rattle.std.proofs.Common.{◌≡◌, ◌+◌, ◌*◌, ◌≤◌, ℕ, zero, suc, Bool, true, false, if◌then◌else◌, List, Option, Some, None, refl, sym, ap, subst, ◌∙◌, arith}
 use Rattle.cp_resolved.proofs.Words.{bytes_eq, PlaceOrigin, CellType, Ty, FieldTypes, length_of_range, cells_of, cells_in, Chosen, field_chosen}
 use Rattle.cp_resolved.proofs.Words.{further_chosen}
-use Rattle.cp_layout.specs.declared.kinds.CellType.TheVariants as types
+use Rattle.cp_symbols.specs.declared.kinds.CellType.TheVariants as types
+use Rattle.cp_symbols.specs.Kinds as symbol_kinds
 use Rattle.cp_layout.specs.Kinds as kinds
-use Rattle.cp_layout.specs.Kinds.{Compounds, as_field, field_of, as_array, array_of, most, plus}
+use Rattle.cp_symbols.specs.Kinds.{Compounds, most, plus}
+use Rattle.cp_layout.specs.Kinds.{as_field, field_of, as_array, array_of}
 use Rattle.cp_slots.specs.Code as code
 use Rattle.cp_layout.specs.Values as values
 use Rattle.cp_layout.specs.Values.{loaded}
@@ -86,7 +88,7 @@ module _ (k : Numbering) (ts : Compounds) where
       let few : cells_of t ≤ most = omega (arith, i, less) in
       let ends : n + cells_of t ≤ most = omega (arith, i, less) in
       let there : array_of ts w ≡ Some (kinds.array_type ts (range_on k r) h.element) = ap (array_of ts) h.is ∙ ap as_array h.there in
-      let size : kinds.cells_of ts h.element ≡ cells_of t = cells_same k ts t h.element h.belongs few in
+      let size : symbol_kinds.cells_of ts h.element ≡ cells_of t = cells_same k ts t h.element h.belongs few in
       let z : PlaceIs k ts (code.place o n (with_index is c r (cells_of t))) t (element_found (code.place o n is) (array_of ts w) c) = record {
         value_type = h.element;
         is = ap (λ a. element_found (code.place o n is) a c) there ∙ ap (λ m. values.a_variable (code.place o n (with_last is (code.index c r.low r.high m))) h.element) size ∙ ap (λ js. values.a_variable (code.place o n js) h.element) (last_same is c r (cells_of t));

@@ -1,9 +1,11 @@
 -- The cells with which a variable begins are those of the least value of its type, and as many as are counted for it.
 use Rattle.std.proofs.Common.{◌≡◌, ℕ, zero, suc, ◌+◌, ◌*◌, ◌<◌, ◌==◌, ℤ, Bool, true, false, if◌then◌else◌, List, [], ◌∷◌, ◌++◌, length, Some, slice_get, refl, sym, ap, subst, ◌∙◌, arith, append_assoc, append-nil, length-append}
 use Rattle.cp_resolved.proofs.Words.{min, eqb-true, eqb-false, slice_get_within, CellType, Ty, FieldTypes, length_of_range}
-use Rattle.cp_layout.specs.declared.kinds.CellType.TheVariants as types
+use Rattle.cp_symbols.specs.declared.kinds.CellType.TheVariants as types
+use Rattle.cp_symbols.specs.Kinds as symbol_kinds
 use Rattle.cp_layout.specs.Kinds as kinds
-use Rattle.cp_layout.specs.Kinds.{Field, Compound, array, record_with, Compounds, array_type, compound_cells, count_of, least_by, fields_least, compound_least, compound_below, most, plus, times}
+use Rattle.cp_symbols.specs.Kinds.{Field, Compound, array, record_with, Compounds, compound_cells, count_of, most, plus, times}
+use Rattle.cp_layout.specs.Kinds.{array_type, least_by, fields_least, compound_least, compound_below}
 use Rattle.cp_meaning.specs.Types as named
 use Rattle.cp_meaning.specs.Values as values
 use Rattle.cp_meaning.specs.Values.{least_fields}
@@ -143,28 +145,28 @@ module _ (k : Numbering) (ts : Compounds) (earlier : HoldEarlier ts) where
     fields_encoded named.no_field_types fs n end w h = ap (fields_least (compound_below ts (length ts))) h.0
     fields_encoded (named.more_field_types x t us) fs n end w h =
         ap (fields_least (compound_below ts (length ts))) h.first ∙ ap (λ zs. zs ++ fields_least (compound_below ts (length ts)) h.rest) (cells_encoded t h.value_type w.0 h.belongs)
-        ∙ ap (λ zs. encode (values.least t) ++ zs) (fields_encoded us h.rest (plus n (kinds.cells_of ts h.value_type)) end w.1 h.others)
+        ∙ ap (λ zs. encode (values.least t) ++ zs) (fields_encoded us h.rest (plus n (symbol_kinds.cells_of ts h.value_type)) end w.1 h.others)
 
   mutual
     unfolding fields_least
 
-    cells_counted : (t : Ty) (v : CellType) → TypeIs k ts t v → kinds.cells_of ts v ≡ min (length (cells v)) most
+    cells_counted : (t : Ty) (v : CellType) → TypeIs k ts t v → symbol_kinds.cells_of ts v ≡ min (length (cells v)) most
     cells_counted (named.array_over r t) v h =
         let n : ℕ = count_of (range_on k r) in
         let e : cells v ≡ kinds.copies n (cells h.element) = ap cells h.is ∙ compound_least_is ts earlier h.number (array (array_type ts (range_on k r) h.element)) h.there in
-        let c : kinds.cells_of ts v ≡ times (kinds.cells_of ts h.element) n = ap (kinds.cells_of ts) h.is ∙ ap compound_cells h.there in
+        let c : symbol_kinds.cells_of ts v ≡ times (symbol_kinds.cells_of ts h.element) n = ap (symbol_kinds.cells_of ts) h.is ∙ ap compound_cells h.there in
         c ∙ ap (λ m. times m n) (cells_counted t h.element h.belongs) ∙ times_stopped n (length (cells h.element)) ∙ ap (λ m. min m most) (sym (ap (λ (zs : List ℤ). length zs) e ∙ copies_length n (cells h.element)))
     cells_counted (named.record_with us) v h =
         let e : cells v ≡ fields_least (compound_below ts (length ts)) h.fields = ap cells h.is ∙ compound_least_is ts earlier h.number (record_with h.fields h.cells) h.there in
-        ap (kinds.cells_of ts) h.is ∙ ap compound_cells h.there ∙ fields_counted us h.fields 0 h.cells 0 (omega arith) h.each ∙ ap (λ m. min m most) (none_before (length (fields_least (compound_below ts (length ts)) h.fields)) ∙ sym (ap (λ (zs : List ℤ). length zs) e))
+        ap (symbol_kinds.cells_of ts) h.is ∙ ap compound_cells h.there ∙ fields_counted us h.fields 0 h.cells 0 (omega arith) h.each ∙ ap (λ m. min m most) (none_before (length (fields_least (compound_below ts (length ts)) h.fields)) ∙ sym (ap (λ (zs : List ℤ). length zs) e))
     cells_counted x v h = rw h (omega arith)
 
     fields_counted : (us : FieldTypes) (fs : List Field) (n end m : ℕ) → n ≡ min m most → FieldsAre k ts us fs n end → end ≡ min (m + length (fields_least (compound_below ts (length ts)) fs)) most
     fields_counted named.no_field_types fs n end m i h = rw h.0 (let e : n ≡ end = h.1 in omega (arith, e, i))
     fields_counted (named.more_field_types x t us) fs n end m i h =
-        let c : kinds.cells_of ts h.value_type ≡ min (length (cells h.value_type)) most = cells_counted t h.value_type h.belongs in
-        let j : plus n (kinds.cells_of ts h.value_type) ≡ min (m + length (cells h.value_type)) most = omega (arith, i, c) in
-        let e : end ≡ min (m + length (cells h.value_type) + length (fields_least (compound_below ts (length ts)) h.rest)) most = fields_counted us h.rest (plus n (kinds.cells_of ts h.value_type)) end (m + length (cells h.value_type)) j h.others in
+        let c : symbol_kinds.cells_of ts h.value_type ≡ min (length (cells h.value_type)) most = cells_counted t h.value_type h.belongs in
+        let j : plus n (symbol_kinds.cells_of ts h.value_type) ≡ min (m + length (cells h.value_type)) most = omega (arith, i, c) in
+        let e : end ≡ min (m + length (cells h.value_type) + length (fields_least (compound_below ts (length ts)) h.rest)) most = fields_counted us h.rest (plus n (symbol_kinds.cells_of ts h.value_type)) end (m + length (cells h.value_type)) j h.others in
         let l = length-append (cells h.value_type) (fields_least (compound_below ts (length ts)) h.rest) in
         rw h.first (omega (arith, e, l))
 
@@ -172,6 +174,6 @@ module _ (k : Numbering) (ts : Compounds) (earlier : HoldEarlier ts) where
   unfolding kinds.least
   least_encoded t v w h = cells_encoded t v w h
 
-  pub least_counted : (t : Ty) (v : CellType) → TypeIs k ts t v → kinds.cells_of ts v ≡ min (length (kinds.least ts v)) most
+  pub least_counted : (t : Ty) (v : CellType) → TypeIs k ts t v → symbol_kinds.cells_of ts v ≡ min (length (kinds.least ts v)) most
   unfolding kinds.least
   least_counted t v h = cells_counted t v h

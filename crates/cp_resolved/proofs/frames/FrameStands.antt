@@ -6,7 +6,7 @@ use Rattle.cp_resolved.proofs.Words.{AreDeclared, routine_variables, IsOrdinal, 
 use Rattle.cp_resolved.proofs.Words.{cell_named, slot_of, IsWord, AreWords, Each}
 use Rattle.cp_tree.specs.Syntax as syntax
 use Rattle.cp_slots.specs.declared.place.PlaceOrigin.TheVariants as origin
-use Rattle.cp_layout.specs.declared.names.LayoutMeaning.TheVariants as meaning
+use Rattle.cp_symbols.specs.declared.names.LayoutMeaning.TheVariants as meaning
 use Rattle.cp_layout.specs.Layers as layers
 use Rattle.cp_meaning.specs.Types as named
 use Rattle.cp_meaning.specs.Scopes as scopes

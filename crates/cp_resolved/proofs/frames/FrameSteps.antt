@@ -4,7 +4,8 @@ use Rattle.cp_resolved.proofs.Words.{bytes_eq, none-some, slice_get_within, Plac
 use Rattle.cp_resolved.proofs.Words.{same_name, Ty, Variable, encode, cells_of, look, Each, is_free, IsFreeVariable, IsFull}
 use Rattle.cp_tree.specs.Syntax as syntax
 use Rattle.cp_slots.specs.declared.place.PlaceOrigin.TheVariants as origin
-use Rattle.cp_layout.specs.declared.names.LayoutMeaning.TheVariants as meaning
+use Rattle.cp_symbols.specs.declared.names.LayoutMeaning.TheVariants as meaning
+use Rattle.cp_symbols.specs.Kinds as symbol_kinds
 use Rattle.cp_layout.specs.Kinds as kinds
 use Rattle.cp_layout.specs.Layers.{Names, find, Layer}
 use Rattle.cp_layout.specs.LaidDeclarations.{constants, type_definitions, with_local, local, Parameters, var_parameter}
@@ -201,6 +202,6 @@ module _ (k : Numbering) where
       record {
         free = h.free;
         image = h.image;
-        extents = ap (λ zs. zs ++ kinds.cells_of l.types v ∷ []) h.extents ∙ ap (λ n. extents rs ++ n ∷ []) (cells_same k l.types t v i new.has.few) ∙ sym (extents_append rs (one_variable x t ∷ []));
+        extents = ap (λ zs. zs ++ symbol_kinds.cells_of l.types v ∷ []) h.extents ∙ ap (λ n. extents rs ++ n ∷ []) (cells_same k l.types t v i new.has.few) ∙ sym (extents_append rs (one_variable x t ∷ []));
         lying = lying_variable vs (rs ++ one_variable x t ∷ []) x (origin.Reference (length l.frame.extents)) v l.names (reference_lies l x t vs rs new.other h) more;
       }

@@ -3,9 +3,11 @@ use Rattle.std.proofs.Common.{◌≡◌, ◌+◌, ◌-◌, ◌*◌, ◌<◌, ◌
 use Rattle.cp_resolved.proofs.Words.{min, int_le, int_lt, slice_get_within, CellType, range_of_base, cells_of, cells_in, IsFull, AreFull}
 use Rattle.std.proofs.Math.Dec.{T, eqb_refl, leb-zero}
 use Rattle.std.proofs.Math.Nat.{mul_comm}
-use Rattle.cp_layout.specs.declared.kinds.CellType.TheVariants as types
+use Rattle.cp_symbols.specs.declared.kinds.CellType.TheVariants as types
+use Rattle.cp_symbols.specs.Kinds as symbol_kinds
 use Rattle.cp_layout.specs.Kinds as kinds
-use Rattle.cp_layout.specs.Kinds.{array, record_with, Compounds, Field, compound_cells, count_of, most, times, array_type, fields_least, compound_least, compound_below, least_below}
+use Rattle.cp_symbols.specs.Kinds.{array, record_with, Compounds, Field, compound_cells, count_of, most, times}
+use Rattle.cp_layout.specs.Kinds.{array_type, fields_least, compound_least, compound_below, least_below}
 use Rattle.cp_meaning.specs.Types as named
 use Rattle.cp_meaning.specs.Types.{Base, Range, Ty, FieldTypes, length_of_range, is_within, has_components}
 use Rattle.cp_meaning.specs.Values.{Value, number_value, least_number, least, least_fields, copies}
@@ -101,7 +103,7 @@ standing_typed _ h w = tt
 
 -- ---- the cells that are laid out
 
-pub least_of_same : (k : Numbering) (r : Range) → kinds.least_of (range_on k r) ≡ least_number r
+pub least_of_same : (k : Numbering) (r : Range) → symbol_kinds.least_of (range_on k r) ≡ least_number r
 least_of_same k r = go r.low
   where
     go : (z : ℤ) → (if int_le z (negsuc 32767) then pos 0 else z) ≡ (if int_lt z (negsuc 32766) then pos 0 else z)
@@ -151,8 +153,8 @@ past_taken (suc n) zero (x ∷ xs) h = absurd (omega (arith, h))
 past_taken (suc n) (suc j) (x ∷ xs) h = past_taken n j xs (omega (arith, h))
 
 module _ (k : Numbering) (ts : Compounds) where
-  cells_before : (n : ℕ) (v : CellType) → kinds.cells_of (take n ts) v ≤ kinds.cells_of ts v
-  cells_before n v = subst (λ us. kinds.cells_of (take n ts) v ≤ kinds.cells_of us v) (take_drop n ts) (cells_more (take n ts) (drop n ts) v)
+  cells_before : (n : ℕ) (v : CellType) → symbol_kinds.cells_of (take n ts) v ≤ symbol_kinds.cells_of ts v
+  cells_before n v = subst (λ us. symbol_kinds.cells_of (take n ts) v ≤ symbol_kinds.cells_of us v) (take_drop n ts) (cells_more (take n ts) (drop n ts) v)
 
   -- a compound type is one of the first, if it has cells
   abbrev Reaches : ℕ → CellType → ℕ → Type 0
@@ -168,7 +170,7 @@ module _ (k : Numbering) (ts : Compounds) where
       go (inr h) = inr (sym e ∙ ap compound_cells (past_taken n j ts h))
 
   -- by the cells that it has among the first ones
-  reaches : (n c : ℕ) (v : CellType) → kinds.cells_of (take n ts) v ≡ c → Reaches n v c
+  reaches : (n c : ℕ) (v : CellType) → symbol_kinds.cells_of (take n ts) v ≡ c → Reaches n v c
   reaches n c (types.Array j) e = compound_reaches n j c e
   reaches n c (types.Record j) e = compound_reaches n j c e
   reaches n c _ e = tt
@@ -177,8 +179,8 @@ module _ (k : Numbering) (ts : Compounds) where
   fields_before n named.no_field_types fs from end h i = rw h.0 (omega arith)
   fields_before n (named.more_field_types x t us) fs from end h i =
       let a = cells_before n h.value_type in
-      let b : kinds.cells_of ts h.value_type ≡ cells_of t = cells_same k ts t h.value_type h.belongs (omega (arith, i)) in
-      let c = fields_before n us h.rest (kinds.plus from (kinds.cells_of ts h.value_type)) end h.others (omega (arith, i)) in
+      let b : symbol_kinds.cells_of ts h.value_type ≡ cells_of t = cells_same k ts t h.value_type h.belongs (omega (arith, i)) in
+      let c = fields_before n us h.rest (symbol_kinds.plus from (symbol_kinds.cells_of ts h.value_type)) end h.others (omega (arith, i)) in
       rw h.first (omega (arith, a, b, c))
 
   module _ (counted : Counted ts) where
@@ -186,18 +188,18 @@ module _ (k : Numbering) (ts : Compounds) where
     element_reaches : (n : ℕ) (s : Range) (t : Ty) (v : CellType) → slice_get ts n ≡ Some (array (array_type ts (range_on k s) v)) → TypeIs k ts t v → 1 ≤ length_of_range s → length_of_range s * cells_of t ≤ most → Reaches n v (cells_of t)
     element_reaches n s t v there belongs full few = reaches n (cells_of t) v (go (length_of_range s) refl full)
       where
-        go : (m : ℕ) → length_of_range s ≡ m → 1 ≤ m → kinds.cells_of (take n ts) v ≡ cells_of t
+        go : (m : ℕ) → length_of_range s ≡ m → 1 ≤ m → symbol_kinds.cells_of (take n ts) v ≡ cells_of t
         go zero e h = absurd (omega (arith, h))
         go (suc m) e h =
             let small : suc m * cells_of t ≤ most = subst (λ j. j * cells_of t ≤ most) e few in
             let one = one_more m (cells_of t) in
-            let same : kinds.cells_of ts v ≡ cells_of t = cells_same k ts t v belongs (omega (arith, small, one)) in
+            let same : symbol_kinds.cells_of ts v ≡ cells_of t = cells_same k ts t v belongs (omega (arith, small, one)) in
             let many : count_of (range_on k s) ≡ suc m = count_same k s ∙ e in
-            let c : times (kinds.cells_of ts v) (count_of (range_on k s)) ≤ count_of (range_on k s) * kinds.cells_of (take n ts) v = counted n (array (array_type ts (range_on k s) v)) there in
-            let d : times (cells_of t) (suc m) ≤ suc m * kinds.cells_of (take n ts) v = subst (λ j. times (cells_of t) j ≤ j * kinds.cells_of (take n ts) v) many (subst (λ j. times j (count_of (range_on k s)) ≤ count_of (range_on k s) * kinds.cells_of (take n ts) v) same c) in
+            let c : times (symbol_kinds.cells_of ts v) (count_of (range_on k s)) ≤ count_of (range_on k s) * symbol_kinds.cells_of (take n ts) v = counted n (array (array_type ts (range_on k s) v)) there in
+            let d : times (cells_of t) (suc m) ≤ suc m * symbol_kinds.cells_of (take n ts) v = subst (λ j. times (cells_of t) j ≤ j * symbol_kinds.cells_of (take n ts) v) many (subst (λ j. times j (count_of (range_on k s)) ≤ count_of (range_on k s) * symbol_kinds.cells_of (take n ts) v) same c) in
             let e2 : times (cells_of t) (suc m) ≡ suc m * cells_of t = ap (λ z. min z most) (mul_comm (cells_of t) (suc m)) ∙ capped (suc m * cells_of t) most small in
             let below = cells_before n v in
-            let more = times_apart m (kinds.cells_of (take n ts) v) (cells_of t) (omega (arith, below, same)) in
+            let more = times_apart m (symbol_kinds.cells_of (take n ts) v) (cells_of t) (omega (arith, below, same)) in
             omega (arith, d, e2, more, one, below, same)
 
     array_least : (bound n : ℕ) (s : Range) (t : Ty) (v : CellType) → slice_get ts n ≡ Some (array (array_type ts (range_on k s) v)) → is_free (named.array_over s t) ≡ true → least_below ts n v ≡ encode (least t) → (n < bound) ⊎ (length_of_range s * cells_of t ≡ 0) →
@@ -246,11 +248,11 @@ module _ (k : Numbering) (ts : Compounds) where
       fields_same n (named.more_field_types x t us) fs from end h f few full c =
           let g : Field = record { name = x; value_type = h.value_type; offset = from } in
           let less = cells_before n h.value_type in
-          let same : kinds.cells_of ts h.value_type ≡ cells_of t = cells_same k ts t h.value_type h.belongs (omega (arith, few)) in
-          let rest = fields_before n us h.rest (kinds.plus from (kinds.cells_of ts h.value_type)) end h.others (omega (arith, few)) in
-          let all : cells_of t + cells_in us ≤ kinds.cells_of (take n ts) h.value_type + fields_cells (take n ts) h.rest = subst (λ gs. cells_of t + cells_in us ≤ fields_cells (take n ts) gs) h.first c in
+          let same : symbol_kinds.cells_of ts h.value_type ≡ cells_of t = cells_same k ts t h.value_type h.belongs (omega (arith, few)) in
+          let rest = fields_before n us h.rest (symbol_kinds.plus from (symbol_kinds.cells_of ts h.value_type)) end h.others (omega (arith, few)) in
+          let all : cells_of t + cells_in us ≤ symbol_kinds.cells_of (take n ts) h.value_type + fields_cells (take n ts) h.rest = subst (λ gs. cells_of t + cells_in us ≤ fields_cells (take n ts) gs) h.first c in
           let one : least_below ts n h.value_type ≡ encode (least t) = least_same n t h.value_type h.belongs (left_true (is_free t) (are_free us) f) (omega (arith, few)) full.0 (reaches n (cells_of t) h.value_type (omega (arith, all, less, same, rest))) in
-          let others = fields_same n us h.rest (kinds.plus from (kinds.cells_of ts h.value_type)) end h.others (right_true (is_free t) (are_free us) f) (omega (arith, few)) full.1 (omega (arith, all, less, same)) in
+          let others = fields_same n us h.rest (symbol_kinds.plus from (symbol_kinds.cells_of ts h.value_type)) end h.others (right_true (is_free t) (are_free us) f) (omega (arith, few)) full.1 (omega (arith, all, less, same)) in
           ap (fields_least (compound_below ts n)) h.first ∙ ap (λ ys. ys ++ fields_least (compound_below ts n) h.rest) one ∙ ap (λ ys. encode (least t) ++ ys) others
 
     -- the cells of a variable are those of its least value

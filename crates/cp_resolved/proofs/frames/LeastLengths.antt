@@ -1,8 +1,9 @@
 -- The cells with which a variable begins are those of its type, and no fewer where there are more types.
 use Rattle.std.proofs.Common.{◌≡◌, ℕ, zero, suc, ◌+◌, ◌*◌, ◌≤◌, ◌==◌, ℤ, Bool, true, false, if◌then◌else◌, List, [], ◌∷◌, ◌++◌, length, Option, Some, None, slice_get, refl, sym, ap, subst, ◌∙◌, arith, length-append}
 use Rattle.cp_resolved.proofs.Words.{eqb-true, eqb-false, mul-le, CellType, Ty, FieldTypes, length_of_range, cells_of, cells_in}
-use Rattle.cp_layout.specs.declared.kinds.CellType.TheVariants as types
-use Rattle.cp_layout.specs.Kinds.{Field, Compound, array, record_with, Compounds, count_of, least_by, fields_least, compound_least, compound_below, least_below, least}
+use Rattle.cp_symbols.specs.declared.kinds.CellType.TheVariants as types
+use Rattle.cp_symbols.specs.Kinds.{Field, Compound, array, record_with, Compounds, count_of}
+use Rattle.cp_layout.specs.Kinds.{least_by, fields_least, compound_least, compound_below, least_below, least}
 use Rattle.cp_meaning.specs.Types as named
 use Rattle.cp_resolved.specs.InStep.{Numbering, range_on, TypeIs, FieldsAre}
 use Rattle.cp_resolved.proofs.frames.Cells.{count_same}

@@ -9,7 +9,7 @@ use Rattle.cp_resolved.proofs.Words.{routines_begun, initial_begun, each_in, in_
 use Rattle.cp_resolved.proofs.Words.{initial_meaning, Each, IsSmallRoutine, AreNumbered, IsParameter, AreParameters, initial_or, components_among}
 use Rattle.cp_resolved.proofs.Words.{parameters_by}
 use Rattle.cp_slots.specs.declared.place.PlaceOrigin.TheVariants as origin
-use Rattle.cp_layout.specs.declared.names.LayoutMeaning.TheVariants as meaning
+use Rattle.cp_symbols.specs.declared.names.LayoutMeaning.TheVariants as meaning
 use Rattle.cp_layout.specs.Layers as layers
 use Rattle.cp_meaning.specs.Scopes as scopes
 use Rattle.cp_meaning.specs.Declarations as meant

@@ -5,7 +5,7 @@ use Rattle.cp_resolved.proofs.Words.{same_Some, Identifier, LayoutMeaning, Funct
 use Rattle.cp_resolved.proofs.Words.{RoutineMeaning, routine_in, result_type, name_of, routine_called, routine_meant, result_called, Here, frame_here}
 use Rattle.cp_resolved.proofs.Words.{cell_named, slot_of, look, Numbering, base_of, FoundIs, predeclared_as, Knows, AreHeld, ValueIs, DesignatedIs}
 use Rattle.cp_tree.specs.Syntax as syntax
-use Rattle.cp_layout.specs.declared.names.LayoutMeaning.TheVariants as meaning
+use Rattle.cp_symbols.specs.declared.names.LayoutMeaning.TheVariants as meaning
 use Rattle.cp_layout.specs.declared.layer.ParameterLayout as code_parameter
 use Rattle.cp_slots.specs.Code as code
 use Rattle.cp_layout.specs.Values as values

@@ -7,9 +7,9 @@ use Rattle.cp_tree.specs.declared.statement.Direction.TheVariants as direction
 use Rattle.cp_tree.specs.Syntax as syntax
 use Rattle.cp_slots.specs.declared.place.PlaceOrigin.TheVariants as origin
 use Rattle.cp_slots.specs.declared.item.ShownKind.TheVariants as shown
-use Rattle.cp_layout.specs.declared.kinds.CellType.TheVariants as types
-use Rattle.cp_layout.specs.declared.names.LayoutMeaning.TheVariants as meaning
-use Rattle.cp_layout.specs.declared.names.PredeclaredRoutine.TheVariants as predeclared
+use Rattle.cp_symbols.specs.declared.kinds.CellType.TheVariants as types
+use Rattle.cp_symbols.specs.declared.names.LayoutMeaning.TheVariants as meaning
+use Rattle.cp_symbols.specs.declared.names.PredeclaredRoutine.TheVariants as predeclared
 use Rattle.cp_slots.specs.Code as code
 use Rattle.cp_layout.specs.Values as values
 use Rattle.cp_layout.specs.Values.{place_at, place_of, ordinal_of}

@@ -3,11 +3,12 @@ use Rattle.std.proofs.Common.{◌≡◌, ℕ, ◌+◌, ℤ, Bool, true, false, i
 use Rattle.cp_resolved.proofs.Words.{bytes_eq, Identifier, CellBase, CellType, LayoutMeaning, Contained, as_integer}
 use Rattle.cp_tree.specs.Syntax as syntax
 use Rattle.cp_tree.specs.Syntax.{ConstantDefinition, TypeDefinition, VariableGroup, Part, Group, ParameterGroup, RoutineKind, Simple, TypeTerm, FieldGroup, FieldGroups}
-use Rattle.cp_layout.specs.declared.kinds.CellRange.{CellRange}
-use Rattle.cp_layout.specs.declared.kinds.CellType.TheVariants as types
-use Rattle.cp_layout.specs.declared.names.LayoutMeaning.TheVariants as meaning
+use Rattle.cp_symbols.specs.declared.kinds.CellRange.{CellRange}
+use Rattle.cp_symbols.specs.declared.kinds.CellType.TheVariants as types
+use Rattle.cp_symbols.specs.declared.names.LayoutMeaning.TheVariants as meaning
 use Rattle.cp_layout.specs.declared.layer.Content.TheVariants as content
-use Rattle.cp_layout.specs.Kinds.{Compound, array, record_with, Fields, no_fields, cells_of, array_type}
+use Rattle.cp_symbols.specs.Kinds.{Compound, array, record_with, cells_of}
+use Rattle.cp_layout.specs.Kinds.{Fields, no_fields, array_type}
 use Rattle.cp_layout.specs.Layers.{Layer, Names, find_type, with_name}
 use Rattle.cp_layout.specs.LaidTypes.{type_meant, named_type, with_constant, enumerated, enumeration_base, simple_type, range_of, written_type, field_groups, field_group, with_array_type, with_record_type}
 use Rattle.cp_layout.specs.LaidDeclarations.{Parameters, constant, constants, type_named, type_definition, type_definitions, components_of, cell_variable, variable_with, variable, variables_of, variable_group, variables, local, local_at, locals_of, local_group, local_variables, permanent_part, permanent_parts, local_part, local_parts, constant_parameter, constant_parameters_of, constant_group, constant_groups, var_parameter, var_parameters_of, var_group, parameter_group, parameter_groups, heading, system_parameter, system_parameters_of, system_group, system_groups}

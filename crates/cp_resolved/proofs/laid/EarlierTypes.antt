@@ -3,9 +3,10 @@ use Rattle.std.proofs.Common.{◌≡◌, ◌+◌, ◌≤◌, ◌⊎◌, inl, inr
 use Rattle.cp_resolved.proofs.Words.{bytes_eq, none-some, Identifier, CellBase, CellType, Contained, LayoutMeaning, as_integer, routine_begun, system_begun}
 use Rattle.cp_resolved.proofs.Words.{Each}
 use Rattle.cp_tree.specs.Syntax as syntax
-use Rattle.cp_layout.specs.declared.kinds.CellType.TheVariants as types
-use Rattle.cp_layout.specs.declared.names.LayoutMeaning.TheVariants as meaning
-use Rattle.cp_layout.specs.Kinds.{Field, Compound, array, record_with, Compounds, array_type, Fields, no_fields, cells_of, with_field}
+use Rattle.cp_symbols.specs.declared.kinds.CellType.TheVariants as types
+use Rattle.cp_symbols.specs.declared.names.LayoutMeaning.TheVariants as meaning
+use Rattle.cp_symbols.specs.Kinds.{Field, Compound, array, record_with, Compounds, cells_of}
+use Rattle.cp_layout.specs.Kinds.{array_type, Fields, no_fields, with_field}
 use Rattle.cp_layout.specs.Layers.{Names, Layer, find_type, seen_inside, is_open, with_name, nothing_laid}
 use Rattle.cp_layout.specs.LaidTypes.{type_meant, named_type, simple_type, enumerated, enumeration_base, with_constant, fields_of_type, range_of, written_type, field_groups, field_group}
 use Rattle.cp_layout.specs.LaidDeclarations.{constant, constants, type_definition, type_definitions, components_of, variable, variable_with, variables_of, variable_group, variables, permanent_part, permanent_parts, local, locals_of, local_group, local_variables, local_part, local_parts, Parameters, constant_parameter, constant_parameters_of, constant_group, constant_groups, var_parameter, var_parameters_of, var_group, parameter_group, parameter_groups, heading, heading_with, body, with_new_frame, with_heading, opened, routine, routines, entered, system_parameter, system_parameters_of, system_group, system_groups, system, definition, system_definition, system_definitions, program_part, program_parts, program}

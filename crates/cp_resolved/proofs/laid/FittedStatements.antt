@@ -2,8 +2,8 @@
 use Rattle.std.proofs.Common.{◌≡◌, ℕ, ◌+◌, ◌*◌, ◌<◌, ◌≤◌, max, Bool, false, List, [], ◌∷◌, length, Option, Some, None, slice_index, refl, sym, ap, subst, arith}
 use Rattle.cp_resolved.proofs.Words.{Direction, CellType, PredeclaredRoutine}
 use Rattle.cp_tree.specs.Syntax as syntax
-use Rattle.cp_layout.specs.declared.kinds.CellType.TheVariants as types
-use Rattle.cp_layout.specs.declared.names.PredeclaredRoutine.TheVariants as predeclared
+use Rattle.cp_symbols.specs.declared.kinds.CellType.TheVariants as types
+use Rattle.cp_symbols.specs.declared.names.PredeclaredRoutine.TheVariants as predeclared
 use Rattle.cp_slots.specs.Code as code
 use Rattle.cp_slots.specs.Code.{Action, Arm, Argument, ComponentPlace, Place}
 use Rattle.cp_layout.specs.Values.{Value, Designated, a_component, a_routine, an_entry, ordinal_of}

@@ -2,12 +2,13 @@
 use Rattle.std.proofs.Common.{◌≡◌, ℕ, ◌+◌, ◌<◌, Bool, List, [], ◌∷◌, length, Option, Some, None, sym, ap, subst, arith}
 use Rattle.cp_resolved.proofs.Words.{Direction, CellType, ArrayType, FunctionResult, LayoutMeaning, PredeclaredRoutine, Each}
 use Rattle.cp_tree.specs.Syntax as syntax
-use Rattle.cp_layout.specs.declared.kinds.CellType.TheVariants as types
-use Rattle.cp_layout.specs.declared.names.LayoutMeaning.TheVariants as meaning
-use Rattle.cp_layout.specs.declared.names.PredeclaredRoutine.TheVariants as predeclared
+use Rattle.cp_symbols.specs.declared.kinds.CellType.TheVariants as types
+use Rattle.cp_symbols.specs.declared.names.LayoutMeaning.TheVariants as meaning
+use Rattle.cp_symbols.specs.declared.names.PredeclaredRoutine.TheVariants as predeclared
 use Rattle.cp_slots.specs.Code as code
 use Rattle.cp_slots.specs.Code.{Place, OrdinalExpression, SetExpression, ComponentPlace, Argument, Arm, Action, Item}
-use Rattle.cp_layout.specs.Kinds.{Field, field_of, array_of}
+use Rattle.cp_symbols.specs.Kinds.{Field}
+use Rattle.cp_layout.specs.Kinds.{field_of, array_of}
 use Rattle.cp_layout.specs.Values.{Value, Designated, a_variable, a_contained, a_component, a_routine, an_entry, a_standard, added as values_added, multiplied as values_multiplied, ordinal_of}
 use Rattle.cp_layout.specs.Layers.{Layer, Frame, Pending, again, find, with_cell, with_room, settled_all, settled, without_pending, added, call_need, result_of}
 use Rattle.cp_layout.specs.LaidExpressions.{begun_as, begun, field_found, entry_found, entry_of, field_selected, element_found, component_of_array, component_found, element_selected, with_count, counted, function_as, named_as, signed, name_at, expression, sum, more_terms, term, more_factors, factor, elements, first_value, arguments_from, designator, selectors, selector, arguments}

@@ -4,7 +4,7 @@ use Rattle.std.specs.Prelude.{max}
 use Rattle.std.proofs.lemmas.List.{append-nil}
 use Rattle.cp_tree.specs.declared.statement.Direction.{Direction}
 use Rattle.cp_tree.specs.Syntax as syntax
-use Rattle.cp_layout.specs.declared.names.PredeclaredRoutine.{PredeclaredRoutine}
+use Rattle.cp_symbols.specs.declared.names.PredeclaredRoutine.{PredeclaredRoutine}
 use Rattle.cp_slots.specs.Code as code
 use Rattle.cp_slots.specs.Code.{ComponentPlace, Arm, Item}
 use Rattle.cp_layout.specs.Layers.{Layer, Pending, with_item, settled_all, settled, without_pending, added, need_of}

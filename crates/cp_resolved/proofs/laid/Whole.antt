@@ -3,7 +3,7 @@ use Rattle.std.proofs.Common.{◌≡◌, ℕ, ◌+◌, ◌-◌, ◌<◌, ◌≤�
 use Rattle.cp_resolved.proofs.Words.{none-some, SystemKind, Body, Routine, Definition, SystemDefinition, ProgramPart, Program, CellType, Compounds, most}
 use Rattle.cp_resolved.proofs.Words.{plus, RoutineView, written_type, statements}
 use Rattle.cp_tree.specs.Syntax as syntax
-use Rattle.cp_layout.specs.declared.names.LayoutMeaning.TheVariants as meaning
+use Rattle.cp_symbols.specs.declared.names.LayoutMeaning.TheVariants as meaning
 use Rattle.cp_slots.specs.Code as code
 use Rattle.cp_slots.specs.Code.{Action, Item}
 use Rattle.cp_layout.specs.Layers.{Layer, Frame, Heading, Owned, System, need_of, nothing_laid, routine_of, with_routine}

@@ -1,7 +1,7 @@
 -- What is known where the statements of each routine and of each initial statement begin.
 use Rattle.std.proofs.Common.{◌≡◌, true, false, ◌+◌, ℕ, suc, List, [], ◌∷◌, ◌++◌, length, Some, None, slice_get, refl, sym, ap, subst, ◌∙◌, arith, append_assoc, append-nil, length-append}
 use Rattle.cp_tree.specs.Syntax as syntax
-use Rattle.cp_layout.specs.declared.names.LayoutMeaning.TheVariants as meaning
+use Rattle.cp_symbols.specs.declared.names.LayoutMeaning.TheVariants as meaning
 use Rattle.cp_layout.specs.Layers.{find, Layer, System, nothing_laid}
 use Rattle.cp_layout.specs.LaidDeclarations.{heading_with, with_new_frame, with_heading, routine, routines, system_definition, system_definitions, program_part, program_parts, program}
 use Rattle.cp_resolved.proofs.Words.{Name, Scope, permanent_variable, seen_inside, Block, with_groups, Numbering, InStep, is_named, is_parameter, AreOthers}

@@ -4,8 +4,8 @@ use Rattle.cp_resolved.proofs.Words.{bytes_eq, none-some, same_Some, Identifier,
 use Rattle.cp_resolved.proofs.Words.{routine_begun, routines_begun, parts_begun, IsDistinctRoutine, AreValues, each_in, in_routine, ParametersAre, Numbering}
 use Rattle.cp_resolved.proofs.Words.{InStep, Opening, with_routine, routine_openings, AreOpened, Each, IsSmallRoutine, AreNumbered}
 use Rattle.cp_tree.specs.Syntax as syntax
-use Rattle.cp_layout.specs.declared.kinds.CellType.TheVariants as types
-use Rattle.cp_layout.specs.declared.names.LayoutMeaning.TheVariants as meaning
+use Rattle.cp_symbols.specs.declared.kinds.CellType.TheVariants as types
+use Rattle.cp_symbols.specs.declared.names.LayoutMeaning.TheVariants as meaning
 use Rattle.cp_layout.specs.Layers as layers
 use Rattle.cp_layout.specs.Layers.{Names, Layer, Heading, System, is_open, seen_inside, outermost, nothing_laid}
 use Rattle.cp_layout.specs.LaidDeclarations.{Parameters, heading, with_heading, opened, routine, routines, entered, system_parameter, system_parameters_of, system_group, system_groups, program_parts}

@@ -8,7 +8,7 @@ use Rattle.cp_slots.specs.declared.place.PlaceOrigin.TheVariants as origin
 use Rattle.cp_layout.specs.declared.layer.Passing.{Passing}
 use Rattle.cp_layout.specs.declared.layer.Passing.TheVariants as passing
 use Rattle.cp_layout.specs.declared.layer.ParameterLayout as code_parameter
-use Rattle.cp_layout.specs.declared.names.LayoutMeaning.TheVariants as meaning
+use Rattle.cp_symbols.specs.declared.names.LayoutMeaning.TheVariants as meaning
 use Rattle.cp_layout.specs.Layers.{Names, Layer, find}
 use Rattle.cp_layout.specs.LaidDeclarations.{Parameters, value_parameter, constant_parameter, constant_parameters_of, constant_group, constant_groups, reference_parameter, var_parameter, var_parameters_of, var_group, parameter_group, parameter_groups, heading, with_heading, opened}
 use Rattle.cp_meaning.specs.Types as named

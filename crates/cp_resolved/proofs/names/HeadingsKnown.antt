@@ -5,7 +5,7 @@ use Rattle.cp_resolved.proofs.Words.{Name, Ty, Parameter, RoutineMeaning, system
 use Rattle.cp_resolved.proofs.Words.{Numbering, Here, slot_of, is_parameter, is_own, IsPlaced, place_of, Opening, openings_of, meaning_in, meaning_at}
 use Rattle.cp_resolved.proofs.Words.{numbering_of}
 use Rattle.cp_tree.specs.Syntax as syntax
-use Rattle.cp_layout.specs.declared.names.LayoutMeaning.TheVariants as meaning
+use Rattle.cp_symbols.specs.declared.names.LayoutMeaning.TheVariants as meaning
 use Rattle.cp_slots.specs.Code as code
 use Rattle.cp_layout.specs.Layers as layers
 use Rattle.cp_layout.specs.Layers.{Names, Layer, Heading, System, nothing_laid}

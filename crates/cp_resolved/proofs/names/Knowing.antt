@@ -4,7 +4,7 @@ use Rattle.cp_resolved.proofs.Words.{none-some, entry_among, entry_in, entry_of,
 use Rattle.cp_resolved.proofs.Words.{find, seen_inside, is_seen, routine_of_system, routine_of_type, routine_begun, initial_begun, parts_begun, with_routine}
 use Rattle.cp_resolved.proofs.Words.{parts_scope, initial_meaning, ResultsAre}
 use Rattle.cp_tree.specs.Syntax as syntax
-use Rattle.cp_layout.specs.declared.names.LayoutMeaning.TheVariants as meaning
+use Rattle.cp_symbols.specs.declared.names.LayoutMeaning.TheVariants as meaning
 use Rattle.cp_layout.specs.Layers.{Layer, Heading, System}
 use Rattle.cp_layout.specs.LaidDeclarations.{Parameters, heading, heading_with, body, with_heading, opened, routine, routines, entered, system_groups}
 use Rattle.cp_meaning.specs.Scopes as scopes

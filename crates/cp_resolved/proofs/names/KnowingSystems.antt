@@ -6,7 +6,7 @@ use Rattle.cp_resolved.proofs.Words.{find, seen_inside, RoutineMeaning, routine_
 use Rattle.cp_resolved.proofs.Words.{system_begun, IsFitDefinition, AreFitDefinitions, IsFitPart, AreFitParts, Numbering, InStep, AreOuter, AreOnce}
 use Rattle.cp_resolved.proofs.Words.{IsOnceDefinition, IsOncePart, initial_meaning}
 use Rattle.cp_tree.specs.Syntax as syntax
-use Rattle.cp_layout.specs.declared.names.LayoutMeaning.TheVariants as meaning
+use Rattle.cp_symbols.specs.declared.names.LayoutMeaning.TheVariants as meaning
 use Rattle.cp_layout.specs.Layers.{Layer, Heading, System, nothing_laid, with_name}
 use Rattle.cp_layout.specs.LaidDeclarations.{heading_with, routine, routines, initial_statement, system_of, system, type_named, system_definition, system_definitions, program_part, program_parts, constants, variables, definition}
 use Rattle.cp_meaning.specs.Systems as systems

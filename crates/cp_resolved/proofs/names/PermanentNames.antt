@@ -8,8 +8,8 @@ use Rattle.cp_resolved.proofs.Words.{AreOthers, Each}
 use Rattle.std.proofs.lemmas.List.{append-nil}
 use Rattle.cp_tree.specs.Syntax as syntax
 use Rattle.cp_slots.specs.declared.place.PlaceOrigin.TheVariants as origin
-use Rattle.cp_layout.specs.declared.kinds.CellType.TheVariants as types
-use Rattle.cp_layout.specs.declared.names.LayoutMeaning.TheVariants as meaning
+use Rattle.cp_symbols.specs.declared.kinds.CellType.TheVariants as types
+use Rattle.cp_symbols.specs.declared.names.LayoutMeaning.TheVariants as meaning
 use Rattle.cp_layout.specs.Layers.{Names, Layer, find, is_open, seen_inside, outermost, nothing_laid}
 use Rattle.cp_layout.specs.LaidDeclarations.{components_of, variable, variable_with, variables_of, variable_group, variables, permanent_part, permanent_parts, Parameters, heading, with_heading, opened, routine, routines, entered, system_parameter, system_parameters_of, system_group, system_groups, program_parts}
 use Rattle.cp_meaning.specs.Declarations as meant

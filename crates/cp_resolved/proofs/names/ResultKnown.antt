@@ -5,7 +5,7 @@ use Rattle.cp_slots.specs.declared.place.PlaceOrigin.TheVariants as origin
 use Rattle.cp_resolved.proofs.Words.{FunctionResult, LayoutMeaning, Compounds, Name, result_name, Ty, Scope, RoutineMeaning, result_type, all_begun}
 use Rattle.cp_resolved.proofs.Words.{all_calls_laid, Here, frame_here, is_named, is_own, IsPlaced, place_of, KnowsAt, Opening, meaning_at, numbering_of}
 use Rattle.cp_resolved.proofs.Words.{HasResult, ResultsAre}
-use Rattle.cp_layout.specs.declared.names.LayoutMeaning.TheVariants as meaning
+use Rattle.cp_symbols.specs.declared.names.LayoutMeaning.TheVariants as meaning
 use Rattle.cp_layout.specs.Layers as layers
 use Rattle.cp_layout.specs.Layers.{Layer, result_of, result_slot, own_result}
 use Rattle.cp_meaning.specs.Scopes as scopes

@@ -1,7 +1,7 @@
 -- Where names are in step with a scope of limited types, each variable begins with at most 8,192 cells. It does so where fewer names stand too.
 use Rattle.std.proofs.Common.{ℕ, ◌≤◌, Bool, true, false, if◌then◌else◌, List, [], ◌∷◌, ◌++◌, length, Some, sym, ap, subst, ◌⊎◌, inl, inr, arith, le_trans}
 use Rattle.cp_resolved.proofs.Words.{bytes_eq, CellType, LayoutMeaning, Compounds, least, Names, Layer, find_type, named_type, type_meant, Ty, Scope, Each}
-use Rattle.cp_layout.specs.declared.names.LayoutMeaning.TheVariants as meaning
+use Rattle.cp_symbols.specs.declared.names.LayoutMeaning.TheVariants as meaning
 use Rattle.cp_meaning.specs.Scopes as scopes
 use Rattle.cp_resolved.specs.InStep.{Numbering, TypeIs, CellsAre, PartsAre, BoundIs, MeaningIs, InStep}
 use Rattle.cp_resolved.specs.Limited.{IsLimited, IsLimitedMeaning, AreLimited}

@@ -4,7 +4,7 @@ use Rattle.std.specs.Prelude.{◌⊎◌}
 use Rattle.cp_resolved.proofs.Words.{bytes_eq, bytes_eq-Decides, CellType, LayoutMeaning, is_open, Ty, Scope, is_seen}
 use Rattle.std.specs.Bool.{Decides}
 use Rattle.std.proofs.lemmas.Bool.Decides.{same_from_decides}
-use Rattle.cp_layout.specs.Kinds.{Compounds, Field, array, compound_cells, cells_of, plus, times, count_of}
+use Rattle.cp_symbols.specs.Kinds.{Compounds, Field, array, compound_cells, cells_of, plus, times, count_of}
 use Rattle.cp_layout.specs.Layers as layers
 use Rattle.cp_meaning.specs.Types as named
 use Rattle.cp_meaning.specs.Scopes as scopes

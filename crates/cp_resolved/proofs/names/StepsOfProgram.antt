@@ -2,7 +2,7 @@
 use Rattle.std.proofs.Common.{◌≡◌, ◌+◌, ℕ, suc, List, [], ◌∷◌, ◌++◌, length, refl, sym, ap, subst, ◌∙◌, arith, length-append, None}
 use Rattle.std.proofs.lemmas.List.{append-nil}
 use Rattle.cp_tree.specs.Syntax as syntax
-use Rattle.cp_layout.specs.declared.kinds.CellType.TheVariants as types
+use Rattle.cp_symbols.specs.declared.kinds.CellType.TheVariants as types
 use Rattle.cp_resolved.proofs.Words.{Layer, nothing_laid, written_type, laid, tables_laid, Scope, predeclared, Block, Numbering, InStep, AreOuter}
 use Rattle.cp_resolved.proofs.Words.{system_begun}
 use Rattle.cp_layout.specs.LaidDeclarations.{heading_with, with_new_frame, with_heading, routines, initial_statement, entered, system_groups, permanent_parts, system, type_named, definition, system_definition, system_definitions, program_part, program_parts, constants, variables, program}

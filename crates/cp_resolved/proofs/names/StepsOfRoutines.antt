@@ -2,7 +2,7 @@
 use Rattle.std.proofs.Common.{◌≡◌, ◌+◌, ℕ, suc, List, [], ◌∷◌, ◌++◌, length, Option, None, refl, sym, ap, subst, ◌∙◌, arith, length-append}
 use Rattle.std.proofs.lemmas.List.{append-nil}
 use Rattle.cp_tree.specs.Syntax as syntax
-use Rattle.cp_layout.specs.declared.names.LayoutMeaning.TheVariants as meaning
+use Rattle.cp_symbols.specs.declared.names.LayoutMeaning.TheVariants as meaning
 use Rattle.cp_layout.specs.Layers.{Names, Layer, Heading, routine_of}
 use Rattle.cp_resolved.proofs.Words.{statements, Scope, routine_in, with_routines, system_in, Enumerated, each_in, in_part, in_routine, in_system}
 use Rattle.cp_resolved.proofs.Words.{names_among, Numbering, InStep, AreOuter, Opening, with_routine, routine_openings, parts_scope, AreOpened, routine_begun}

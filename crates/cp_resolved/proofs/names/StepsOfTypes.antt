@@ -9,12 +9,14 @@ use Rattle.cp_tree.specs.declared.constant.Sign.TheVariants as sign
 use Rattle.cp_tree.specs.declared.constant.ConstantKind.TheVariants as constant_kind
 use Rattle.cp_tree.specs.Syntax as syntax
 use Rattle.cp_slots.specs.declared.place.PlaceOrigin.TheVariants as origin
-use Rattle.cp_layout.specs.declared.kinds.CellBase.TheVariants as base
-use Rattle.cp_layout.specs.declared.kinds.CellRange.{CellRange}
-use Rattle.cp_layout.specs.declared.kinds.CellType.TheVariants as types
-use Rattle.cp_layout.specs.declared.names.LayoutMeaning.TheVariants as meaning
+use Rattle.cp_symbols.specs.declared.kinds.CellBase.TheVariants as base
+use Rattle.cp_symbols.specs.declared.kinds.CellRange.{CellRange}
+use Rattle.cp_symbols.specs.declared.kinds.CellType.TheVariants as types
+use Rattle.cp_symbols.specs.declared.names.LayoutMeaning.TheVariants as meaning
+use Rattle.cp_symbols.specs.Kinds as symbol_kinds
 use Rattle.cp_layout.specs.Kinds as kinds
-use Rattle.cp_layout.specs.Kinds.{Compounds, Compound, Field, Fields, array, record_with, cells_of, array_type, plus, times, count_of}
+use Rattle.cp_symbols.specs.Kinds.{Compounds, Compound, Field, array, record_with, cells_of, plus, times, count_of}
+use Rattle.cp_layout.specs.Kinds.{Fields, array_type}
 use Rattle.cp_layout.specs.Layers as layers
 use Rattle.cp_layout.specs.LaidTypes as laid
 use Rattle.cp_layout.specs.LaidTypes.{opposite_number, signed_number, with_constant, enumerated, enumeration_base, first_constant, simple_type, written_type, field_groups, field_group, fields_of_type}
@@ -169,11 +171,11 @@ module _ (k : Numbering) where
       ∙ ap (λ n. base.Enumeration (k.firsts at) (pos (n - 1))) (sym (length-map is (λ i. i.name)))
 
   enumeration_written : (l : Layer) (s : Scope) (at : ℕ) (is : List Identifier) (b : CellBase) → b ≡ base_of k (named.enumerated at (map (λ i. i.name) is)) → length is ≤ 32768 → InStep k l.types l.names s →
-      Written l (kinds.values_of b, enumerated l b 0 is) (meant.simple_in s (syntax.enumeration at is)) ((let e : Enumerated = record { at = at; names = is } in e) ∷ [])
+      Written l (symbol_kinds.values_of b, enumerated l b 0 is) (meant.simple_in s (syntax.enumeration at is)) ((let e : Enumerated = record { at = at; names = is } in e) ∷ [])
   enumeration_written l s at is b e j h =
       let c : named.Base = named.enumerated at (map (λ i. i.name) is) in
       let w : Counted l (base_of k c) 0 is (meant.with_constants c 0 (map (λ i. i.name) is) s) = counted l s c 0 is (let z : 0 + length is ≤ 32768 = omega (arith, j) in z) h in
-      subst (λ b. Written l (kinds.values_of b, enumerated l b 0 is) (meant.simple_in s (syntax.enumeration at is)) ((let e : Enumerated = record { at = at; names = is } in e) ∷ [])) (sym e)
+      subst (λ b. Written l (symbol_kinds.values_of b, enumerated l b 0 is) (meant.simple_in s (syntax.enumeration at is)) ((let e : Enumerated = record { at = at; names = is } in e) ∷ [])) (sym e)
       (record {
         belongs = ap (λ n. types.Ordinal (record { base = base_of k c; low = pos 0; high = pos (n - 1) })) (length-map is (λ i. i.name));
         names = subst (λ ts. InStep k ts (enumerated l (base_of k c) 0 is).names (meant.with_constants c 0 (map (λ i. i.name) is) s)) (sym w.types) w.names;

@@ -5,9 +5,9 @@ use Rattle.cp_resolved.proofs.Words.{Identifier, CellType, LayoutMeaning, Compou
 use Rattle.cp_resolved.proofs.Words.{system_in, parameters_of, parts_begun, PassedBy, ParametersAre, Each, AreParameters, slot_in}
 use Rattle.cp_tree.specs.Syntax as syntax
 use Rattle.cp_slots.specs.declared.place.PlaceOrigin.TheVariants as origin
-use Rattle.cp_layout.specs.declared.kinds.CellType.TheVariants as types
+use Rattle.cp_symbols.specs.declared.kinds.CellType.TheVariants as types
 use Rattle.cp_layout.specs.declared.layer.ParameterLayout as code_parameter
-use Rattle.cp_layout.specs.declared.names.LayoutMeaning.TheVariants as meaning
+use Rattle.cp_symbols.specs.declared.names.LayoutMeaning.TheVariants as meaning
 use Rattle.cp_layout.specs.Layers.{Names, Layer, find}
 use Rattle.cp_layout.specs.LaidDeclarations.{Parameters, value_parameter, cell_parameter, passed_component, system_parameter, system_parameters_of, system_group, system_groups, entered, permanent_parts}
 use Rattle.cp_meaning.specs.Types as named

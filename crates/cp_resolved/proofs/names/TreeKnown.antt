@@ -7,8 +7,8 @@ use Rattle.cp_resolved.proofs.Words.{Numbering, CellsAre, PartsAre, BoundIs, InS
 use Rattle.cp_resolved.proofs.Words.{meaning_in, meaning_at, numbering_of}
 use Rattle.cp_tree.specs.Syntax as syntax
 use Rattle.cp_slots.specs.declared.place.PlaceOrigin.TheVariants as origin
-use Rattle.cp_layout.specs.declared.kinds.CellType.TheVariants as types
-use Rattle.cp_layout.specs.declared.names.LayoutMeaning.TheVariants as meaning
+use Rattle.cp_symbols.specs.declared.kinds.CellType.TheVariants as types
+use Rattle.cp_symbols.specs.declared.names.LayoutMeaning.TheVariants as meaning
 use Rattle.cp_layout.specs.Layers as layers
 use Rattle.cp_layout.specs.Layers.{Layer, Heading, System, result_of, result_in}
 use Rattle.cp_layout.specs.LaidExpressions.{component_count, count_in}

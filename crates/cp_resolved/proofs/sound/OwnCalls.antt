@@ -19,8 +19,8 @@ use Rattle.cp_lawful.proofs.Kept.{parts_kept, written_kept, last_is}
 use Rattle.cp_lawful.proofs.Once.{no_left, no_right, no_first, none_before, inside_sound, defined_sound, declarations_sound, parts_sound, uses_sound as limits_sound}
 use Rattle.cp_lawful.proofs.Told as told
 use Rattle.cp_lawful.proofs.Told.{Told, heard}
-use Rattle.cp_layout.specs.declared.names.LayoutMeaning as laid_meaning
-use Rattle.cp_layout.specs.declared.names.LayoutMeaning.TheVariants as meaning
+use Rattle.cp_symbols.specs.declared.names.LayoutMeaning as laid_meaning
+use Rattle.cp_symbols.specs.declared.names.LayoutMeaning.TheVariants as meaning
 use Rattle.cp_layout.specs.Layers as layers
 use Rattle.cp_layout.specs.Layers.{Layer, Pending, find, seen_inside, with_open, nothing_laid}
 use Rattle.cp_layout.specs.LaidDeclarations as lays

@@ -3,8 +3,8 @@ use Rattle.std.proofs.Common.{◌≡◌, ℕ, ◌+◌, true, false, List, [], �
 use Rattle.cp_resolved.proofs.Words.{bytes_eq, bytes_eq-Decides, Identifier, Permanent, CellType, LayoutMeaning, ComponentParameter, named_type, Name, Ty}
 use Rattle.cp_resolved.proofs.Words.{Scope, permanent_variable, Parameter, Heading, names_of, parameters_named, parts_begun, AreParameters}
 use Rattle.cp_tree.specs.Syntax as syntax
-use Rattle.cp_layout.specs.declared.kinds.CellType.TheVariants as types
-use Rattle.cp_layout.specs.declared.names.LayoutMeaning.TheVariants as meaning
+use Rattle.cp_symbols.specs.declared.kinds.CellType.TheVariants as types
+use Rattle.cp_symbols.specs.declared.names.LayoutMeaning.TheVariants as meaning
 use Rattle.cp_layout.specs.Layers.{Names, Layer, Owned, find}
 use Rattle.cp_layout.specs.LaidDeclarations.{component_cell, permanent_part, permanent_parts, Parameters, entered, system_parameter, system_parameters_of, system_group, system_groups}
 use Rattle.cp_meaning.specs.Types as named

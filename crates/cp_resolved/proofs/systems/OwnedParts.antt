@@ -3,8 +3,8 @@ use Rattle.std.proofs.Common.{◌≡◌, ℕ, ◌<◌, true, List, [], ◌∷◌
 use Rattle.cp_resolved.proofs.Words.{bytes_eq, bytes_eq-Decides, Permanent, CellType, Contained, Content, LayoutMeaning, count_in, component_cell, Name, Ty}
 use Rattle.cp_resolved.proofs.Words.{array_over, component_of, length_of_range, Variable, Each}
 use Rattle.cp_layout.specs.declared.layer.Content.TheVariants as content
-use Rattle.cp_layout.specs.declared.names.LayoutMeaning.TheVariants as meaning
-use Rattle.cp_layout.specs.Kinds.{Compounds, cells_of, plus, times}
+use Rattle.cp_symbols.specs.declared.names.LayoutMeaning.TheVariants as meaning
+use Rattle.cp_symbols.specs.Kinds.{Compounds, cells_of, plus, times}
 use Rattle.cp_layout.specs.Layers.{Names, Layer, Owned, System, find}
 use Rattle.cp_resolved.specs.InStep.{Numbering, TypeIs}
 use Rattle.cp_resolved.proofs.names.Entries.{there, still_there}

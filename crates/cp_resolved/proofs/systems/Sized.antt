@@ -2,7 +2,8 @@
 use Rattle.std.proofs.Common.{◌≡◌, ℕ, ◌≤◌, List, [], ◌∷◌, ◌++◌, Some, slice_get, refl, sym, ap, ◌∙◌, append_assoc, append-nil, arith}
 use Rattle.cp_resolved.proofs.Words.{Identifier, CellType, Layer, Owned, System, fields_of_type}
 use Rattle.cp_layout.specs.declared.layer.Content.TheVariants as content
-use Rattle.cp_layout.specs.Kinds.{Field, Compound, Compounds, Fields, cells_of, plus, with_field}
+use Rattle.cp_symbols.specs.Kinds.{Field, Compound, Compounds, cells_of, plus}
+use Rattle.cp_layout.specs.Kinds.{Fields, with_field}
 use Rattle.cp_resolved.proofs.systems.Sizes.{Counts, Counted, counted_more, fields_cells, fields_more, fields_last, contents_cells, contents_more, contents_last, contents_component}
 
 abbrev pub SizedBy : Compounds → Owned → Type 0

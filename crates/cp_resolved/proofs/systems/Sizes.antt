@@ -1,9 +1,10 @@
 -- The cells that are counted for a type are no more than those with which a variable of it begins.
 use Rattle.std.proofs.Common.{◌≡◌, ℕ, zero, suc, ◌+◌, ◌*◌, ◌≤◌, ◌==◌, ℤ, Bool, true, false, if◌then◌else◌, List, [], ◌∷◌, ◌++◌, take, length, Option, Some, None, slice_get, refl, sym, ap, subst, ◌∙◌, ◌⊎◌, inl, inr, arith, length-append, le_trans}
 use Rattle.cp_resolved.proofs.Words.{eqb-true, eqb-false, slice_get_within, CellType, Content, contents_least}
-use Rattle.cp_layout.specs.declared.kinds.CellType.TheVariants as types
+use Rattle.cp_symbols.specs.declared.kinds.CellType.TheVariants as types
 use Rattle.cp_layout.specs.declared.layer.Content.TheVariants as content
-use Rattle.cp_layout.specs.Kinds.{Field, Compound, array, record_with, Compounds, compound_cells, cells_of, count_of, copies, least_by, fields_least, compound_least, compound_below, least}
+use Rattle.cp_symbols.specs.Kinds.{Field, Compound, array, record_with, Compounds, compound_cells, cells_of, count_of}
+use Rattle.cp_layout.specs.Kinds.{copies, least_by, fields_least, compound_least, compound_below, least}
 use Rattle.cp_resolved.proofs.names.Entries.{there, still_there, last_or_before}
 
 abbrev pub fields_cells : Compounds → List Field → ℕ

@@ -5,7 +5,7 @@ use Rattle.cp_resolved.proofs.Words.{find, Variable, content_of, value_held, lea
 use Rattle.cp_resolved.proofs.Words.{system_variables, Numbering, InStep, FoundIs, cells_of, look, Each, is_standing, IsStandingVariable, slot_in}
 use Rattle.cp_resolved.proofs.Words.{components_among}
 use Rattle.cp_slots.specs.declared.place.PlaceOrigin.TheVariants as origin
-use Rattle.cp_layout.specs.declared.names.LayoutMeaning.TheVariants as meaning
+use Rattle.cp_symbols.specs.declared.names.LayoutMeaning.TheVariants as meaning
 use Rattle.cp_layout.specs.Layers as layers
 use Rattle.cp_meaning.specs.Values.{least}
 use Rattle.cp_meaning.specs.Scopes as scopes

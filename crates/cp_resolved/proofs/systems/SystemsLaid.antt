@@ -4,7 +4,7 @@ use Rattle.cp_resolved.proofs.Words.{none-some, same_Some, LayoutMeaning, Layer,
 use Rattle.cp_resolved.proofs.Words.{permanent_variable, routine_meaning, seen_inside, Variable, Block, parts_begun, system_begun, parameters_of, Numbering}
 use Rattle.cp_resolved.proofs.Words.{CellsAre, PartsAre, BoundIs, InStep, FoundIs}
 use Rattle.cp_tree.specs.Syntax as syntax
-use Rattle.cp_layout.specs.declared.names.LayoutMeaning.TheVariants as meaning
+use Rattle.cp_symbols.specs.declared.names.LayoutMeaning.TheVariants as meaning
 use Rattle.cp_layout.specs.Layers as layers
 use Rattle.cp_layout.specs.LaidDeclarations.{type_named, constants, variables, heading_with, with_new_frame, with_heading, routines, initial_statement, system_of, system, definition, system_definition, system_definitions, program_part, program_parts, program}
 use Rattle.cp_meaning.specs.Scopes as scopes

@@ -7,7 +7,7 @@ use Rattle.cp_resolved.proofs.Words.{system_of, all_begun, nothing_declared, Num
 use Rattle.cp_resolved.proofs.Words.{meaning_at, numbering_of, Each, IsParameter}
 use Rattle.cp_tree.specs.Syntax as syntax
 use Rattle.cp_slots.specs.declared.place.PlaceOrigin.TheVariants as origin
-use Rattle.cp_layout.specs.declared.names.LayoutMeaning.TheVariants as meaning
+use Rattle.cp_symbols.specs.declared.names.LayoutMeaning.TheVariants as meaning
 use Rattle.cp_layout.specs.Layers as layers
 use Rattle.cp_meaning.specs.Types as named
 use Rattle.cp_resolved.specs.Framed.{AreDifferent, AreDeclared, system_variables, SystemsLaw}

@@ -7,10 +7,11 @@ use Rattle.cp_resolved.proofs.Words.{routine_of_type, routine_begun, all_begun, 
 use Rattle.cp_resolved.proofs.Words.{numbering_of, OwnAll}
 use Rattle.cp_tree.specs.Syntax as syntax
 use Rattle.cp_slots.specs.declared.place.PlaceOrigin.TheVariants as origin
-use Rattle.cp_layout.specs.declared.kinds.CellBase.TheVariants as base
-use Rattle.cp_layout.specs.declared.names.LayoutMeaning.TheVariants as meaning
+use Rattle.cp_symbols.specs.declared.kinds.CellBase.TheVariants as base
+use Rattle.cp_symbols.specs.declared.names.LayoutMeaning.TheVariants as meaning
 use Rattle.cp_slots.specs.Code as code
-use Rattle.cp_layout.specs.Kinds.{most, values_of, least, copies, compound_below}
+use Rattle.cp_symbols.specs.Kinds.{most, values_of}
+use Rattle.cp_layout.specs.Kinds.{least, copies, compound_below}
 use Rattle.cp_layout.specs.Layers as layers
 use Rattle.cp_layout.specs.LaidExpressions.{expression, sum, more_terms, term, more_factors, factor, elements, first_value, arguments_from, designator, selectors, selector}
 use Rattle.cp_layout.specs.LaidDeclarations.{variables, variables_of, local_parts, heading, parameter_groups, var_parameters_of, constant_groups, constant_parameters_of, routine, program_parts}

@@ -1,6 +1,6 @@
 use Rattle.std.proofs.Common.{◌≡◌, map, take}
 use Rattle.cp_layout.specs.Kinds.{field_seen}
-use Rattle.cp_layout.specs.Symbols.{field_symbol_seen}
+use Rattle.cp_symbols.specs.Symbols.{field_symbol_seen}
 use Rattle.cp_layout.proofs.kinds.field_symbols.Given as goal
 
 -- those that are gathered

@@ -1,6 +1,6 @@
 use Rattle.std.proofs.Common.{◌≡◌, map, take}
 use Rattle.cp_layout.specs.Layers.{noted_seen}
-use Rattle.cp_layout.specs.Symbols.{symbol_seen}
+use Rattle.cp_symbols.specs.Symbols.{symbol_seen}
 use Rattle.cp_layout.proofs.symbols.symbols_of.Given as goal
 
 -- those that are gathered

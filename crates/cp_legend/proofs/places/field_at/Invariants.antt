@@ -1,6 +1,6 @@
 use Rattle.std.proofs.Common.{◌≡◌, drop, map}
 use Rattle.std.specs.Prelude.{option_map}
-use Rattle.cp_layout.specs.Symbols.{field_symbol_seen}
+use Rattle.cp_symbols.specs.Symbols.{field_symbol_seen}
 use Rattle.cp_legend.specs.Places.{field_at, field_from}
 use Rattle.cp_legend.proofs.places.field_at.Given as goal
 

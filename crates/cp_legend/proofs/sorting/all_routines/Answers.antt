@@ -1,6 +1,6 @@
 use Rattle.std.proofs.Common.{◌+◌, ◌++◌, ◌∷◌, [], List, drop, map, ap, sym, ◌∙◌}
 use Rattle.std.proofs.lemmas.List.{map-append}
-use Rattle.cp_layout.specs.Symbols.{routine_seen}
+use Rattle.cp_symbols.specs.Symbols.{routine_seen}
 use Rattle.cp_legend.specs.Names.{RoutineNames, routine_names_seen, routines_from, source_seen}
 use Rattle.cp_legend.proofs.Naming.{routines_step}
 use Rattle.cp_legend.proofs.sorting.all_routines.Goals as goal

@@ -1,5 +1,5 @@
 use Rattle.std.proofs.Common.{◌≡◌, ◌++◌, drop, map}
-use Rattle.cp_layout.specs.Symbols.{routine_seen}
+use Rattle.cp_symbols.specs.Symbols.{routine_seen}
 use Rattle.cp_legend.specs.Names.{routine_names_seen, routines_from, source_seen}
 use Rattle.cp_legend.proofs.sorting.all_routines.Given as goal
 

@@ -1,6 +1,6 @@
 use Rattle.std.proofs.Common.{◌≡◌, map, take}
 use Rattle.std.specs.Prelude.{flat_map}
-use Rattle.cp_layout.specs.Symbols.{symbol_seen}
+use Rattle.cp_symbols.specs.Symbols.{symbol_seen}
 use Rattle.cp_legend.specs.Names.{parameter_named}
 use Rattle.cp_legend.proofs.sorting.parameters_of.Given as goal
 

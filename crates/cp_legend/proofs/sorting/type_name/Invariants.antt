@@ -1,5 +1,5 @@
 use Rattle.std.proofs.Common.{◌≡◌, drop, map}
-use Rattle.cp_layout.specs.Symbols.{symbol_seen}
+use Rattle.cp_symbols.specs.Symbols.{symbol_seen}
 use Rattle.cp_legend.specs.Names.{type_name}
 use Rattle.cp_legend.proofs.sorting.type_name.Given as goal
 

@@ -1,6 +1,6 @@
 use Rattle.std.proofs.Common.{◌≡◌, map, take}
 use Rattle.cp_layout.specs.Kinds.{compound_seen}
-use Rattle.cp_layout.specs.Symbols.{type_symbol_seen}
+use Rattle.cp_symbols.specs.Symbols.{type_symbol_seen}
 use Rattle.cp_layout.proofs.kinds.Types.symbols.Given as goal
 
 -- those that are gathered

@@ -1,5 +1,5 @@
 use Rattle.std.proofs.Common.{◌≡◌, ◌∙◌, ℤ, ap, of_z, rules, to_z, w16}
-use Rattle.cp_layout.specs.declared.kinds.CellBase.{CellBase}
+use Rattle.cp_symbols.specs.declared.kinds.CellBase.{CellBase}
 use Rattle.cp_layout.specs.Layers.{names_seen}
 use Rattle.cp_layout.specs.LaidTypes.{constant_of}
 use Rattle.cp_layout.proofs.LaidLists.{labels_none, labels_step}

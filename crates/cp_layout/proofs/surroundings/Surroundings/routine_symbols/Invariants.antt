@@ -1,6 +1,7 @@
 use Rattle.std.proofs.Common.{◌≡◌, map, take}
 use Rattle.cp_layout.specs.Layers.{heading_seen}
-use Rattle.cp_layout.specs.Symbols.{routine_seen, routine_named}
+use Rattle.cp_symbols.specs.Symbols.{routine_seen}
+use Rattle.cp_layout.specs.Symbols.{routine_named}
 use Rattle.cp_layout.proofs.surroundings.Surroundings.routine_symbols.Given as goal
 
 -- those that are gathered

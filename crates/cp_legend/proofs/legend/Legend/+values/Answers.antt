@@ -1,7 +1,7 @@
 use Rattle.std.proofs.Common.{◌≡◌, ℕ, List, ◌++◌, ◌∷◌, [], map, ap, sym, ◌∙◌}
 use Rattle.std.proofs.lemmas.List.{map-append}
 use Rattle.std.specs.String.{string_bytes}
-use Rattle.cp_layout.specs.Kinds.{plus}
+use Rattle.cp_symbols.specs.Kinds.{plus}
 use Rattle.cp_legend.specs.Values.{Value, types_seen, value_seen, value_by, compound_below, elements_below}
 use Rattle.cp_legend.proofs.Gathering.{compound_none, elements_step}
 use Rattle.cp_legend.proofs.legend.Legend.+values.Goals as goal

@@ -1,6 +1,6 @@
 use Rattle.std.proofs.Common.{◌≡◌, ◌+◌, ◌*◌, map, take}
 use Rattle.std.specs.String.{string_bytes}
-use Rattle.cp_layout.specs.Symbols.{field_symbol_seen}
+use Rattle.cp_symbols.specs.Symbols.{field_symbol_seen}
 use Rattle.cp_legend.specs.Values.{types_seen, value_seen, member_seen, field_value, elements_below, compound_below}
 use Rattle.cp_legend.proofs.legend.Legend.+values.Given as goal
 
