@@ -17,11 +17,11 @@ pub fn findings<O: ObserveProgress>(
     observer: &mut O,
 ) -> Result<Findings, AllocError> {
     if subject.at_once {
-        return found_at_once(alloc, subject, false, observer);
+        return findings_at_once(alloc, subject, false, observer);
     }
-    let mut plain = found_by_states(alloc, subject, observer)?;
+    let mut plain = findings_by_states(alloc, subject, observer)?;
     if is_too_many(&plain) && is_first_in_line(subject) {
-        let second = found_at_once(alloc, subject, true, observer)?;
+        let second = findings_at_once(alloc, subject, true, observer)?;
         if let Reach::StatesAtOnce(_) = second.reach {
             return Ok(second);
         }
@@ -41,7 +41,7 @@ fn is_first_in_line(subject: EndsSubject<'_>) -> bool {
     }
 }
 
-fn found_by_states<O: ObserveProgress>(
+fn findings_by_states<O: ObserveProgress>(
     alloc: Global,
     subject: EndsSubject<'_>,
     observer: &mut O,
@@ -111,7 +111,7 @@ fn values_within(alloc: Global, found: &Found, most: usize) -> Result<Vec<ToldVa
 }
 
 // What is found with kernel calls at once.
-fn found_at_once<O: ObserveProgress>(
+fn findings_at_once<O: ObserveProgress>(
     alloc: Global,
     subject: EndsSubject<'_>,
     is_second: bool,

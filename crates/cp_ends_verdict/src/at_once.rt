@@ -7,10 +7,10 @@ ghost use Rattle.cp_ends_verdict.specs.declared.verdict.EndsMark.TheVariants.{Mi
 
 use crate::expectation::EndsExpectation;
 use crate::judging::is_whole;
-use crate::knowing_at_once::known_at_once;
+use crate::knowing_at_once::knowledge_at_once;
 use crate::known::KnownEnds;
 use crate::marking::{MarkSubject, ask_waits, is_any, mark_list};
-use crate::saying::{MarkedEnds, open_words, said_of_each};
+use crate::saying::{MarkedEnds, open_words, sayings_of};
 use crate::verdict::{EndsMark, EndsVerdict, mark_of, verdict_on};
 use cp_at_once::search_at_once_with;
 use cp_machine::Gates;
@@ -100,7 +100,7 @@ pub fn mark_at_once<O: ObserveProgress>(
         ..
     } = subject;
     let found = search_at_once_with(alloc, program, limits, most, observer)?;
-    let known = known_at_once(alloc, program, &found)?;
+    let known = knowledge_at_once(alloc, program, &found)?;
     let verdict = verdict_on(&known, list);
     tell(alloc, subject, &known, list, verdict)
 }
@@ -131,7 +131,7 @@ fn tell(
         Some(_) => "no schedule that was found settles it (try greater --states)",
         None => open_words(known),
     };
-    let each = said_of_each(
+    let each = sayings_of(
         alloc,
         subject.legend,
         known,

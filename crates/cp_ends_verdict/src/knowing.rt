@@ -18,7 +18,7 @@ use cp_walk::text::push_output;
 use std::alloc::{AllocError, Global};
 
 /// The ends and values that a search found, of the schedules that it looked at, and who may wait for ever.
-pub fn known_of(
+pub fn knowledge_of(
     alloc: Global,
     program: &Resolved,
     found: &Found,

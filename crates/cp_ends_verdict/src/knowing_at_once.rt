@@ -19,7 +19,7 @@ use cp_slots::Resolved;
 use std::alloc::{AllocError, Global};
 
 /// The ends and values that a search found, each with a word; where there were too many states, of schedules of no choice at least.
-pub fn known_at_once(
+pub fn knowledge_at_once(
     alloc: Global,
     program: &Resolved,
     found: &FoundAtOnce,

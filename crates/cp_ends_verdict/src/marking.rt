@@ -9,9 +9,9 @@ ghost use Rattle.cp_ends_verdict.specs.declared.verdict.EndsMark.TheVariants.{Mi
 
 use crate::expectation::{EndsExpectation, Topic};
 use crate::judging::is_whole;
-use crate::knowing::known_of;
+use crate::knowing::knowledge_of;
 use crate::known::KnownEnds;
-use crate::saying::{MarkedEnds, open_words, said_of_each};
+use crate::saying::{MarkedEnds, open_words, sayings_of};
 use crate::verdict::{EndsMark, EndsVerdict, mark_of, verdict_on};
 use cp_ends::{Found, search_ends_with};
 use cp_legend::Legend;
@@ -109,7 +109,7 @@ fn knowledge<O: ObserveProgress>(
     } = subject;
     let found = search_ends_with(alloc, program, limits, most, observer)?;
     let waits = waits_of(alloc, program, limits, &found, asks, observer)?;
-    known_of(alloc, program, &found, waits)
+    knowledge_of(alloc, program, &found, waits)
 }
 
 // Who may wait for ever, where that is asked, all states are found, and it is settled.
@@ -160,7 +160,7 @@ fn tell(
         let most = subject.most;
         write!(note, "too many states: there may be {most}\n")?;
     }
-    let each = said_of_each(
+    let each = sayings_of(
         alloc,
         subject.legend,
         known,

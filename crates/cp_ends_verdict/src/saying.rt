@@ -100,7 +100,7 @@ impl MarkedEnds {
 }
 
 /// What is said of each expectation; before a schedule, and where it is not settled, these words.
-pub fn said_of_each(
+pub fn sayings_of(
     alloc: Global,
     legend: &Legend,
     known: &KnownEnds,
@@ -110,12 +110,12 @@ pub fn said_of_each(
 ) -> Result<Vec<Said>, AllocError> {
     let mut each = Vec::new(alloc);
     for expectation in list {
-        each.push(said_of(alloc, legend, known, expectation, before, open)?)?;
+        each.push(saying_of(alloc, legend, known, expectation, before, open)?)?;
     }
     Ok(each)
 }
 
-fn said_of(
+fn saying_of(
     alloc: Global,
     legend: &Legend,
     known: &KnownEnds,

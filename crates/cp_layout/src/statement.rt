@@ -48,7 +48,7 @@ fn callee_of(named: Designated) -> CalledRoutine
 }
 
 // A component with its system type.
-fn placed_of(named: Designated) -> Option<(ComponentPlace, usize)>
+fn component_place_of(named: Designated) -> Option<(ComponentPlace, usize)>
     ensures { option_map placed_seen result ≡ spec.placed_of (designated_seen named) }
 {
     match named {
@@ -476,7 +476,7 @@ impl<'a> Layouter<'a> {
     {
         let at = node.target.name.at;
         let named = self.designator(alloc, &node.target)?;
-        match placed_of(named) {
+        match component_place_of(named) {
             Some((component, system)) => {
                 let routine = self.around.initial(system);
                 self.begin_component(alloc, at, component, routine, &node.arguments)

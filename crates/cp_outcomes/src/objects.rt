@@ -4,7 +4,7 @@ ghost use Rattle.std.specs.Prelude.{◌<◌, ◌^◌};
 
 use crate::share::share_of;
 use crate::simples::Simples;
-use crate::stopped::{LIMITS, is_stopped, schedules_in, stopped_at};
+use crate::stopped::{LIMITS, is_stopped, schedules_in, schedules_stopped_at};
 use crate::subject::{Excess, Subject};
 use crate::told::{line_of, waits_of};
 use cp_machine::Ticks;
@@ -158,7 +158,7 @@ fn put_end<L: Ledger>(
 fn stops(alloc: Global, tallies: &Tallies) -> Result<Vec<Value>, AllocError> {
     let mut items = Vec::new(alloc);
     for limit in LIMITS {
-        let count = stopped_at(limit, tallies.as_slice());
+        let count = schedules_stopped_at(limit, tallies.as_slice());
         if !count.is_zero() {
             let mut object = Object::new(alloc);
             object.text("kind", limit.name())?;

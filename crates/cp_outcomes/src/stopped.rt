@@ -72,7 +72,7 @@ pub fn schedules_in(tallies: &[Tally]) -> Natural
 }
 
 /// How many schedules ended at a limit.
-pub fn stopped_at(limit: Limit, tallies: &[Tally]) -> Natural
+pub fn schedules_stopped_at(limit: Limit, tallies: &[Tally]) -> Natural
     requires { rows_in (map tally_of tallies.now) < 10 ^ 126 }
     ensures rows { result ≡ rows_at limit (map tally_of tallies.now) }
     ensures table { (lines : List Line) → map tally_of tallies.now ≡ tally same_outcome lines → result ≡ count_by (λ l. is_at limit l.outcome.kind) lines }

@@ -115,7 +115,7 @@ pub fn first_of_outcome<O: ObserveProgress>(
     number: usize,
     observer: &mut O,
 ) -> Result<First, AllocError> {
-    match found_by_states(alloc, job, states, observer)? {
+    match findings_by_states(alloc, job, states, observer)? {
         Finding::Whole(tallies) | Finding::TooMany(_, Some(Known { tallies, .. })) => {
             Ok(first_among(tallies.as_slice(), number))
         }
@@ -157,7 +157,7 @@ pub fn simplest_of_outcome<O: ObserveProgress>(
     number: usize,
     observer: &mut O,
 ) -> Result<First, AllocError> {
-    match found_by_states(alloc, job, states, observer)? {
+    match findings_by_states(alloc, job, states, observer)? {
         Finding::Whole(tallies) => simplest_among::<O, Brand>(
             alloc,
             job,
@@ -236,10 +236,10 @@ fn find_outcomes<O: ObserveProgress>(
         program: subject.program,
         limits: subject.limits,
     };
-    found_by_states(alloc, job, subject.states, observer)
+    findings_by_states(alloc, job, subject.states, observer)
 }
 
-fn found_by_states<O: ObserveProgress>(
+fn findings_by_states<O: ObserveProgress>(
     alloc: Global,
     job: Job,
     most: u32,
@@ -250,17 +250,17 @@ fn found_by_states<O: ObserveProgress>(
     match explore_merged_with(alloc, job, most as usize, observer) {
         Ok(tallies) => Ok(Finding::Whole(tallies)),
         Err(MergeFault::TooManyStates) => {
-            found_too_many(alloc, job, most, Excess::States(most), observer)
+            findings_of_too_many(alloc, job, most, Excess::States(most), observer)
         }
         Err(MergeFault::TooManyOutcomes) => {
-            found_too_many(alloc, job, most, Excess::Outcomes, observer)
+            findings_of_too_many(alloc, job, most, Excess::Outcomes, observer)
         }
         Err(MergeFault::Memory) => Err(AllocError),
     }
 }
 
 // What there is too much of, and what is known then.
-fn found_too_many<O: ObserveProgress>(
+fn findings_of_too_many<O: ObserveProgress>(
     alloc: Global,
     job: Job,
     most: u32,

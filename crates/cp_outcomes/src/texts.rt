@@ -15,7 +15,7 @@ ghost use Rattle.cp_outcomes.specs.Written.{IsTextOf};
 use crate::pieces::{push_blanks, push_counted, push_right, push_schedules};
 use crate::share::share_of;
 use crate::simples::Simples;
-use crate::stopped::{Limit, schedules_in, stopped_at};
+use crate::stopped::{Limit, schedules_in, schedules_stopped_at};
 use crate::subject::{Excess, Subject};
 use crate::told::{ToldOutcome, tell_outcomes};
 use cp_machine::Ticks;
@@ -265,7 +265,7 @@ fn push_stop(
     ensures begun { IfOk result (λ now. now ≡ (begun || not (rows_at limit (map tally_of tallies.now) == 0))) }
     ensures text { IfOk result (λ _. string_bytes text.new ≡ string_bytes text.old ++ spec.begun_text begun (rows_at limit (map tally_of tallies.now)) (spec.stop_text limits.choices limits.steps (rows_at limit (map tally_of tallies.now)) limit)) }
 {
-    let count = stopped_at(limit, tallies);
+    let count = schedules_stopped_at(limit, tallies);
     if count.is_zero() {
         return Ok(begun);
     }

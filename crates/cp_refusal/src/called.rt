@@ -1,7 +1,7 @@
 //! What is called or used by a name, alone or as a routine of a component.
 
 use crate::components::{component_type, system_named, type_in_program};
-use crate::declared::{Declared, Looked, declared_as, declared_at, enclosing};
+use crate::declared::{Declared, Looked, kind_declared, find_meaning, enclosing};
 use crate::extent::Extent;
 use crate::rules::{mark_at, name_at};
 use crate::waits::after_index;
@@ -50,14 +50,14 @@ fn routine_at(program: &Program, looked: Looked, routine: &str) -> Option<Declar
     let system = system_named(program, owner)?;
     for one in &system.routines {
         if one.name.name.as_str() == routine {
-            return Some(declared_as(one));
+            return Some(kind_declared(one));
         }
     }
     None
 }
 
 /// What the name at a token stands for, or the routine of the component that it names.
-pub fn called_at(program: &Program, tokens: &Tokens, at: usize) -> Option<Called> {
+pub fn find_called(program: &Program, tokens: &Tokens, at: usize) -> Option<Called> {
     let looked = Looked {
         name: name_at(tokens, at),
         at,
@@ -75,7 +75,7 @@ pub fn called_at(program: &Program, tokens: &Tokens, at: usize) -> Option<Called
     if period != at.saturating_add(1) {
         return None;
     }
-    let what = declared_at(program, looked).or(find_predeclared(looked.name))?;
+    let what = find_meaning(program, looked).or(find_predeclared(looked.name))?;
     Some(Called {
         what,
         tokens: Extent {
@@ -88,5 +88,5 @@ pub fn called_at(program: &Program, tokens: &Tokens, at: usize) -> Option<Called
 /// Whether the name at a token is that of the language's own routine.
 pub fn is_standard(program: &Program, tokens: &Tokens, at: usize, routine: &str) -> bool {
     let name = name_at(tokens, at);
-    name == routine && declared_at(program, Looked { name, at }).is_none()
+    name == routine && find_meaning(program, Looked { name, at }).is_none()
 }

@@ -1,6 +1,6 @@
 //! Why a target can't be assigned.
 
-use crate::declared::{Declared, Looked, declared_at};
+use crate::declared::{Declared, Looked, find_meaning};
 use crate::extent::{Extent, after_designator, expression_at};
 use crate::page::push_tokens;
 use crate::rules::{mark_at, mark_before, name_at};
@@ -60,7 +60,7 @@ pub fn push_unchangeable(asker: &Asker, text: &mut Prose, program: &Program, at:
     if name.is_empty() {
         return false;
     }
-    let declared = declared_at(program, Looked { name, at });
+    let declared = find_meaning(program, Looked { name, at });
     let sort = asker.sort_of(text, target);
     push_tokens(text, asker.source, target);
     text.put(reason(declared, sort));

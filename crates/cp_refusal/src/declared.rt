@@ -138,7 +138,7 @@ fn in_parameters(looked: Looked, groups: &[ParameterGroup]) -> Option<Declaratio
 }
 
 /// What a routine is.
-pub fn declared_as(routine: &Routine) -> Declared {
+pub fn kind_declared(routine: &Routine) -> Declared {
     match routine.kind {
         RoutineKind::Procedure(_) => Declared::Procedure,
         RoutineKind::Function(_, _) => Declared::Function,
@@ -152,7 +152,7 @@ fn in_routines(routines: &[Routine], looked: Looked, end: usize) -> Option<Decla
     for routine in routines {
         if is_this(looked, &routine.name) {
             named = Some(Declaration {
-                what: declared_as(routine),
+                what: kind_declared(routine),
                 at: routine.name.at,
             });
         }
@@ -232,7 +232,7 @@ pub fn find_declared(program: &Program, looked: Looked) -> Option<Declaration> {
 }
 
 /// What a name stands for at a place; none where it is not declared, or is a constant of an enumeration.
-pub fn declared_at(program: &Program, looked: Looked) -> Option<Declared> {
+pub fn find_meaning(program: &Program, looked: Looked) -> Option<Declared> {
     Some(find_declared(program, looked)?.what)
 }
 

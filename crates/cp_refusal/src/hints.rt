@@ -150,7 +150,7 @@ impl<'a> Gathering<'a> {
         match remarks(self.alloc, self.tokens, self.program) {
             Ok(all) => {
                 for remark in &all {
-                    self.add_words(remark.at, said_of(remark.care));
+                    self.add_words(remark.at, sentence_of(remark.care));
                 }
             }
             Err(_) => self.is_refused = true,
@@ -210,7 +210,7 @@ fn sentence_on(alloc: Global, source: &[u8], inner: Inner) -> Result<String, All
     sentence.finish()
 }
 
-fn said_of(care: Care) -> &'static str {
+fn sentence_of(care: Care) -> &'static str {
     match care {
         Care::NotStarted => "this process is never started: without init it does nothing",
         Care::NotInitialised => {

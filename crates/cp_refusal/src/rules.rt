@@ -1,6 +1,6 @@
 //! What is wrong where a rule is broken.
 
-use crate::called::called_at;
+use crate::called::find_called;
 use crate::changes::push_unchangeable;
 use crate::counts::push_counts;
 use crate::declared::{Declared, is_declared_somewhere};
@@ -56,7 +56,7 @@ struct MarkSentence {
 }
 
 /// What is said of the word or sign at this number; empty where nothing is.
-fn said_at(tokens: &Tokens, at: usize, sentences: &'static [MarkSentence]) -> &'static str {
+fn sentence_at(tokens: &Tokens, at: usize, sentences: &'static [MarkSentence]) -> &'static str {
     for sentence in sentences {
         if is_mark_of(tokens, at, sentence.marks) {
             return sentence.said;
@@ -111,7 +111,7 @@ const QUEUE_ROUTINES: [&str; 3] = ["delay", "continue", "empty"];
 /// What does not agree in a construct that begins with a name, a number or a character.
 fn disagreement_after(tokens: &Tokens, at: usize) -> &'static str {
     let after = after_designator(tokens, at);
-    let said = said_at(tokens, after, &DISAGREEMENTS_AFTER);
+    let said = sentence_at(tokens, after, &DISAGREEMENTS_AFTER);
     if !said.is_empty() {
         return said;
     }
@@ -165,7 +165,7 @@ static DISAGREEMENTS: [MarkSentence; 9] = [
 ];
 
 fn disagreement(tokens: &Tokens, at: usize) -> &'static str {
-    let said = said_at(tokens, at, &DISAGREEMENTS);
+    let said = sentence_at(tokens, at, &DISAGREEMENTS);
     if said.is_empty() {
         disagreement_after(tokens, at)
     } else {
@@ -385,7 +385,7 @@ fn push_misused(asker: &Asker, text: &mut Prose, broken: Broken) -> bool {
     if name_at(tokens, broken.at).is_empty() {
         return false;
     }
-    let Some(called) = called_at(broken.program, tokens, broken.at) else {
+    let Some(called) = find_called(broken.program, tokens, broken.at) else {
         return false;
     };
     let has_arguments = mark_at(tokens, called.tokens.to) == Some(Mark::OpenParenthesis);

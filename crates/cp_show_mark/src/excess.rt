@@ -22,7 +22,7 @@ pub fn excess_text(
 ) -> Result<String, AllocError> {
     if examinee.as_json {
         return match known {
-            Some(known) => known_as_json(alloc, examinee, excess, known),
+            Some(known) => knowledge_as_json(alloc, examinee, excess, known),
             None => object_line(alloc, excess_object(alloc, examinee, excess)?),
         };
     }
@@ -72,7 +72,7 @@ fn put_excess(
     }
 }
 
-fn known_as_json(
+fn knowledge_as_json(
     alloc: Global,
     examinee: Examinee<'_>,
     excess: MarkExcess,

@@ -27,7 +27,7 @@ pub fn misread_json(alloc: Global, said: &str) -> Result<String, AllocError> {
 }
 
 /// What a table says of the expectations.
-pub fn told_as_json(
+pub fn marks_as_json(
     alloc: Global,
     examinee: Examinee<'_>,
     reading: &Reading,

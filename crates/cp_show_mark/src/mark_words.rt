@@ -1,7 +1,7 @@
 //! What is said of expectations, in words.
 
 use crate::examinee::Examinee;
-use crate::mark_objects::{misread_json, told_as_json};
+use crate::mark_objects::{misread_json, marks_as_json};
 use crate::mark_texts::{
     doubt_text, doubtful, expectation_text, push_schedule, stops_text, verdict_words,
 };
@@ -29,13 +29,13 @@ pub fn mark_text(
     marked: &Marked,
 ) -> Result<String, AllocError> {
     if examinee.as_json {
-        told_as_json(alloc, examinee, reading, marked)
+        marks_as_json(alloc, examinee, reading, marked)
     } else {
-        told_as_text(alloc, examinee, reading, marked)
+        marks_as_text(alloc, examinee, reading, marked)
     }
 }
 
-fn told_as_text(
+fn marks_as_text(
     alloc: Global,
     examinee: Examinee<'_>,
     reading: &Reading,
@@ -118,7 +118,7 @@ fn some_hold(judgements: &[Judgement]) -> bool {
 
 fn some_may_go_on(judgements: &[Judgement]) -> bool {
     for judgement in judgements {
-        if ended_for_choices(judgement) {
+        if is_end_for_choices(judgement) {
             return true;
         }
     }
@@ -126,7 +126,7 @@ fn some_may_go_on(judgements: &[Judgement]) -> bool {
 }
 
 // Whether a schedule shows it that ended for want of choices: of a greater number nothing is proved then.
-fn ended_for_choices(judgement: &Judgement) -> bool {
+fn is_end_for_choices(judgement: &Judgement) -> bool {
     match judgement {
         Judgement::Shown(row) => row.outcome.kind == OutcomeKind::ChoiceLimit,
         _ => false,

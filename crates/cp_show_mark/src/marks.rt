@@ -317,7 +317,7 @@ fn known_text(
     excess: MarkExcess,
     known: &Known,
 ) -> Result<String, AllocError> {
-    let said = said_of_known(alloc, examinee, reading, known)?;
+    let said = saying_of_known(alloc, examinee, reading, known)?;
     excess_text(
         alloc,
         examinee,
@@ -326,7 +326,7 @@ fn known_text(
     )
 }
 
-fn said_of_known(
+fn saying_of_known(
     alloc: Global,
     examinee: Examinee<'_>,
     reading: &Reading,

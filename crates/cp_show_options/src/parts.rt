@@ -139,7 +139,7 @@ fn mark_part(alloc: Global, matches: &ArgMatches<'_>) -> Result<ShowPart, Option
     let words = words_given(alloc, matches)?;
     let own = matches.get_flag("own");
     let is_alone = !own && !words.is_empty() && !matches.get_flag("ends");
-    let reading = expected_by(alloc, words.as_str(), is_alone)?;
+    let reading = expectations_by(alloc, words.as_str(), is_alone)?;
     Ok(ShowPart::Mark {
         words,
         reading,
@@ -149,7 +149,7 @@ fn mark_part(alloc: Global, matches: &ArgMatches<'_>) -> Result<ShowPart, Option
 }
 
 // What words expect, if they stand alone and can be read.
-fn expected_by(alloc: Global, words: &str, is_alone: bool) -> Result<Option<Reading>, AllocError> {
+fn expectations_by(alloc: Global, words: &str, is_alone: bool) -> Result<Option<Reading>, AllocError> {
     if !is_alone {
         return Ok(None);
     }

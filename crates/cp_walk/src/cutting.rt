@@ -10,7 +10,7 @@ ghost use Rattle.cp_walk.specs.Members.{CutsTable, words_of};
 use crate::children::with_children;
 use crate::fault::SplitFault;
 use crate::job::Job;
-use crate::wanting::wanted_after;
+use crate::wanting::numbers_wanted_after;
 use arrayvec::ArrayVec;
 use cp_progress::{ObserveProgress, WalkProgress};
 use std::alloc::{AllocError, Global};
@@ -54,7 +54,7 @@ impl<'a> Cutting<'a> {
         ensures unchanged { IfErr result (λ e. self.new.words.items ≡ self.old.words.items) }
         ensures fault { IfErr result (λ e. IsSplitFault e → split_of (slots self.old.job.program.now self.old.job.limits.gates) self.old.job.limits.choices self.old.job.limits.steps (words_of self.old.words.items) i ≡ Err e) }
     {
-        let ready = match wanted_after(alloc, self.job, self.words[i].as_slice()) {
+        let ready = match numbers_wanted_after(alloc, self.job, self.words[i].as_slice()) {
             Ok(Some(ready)) => ready,
             Ok(None) => return Err(SplitFault::Leaf),
             Err(_) => return Err(SplitFault::Memory),

@@ -15,7 +15,7 @@ use std::marker::Brand;
 use std::sync::ledger::{Blank, Ledger};
 
 /// The numbers that a word's run wants, or None where it ends.
-pub fn wanted_after(
+pub fn numbers_wanted_after(
     alloc: Global,
     job: Job,
     word: &[u8],
@@ -23,10 +23,10 @@ pub fn wanted_after(
     requires { length word.now ≤ 20 }
     ensures { IfOk result (λ o. option_map (λ r. r.items) o ≡ wanted_in (run (slots job.entry.program.now job.entry.limits.gates) job.entry.limits.choices job.entry.limits.steps word.now)) }
 {
-    wanted_counted::<Brand>(alloc, job.program, job.limits, word, Blank::new(1))
+    numbers_wanted_by::<Brand>(alloc, job.program, job.limits, word, Blank::new(1))
 }
 
-fn wanted_counted<S: Ledger>(
+fn numbers_wanted_by<S: Ledger>(
     alloc: Global,
     program: &Resolved,
     limits: Limits,

@@ -11,4 +11,4 @@ returns g c = λ some.
     let most = c.args.subject.most in
     let few : most < 2 ^ 32 = search rules in
     let answer = c.in_ok-found.ensures.answer some in
-    ok_to c.known_of.result _ (λ k. IsKnown r gates steps most k) c.known_of.ensures.known (λ k known. known gates steps most answer (c.in_ok-waits.ensures most few answer))
+    ok_to c.knowledge_of.result _ (λ k. IsKnown r gates steps most k) c.knowledge_of.ensures.known (λ k known. known gates steps most answer (c.in_ok-waits.ensures most few answer))

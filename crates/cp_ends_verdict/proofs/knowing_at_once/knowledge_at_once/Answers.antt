@@ -1,5 +1,5 @@
 use Rattle.cp_ends_verdict.proofs.KnownAtOnce.{all_known}
-use Rattle.cp_ends_verdict.proofs.knowing_at_once.known_at_once.Goals as goal
+use Rattle.cp_ends_verdict.proofs.knowing_at_once.knowledge_at_once.Goals as goal
 
 pub returns : goal.returns
 returns c = λ steps most a.

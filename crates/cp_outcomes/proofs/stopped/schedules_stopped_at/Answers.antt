@@ -7,7 +7,7 @@ use Rattle.cp_merged.specs.declared.tally.Tally.{Tally}
 use Rattle.cp_outcomes.specs.Stops.{count_at}
 use Rattle.cp_outcomes.proofs.Rows.{rows_of_table}
 use Rattle.cp_outcomes.proofs.Sums.{counts_of, rows_at_of, counts_at-le}
-use Rattle.cp_outcomes.proofs.stopped.stopped_at.Goals as goal
+use Rattle.cp_outcomes.proofs.stopped.schedules_stopped_at.Goals as goal
 
 pub plus-sum-requires : goal.plus-sum-requires
 plus-sum-requires c =
