@@ -8,7 +8,7 @@ use Rattle.cp_slots.specs.Tables.{Tables}
 use Rattle.cp_machine.specs.declared.state.State.{State}
 use Rattle.cp_machine.specs.Fits.{IsStateOf, LinesFit}
 use Rattle.cp_machine.specs.Machine.{Machine, machine_of, monitor_at, monitor_of, no_thread, thread_of}
-use Rattle.cp_machine.proofs.KernelLines.{gate_within}
+use Rattle.cp_machine.proofs.lines.KernelLines.{gate_within}
 use Rattle.cp_machine.proofs.CopyLemmas.{thread_within}
 use Rattle.cp_key.specs.Room.{HasMachineRoom, HasThreadRoom, IsMachineOf}
 

@@ -4,7 +4,7 @@ use Rattle.cp_machine.proofs.Words.{range_with_len, Tables, Gates, State, Status
 use Rattle.std.proofs.lemmas.List.{length-map, get_or-set_same}
 use Rattle.cp_machine.specs.Machine.{thread_of, Thread, thread_at, no_thread, is_at_gate, is_ready_status, in_line_of, is_some}
 use Rattle.cp_machine.specs.System.{Machine, machine_of, opening, is_ready, in_line, waiting_of, is_pending, admitted, IsStateOf}
-use Rattle.cp_machine.proofs.KernelLines.{pending_at_gate}
+use Rattle.cp_machine.proofs.lines.KernelLines.{pending_at_gate}
 pub use Rattle.cp_machine.proofs.LocalReady.{local_ready}
 
 -- a state has the program's processes

@@ -6,10 +6,10 @@ use Rattle.cp_machine.specs.declared.event.Event.TheVariants.{Local, Kernel, End
 use Rattle.cp_machine.specs.Fits.{IsReserved, IsStateOf, LinesFit, MachineFits}
 use Rattle.cp_machine.specs.Statements.{Stepped, with_value, outcome, local, assign, branch, while_do, until, next_value, succeeded}
 use Rattle.cp_machine.specs.Step.{is_local, step_at}
-use Rattle.cp_machine.proofs.KeepingAct.{step_fits}
+use Rattle.cp_machine.proofs.rooms.KeepingAct.{step_fits}
 use Rattle.cp_machine.proofs.LocalReady.{local_ready}
-use Rattle.cp_machine.proofs.ReachingKept.{step_reaches}
-use Rattle.cp_machine.proofs.StepLines.{step_lines}
+use Rattle.cp_machine.proofs.frames.ReachingKept.{step_reaches}
+use Rattle.cp_machine.proofs.lines.StepLines.{step_lines}
 
 -- a step that is not local leaves the machine as it was, and none changes what is pending
 abbrev pub Calm : Machine → Stepped → Type 0

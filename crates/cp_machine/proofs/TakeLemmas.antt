@@ -3,9 +3,9 @@ use Rattle.std.proofs.Common.{◌≡◌, ◌∙◌, ℕ, ◌<◌, List, ◌∷�
 use Rattle.cp_machine.proofs.Words.{ℤ, length-map, Tables, item_at, InnerFits, CallFits, ActionFits, Action, Item, Argument, Entry, Rest, Successor, State}
 use Rattle.cp_machine.proofs.Words.{is_ready, machine_of, monitor_of, thread_of}
 use Rattle.cp_machine.specs.Fits.{EntryFits, ThreadFits, IsStateOf, IsBusy, HasRoom, HasCallRoom, HaveGateRoom}
-use Rattle.cp_machine.proofs.KeepingAct.{action_fits}
-use Rattle.cp_machine.proofs.KernelLines.{line_short}
-use Rattle.cp_machine.proofs.RoomLemmas.{thread, within, is_busy, rest_stands, successor_stands, has_room, call_room}
+use Rattle.cp_machine.proofs.rooms.KeepingAct.{action_fits}
+use Rattle.cp_machine.proofs.lines.KernelLines.{line_short}
+use Rattle.cp_machine.proofs.rooms.RoomLemmas.{thread, within, is_busy, rest_stands, successor_stands, has_room, call_room}
 
 module _ (r : Tables) (s : State) (pid at : ℕ) (e : Entry) (es : List Entry) (item : Item) (lt : pid < length s.processes.items) (own : IsStateOf r s) (top : (thread s pid).stack ≡ e ∷ es) (stands : EntryFits r (thread s pid).frame at (length es)) (same : item ≡ item_at r at) where
   pub taken : (a : Action) → item.action ≡ a → ActionFits r (thread s pid).frame.routine (item_at r at).need a

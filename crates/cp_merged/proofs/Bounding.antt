@@ -10,11 +10,11 @@ use Rattle.cp_machine.specs.declared.event.Event.TheVariants.{Local, Kernel, End
 use Rattle.cp_machine.specs.declared.gates.Gates.{Gates}
 use Rattle.cp_machine.specs.declared.state.State.{State}
 use Rattle.cp_machine.proofs.CallerLemmas.{admitted_free, local_ready, ready_thread}
-use Rattle.cp_machine.proofs.KeepingAct.{step_fits}
-use Rattle.cp_machine.proofs.KernelFits.{admitted_fits}
-use Rattle.cp_machine.proofs.KernelLines.{admitted_lines}
-use Rattle.cp_machine.proofs.ReachingKept.{admitted_reaches, step_reaches}
-use Rattle.cp_machine.proofs.StepLines.{step_lines}
+use Rattle.cp_machine.proofs.rooms.KeepingAct.{step_fits}
+use Rattle.cp_machine.proofs.rooms.KernelFits.{admitted_fits}
+use Rattle.cp_machine.proofs.lines.KernelLines.{admitted_lines}
+use Rattle.cp_machine.proofs.frames.ReachingKept.{admitted_reaches, step_reaches}
+use Rattle.cp_machine.proofs.lines.StepLines.{step_lines}
 use Rattle.cp_machine.proofs.Unmoved.{step_others}
 use Rattle.cp_run.specs.Code.{node_of}
 use Rattle.cp_run.specs.Run.{Node, Halted, Choosing, chosen, may, node_at, settled_turn, stretch, those_below, turn_after, turn_among}

@@ -3,7 +3,7 @@ use Rattle.cp_refine.proofs.Words.{◌≡◌, Some, ◌∙◌, ℕ, ◌+◌, ◌
 use Rattle.cp_refine.proofs.Words.{thread_at, Name, current, State, view_of, Ty, Layouts, here, look, Ground, NamesKnown, ground_of, Prepared, HasBegun}
 use Rattle.cp_refine.proofs.Words.{CallsHold, own_memory}
 use Rattle.cp_machine.specs.Reach.{Reaches, FrameReaches}
-use Rattle.cp_machine.proofs.Covered.{frame_reaches}
+use Rattle.cp_machine.proofs.frames.Covered.{frame_reaches}
 use Rattle.cp_meaning.specs.State as named
 use Rattle.cp_refine.proofs.calls.CallSteps.{call_component}
 use Rattle.cp_refine.proofs.expressions.ComponentPlaces.{ComponentsKnown}

@@ -19,7 +19,7 @@ use Rattle.cp_refine.proofs.control.Moving.{set_here, set_there}
 use Rattle.cp_refine.proofs.queues.Resumed as resumed
 use Rattle.cp_refine.proofs.calls.Returning.{Returns, MayLeave, call, calls_were, process_back, thread_back, left_free, outside, let_in_freed, first_waits_kept}
 use Rattle.cp_refine.proofs.assignments.Writing.{ComponentsApart}
-use Rattle.cp_machine.proofs.Keeping.{end_fits as fits_end}
+use Rattle.cp_machine.proofs.rooms.Keeping.{end_fits as fits_end}
 
 -- ---- the end of the entry
 

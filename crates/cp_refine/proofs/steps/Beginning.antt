@@ -8,9 +8,9 @@ use Rattle.cp_slots.specs.declared.tables.ComponentKind.TheVariants as kind
 use Rattle.cp_slots.specs.Fits.{KindFits}
 use Rattle.cp_machine.specs.declared.process.Status.TheVariants as status
 use Rattle.cp_machine.specs.Opening as machine
-use Rattle.cp_machine.proofs.OpeningFits.{still_fits, restatused}
-use Rattle.cp_machine.proofs.OpeningLines.{opening_lines}
-use Rattle.cp_machine.proofs.ReachingKept.{opening_reaches}
+use Rattle.cp_machine.proofs.rooms.OpeningFits.{still_fits, restatused}
+use Rattle.cp_machine.proofs.lines.OpeningLines.{opening_lines}
+use Rattle.cp_machine.proofs.frames.ReachingKept.{opening_reaches}
 use Rattle.cp_meaning.specs.Readings as readings
 use Rattle.cp_meaning.specs.Readings.{monitors_of, monitors_from}
 use Rattle.cp_meaning.specs.State as named

@@ -4,7 +4,7 @@ use Rattle.cp_refine.proofs.Words.{Layouts, SystemIs, is_free, ground_of, Prepar
 use Rattle.cp_slots.specs.Fits.{RoutineFits}
 use Rattle.cp_slots.specs.Systems.{AreWords}
 use Rattle.cp_machine.specs.Fits.{FrameFits, StackFits, ThreadFits, MachineFits, size_of}
-use Rattle.cp_machine.proofs.Keeping.{frame_fits}
+use Rattle.cp_machine.proofs.rooms.Keeping.{frame_fits}
 use Rattle.cp_refine.proofs.assignments.Apart.{frame_apart, frames_apart, components_apart}
 use Rattle.cp_refine.proofs.assignments.BlockStores.{VariablesApart}
 use Rattle.cp_refine.proofs.expressions.DesignatedTypes.{NamesTyped}

@@ -8,9 +8,9 @@ use Rattle.cp_machine.specs.declared.process.Status.TheVariants as status
 use Rattle.cp_machine.specs.Fits.{EntryFits, StackFits, MachineFits}
 use Rattle.cp_machine.specs.Machine.{Machine, thread_at, is_ready_status}
 use Rattle.cp_machine.specs.Memory.{component_of}
-use Rattle.cp_machine.proofs.ExecutingAct.{process_finds}
-use Rattle.cp_machine.proofs.KeepingAct.{action_fits}
-use Rattle.cp_machine.proofs.ReachingKept.{executing_of}
+use Rattle.cp_machine.proofs.parameters.ExecutingAct.{process_finds}
+use Rattle.cp_machine.proofs.rooms.KeepingAct.{action_fits}
+use Rattle.cp_machine.proofs.frames.ReachingKept.{executing_of}
 
 -- places that are the same plain data name the same
 names_seen : (r : Tables) (k n : ℕ) (a b : ComponentPlace) → code.component_seen a ≡ code.component_seen b → Names r k a n → Names r k b n

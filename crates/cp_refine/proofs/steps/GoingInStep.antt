@@ -8,12 +8,12 @@ use Rattle.cp_machine.specs.Machine.{Machine, is_ready, in_line}
 use Rattle.cp_machine.specs.Machine as slot_machine
 use Rattle.cp_machine.specs.Opening as machine
 use Rattle.cp_machine.specs.Step.{step_at, is_local}
-use Rattle.cp_machine.proofs.KeepingAct.{step_fits}
-use Rattle.cp_machine.proofs.KernelFits.{admitted_fits}
-use Rattle.cp_machine.proofs.KernelLines.{admitted_lines}
+use Rattle.cp_machine.proofs.rooms.KeepingAct.{step_fits}
+use Rattle.cp_machine.proofs.rooms.KernelFits.{admitted_fits}
+use Rattle.cp_machine.proofs.lines.KernelLines.{admitted_lines}
 use Rattle.cp_machine.proofs.LocalReady.{local_ready}
-use Rattle.cp_machine.proofs.ReachingKept.{step_reaches, admitted_reaches}
-use Rattle.cp_machine.proofs.StepLines.{step_lines}
+use Rattle.cp_machine.proofs.frames.ReachingKept.{step_reaches, admitted_reaches}
+use Rattle.cp_machine.proofs.lines.StepLines.{step_lines}
 use Rattle.cp_meaning.specs.Steps.{step_of, line_at, by_step, by_admission, admitted, admitted_to}
 use Rattle.cp_refine.specs.Named as own
 use Rattle.cp_refine.specs.Named.{gates_of, is_some, in_line_of}

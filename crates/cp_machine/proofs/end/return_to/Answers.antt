@@ -1,5 +1,5 @@
 use Rattle.cp_machine.proofs.Words.{subst, sym, AreFirstKnown, machine_of}
-use Rattle.cp_machine.proofs.LineLemmas.{thread_known}
+use Rattle.cp_machine.proofs.lines.LineLemmas.{thread_known}
 use Rattle.cp_machine.proofs.end.return_to.Goals as goal
 
 pub returns-in-Some-clause-reserved : goal.returns-in-Some-clause-reserved

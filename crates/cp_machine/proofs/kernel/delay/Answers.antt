@@ -1,5 +1,5 @@
 use Rattle.cp_machine.proofs.Words.{subst, sym, pos, slice_set, AreFirstKnown, machine_of}
-use Rattle.cp_machine.proofs.LineLemmas.{thread_known}
+use Rattle.cp_machine.proofs.lines.LineLemmas.{thread_known}
 use Rattle.cp_machine.proofs.kernel.delay.Goals as goal
 
 pub let_in-requires-clause-lines : goal.let_in-requires-clause-lines

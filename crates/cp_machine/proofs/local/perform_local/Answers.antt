@@ -2,8 +2,8 @@ use Rattle.cp_machine.proofs.Words.{◌∙◌, ap, sym, Assign, If, While, Until
 use Rattle.cp_machine.proofs.Words.{while_do, until, act, Block, Cycle}
 use Rattle.std.proofs.lemmas.Bool.{false≢true}
 use Rattle.cp_machine.proofs.LocalSteps.{assign_calm, branch_calm, while_calm, until_calm, done_pending, done_same}
-use Rattle.cp_machine.proofs.ReadLemmas.{taken_fits, taken_reads, taken_room}
-use Rattle.cp_machine.proofs.RoomLemmas.{is_busy}
+use Rattle.cp_machine.proofs.frames.ReadLemmas.{taken_fits, taken_reads, taken_room}
+use Rattle.cp_machine.proofs.rooms.RoomLemmas.{is_busy}
 use Rattle.cp_machine.proofs.TakeLemmas.{item_room, item_taken}
 use Rattle.cp_machine.proofs.local.perform_local.Goals as goal
 

@@ -2,7 +2,7 @@ use Rattle.cp_machine.proofs.Words.{refl, ◌≡◌, ◌∙◌, ap, length, sym,
 use Rattle.cp_machine.proofs.Words.{with_bindings, memory_at, with_memory, subst}
 use Rattle.cp_machine.proofs.ThreadLemmas.{memory_put}
 use Rattle.cp_store.specs.Inside as store
-use Rattle.cp_machine.proofs.ReadLemmas.{own_memory}
+use Rattle.cp_machine.proofs.frames.ReadLemmas.{own_memory}
 use Rattle.cp_machine.proofs.memory.bind_parameters.Goals as goal
 
 pub returns-clause-after : goal.returns-clause-after

@@ -3,7 +3,7 @@ use Rattle.std.specs.Int.{w16}
 use Rattle.std.proofs.lemmas.Int.{to_z-of_z}
 use Rattle.cp_machine.proofs.ThreadLemmas.{memory_put}
 use Rattle.cp_store.specs.Inside as store
-use Rattle.cp_machine.proofs.ReadLemmas.{own_memory}
+use Rattle.cp_machine.proofs.frames.ReadLemmas.{own_memory}
 use Rattle.cp_machine.proofs.memory.put_number.Goals as goal
 
 pub returns-clause-after : goal.returns-clause-after

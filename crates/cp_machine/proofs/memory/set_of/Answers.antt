@@ -1,5 +1,5 @@
 use Rattle.cp_store.specs.Inside as store
-use Rattle.cp_machine.proofs.ReadLemmas.{own_memory}
+use Rattle.cp_machine.proofs.frames.ReadLemmas.{own_memory}
 use Rattle.cp_machine.proofs.memory.set_of.Goals as goal
 
 pub evaluate_set-requires : goal.evaluate_set-requires

@@ -1,5 +1,5 @@
 use Rattle.cp_store.specs.Inside as store
-use Rattle.cp_machine.proofs.ReadLemmas.{own_memory}
+use Rattle.cp_machine.proofs.frames.ReadLemmas.{own_memory}
 use Rattle.cp_machine.proofs.memory.value_here.Goals as goal
 
 pub evaluate_here-requires : goal.evaluate_here-requires

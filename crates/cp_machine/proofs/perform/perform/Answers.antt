@@ -1,6 +1,6 @@
 use Rattle.cp_machine.proofs.Words.{◌∙◌, ap, sym, While, Until, Display, Rest, machine_of, under, with_stack, rest_of, local, act, Block, Cycle}
-use Rattle.cp_machine.proofs.ReadLemmas.{taken_fits, taken_reads, taken_room}
-use Rattle.cp_machine.proofs.RoomLemmas.{is_busy}
+use Rattle.cp_machine.proofs.frames.ReadLemmas.{taken_fits, taken_reads, taken_room}
+use Rattle.cp_machine.proofs.rooms.RoomLemmas.{is_busy}
 use Rattle.cp_machine.proofs.TakeLemmas.{item_room, item_taken}
 use Rattle.cp_machine.proofs.perform.perform.Goals as goal
 

@@ -1,6 +1,6 @@
 use Rattle.cp_machine.proofs.Words.{Assign, AssignSet, Copy, ◌∙◌, ap, machine_of, under, act, Rest}
-use Rattle.cp_machine.proofs.RoomLemmas.{is_busy}
-use Rattle.cp_machine.proofs.ReadLemmas.{taken_reads}
+use Rattle.cp_machine.proofs.rooms.RoomLemmas.{is_busy}
+use Rattle.cp_machine.proofs.frames.ReadLemmas.{taken_reads}
 use Rattle.cp_machine.proofs.perform.perform_assignment.Goals as goal
 
 pub assign-requires-clause-reads : goal.assign-requires-clause-reads

@@ -1,7 +1,7 @@
 use Rattle.cp_machine.specs.Statements.{for_do}
 use Rattle.cp_machine.proofs.Words.{act, ◌≡◌, ◌∙◌, ap, of_z, rules, sym, to_z, w16, For, machine_of, under, Rest}
-use Rattle.cp_machine.proofs.RoomLemmas.{is_busy}
-use Rattle.cp_machine.proofs.ReadLemmas.{taken_fits, taken_reads, taken_room}
+use Rattle.cp_machine.proofs.rooms.RoomLemmas.{is_busy}
+use Rattle.cp_machine.proofs.frames.ReadLemmas.{taken_fits, taken_reads, taken_room}
 use Rattle.cp_machine.proofs.perform.perform_for.Goals as goal
 
 pub for_do-requires-clause-name : goal.for_do-requires-clause-name

@@ -1,9 +1,9 @@
 use Rattle.cp_machine.proofs.Words.{◌∷◌, subst, ◌∙◌, ap, Rest, StackFits, machine_of, thread_at, under, act, Delay, Continue, StackReaches}
-use Rattle.cp_machine.proofs.RoomLemmas.{entries_fit, is_busy}
-use Rattle.cp_machine.proofs.ReadLemmas.{taken_reads}
-use Rattle.cp_machine.proofs.RoomLemmas.{within}
-use Rattle.cp_machine.proofs.Covered.{frame_reaches}
-use Rattle.cp_machine.proofs.LineLemmas.{firsts_known}
+use Rattle.cp_machine.proofs.rooms.RoomLemmas.{entries_fit, is_busy}
+use Rattle.cp_machine.proofs.frames.ReadLemmas.{taken_reads}
+use Rattle.cp_machine.proofs.rooms.RoomLemmas.{within}
+use Rattle.cp_machine.proofs.frames.Covered.{frame_reaches}
+use Rattle.cp_machine.proofs.lines.LineLemmas.{firsts_known}
 use Rattle.cp_machine.proofs.perform.perform_wait.Goals as goal
 
 pub continue_with-requires-clause-below : goal.continue_with-requires-clause-below

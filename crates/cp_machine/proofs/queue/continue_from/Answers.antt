@@ -1,5 +1,5 @@
 use Rattle.cp_machine.proofs.Words.{◌<◌, length, subst, sym, Machine, AreFirstKnown, machine_of}
-use Rattle.cp_machine.proofs.LineLemmas.{thread_known}
+use Rattle.cp_machine.proofs.lines.LineLemmas.{thread_known}
 use Rattle.cp_machine.proofs.queue.continue_from.Goals as goal
 
 pub returns-in-Some-Return-default-default-Some-clause-reserved : goal.returns-in-Some-Return-default-default-Some-clause-reserved

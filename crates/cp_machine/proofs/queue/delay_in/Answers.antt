@@ -1,6 +1,6 @@
 use Rattle.cp_machine.proofs.Words.{◌<◌, length, subst, sym, Machine, AreFirstKnown, machine_of, delayed, under, rest_of, Stepped, Kernel, is_true, Bool, ap}
 use Rattle.cp_machine.proofs.Words.{false, of_z, rules, to_z, true, w16, ◌∙◌, ◌≡◌, pos, slice_index_or}
-use Rattle.cp_machine.proofs.LineLemmas.{thread_known}
+use Rattle.cp_machine.proofs.lines.LineLemmas.{thread_known}
 use Rattle.cp_machine.proofs.CallOutcomes.{delayed_if, guards_as}
 use Rattle.cp_machine.proofs.Outcomes.{replaced_within}
 use Rattle.cp_machine.specs.declared.event.Kernel.TheVariants.{Delay}

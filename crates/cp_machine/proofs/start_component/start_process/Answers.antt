@@ -1,5 +1,5 @@
 use Rattle.cp_machine.proofs.Words.{subst, sym, AllFitComponent, machine_of, memory_at, FitsComponent, ap, length, ◌∙◌}
-use Rattle.cp_machine.proofs.NamingLemmas.{replaced_fits}
+use Rattle.cp_machine.proofs.parameters.NamingLemmas.{replaced_fits}
 use Rattle.cp_machine.proofs.CallOutcomes.{set_within}
 use Rattle.cp_machine.proofs.start_component.start_process.Goals as goal
 

@@ -1,6 +1,6 @@
 use Rattle.cp_machine.proofs.Words.{◌∙◌, HasRoom, machine_of, under, rest_of, arm_for, fault, local, outcome, ErrorName, ℕ, Err, Ok, Option, Result, ap, of_z}
 use Rattle.cp_machine.proofs.Words.{rules, sym, to_z, w16, ◌≡◌}
-use Rattle.cp_machine.proofs.KeepingSteps.{arm_is}
+use Rattle.cp_machine.proofs.rooms.KeepingSteps.{arm_is}
 use Rattle.cp_machine.proofs.CallOutcomes.{case_arm, case_fails, case_no_arm}
 use Rattle.cp_machine.proofs.statement.case_of.Goals as goal
 

@@ -2,9 +2,9 @@ use Rattle.cp_machine.proofs.Words.{◌≡◌, ◌<◌, length, refl, subst, tru
 use Rattle.cp_machine.specs.declared.event.Event.TheVariants.{Local, Kernel, Ended, Fault, OutputFull}
 use Rattle.cp_machine.specs.declared.event.RunError.{RunError}
 use Rattle.cp_machine.specs.Step.{succeeds}
-use Rattle.cp_machine.proofs.KeepingAct.{step_fits}
-use Rattle.cp_machine.proofs.ReachingKept.{step_reaches}
-use Rattle.cp_machine.proofs.StepLines.{step_lines}
+use Rattle.cp_machine.proofs.rooms.KeepingAct.{step_fits}
+use Rattle.cp_machine.proofs.frames.ReachingKept.{step_reaches}
+use Rattle.cp_machine.proofs.lines.StepLines.{step_lines}
 use Rattle.cp_machine.proofs.stepper.step.Goals as goal
 
 counted : (e : Event) → ((x : RunError) → e ≡ Fault x → ⊥) → (e ≡ OutputFull → ⊥) → succeeds e ≡ true

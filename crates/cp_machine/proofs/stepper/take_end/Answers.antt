@@ -1,7 +1,7 @@
-use Rattle.cp_machine.proofs.RoomLemmas.{within}
-use Rattle.cp_machine.proofs.Keeping.{frame_fits}
+use Rattle.cp_machine.proofs.rooms.RoomLemmas.{within}
+use Rattle.cp_machine.proofs.rooms.Keeping.{frame_fits}
 use Rattle.cp_machine.proofs.Words.{take_top, InitEnd, Return, ◌≡◌, ◌∷◌, ◌∙◌, ap, machine_of, thread_at, under}
-use Rattle.cp_machine.proofs.LineLemmas.{firsts_known}
+use Rattle.cp_machine.proofs.lines.LineLemmas.{firsts_known}
 use Rattle.cp_machine.proofs.stepper.take_end.Goals as goal
 
 pub return_to-requires-clause-lines : goal.return_to-requires-clause-lines

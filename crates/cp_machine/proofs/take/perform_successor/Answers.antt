@@ -1,7 +1,7 @@
 use Rattle.cp_machine.specs.Statements.{next_turn, succeeded}
 use Rattle.cp_machine.proofs.Words.{length, ◌≡◌, ◌∙◌, ap, of_z, rules, sym, to_z, w16, For, Successor, machine_of, under}
-use Rattle.cp_machine.proofs.ReadLemmas.{item_reads}
-use Rattle.cp_machine.proofs.RoomLemmas.{is_busy, successor_stands}
+use Rattle.cp_machine.proofs.frames.ReadLemmas.{item_reads}
+use Rattle.cp_machine.proofs.rooms.RoomLemmas.{is_busy, successor_stands}
 use Rattle.cp_machine.proofs.TakeLemmas.{turn_room, turn_taken}
 use Rattle.cp_machine.proofs.take.perform_successor.Goals as goal
 

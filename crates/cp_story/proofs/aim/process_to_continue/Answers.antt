@@ -1,5 +1,5 @@
 use Rattle.cp_slots.specs.declared.item.Action.TheVariants.{Continue}
-use Rattle.cp_machine.proofs.ReadLemmas.{taken_reads}
+use Rattle.cp_machine.proofs.frames.ReadLemmas.{taken_reads}
 use Rattle.cp_story.proofs.aim.process_to_continue.Goals as goal
 
 pub queue_cell-requires-clause-reach : goal.queue_cell-requires-clause-reach

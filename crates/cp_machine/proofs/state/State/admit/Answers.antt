@@ -1,7 +1,7 @@
 use Rattle.cp_machine.proofs.Words.{subst, sym, LinesFit, MachineFits, Reaches}
-use Rattle.cp_machine.proofs.ReachingKept.{admitted_reaches}
-use Rattle.cp_machine.proofs.KernelFits.{admitted_fits}
-use Rattle.cp_machine.proofs.KernelLines.{admitted_lines}
+use Rattle.cp_machine.proofs.frames.ReachingKept.{admitted_reaches}
+use Rattle.cp_machine.proofs.rooms.KernelFits.{admitted_fits}
+use Rattle.cp_machine.proofs.lines.KernelLines.{admitted_lines}
 use Rattle.cp_machine.proofs.state.State.admit.Goals as goal
 
 pub returns-clause-own : goal.returns-clause-own

@@ -1,7 +1,7 @@
 use Rattle.cp_machine.proofs.Words.{sym, subst, Ready, LinesFit, MachineFits, Machine, with_status, Reaches}
-use Rattle.cp_machine.proofs.ReachingKept.{opening_reaches}
-use Rattle.cp_machine.proofs.OpeningFits.{still_fits, restatused}
-use Rattle.cp_machine.proofs.OpeningLines.{opening_lines}
+use Rattle.cp_machine.proofs.frames.ReachingKept.{opening_reaches}
+use Rattle.cp_machine.proofs.rooms.OpeningFits.{still_fits, restatused}
+use Rattle.cp_machine.proofs.lines.OpeningLines.{opening_lines}
 use Rattle.cp_machine.proofs.CallOutcomes.{none_well}
 use Rattle.cp_machine.proofs.state.State.start.Goals as goal
 

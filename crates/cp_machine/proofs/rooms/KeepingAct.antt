@@ -6,9 +6,9 @@ use Rattle.cp_machine.proofs.Words.{Machine, thread_at, with_stack, value_of, se
 use Rattle.cp_machine.proofs.Words.{next_value, succeeded, local, fault, with_value, act, take_top, step_at}
 use Rattle.cp_slots.specs.declared.item.Action.TheVariants.{Empty, Assign, AssignSet, Copy, Block, If, Case, While, Until, For, Cycle, Call, Start, Delay, Continue, Display}
 use Rattle.cp_store.specs.Sets as sets
-use Rattle.cp_machine.proofs.Keeping.{Fit, value_fits, either_fits, either_stack, stack_fits, phase_fits, output_fits, memory_fits, left_fits}
-use Rattle.cp_machine.proofs.KernelFits.{status_fits, let_in_fits}
-use Rattle.cp_machine.proofs.KeepingSteps.{arm_is, goes_fits, next_fits, next_machine, above_fits, again_fits, called_by_fits, started_fits, delay_at_fits, continue_at_fits}
+use Rattle.cp_machine.proofs.rooms.Keeping.{Fit, value_fits, either_fits, either_stack, stack_fits, phase_fits, output_fits, memory_fits, left_fits}
+use Rattle.cp_machine.proofs.rooms.KernelFits.{status_fits, let_in_fits}
+use Rattle.cp_machine.proofs.rooms.KeepingSteps.{arm_is, goes_fits, next_fits, next_machine, above_fits, again_fits, called_by_fits, started_fits, delay_at_fits, continue_at_fits}
 use Rattle.cp_machine.proofs.StoreLemmas.{kept_number, kept_set, kept_copy}
 
 list_option : (b : Bool) (P : Option ℕ → Type 0) (x y : Option ℕ) → P x → P y → P (if b then x else y)

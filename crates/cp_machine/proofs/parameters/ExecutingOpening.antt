@@ -6,8 +6,8 @@ use Rattle.cp_machine.proofs.Words.{unstarted_thread, AreBound, EndsBegun, Execu
 use Rattle.std.proofs.lemmas.List.{get_or-map, get_or-set_other, length-map}
 use Rattle.cp_slots.specs.Systems.{IsItself, IsTyped, parameter_count}
 use Rattle.cp_slots.specs.declared.tables.ComponentKind.TheVariants as kind
-use Rattle.cp_machine.proofs.Executing.{AllExecute, ThreadExecutes, executing, thread_all}
-use Rattle.cp_machine.proofs.ExecutingLemmas.{Executing}
+use Rattle.cp_machine.proofs.parameters.Executing.{AllExecute, ThreadExecutes, executing, thread_all}
+use Rattle.cp_machine.proofs.parameters.ExecutingLemmas.{Executing}
 
 none_initialised : (count component : ℕ) → is_uninitialised (slice_index_or (replicate count Uninitialised) component Uninitialised) ≡ true
 none_initialised zero component = refl

@@ -2,8 +2,8 @@
 use Rattle.cp_machine.proofs.Words.{◌≡◌, ◌∙◌, ℕ, zero, suc, List, [], ◌∷◌, eqb, map, ap, sym, refl, subst, replicate, IsDistinct, Tables, Gates, Ready}
 use Rattle.cp_machine.proofs.Words.{LinesFit, no_monitor, thread_at, with_status, still, unstarted_thread}
 use Rattle.cp_slots.specs.declared.tables.Process as slots
-use Rattle.cp_machine.proofs.KernelLines.{IsOff, Lined, line_of, lines_still, off_lined}
-use Rattle.cp_machine.proofs.LineLists.{has, nothing_once}
+use Rattle.cp_machine.proofs.lines.KernelLines.{IsOff, Lined, line_of, lines_still, off_lined}
+use Rattle.cp_machine.proofs.lines.LineLists.{has, nothing_once}
 
 unstarted_still : (r : Tables) (ps : List slots.Process) (q : ℕ) → IsOff (thread_at (map (unstarted_thread r) ps) q).status
 unstarted_still r [] q = λ g. refl

@@ -2,7 +2,7 @@
 use Rattle.cp_machine.proofs.Words.{◌≡◌, ◌∙◌, ℕ, ◌<◌, List, [], ◌∷◌, length, Some, true, sym, subst, length-set, Machine, Thread, monitor_at, with_thread}
 use Rattle.cp_machine.specs.Fits.{AreFirstKnown, IsFirstKnown, LinesFit}
 use Rattle.cp_machine.proofs.CallerLemmas.{in_line_within}
-use Rattle.cp_machine.proofs.LineLists.{has, has_first}
+use Rattle.cp_machine.proofs.lines.LineLists.{has, has_first}
 
 first_known : (processes : ℕ) (line : List ℕ) → ((q : ℕ) → has line q ≡ true → q < processes) → IsFirstKnown processes line
 first_known processes [] each = tt

@@ -10,12 +10,12 @@ use Rattle.cp_store.specs.Inside as store
 use Rattle.cp_store.proofs.Fitting.{arguments_read, calls_fit, starts_fit}
 use Rattle.cp_machine.specs.Fits.{IsTaken}
 use Rattle.cp_machine.specs.Reach.{CanCall, CanStart, FitsComponent, FitsNew, FitsOwn, NamesOwner, frame_at}
-use Rattle.cp_machine.proofs.Covered.{component_has}
-use Rattle.cp_machine.proofs.ExecutingAct.{process_finds, process_reads}
-use Rattle.cp_machine.proofs.HandingLemmas.{components_grow, hands_below, hands_find, none_find}
-use Rattle.cp_machine.proofs.ReachingKept.{executing_of}
-use Rattle.cp_machine.proofs.ReadLemmas.{item_inside, own_covers, taken_fits, taken_stands}
-use Rattle.cp_machine.proofs.RoomLemmas.{within}
+use Rattle.cp_machine.proofs.frames.Covered.{component_has}
+use Rattle.cp_machine.proofs.parameters.ExecutingAct.{process_finds, process_reads}
+use Rattle.cp_machine.proofs.parameters.HandingLemmas.{components_grow, hands_below, hands_find, none_find}
+use Rattle.cp_machine.proofs.frames.ReachingKept.{executing_of}
+use Rattle.cp_machine.proofs.frames.ReadLemmas.{item_inside, own_covers, taken_fits, taken_stands}
+use Rattle.cp_machine.proofs.rooms.RoomLemmas.{within}
 
 module _ (r : Tables) (s : State) (pid at : ℕ) (item : Item) (t : IsTaken r s pid at item) where
   abbrev here : Machine

@@ -3,7 +3,7 @@ use Rattle.std.proofs.Common.{◌≡◌, ◌∙◌, ℕ, ◌+◌, ◌<◌, ◌�
 use Rattle.cp_machine.proofs.Words.{ℤ, slice_index_or, vec_len, get_or-map, length-map, length-reverse, Tables, item_at, InnerFits, CallFits, Argument, Entry}
 use Rattle.cp_machine.proofs.Words.{Rest, Successor, ProcessState, State, Thread, thread_of, thread_at, no_thread, machine_of}
 use Rattle.cp_machine.specs.Fits.{EntryFits, StackFits, MachineFits, IsReserved, IsStateOf, IsBusy, HasRoom, HasCallRoom}
-use Rattle.cp_machine.proofs.Keeping.{frame_fits}
+use Rattle.cp_machine.proofs.rooms.Keeping.{frame_fits}
 
 abbrev pub thread : State → ℕ → Thread
 thread s pid = thread_at (machine_of s).threads pid

@@ -10,7 +10,7 @@ use Rattle.cp_machine.specs.declared.shown.Shown.{Shown}
 use Rattle.cp_machine.specs.Calls.{frame_behind, with_result, given_up, left}
 use Rattle.cp_machine.specs.Fits.{FrameFits, Follows, StackFits, ThreadFits, MachineFits}
 use Rattle.cp_machine.specs.Machine.{Machine, Thread, thread_at, with_bindings, with_phase, with_stack, with_output}
-use Rattle.cp_machine.proofs.KernelFits.{thread_fits, permanents_fit}
+use Rattle.cp_machine.proofs.rooms.KernelFits.{thread_fits, permanents_fit}
 use Rattle.cp_machine.proofs.StoreLemmas.{Kept, kept_component, length-bindings}
 
 -- ---- control stacks

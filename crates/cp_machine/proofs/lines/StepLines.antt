@@ -13,8 +13,8 @@ use Rattle.cp_machine.specs.Machine.{Machine, Thread, thread_at, is_at_gate, is_
 use Rattle.cp_machine.specs.Memory.{memory_at, with_memory, value_of, set_of, address_of, origin_of, component_of, arguments_of, parameters_bound, set_written}
 use Rattle.cp_machine.specs.Statements.{Stepped, with_value, arm_for, is_beyond, gone_on, next_value, succeeded}
 use Rattle.cp_machine.proofs.CallerLemmas.{ready_thread}
-use Rattle.cp_machine.proofs.Keeping.{kind_fits}
-use Rattle.cp_machine.proofs.KernelLines.{Lined, IsOff, line_of, like_lined, lines_as, lines_still, off_lined, read_set, ready_off, unstarted_off, entered_lines, let_in_lines, delayed_lines, continued_lines}
+use Rattle.cp_machine.proofs.rooms.Keeping.{kind_fits}
+use Rattle.cp_machine.proofs.lines.KernelLines.{Lined, IsOff, line_of, like_lined, lines_as, lines_still, off_lined, read_set, ready_off, unstarted_off, entered_lines, let_in_lines, delayed_lines, continued_lines}
 
 abbrev Fine : Stepped → Type 0
 Fine x = LinesFit x.machine

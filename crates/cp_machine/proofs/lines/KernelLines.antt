@@ -9,7 +9,7 @@ use Rattle.std.proofs.lemmas.Map.Keys.{IsDistinct-tail}
 use Rattle.std.proofs.lemmas.Map.Steps.{length-le_from_distinct_below}
 use Rattle.cp_machine.specs.Kernel.{let_in, let_in_by, first_in, one_in, freed, goes_in, entered, entered_by, delayed, continued, resumed, waits_in}
 use Rattle.cp_machine.specs.Machine.{Machine, Thread, Monitor, thread_at, no_thread, monitor_at, no_monitor, is_at_gate, is_delayed_at, is_ready_status, is_unstarted, in_line, in_line_of, with_status}
-use Rattle.cp_machine.proofs.LineLists.{has, has_first, has_pushed, pushed_other, pushed_once, first_gone, first_other, without_gone, without_other, without_once}
+use Rattle.cp_machine.proofs.lines.LineLists.{has, has_first, has_pushed, pushed_other, pushed_once, first_gone, first_other, without_gone, without_other, without_once}
 
 abbrev pub line_of : List Monitor → ℕ → List ℕ
 line_of ms g = (slice_index_or ms g no_monitor).line

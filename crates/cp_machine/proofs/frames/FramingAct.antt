@@ -15,10 +15,10 @@ use Rattle.cp_machine.specs.Calls.{called, left, called_in, called_by, start_ins
 use Rattle.cp_machine.specs.Machine.{Machine, Thread, thread_at, no_thread, phase_at, is_initialised, is_uninitialised, is_unstarted, with_stack}
 use Rattle.cp_machine.specs.Memory.{memory_at, value_of, set_of, address_of, component_of, arguments_of, origin_of, number_put, set_put, set_written, cells_put, parameters_bound}
 use Rattle.cp_machine.specs.Statements.{Stepped, arm_for, is_beyond, next_value, succeeded, with_value, gone_on}
-use Rattle.cp_machine.proofs.Framing.{Framed, rest_reaches, end_reaches, stack_framed, status_framed, memory_framed, let_in_framed, entered_framed, delayed_framed, continued_framed, names_number, names_set, names_copy, names_component}
-use Rattle.cp_machine.proofs.FramingSteps.{left_framed, opened_framed, called_framed}
-use Rattle.cp_machine.proofs.Keeping.{end_fits, rest_fits, stack_fits}
-use Rattle.cp_machine.proofs.KeepingAct.{action_fits, list_fits}
+use Rattle.cp_machine.proofs.frames.Framing.{Framed, rest_reaches, end_reaches, stack_framed, status_framed, memory_framed, let_in_framed, entered_framed, delayed_framed, continued_framed, names_number, names_set, names_copy, names_component}
+use Rattle.cp_machine.proofs.frames.FramingSteps.{left_framed, opened_framed, called_framed}
+use Rattle.cp_machine.proofs.rooms.Keeping.{end_fits, rest_fits, stack_fits}
+use Rattle.cp_machine.proofs.rooms.KeepingAct.{action_fits, list_fits}
 
 abbrev Good : Tables → Stepped → Type 0
 Good r x = Framed r x.machine

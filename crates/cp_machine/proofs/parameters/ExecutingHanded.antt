@@ -14,7 +14,7 @@ use Rattle.cp_store.specs.Sets as sets
 use Rattle.cp_store.specs.Values.{ranged, then_with}
 use Rattle.cp_store.specs.declared.argument.Bound.TheVariants.{Scalar, Set, Copy, Reference, Component}
 use Rattle.cp_machine.specs.Reach.{AreBound, HasBegun, bound_component}
-use Rattle.cp_machine.proofs.ExecutingLemmas.{ok_is}
+use Rattle.cp_machine.proofs.parameters.ExecutingLemmas.{ok_is}
 
 -- ---- only a component that is handed over is bound
 

@@ -8,10 +8,10 @@ use Rattle.cp_machine.proofs.Words.{succeeded, act, step_at, take_top}
 use Rattle.cp_slots.specs.declared.item.Action.TheVariants.{Empty, Assign, AssignSet, Copy, Block, If, Case, While, Until, For, Cycle, Call, Start, Delay, Continue, Display}
 use Rattle.cp_store.specs.Sets as sets
 use Rattle.cp_machine.specs.Memory.{address_of, arguments_of, component_of, memory_at, set_of, set_written, value_of, with_memory}
-use Rattle.cp_machine.proofs.Covered.{frame_reaches}
-use Rattle.cp_machine.proofs.Executing.{let_in_executes, phase_executes, same_executes, status_executes}
-use Rattle.cp_machine.proofs.ExecutingLemmas.{Executing, finds_component, named_component}
-use Rattle.cp_machine.proofs.ExecutingSteps.{Calm, Going, Runs, called_by_going, calm_line, continue_at_going, delay_at_going, either_going, either_runs, gone_going, has_started, left_going, memory_going, rest_runs, stack_going, started_going, thread_calm, top_executes, value_going}
+use Rattle.cp_machine.proofs.frames.Covered.{frame_reaches}
+use Rattle.cp_machine.proofs.parameters.Executing.{let_in_executes, phase_executes, same_executes, status_executes}
+use Rattle.cp_machine.proofs.parameters.ExecutingLemmas.{Executing, finds_component, named_component}
+use Rattle.cp_machine.proofs.parameters.ExecutingSteps.{Calm, Going, Runs, called_by_going, calm_line, continue_at_going, delay_at_going, either_going, either_runs, gone_going, has_started, left_going, memory_going, rest_runs, stack_going, started_going, thread_calm, top_executes, value_going}
 
 module _ (r : Tables) (m : Machine) (pid : ℕ) (typed : IsTyped r) (fits : MachineFits r m) (lines : LinesFit m) (ready : is_ready m pid ≡ true) (reaches : FrameReaches r (thread_at m.threads pid).references (thread_at m.threads pid).frame) (h : Executing r m) (executes : Executes r m pid (thread_at m.threads pid).frame.component) where
   abbrev Stands : List Entry → Type 0

@@ -5,7 +5,7 @@ use Rattle.cp_machine.proofs.Words.{FrameFits, ThreadFits, MachineFits, size_of,
 use Rattle.cp_machine.proofs.Words.{ThreadReaches}
 use Rattle.cp_store.specs.Inside.{HasCells, Covers}
 use Rattle.cp_store.specs.Places.{referred}
-use Rattle.cp_machine.proofs.Keeping.{frame_fits}
+use Rattle.cp_machine.proofs.rooms.Keeping.{frame_fits}
 
 pub frame_reaches : (r : Tables) (references : List Address) (f : Frame) (es : List Entry) → StackReaches r references f es → FrameReaches r references f
 frame_reaches r references f [] h = h

@@ -1,7 +1,7 @@
 -- As a run begins, what the frames of all processes may name is there.
 use Rattle.cp_machine.proofs.Words.{◌≡◌, ℕ, ◌<◌, [], length, map, sym, refl, subst, arith, length-map, get_or-map, IsSound, IsTyped, Tables, process_at}
 use Rattle.cp_machine.proofs.Words.{no_process, routine_at, Gates, Ready, thread_at, no_thread, unstarted_thread, still, opening, FrameReaches, ThreadReaches}
-use Rattle.cp_machine.proofs.Framing.{Framed, rest_reaches, status_framed}
+use Rattle.cp_machine.proofs.frames.Framing.{Framed, rest_reaches, status_framed}
 
 unstarted_reaches : (r : Tables) (q : ℕ) → q < length r.processes → IsSound r → IsTyped r → ThreadReaches r (unstarted_thread r (process_at r q))
 unstarted_reaches r q within sound typed =

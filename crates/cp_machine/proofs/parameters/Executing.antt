@@ -8,9 +8,9 @@ use Rattle.std.proofs.lemmas.List.Quantifiers.{position-Some}
 use Rattle.cp_slots.specs.declared.tables.ComponentKind.TheVariants as kind
 use Rattle.cp_machine.specs.Kernel.{let_in, let_in_by, first_in, one_in, goes_in, entered, entered_by, delayed, continued, resumed, waits_in}
 use Rattle.cp_machine.specs.Machine.{Machine, Thread, in_line, in_line_of, is_at_gate, is_delayed_at, is_uninitialised, is_unstarted, monitor_at, no_thread, phase_at, thread_at, with_permanents, with_phase, with_stack, with_status, with_thread}
-use Rattle.cp_machine.proofs.ExecutingLemmas.{Executing}
-use Rattle.cp_machine.proofs.KernelLines.{read_set}
-use Rattle.cp_machine.proofs.LineLists.{has, has_first}
+use Rattle.cp_machine.proofs.parameters.ExecutingLemmas.{Executing}
+use Rattle.cp_machine.proofs.lines.KernelLines.{read_set}
+use Rattle.cp_machine.proofs.lines.LineLists.{has, has_first}
 
 -- ---- phases that never go back
 

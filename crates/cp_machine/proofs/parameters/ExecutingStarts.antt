@@ -5,9 +5,9 @@ use Rattle.cp_machine.proofs.Words.{Uninitialised, HasBegunAs}
 use Rattle.cp_slots.specs.Systems.{IsItself, IsOf, IsTyped, own_of, parameter_count}
 use Rattle.cp_slots.specs.declared.tables.ComponentKind.TheVariants as kind
 use Rattle.cp_machine.specs.Machine.{Machine, is_uninitialised, is_unstarted, no_thread, phase_at, thread_at, with_bindings, with_phase, with_status}
-use Rattle.cp_machine.proofs.Executing.{AllExecute, KeepsPhases, all_later, all_of, executing, thread_all}
-use Rattle.cp_machine.proofs.ExecutingHanded.{begins}
-use Rattle.cp_machine.proofs.ExecutingLemmas.{Executing}
+use Rattle.cp_machine.proofs.parameters.Executing.{AllExecute, KeepsPhases, all_later, all_of, executing, thread_all}
+use Rattle.cp_machine.proofs.parameters.ExecutingHanded.{begins}
+use Rattle.cp_machine.proofs.parameters.ExecutingLemmas.{Executing}
 
 -- ---- phases
 

@@ -10,9 +10,9 @@ use Rattle.cp_store.specs.Memory as store
 use Rattle.cp_store.proofs.Opened.{opened_behind}
 use Rattle.cp_machine.specs.Fits.{FrameFits, Follows, StackFits, ThreadFits, MachineFits, size_of}
 use Rattle.cp_machine.specs.Reach.{IsBehind, FrameReaches, ResultReaches, StackReaches, ThreadReaches}
-use Rattle.cp_machine.proofs.Covered.{covered}
-use Rattle.cp_machine.proofs.Framing.{Framed, Agree, rest_reaches, stack_agrees, thread_framed, names_below}
-use Rattle.cp_machine.proofs.Keeping.{behind_follows}
+use Rattle.cp_machine.proofs.frames.Covered.{covered}
+use Rattle.cp_machine.proofs.frames.Framing.{Framed, Agree, rest_reaches, stack_agrees, thread_framed, names_below}
+use Rattle.cp_machine.proofs.rooms.Keeping.{behind_follows}
 
 -- what the caller's memory has lies below the new frame
 has_behind : (r : Tables) (m : Memory) (g : Frame) (a : Address) (cells : ℕ) → length m.permanents ≡ length r.permanents → g.base ≡ length m.cells → HasCells m a cells → IsBehind r g a cells

@@ -13,8 +13,8 @@ use Rattle.cp_store.specs.Places.{origin_address}
 use Rattle.cp_store.proofs.Reaches.{and_left, and_right, has_fewer, have_cells}
 use Rattle.cp_machine.specs.Fits.{EntryFits, HasRoom, IsStateOf, IsTaken}
 use Rattle.cp_machine.specs.Reach.{CanName, CanReach, CanRead, CanReadSet, HasCells, frame_at}
-use Rattle.cp_machine.proofs.Covered.{covered}
-use Rattle.cp_machine.proofs.RoomLemmas.{rest_stands, within}
+use Rattle.cp_machine.proofs.frames.Covered.{covered}
+use Rattle.cp_machine.proofs.rooms.RoomLemmas.{rest_stands, within}
 use Rattle.cp_machine.proofs.TakeLemmas.{item_room, item_taken}
 use Rattle.cp_machine.proofs.ThreadLemmas.{thread_read}
 

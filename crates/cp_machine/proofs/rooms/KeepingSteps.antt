@@ -8,8 +8,8 @@ use Rattle.cp_store.specs.declared.memory.Address.TheVariants as address
 use Rattle.cp_machine.specs.Calls.{called, called_in, called_by, start_inside, started, delayed_in, delay_at, continued_from, continue_at}
 use Rattle.cp_machine.specs.Machine.{Machine, Thread, thread_at, no_thread, phase_at, is_initialised, is_uninitialised, is_unstarted, with_stack}
 use Rattle.cp_machine.specs.Statements.{arm_for, has_label, gone_on}
-use Rattle.cp_machine.proofs.Keeping.{Fit, either_fits, rest_fits, inner_fits, end_fits, length_rest, stack_fits, phase_fits, memory_fits, parameters_fit, kind_fits, behind_follows, opened_thread, left_fits}
-use Rattle.cp_machine.proofs.KernelFits.{thread_fits, status_fits, entered_fits, delayed_fits, continued_fits}
+use Rattle.cp_machine.proofs.rooms.Keeping.{Fit, either_fits, rest_fits, inner_fits, end_fits, length_rest, stack_fits, phase_fits, memory_fits, parameters_fit, kind_fits, behind_follows, opened_thread, left_fits}
+use Rattle.cp_machine.proofs.rooms.KernelFits.{thread_fits, status_fits, entered_fits, delayed_fits, continued_fits}
 use Rattle.cp_machine.proofs.StoreLemmas.{kept_number, kept_frame}
 
 arm_or : (P : Option ℕ → Type 0) (b : Bool) (body : Option ℕ) (others : Result (Option ℕ) ErrorName) (list : Option ℕ) → (if b then Ok body else others) ≡ Ok list → P body → (others ≡ Ok list → P list) → P list

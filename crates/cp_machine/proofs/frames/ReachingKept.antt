@@ -1,13 +1,13 @@
 -- A step, an admission and the opening keep what the frames of all processes may name there.
 use Rattle.cp_machine.proofs.Words.{◌≡◌, ℕ, ◌<◌, length, true, IsSound, IsTyped, parameter_count, Tables, component_at, process_at, Gates, LinesFit}
 use Rattle.cp_machine.proofs.Words.{MachineFits, Machine, in_line, is_ready, admitted, opening, Reaches, step_at}
-use Rattle.cp_machine.proofs.Executing.{admitted_executes}
-use Rattle.cp_machine.proofs.ExecutingAct.{process_finds, step_executes}
-use Rattle.cp_machine.proofs.ExecutingLemmas.{Executing}
-use Rattle.cp_machine.proofs.ExecutingOpening.{opening_executes}
-use Rattle.cp_machine.proofs.Framing.{Framed, admitted_framed}
-use Rattle.cp_machine.proofs.FramingAct.{step_framed}
-use Rattle.cp_machine.proofs.FramingOpening.{opening_framed}
+use Rattle.cp_machine.proofs.parameters.Executing.{admitted_executes}
+use Rattle.cp_machine.proofs.parameters.ExecutingAct.{process_finds, step_executes}
+use Rattle.cp_machine.proofs.parameters.ExecutingLemmas.{Executing}
+use Rattle.cp_machine.proofs.parameters.ExecutingOpening.{opening_executes}
+use Rattle.cp_machine.proofs.frames.Framing.{Framed, admitted_framed}
+use Rattle.cp_machine.proofs.frames.FramingAct.{step_framed}
+use Rattle.cp_machine.proofs.frames.FramingOpening.{opening_framed}
 
 pub executing_of : (r : Tables) (m : Machine) → Reaches r m → Executing r m
 executing_of r m h = record { executes = h.executes; ends = h.ends; bound = h.bound }

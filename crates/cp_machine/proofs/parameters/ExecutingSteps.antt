@@ -11,11 +11,11 @@ use Rattle.cp_slots.specs.declared.tables.ComponentKind.TheVariants as kind
 use Rattle.cp_store.specs.declared.memory.Address.TheVariants as address
 use Rattle.cp_machine.specs.Calls.{called, called_by, called_in, continue_at, continued_from, delay_at, delayed_in, frame_behind, left, opened, start_inside, start_process, started}
 use Rattle.cp_machine.specs.Machine.{Machine, Thread, is_initialised, is_ready, is_uninitialised, is_unstarted, monitor_at, phase_at, thread_at, with_bindings, with_phase, with_stack, with_thread}
-use Rattle.cp_machine.proofs.Executing.{HasStarted, KeepsPhases, LineStarted, continued_executes, delayed_executes, ends_later, entered_executes, line_started, memory_executes, stack_executes, stack_later, thread_executes}
-use Rattle.cp_machine.proofs.ExecutingHanded.{handed}
-use Rattle.cp_machine.proofs.ExecutingLemmas.{Executing, named_component, ok_is, ready_started}
-use Rattle.cp_machine.proofs.ExecutingStarts.{initialising_begun, initialising_keeps, inside_begins, process_begins}
-use Rattle.cp_machine.proofs.KernelLines.{read_set}
+use Rattle.cp_machine.proofs.parameters.Executing.{HasStarted, KeepsPhases, LineStarted, continued_executes, delayed_executes, ends_later, entered_executes, line_started, memory_executes, stack_executes, stack_later, thread_executes}
+use Rattle.cp_machine.proofs.parameters.ExecutingHanded.{handed}
+use Rattle.cp_machine.proofs.parameters.ExecutingLemmas.{Executing, named_component, ok_is, ready_started}
+use Rattle.cp_machine.proofs.parameters.ExecutingStarts.{initialising_begun, initialising_keeps, inside_begins, process_begins}
+use Rattle.cp_machine.proofs.lines.KernelLines.{read_set}
 
 -- ---- control stacks
 

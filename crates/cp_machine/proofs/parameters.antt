@@ -1,0 +1,9 @@
+pub mod Executing
+pub mod ExecutingAct
+pub mod ExecutingHanded
+pub mod ExecutingLemmas
+pub mod ExecutingOpening
+pub mod ExecutingStarts
+pub mod ExecutingSteps
+pub mod HandingLemmas
+pub mod NamingLemmas
