@@ -185,7 +185,7 @@ fn constant(first: u16, value: i16) -> u16
     }
 }
 
-fn show_as(kind: ShownKind, value: i16) -> Shown
+fn shown_as(kind: ShownKind, value: i16) -> Shown
     ensures { result ≡ spec.shown_as kind value }
 {
     match kind {
@@ -230,5 +230,5 @@ pub fn display(
     ensures reserved { (r : Tables) → IsReserved r state.old → IsReserved r state.new }
 {
     let value = value_of(state, pid, value)?;
-    Ok(show(state, pid, item.next, show_as(kind, value)))
+    Ok(show(state, pid, item.next, shown_as(kind, value)))
 }

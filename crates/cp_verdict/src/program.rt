@@ -75,7 +75,7 @@ fn stops_of(seen: &[Seen]) -> Stops {
 }
 
 /// The outcomes of a table, each with its first schedule.
-fn first_outcomes<'a>(alloc: Global, tallies: &'a [Tally]) -> Result<Vec<Seen<'a>>, AllocError>
+fn seen_of<'a>(alloc: Global, tallies: &'a [Tally]) -> Result<Vec<Seen<'a>>, AllocError>
     ensures { IfOk result (λ v. map line_of v.items ≡ map (λ t. t.first) (map tally_of tallies.entry.now)) }
 {
     let mut seen = Vec::new(alloc);
@@ -114,7 +114,7 @@ pub fn mark_tallies(
 ) -> Result<Marked, AllocError>
     ensures { IfOk result (λ m. (lines : List Line) → map tally_of tallies.now ≡ tally same_outcome lines → spec.IsMarked program.now.names expectations.now lines m) }
 {
-    let seen = first_outcomes(alloc, tallies)?;
+    let seen = seen_of(alloc, tallies)?;
     let judgements = judge_each(alloc, program, expectations, &seen)?;
     let mark = mark_of(&judgements);
     let stops = stops_of(&seen);

@@ -146,7 +146,7 @@ fn error_of(word: &str) -> Option<ErrorName> {
 }
 
 /// What was wanted where a text ends too early, or a word does not fit.
-fn word_wanted_by(next: NextWord) -> WantedWord {
+fn wanted_by(next: NextWord) -> WantedWord {
     match next {
         NextWord::Claim => WantedWord::Claim,
         NextWord::Outcome => WantedWord::Outcome,
@@ -338,14 +338,14 @@ pub fn expectations(alloc: Global, text: &str) -> Result<Reading, Misread> {
         let next = reader.next;
         if !reader.read(word)? {
             return Err(Misread::Unexpected {
-                wanted: word_wanted_by(next),
+                wanted: wanted_by(next),
                 place,
             });
         }
     }
     if !reader.may_end() {
         return Err(Misread::Unexpected {
-            wanted: word_wanted_by(reader.next),
+            wanted: wanted_by(reader.next),
             place: words.len(),
         });
     }
