@@ -321,6 +321,27 @@ name_of_routine (Some r) = r.name
 
 -- ---- the legend
 
+-- what a program's numbers are called
+pub record Legend : Type 0 where
+  pub shapes : Compounds
+  pub constants : List (List ℕ)
+  pub systems : List SystemName
+  -- the permanent variables of each system type
+  pub permanents : List (List Variable)
+  pub routines : List RoutineNames
+  pub components : List Named
+
+abbrev pub legend_seen : code_legend.Legend → Legend
+legend_seen l =
+    record {
+      shapes = types_seen l.shapes;
+      constants = map string_bytes l.constants.items;
+      systems = map system_seen l.systems.items;
+      permanents = map variables_seen l.permanents.items;
+      routines = map routine_names_seen l.routines.items;
+      components = map component_seen l.components.items;
+    }
+
 -- A legend has the names that the source gives: its arrays and records and constants; each system type with its permanent variables, the program being the last; each
 -- routine; and the components of the tables.
 pub record IsLegendOf (l : code_legend.Legend) (s : Source) (all : List Component) : Type 0 where

@@ -1,5 +1,5 @@
 -- Values as people read them, from the cells of variables.
-use Rattle.std.specs.Prelude.{ℕ, zero, suc, ◌/◌, ◌%◌, ◌^◌, ◌==◌, ◌&&◌, not, int_le, Bool, ℤ, pos, unsigned_abs, if◌then◌else◌, List, [], ◌∷◌, ◌++◌, map, length, Option, Some, None, slice_get, slice_index_or, codes}
+use Rattle.std.specs.Prelude.{ℕ, zero, suc, ◌/◌, ◌%◌, ◌^◌, ◌==◌, ◌&&◌, not, int_le, Bool, true, false, ℤ, pos, unsigned_abs, if◌then◌else◌, List, [], ◌∷◌, ◌++◌, map, length, Option, Some, None, slice_get, slice_index_or, codes}
 use Rattle.std.specs.Fmt.{signed_decimal}
 use Rattle.std.specs.Int.{cast_unsigned, w16}
 use Rattle.std.specs.Ordering.{int_eq}
@@ -67,6 +67,22 @@ as_array _ = None
 abbrev pub fields_in : Option Compound → List Field
 fields_in (Some (record_with fs n)) = fs
 fields_in _ = []
+
+-- ---- queues
+
+abbrev pub is_queue : CellType → Bool
+is_queue types.Queue = true
+is_queue _ = false
+
+abbrev pub has_queues : Option ArrayType → Bool
+has_queues None = false
+has_queues (Some a) = is_queue a.element
+
+-- whether a value is a queue, or an array of queues
+abbrev pub is_queues : Compounds → CellType → Bool
+is_queues ts types.Queue = true
+is_queues ts (types.Array n) = has_queues (as_array (slice_get ts n))
+is_queues ts _ = false
 
 -- ---- ordinal values, as the source writes them
 

@@ -84,7 +84,9 @@ impl LegendTypes {
     }
 
     /// Whether a value is made of queues alone.
-    pub fn is_queues(&self, value_type: CellType) -> bool {
+    pub fn is_queues(&self, value_type: CellType) -> bool
+        ensures { result ≡ spec.is_queues (types_seen self.now) value_type }
+    {
         match value_type {
             CellType::Queue => true,
             CellType::Array(number) => match self.array(number) {
