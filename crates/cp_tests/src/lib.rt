@@ -16,6 +16,8 @@ mod parses;
 #[cfg(test)]
 mod programs;
 #[cfg(test)]
+mod progress_lines;
+#[cfg(test)]
 mod readings;
 #[cfg(test)]
 mod refusals;

@@ -1,7 +1,7 @@
-//! When the line is written, what it says, and that it goes.
+//! When the line that tells how far work has come is written, what it says, and that it goes.
 
-use crate::{ObserveWork, ProgressLine};
 use cp_progress::{ObserveProgress, Progress, WalkProgress};
+use cp_progress_line::{ObserveWork, ProgressLine};
 use std::alloc::Global;
 use std::cell::Cell;
 use std::io::{Error, ErrorKind, Result as IoResult, Write};
@@ -170,7 +170,7 @@ fn what_is_not_looked_for_is_not_told(rt: HostRuntime) {
 }
 
 // What a terminal is told last of a walk from so many beginnings.
-fn told_of_walk(alloc: Global, beginnings: u32) -> FakeTerminal {
+fn terminal_of_walk(alloc: Global, beginnings: u32) -> FakeTerminal {
     let clock = TickingClock {
         reads: Cell::new(0),
     };
@@ -190,13 +190,13 @@ fn told_of_walk(alloc: Global, beginnings: u32) -> FakeTerminal {
 
 #[test]
 fn a_walk_tells_its_schedules(rt: HostRuntime) {
-    let terminal = told_of_walk(rt.alloc(), 1);
+    let terminal = terminal_of_walk(rt.alloc(), 1);
     assert!(rt; terminal.taken.as_slice() == "\rschedules so far: 1200".as_bytes());
 }
 
 #[test]
 fn a_walk_from_beginnings_tells_how_many_are_done(rt: HostRuntime) {
-    let terminal = told_of_walk(rt.alloc(), 40);
+    let terminal = terminal_of_walk(rt.alloc(), 40);
     let wanted = "\rschedules so far: 1200, beginnings done: 19 of 40";
     assert!(rt; terminal.taken.as_slice() == wanted.as_bytes());
 }
