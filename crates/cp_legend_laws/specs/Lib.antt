@@ -1,0 +1,3 @@
+pub mod Called
+pub mod Paths
+pub mod Statements

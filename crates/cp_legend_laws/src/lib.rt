@@ -1,0 +1,6 @@
+//! The laws that a legend gives each component its right name. No code runs here.
+#![tactic(auto)]
+
+pub mod laws;
+
+pub use laws::{law_components, law_paths};
