@@ -1,4 +1,6 @@
+pub mod Behind
 pub mod Calls
+pub mod Changing
 pub mod Folding
 pub mod Lists
 pub mod Stops

@@ -5,7 +5,9 @@ use Rattle.cp_machine.specs.declared.event.Event.{Event}
 use Rattle.cp_machine.specs.declared.gates.Gates.{Gates}
 use Rattle.cp_machine.specs.declared.process.Status.{Status}
 use Rattle.cp_machine.specs.Machine.{Machine, thread_at}
+use Rattle.cp_legend.specs.Names.{Legend}
 use Rattle.cp_story.specs.Aimed.{line_of_top}
+use Rattle.cp_story.specs.Changes.{Changed, changes_in}
 use Rattle.cp_story.specs.declared.event.StoryEvent.{StoryEvent}
 use Rattle.cp_story.specs.declared.observer.Observer.{Observer}
 use Rattle.cp_run.specs.declared.line.TraceEvent.{TraceEvent}
@@ -20,9 +22,9 @@ same_past o u es e = ap (λ (past : Past). record { events = map told_of es; pas
 pub step_told : (r : Tables) (gates : Gates) (p : ℕ) (s t : Machine) (event : Event) (line : Option ℕ) (x y z : Telling) → line ≡ line_of_top r (thread_at s.threads p).stack → y ≡ x → z ≡ told_step r gates p line event t y → z ≡ (teller r gates).on_step s p event t x
 step_told r gates p s t event line x y z l e h = h ∙ ap (told_step r gates p line event t) e ∙ ap (λ n. told_step r gates p n event t x) l
 
-pub none_told : (o : Observer) (es : List StoryEvent) (m : Machine) → es ≡ [] → past_of o ≡ (nothing_told m).past → telling_of o es ≡ nothing_told m
-none_told o es m none e = ap (λ (l : List StoryEvent). telling_of o l) none ∙ ap (λ (past : Past). record { events = []; past = past }) e
+pub none_told : (o : Observer) (es : List StoryEvent) (l : Legend) (m : Machine) → es ≡ [] → past_of o ≡ (nothing_told l m).past → telling_of o es ≡ nothing_told l m
+none_told o es l m none e = ap (λ (ts : List StoryEvent). telling_of o ts) none ∙ ap (λ (past : Past). record { events = []; past = past }) e
 
 -- an event is told as its parts are
-pub told_as : (holders : List (Option ℕ)) (event : TraceEvent) (p : ℕ) (at : Option ℕ) (t : Machine) (past : Past) (happened : Happened) (line : Option ℕ) (choice : Option Decision) (woken let_in : List ℕ) (statuses : List Status) → happened ≡ what_happened event p at t past → line ≡ line_told happened at → choice ≡ past.choice → woken ≡ resumed_processes is_queued past.statuses t p → let_in ≡ resumed_processes is_gated past.statuses t p → statuses ≡ statuses_in t → told_event holders event p at t past ≡ record { process = p; happened = happened; line = line; choice = choice; woken = woken; let_in = let_in; statuses = statuses; holders = holders }
-told_as holders event p at t past happened line choice woken let_in statuses is stands after delayed gated all = rw (stands, is, after, delayed, gated, all) refl
+pub told_as : (holders : List (Option ℕ)) (event : TraceEvent) (p : ℕ) (at : Option ℕ) (t : Machine) (past : Past) (happened : Happened) (line : Option ℕ) (choice : Option Decision) (woken let_in : List ℕ) (statuses : List Status) (changes : List Changed) → happened ≡ what_happened event p at t past → line ≡ line_told happened at → choice ≡ past.choice → woken ≡ resumed_processes is_queued past.statuses t p → let_in ≡ resumed_processes is_gated past.statuses t p → statuses ≡ statuses_in t → changes ≡ changes_in past.legend past.cells t.permanents → told_event holders event p at t past ≡ record { process = p; happened = happened; line = line; choice = choice; woken = woken; let_in = let_in; statuses = statuses; holders = holders; changes = changes }
+told_as holders event p at t past happened line choice woken let_in statuses changes is stands after delayed gated all others = rw (stands, is, after, delayed, gated, all, others) refl

@@ -1,4 +1,5 @@
 pub mod Aimed
+pub mod Changes
 pub mod Events
 pub mod Fold
 pub mod Stop

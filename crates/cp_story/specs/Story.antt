@@ -1,8 +1,9 @@
 -- What a story tells of a run: what each kernel call, process end and admission was, on which line and after which choice, who goes on by it, and
--- how the processes stand then. It is told from the states of the slot machine before and after it. Names and values of variables are no part of it.
-use Rattle.std.specs.Prelude.{ℕ, List, [], ◌∷◌, ◌++◌, ◌-◌, ◌==◌, ◌&&◌, Bool, true, false, not, map, length, take, replicate, slice_index_or, slice_set, Option, Some, None, unwrap_or, pos}
+-- how the processes stand then; and which variables of monitors changed, with their values. It is told from the states of the slot machine before and after it.
+use Rattle.std.specs.Prelude.{ℕ, List, [], ◌∷◌, ◌++◌, ◌-◌, ◌==◌, ◌&&◌, Bool, true, false, not, map, length, take, replicate, slice_index_or, slice_set, Option, Some, None, unwrap_or, ℤ, pos}
 use Rattle.std.specs.List.{filter, range_with_len}
 use Rattle.cp_slots.specs.Tables.{Tables}
+use Rattle.cp_legend.specs.Names.{Legend}
 use Rattle.cp_machine.specs.declared.event.Event.{Event}
 use Rattle.cp_machine.specs.declared.event.Event.TheVariants as step
 use Rattle.cp_machine.specs.declared.event.Kernel.TheVariants.{Enter, Leave, Delay, Continue, StartProcess, Display}
@@ -21,6 +22,7 @@ use Rattle.cp_run.specs.Run.{may, those_below}
 use Rattle.cp_run.specs.Slots.{slots}
 use Rattle.cp_run.specs.Trace.{holders_in}
 use Rattle.cp_story.specs.Aimed.{line_of_top}
+use Rattle.cp_story.specs.Changes.{Changed, changes_in}
 use Rattle.cp_story.specs.Fold.{Fold, fold_run}
 use Rattle.cp_story.specs.declared.event.OpenCall.{OpenCall}
 
@@ -54,6 +56,8 @@ pub record Told : Type 0 where
   -- the status of each process, and the process inside each monitor
   pub statuses : List Status
   pub holders : List (Option ℕ)
+  -- the variables of monitors that changed since the event before
+  pub changes : List Changed
 
 -- what is remembered from one event to the next
 pub record Past : Type 0 where
@@ -61,9 +65,13 @@ pub record Past : Type 0 where
   -- the open calls of monitors of each process, the innermost last
   pub calls : List (List OpenCall)
   pub statuses : List Status
+  -- the cells of all components
+  pub cells : List ℤ
+  -- what variables are called
+  pub legend : Legend
 
 abbrev pub with_calls : Past → List (List OpenCall) → Past
-with_calls past calls = record { choice = past.choice; calls = calls; statuses = past.statuses }
+with_calls past calls = record past { calls = calls }
 
 -- the events so far, and what is remembered of them
 pub record Telling : Type 0 where
@@ -157,10 +165,11 @@ told_event holders event p line t past =
       let_in = resumed_processes is_gated past.statuses t p;
       statuses = statuses_in t;
       holders = holders;
+      changes = changes_in past.legend past.cells t.permanents;
     }
 
 abbrev pub past_after : TraceEvent → ℕ → Option ℕ → Machine → Past → Past
-past_after event p line t past = record { choice = None; calls = calls_after event p line t past.calls; statuses = statuses_in t }
+past_after event p line t past = record past { choice = None; calls = calls_after event p line t past.calls; statuses = statuses_in t; cells = t.permanents }
 
 abbrev pub told_more : Tables → Gates → TraceEvent → ℕ → Option ℕ → Machine → Telling → Telling
 told_more r gates event p line t x = record { events = x.events ++ told_event (holders_in (slots r gates) t) event p line t x.past ∷ []; past = past_after event p line t x.past }
@@ -176,21 +185,24 @@ told_step r gates p line _ t x = x
 abbrev pub decision_in : Tables → Gates → Machine → ℕ → Decision
 decision_in r gates m number = record { options = those_below (length r.processes) (may (slots r gates) m); number = number; at_gate = is_pending m }
 
+abbrev pub choice_taken : Telling → Decision → Telling
+choice_taken x d = record { events = x.events; past = record x.past { choice = Some d } }
+
 abbrev pub teller : Tables → Gates → Fold Machine Telling
 teller r gates =
     record {
       on_step = λ s p event t x. told_step r gates p (line_of_top r (thread_at s.threads p).stack) event t x;
       on_admission = λ p t x. told_more r gates Admit p None t x;
-      on_choice = λ s number x. record { events = x.events; past = record { choice = Some (decision_in r gates s number); calls = x.past.calls; statuses = x.past.statuses } };
+      on_choice = λ s number x. choice_taken x (decision_in r gates s number);
     }
 
-abbrev pub nothing_told : Machine → Telling
-nothing_told m = record { events = []; past = record { choice = None; calls = replicate (length m.threads) []; statuses = statuses_in m } }
+abbrev pub nothing_told : Legend → Machine → Telling
+nothing_told l m = record { events = []; past = record { choice = None; calls = replicate (length m.threads) []; statuses = statuses_in m; cells = m.permanents; legend = l } }
 
 -- what is told of the run of a word
-abbrev pub telling : Tables → Gates → (choices steps : ℕ) → List ℕ → Telling
-telling r gates choices steps word = fold_run (slots r gates) (teller r gates) choices steps word (nothing_told (opening r gates))
+abbrev pub telling : Legend → Tables → Gates → (choices steps : ℕ) → List ℕ → Telling
+telling l r gates choices steps word = fold_run (slots r gates) (teller r gates) choices steps word (nothing_told l (opening r gates))
 
 -- its events
-abbrev pub story_of : Tables → Gates → (choices steps : ℕ) → List ℕ → List Told
-story_of r gates choices steps word = (telling r gates choices steps word).events
+abbrev pub story_of : Legend → Tables → Gates → (choices steps : ℕ) → List ℕ → List Told
+story_of l r gates choices steps word = (telling l r gates choices steps word).events

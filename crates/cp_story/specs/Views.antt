@@ -1,8 +1,13 @@
 -- What is seen of a story's values.
 use Rattle.std.specs.Prelude.{List, Bool, map, option_map}
+use Rattle.std.specs.String.{string_bytes}
 use Rattle.std.specs.declared.alloc.Global.{Global}
 use Rattle.std.specs.declared.vec.Vec.{Vec}
 use Rattle.cp_machine.specs.declared.process.Status.{Status}
+use Rattle.cp_legend.specs.Names.{legend_seen}
+use Rattle.cp_legend.specs.Values.{value_seen}
+use Rattle.cp_story.specs.Changes.{Changed}
+use Rattle.cp_story.specs.declared.event.Change.{Change}
 use Rattle.cp_story.specs.declared.event.Choice.{Choice}
 use Rattle.cp_story.specs.declared.event.Happening.{Happening}
 use Rattle.cp_story.specs.declared.event.Happening.TheVariants as happening
@@ -28,6 +33,9 @@ happened_of (happening.Display value) = Displays value
 happened_of happening.End = Ends
 happened_of (happening.Admit call) = IsAdmitted call
 
+abbrev pub changed_of : Change → Changed
+changed_of c = record { monitor = c.monitor; name = string_bytes c.name; value = value_seen c.value }
+
 abbrev pub told_of : StoryEvent → Told
 told_of e =
     record {
@@ -39,13 +47,14 @@ told_of e =
       let_in = e.let_in.items;
       statuses = e.statuses.items;
       holders = e.plain.holders;
+      changes = map changed_of e.changes.items;
     }
 
 abbrev pub items_of : Vec OpenCall Global → List OpenCall
 items_of calls = calls.items
 
 abbrev pub past_of : Observer → Past
-past_of o = record { choice = option_map decision_of o.choice; calls = map items_of o.calls.items; statuses = o.statuses.items }
+past_of o = record { choice = option_map decision_of o.choice; calls = map items_of o.calls.items; statuses = o.statuses.items; cells = o.permanents.items; legend = legend_seen o.legend.now }
 
 abbrev pub telling_of : Observer → List StoryEvent → Telling
 telling_of o events = record { events = map told_of events; past = past_of o }

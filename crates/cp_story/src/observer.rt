@@ -1,6 +1,7 @@
 //! What is remembered from one event to the next.
 
 ghost use Rattle.std.specs.Prelude.{◌≡◌, IfOk, pos, unwrap_or};
+ghost use Rattle.cp_legend.specs.Names.{legend_seen};
 ghost use Rattle.cp_machine.specs.declared.event.Kernel.TheVariants as kernel;
 ghost use Rattle.cp_machine.specs.declared.shown.Shown.TheVariants.{Integer};
 ghost use Rattle.cp_machine.specs.Machine.{machine_of, thread_at};
@@ -55,7 +56,7 @@ pub struct Last {
 impl<'a> Observer<'a> {
     /// Begins to observe a state.
     pub fn new(alloc: Global, legend: &'a Legend, state: &State) -> Result<Observer<'a>, AllocError>
-        ensures { IfOk result (λ o. past_of o ≡ (nothing_told (machine_of state.now)).past) }
+        ensures { IfOk result (λ o. past_of o ≡ (nothing_told (legend_seen legend.now) (machine_of state.now)).past) }
     {
         let mut calls = Vec::new(alloc);
         for _ in 0..state.processes.len() {
@@ -123,11 +124,11 @@ impl<'a> Observer<'a> {
         ensures past { IfOk result (λ _. past_of self.new ≡ past_after plain.event plain.process aim.line (machine_of state.now) (past_of self.old)) }
     {
         let process = plain.process;
+        let changes = changes(alloc, self.legend, &self.permanents, &state.permanents)?;
         let woken = resumed_processes(&self.statuses, state, process, Waited::Delayed);
         let let_in = resumed_processes(&self.statuses, state, process, Waited::AtGate);
         let happening = self.happening(alloc, state, process, plain.event, aim)?;
         let line = line_of(&happening, aim);
-        let changes = changes(alloc, self.legend, &self.permanents, &state.permanents)?;
         let choice = self.choice.take();
         let returned = mem::replace(&mut self.returned, Vec::new(alloc));
         self.remember(alloc, state)?;
@@ -145,7 +146,7 @@ impl<'a> Observer<'a> {
     }
 
     fn remember(&mut self, alloc: Global, state: &State) -> Result<(), AllocError>
-        ensures { IfOk result (λ _. past_of self.new ≡ record { choice = (past_of self.old).choice; calls = (past_of self.old).calls; statuses = statuses_in (machine_of state.now) }) }
+        ensures { IfOk result (λ _. past_of self.new ≡ record (past_of self.old) { statuses = statuses_in (machine_of state.now); cells = (machine_of state.now).permanents }) }
     {
         self.statuses = statuses_of(alloc, state)?;
         self.permanents = Vec::from_slice(alloc, &state.permanents)?;

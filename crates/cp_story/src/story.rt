@@ -1,6 +1,7 @@
 //! A run of one schedule word, told event by event.
 
 ghost use Rattle.std.specs.Prelude.{◌≡◌, ◌<◌, ◌≤◌, ◌+◌, ◌-◌, ◌*◌, ◌++◌, ◌∷◌, [], true, false, if◌then◌else◌, IfOk, length, map, option_map};
+ghost use Rattle.cp_legend.specs.Names.{legend_seen};
 ghost use Rattle.cp_machine.specs.System.{machine_of, is_ready, is_pending, opening, IsStateOf};
 ghost use Rattle.cp_machine.specs.Machine.{thread_at};
 ghost use Rattle.cp_run.specs.Run.{run, stretch, chosen, opened, may, those_below};
@@ -340,9 +341,9 @@ fn tell_word<L: Ledger>(
     requires own { IsStateOf program.now state.old }
     requires start { machine_of state.old ≡ opening program.now limits.gates }
     requires none { events.old.items ≡ [] }
-    requires first { past_of observer.old ≡ (nothing_told (opening program.now limits.gates)).past }
+    requires first { past_of observer.old ≡ (nothing_told (legend_seen observer.old.legend.now) (opening program.now limits.gates)).past }
     ensures lines { IfOk result (λ _. lines_of events.new.items ≡ trace (slots program.now limits.gates) limits.choices limits.steps word.now) }
-    ensures told { IfOk result (λ _. telling_of observer.new events.new.items ≡ telling program.now limits.gates limits.choices limits.steps word.now) }
+    ensures told { IfOk result (λ _. telling_of observer.new events.new.items ≡ telling (legend_seen observer.old.legend.now) program.now limits.gates limits.choices limits.steps word.now) }
     ensures answer { IfOk result (λ end. answer_of end ≡ run (slots program.now limits.gates) limits.choices limits.steps word.now) }
     ensures stop { IfOk result (λ _. machine_of state.new ≡ last_state (slots program.now limits.gates) limits.choices limits.steps word.now) }
     ensures own { IsStateOf program.now state.new }
@@ -378,9 +379,9 @@ pub fn tell<L: Ledger>(
 ) -> Result<Story, AllocError>
     requires { length word.now ≤ 100 }
     ensures lines { IfOk result (λ s. lines_of s.events.items ≡ trace (slots program.now limits.gates) limits.choices limits.steps word.now) }
-    ensures told { IfOk result (λ s. map told_of s.events.items ≡ story_of program.now limits.gates limits.choices limits.steps word.now) }
-    ensures choice { IfOk result (λ s. option_map decision_of s.last_choice ≡ (telling program.now limits.gates limits.choices limits.steps word.now).past.choice) }
-    ensures waits { IfOk result (λ s. map wait_of s.waits.items ≡ who_waits program.now limits.gates limits.choices limits.steps word.now) }
+    ensures told { IfOk result (λ s. map told_of s.events.items ≡ story_of (legend_seen legend.now) program.now limits.gates limits.choices limits.steps word.now) }
+    ensures choice { IfOk result (λ s. option_map decision_of s.last_choice ≡ (telling (legend_seen legend.now) program.now limits.gates limits.choices limits.steps word.now).past.choice) }
+    ensures waits { IfOk result (λ s. map wait_of s.waits.items ≡ who_waits (legend_seen legend.now) program.now limits.gates limits.choices limits.steps word.now) }
     ensures answer { IfOk result (λ s. answer_of s.end ≡ run (slots program.now limits.gates) limits.choices limits.steps word.now) }
     ensures ticks { ticks.new ≤ ticks.old + (limits.choices + 1) * limits.steps }
 {

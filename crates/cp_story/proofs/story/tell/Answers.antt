@@ -1,10 +1,11 @@
 use Rattle.std.proofs.Common.{◌∙◌, ap}
 use Rattle.cp_run.specs.Code.{answer_of}
 use Rattle.cp_run.proofs.Tracing.{ok_as}
+use Rattle.cp_legend.specs.Names.{Legend}
 use Rattle.cp_machine.specs.Machine.{Machine}
 use Rattle.cp_run.specs.Slots.{slots}
 use Rattle.cp_story.specs.Stop.{last_state}
-use Rattle.cp_story.specs.Story.{Telling}
+use Rattle.cp_story.specs.Story.{Past, Telling, telling}
 use Rattle.cp_story.specs.Views.{past_of}
 use Rattle.cp_story.specs.Waiting.{waits_in}
 use Rattle.cp_story.proofs.story.tell.Goals as goal
@@ -16,14 +17,19 @@ pub returns-clause-answer : goal.returns-clause-answer
 returns-clause-answer g c = ok_as c.finish_story.result _ _ c.finish_story.ensures.end (λ s is. ap answer_of is ∙ c.in_ok-end.ensures.answer)
 
 pub returns-clause-told : goal.returns-clause-told
-returns-clause-told g c = ok_as c.finish_story.result _ _ c.finish_story.ensures.told (λ s is. is ∙ ap (λ (t : Telling). t.events) c.in_ok-end.ensures.told)
+returns-clause-told g c =
+    let told = c.in_ok-end.ensures.told ∙ ap (λ (l : Legend). telling l c.args.program.now c.args.limits.gates c.args.limits.choices c.args.limits.steps c.args.word.now) (ap (λ (p : Past). p.legend) c.in_ok-observer.ensures) in
+    ok_as c.finish_story.result _ _ c.finish_story.ensures.told (λ s is. is ∙ ap (λ (t : Telling). t.events) told)
 
 pub returns-clause-choice : goal.returns-clause-choice
-returns-clause-choice g c = ok_as c.finish_story.result _ _ c.finish_story.ensures.choice (λ s is. is ∙ ap (λ (t : Telling). t.past.choice) c.in_ok-end.ensures.told)
+returns-clause-choice g c =
+    let told = c.in_ok-end.ensures.told ∙ ap (λ (l : Legend). telling l c.args.program.now c.args.limits.gates c.args.limits.choices c.args.limits.steps c.args.word.now) (ap (λ (p : Past). p.legend) c.in_ok-observer.ensures) in
+    ok_as c.finish_story.result _ _ c.finish_story.ensures.choice (λ s is. is ∙ ap (λ (t : Telling). t.past.choice) told)
 
 pub returns-clause-waits : goal.returns-clause-waits
 returns-clause-waits g c =
     let r = c.args.program.now in
     let last = last_state (slots r c.args.limits.gates) c.args.limits.choices c.args.limits.steps c.args.word.now in
     let calls = (past_of c.tell_word.new.observer).calls in
-    ok_as c.finish_story.result _ _ c.finish_story.ensures.waits (λ s is. is ∙ ap (λ (m : Machine). waits_in r m calls) c.in_ok-end.ensures.stop ∙ ap (λ (t : Telling). waits_in r last t.past.calls) c.in_ok-end.ensures.told)
+    let told = c.in_ok-end.ensures.told ∙ ap (λ (l : Legend). telling l c.args.program.now c.args.limits.gates c.args.limits.choices c.args.limits.steps c.args.word.now) (ap (λ (p : Past). p.legend) c.in_ok-observer.ensures) in
+    ok_as c.finish_story.result _ _ c.finish_story.ensures.waits (λ s is. is ∙ ap (λ (m : Machine). waits_in r m calls) c.in_ok-end.ensures.stop ∙ ap (λ (t : Telling). waits_in r last t.past.calls) told)

@@ -10,8 +10,7 @@ use Rattle.cp_run.proofs.Running.{refused_at, goes_at, drop_next, drop_all}
 use Rattle.cp_run.proofs.TraceBounds.{ticks_within}
 use Rattle.cp_run.proofs.TraceRuns.{over_run, over_lines, no_word_lines, not_over, some_left, refused_lines, chosen_further}
 use Rattle.cp_run.proofs.Tracing.{no_more}
-use Rattle.std.specs.Prelude.{Some}
-use Rattle.cp_story.specs.Story.{Decision, teller}
+use Rattle.cp_story.specs.Story.{choice_taken, teller}
 use Rattle.cp_story.specs.Stop.{last_state_from}
 use Rattle.cp_story.specs.Told.{lines_of}
 use Rattle.cp_story.specs.Views.{telling_of}
@@ -86,7 +85,7 @@ loop-place-preserved g c =
     let added = c.in_ok-halt-2.ensures.steps in
     let t = teller c.args.program.now c.args.limits.gates in
     let x = telling_of c.loop-place.observer c.loop-place.events.items in
-    let taken = ap (λ (k : Decision). record { events = x.events; past = record { choice = Some k; calls = x.past.calls; statuses = x.past.statuses } }) (sym c.choice_of.ensures) in
+    let taken = ap (choice_taken x) (sym c.choice_of.ensures) in
     record {
       own = c.in_ok-halt-2.ensures.own;
       within = omega (arith, more);
@@ -145,7 +144,7 @@ returns-then-not-may-clause-told g c =
     let x = telling_of c.loop-place.observer c.loop-place.events.items in
     let going = sym c.is_over.ensures ∙ c.if-is_over.false in
     let more = some_left k c.loop-place.halt going in
-    sym (c.loop-place.invariant.told ∙ ap (λ h. fold_from sys w c.args.limits.steps k rest (node_of h m) x) (not_over k c.loop-place.halt going) ∙ fold_refused sys w c.args.limits.steps k (c.args.limits.choices - (n + 1)) p rest (drop (n + 1) c.args.word.now) m x (omega (arith, more)) (drop_next c.args.word.now n (omega arith)) (sym c.may.ensures ∙ c.if-not-may.true) ∙ ap (λ (d : Decision). record { events = x.events; past = record { choice = Some d; calls = x.past.calls; statuses = x.past.statuses } }) (sym c.choice_of.ensures))
+    sym (c.loop-place.invariant.told ∙ ap (λ h. fold_from sys w c.args.limits.steps k rest (node_of h m) x) (not_over k c.loop-place.halt going) ∙ fold_refused sys w c.args.limits.steps k (c.args.limits.choices - (n + 1)) p rest (drop (n + 1) c.args.word.now) m x (omega (arith, more)) (drop_next c.args.word.now n (omega arith)) (sym c.may.ensures ∙ c.if-not-may.true) ∙ ap (choice_taken x) (sym c.choice_of.ensures))
 
 pub returns-clause-told : goal.returns-clause-told
 returns-clause-told g c =
