@@ -2,6 +2,7 @@ pub mod Aimed
 pub mod Changes
 pub mod Events
 pub mod Fold
+pub mod Passed
 pub mod Stop
 pub mod Story
 pub mod Told

@@ -1,9 +1,11 @@
--- What a story tells of a run: what each kernel call, process end and admission was, on which line and after which choice, who goes on by it, and
--- how the processes stand then; and which variables of monitors changed, with their values. It is told from the states of the slot machine before and after it.
-use Rattle.std.specs.Prelude.{ℕ, List, [], ◌∷◌, ◌++◌, ◌-◌, ◌==◌, ◌&&◌, Bool, true, false, not, map, length, take, replicate, slice_index_or, slice_set, Option, Some, None, unwrap_or, ℤ, pos}
+-- What a story tells of a run: what each kernel call, process end and admission was, on which line and after which choice; what its call is given or gives
+-- back; who goes on by it, and how the processes stand then; and which variables of monitors changed. It is told from the states of the slot machine before
+-- and after it. Which queue a process is delayed in or continues is no part of it.
+use Rattle.std.specs.Prelude.{ℕ, List, [], ◌∷◌, ◌++◌, ◌-◌, ◌==◌, ◌&&◌, Bool, true, false, not, if◌then◌else◌, map, length, take, replicate, slice_get, slice_index_or, slice_set, Option, Some, None, unwrap_or, ℤ, pos}
 use Rattle.std.specs.List.{filter, range_with_len}
 use Rattle.cp_slots.specs.Tables.{Tables}
 use Rattle.cp_legend.specs.Names.{Legend}
+use Rattle.cp_legend.specs.Values.{Value}
 use Rattle.cp_machine.specs.declared.event.Event.{Event}
 use Rattle.cp_machine.specs.declared.event.Event.TheVariants as step
 use Rattle.cp_machine.specs.declared.event.Kernel.TheVariants.{Enter, Leave, Delay, Continue, StartProcess, Display}
@@ -21,9 +23,10 @@ use Rattle.cp_run.specs.declared.line.TraceEvent.TheVariants.{Kernel, End, Admit
 use Rattle.cp_run.specs.Run.{may, those_below}
 use Rattle.cp_run.specs.Slots.{slots}
 use Rattle.cp_run.specs.Trace.{holders_in}
-use Rattle.cp_story.specs.Aimed.{line_of_top}
+use Rattle.cp_story.specs.Aimed.{ends_call, line_of_top}
 use Rattle.cp_story.specs.Changes.{Changed, changes_in}
 use Rattle.cp_story.specs.Fold.{Fold, fold_run}
+use Rattle.cp_story.specs.Passed.{Given, arguments, given_back}
 use Rattle.cp_story.specs.declared.event.OpenCall.{OpenCall}
 
 -- a choice that was due: who could be chosen, who was, and whether one of a line was to be let in
@@ -33,8 +36,8 @@ pub record Decision : Type 0 where
   pub at_gate : Bool
 
 pub data Happened : Type 0 where
-  -- a monitor's entry is called, and whether the caller waits at the gate
-  Enters : OpenCall → Bool → Happened
+  -- a monitor's entry is called, with these arguments, and whether the caller waits at the gate
+  Enters : OpenCall → List Value → Bool → Happened
   Leaves : OpenCall → Happened
   Delays : OpenCall → Happened
   Continues : OpenCall → Happened
@@ -48,6 +51,8 @@ pub record Told : Type 0 where
   pub process : ℕ
   pub happened : Happened
   pub line : Option ℕ
+  -- what the call gives back that ends with it
+  pub returned : List Given
   -- the choice that was taken since the event before
   pub choice : Option Decision
   -- who was delayed and goes on, and who was at a gate and goes in
@@ -65,6 +70,8 @@ pub record Past : Type 0 where
   -- the open calls of monitors of each process, the innermost last
   pub calls : List (List OpenCall)
   pub statuses : List Status
+  -- what comes back from the call that ends with the step to come, if one does
+  pub returned : List Given
   -- the cells of all components
   pub cells : List ℤ
   -- what variables are called
@@ -132,7 +139,7 @@ last_or d xs = slice_index_or xs (length xs - 1) d
 -- ---- an event of process p, which stood at a line and came to the state t
 
 abbrev pub what_happened : TraceEvent → ℕ → Option ℕ → Machine → Past → Happened
-what_happened (Kernel Enter) p line t past = Enters (call_begun (thread_at t.threads p) line) (is_gated (thread_at t.threads p).status)
+what_happened (Kernel Enter) p line t past = Enters (call_begun (thread_at t.threads p) line) (arguments past.legend (slice_get t.threads p)) (is_gated (thread_at t.threads p).status)
 what_happened (Kernel Leave) p line t past = Leaves (innermost_call past.calls p)
 what_happened (Kernel Delay) p line t past = Delays (innermost_call past.calls p)
 what_happened (Kernel Continue) p line t past = Continues (innermost_call past.calls p)
@@ -160,6 +167,7 @@ told_event holders event p line t past =
       process = p;
       happened = what_happened event p line t past;
       line = line_told (what_happened event p line t past) line;
+      returned = past.returned;
       choice = past.choice;
       woken = resumed_processes is_queued past.statuses t p;
       let_in = resumed_processes is_gated past.statuses t p;
@@ -169,12 +177,19 @@ told_event holders event p line t past =
     }
 
 abbrev pub past_after : TraceEvent → ℕ → Option ℕ → Machine → Past → Past
-past_after event p line t past = record past { choice = None; calls = calls_after event p line t past.calls; statuses = statuses_in t; cells = t.permanents }
+past_after event p line t past = record past { choice = None; calls = calls_after event p line t past.calls; statuses = statuses_in t; returned = []; cells = t.permanents }
 
 abbrev pub told_more : Tables → Gates → TraceEvent → ℕ → Option ℕ → Machine → Telling → Telling
 told_more r gates event p line t x = record { events = x.events ++ told_event (holders_in (slots r gates) t) event p line t x.past ∷ []; past = past_after event p line t x.past }
 
 -- ---- a run
+
+-- what is seen of a step of process p before it is made: what comes back from the call that ends with it
+abbrev pub past_before : (ends : Bool) → Machine → ℕ → Past → Past
+past_before ends s p past = if ends then record past { returned = given_back past.legend s.permanents (slice_get s.threads p) } else past
+
+abbrev pub expecting : (ends : Bool) → Machine → ℕ → Telling → Telling
+expecting ends s p x = record { events = x.events; past = past_before ends s p x.past }
 
 abbrev pub told_step : Tables → Gates → ℕ → Option ℕ → Event → Machine → Telling → Telling
 told_step r gates p line (step.Kernel call) t x = told_more r gates (Kernel call) p line t x
@@ -191,13 +206,13 @@ choice_taken x d = record { events = x.events; past = record x.past { choice = S
 abbrev pub teller : Tables → Gates → Fold Machine Telling
 teller r gates =
     record {
-      on_step = λ s p event t x. told_step r gates p (line_of_top r (thread_at s.threads p).stack) event t x;
+      on_step = λ s p event t x. let stack = (thread_at s.threads p).stack in told_step r gates p (line_of_top r stack) event t (expecting (ends_call r stack) s p x);
       on_admission = λ p t x. told_more r gates Admit p None t x;
       on_choice = λ s number x. choice_taken x (decision_in r gates s number);
     }
 
 abbrev pub nothing_told : Legend → Machine → Telling
-nothing_told l m = record { events = []; past = record { choice = None; calls = replicate (length m.threads) []; statuses = statuses_in m; cells = m.permanents; legend = l } }
+nothing_told l m = record { events = []; past = record { choice = None; calls = replicate (length m.threads) []; statuses = statuses_in m; returned = []; cells = m.permanents; legend = l } }
 
 -- what is told of the run of a word
 abbrev pub telling : Legend → Tables → Gates → (choices steps : ℕ) → List ℕ → Telling

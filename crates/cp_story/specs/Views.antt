@@ -7,11 +7,13 @@ use Rattle.cp_machine.specs.declared.process.Status.{Status}
 use Rattle.cp_legend.specs.Names.{legend_seen}
 use Rattle.cp_legend.specs.Values.{value_seen}
 use Rattle.cp_story.specs.Changes.{Changed}
+use Rattle.cp_story.specs.Passed.{Given, given}
 use Rattle.cp_story.specs.declared.event.Change.{Change}
 use Rattle.cp_story.specs.declared.event.Choice.{Choice}
 use Rattle.cp_story.specs.declared.event.Happening.{Happening}
 use Rattle.cp_story.specs.declared.event.Happening.TheVariants as happening
 use Rattle.cp_story.specs.declared.event.OpenCall.{OpenCall}
+use Rattle.cp_story.specs.declared.event.Returned.{Returned}
 use Rattle.cp_story.specs.declared.event.StoryEvent.{StoryEvent}
 use Rattle.cp_story.specs.declared.observer.Observer.{Observer}
 use Rattle.cp_story.specs.declared.statuses.Waited.{Waited}
@@ -24,7 +26,7 @@ abbrev pub decision_of : Choice → Decision
 decision_of c = record { options = c.options.items; number = c.number; at_gate = c.at_gate }
 
 abbrev pub happened_of : Happening → Happened
-happened_of (happening.Enter call arguments waits) = Enters call waits
+happened_of (happening.Enter call arguments waits) = Enters call (map value_seen arguments.items) waits
 happened_of (happening.Leave call) = Leaves call
 happened_of (happening.Delay queue call) = Delays call
 happened_of (happening.Continue queue call) = Continues call
@@ -32,6 +34,9 @@ happened_of (happening.Start process) = Starts process
 happened_of (happening.Display value) = Displays value
 happened_of happening.End = Ends
 happened_of (happening.Admit call) = IsAdmitted call
+
+abbrev pub given_of : Returned → Given
+given_of r = given (string_bytes r.name) (value_seen r.value)
 
 abbrev pub changed_of : Change → Changed
 changed_of c = record { monitor = c.monitor; name = string_bytes c.name; value = value_seen c.value }
@@ -42,6 +47,7 @@ told_of e =
       process = e.plain.process;
       happened = happened_of e.happening;
       line = e.line;
+      returned = map given_of e.returned.items;
       choice = option_map decision_of e.choice;
       woken = e.woken.items;
       let_in = e.let_in.items;
@@ -54,7 +60,7 @@ abbrev pub items_of : Vec OpenCall Global → List OpenCall
 items_of calls = calls.items
 
 abbrev pub past_of : Observer → Past
-past_of o = record { choice = option_map decision_of o.choice; calls = map items_of o.calls.items; statuses = o.statuses.items; cells = o.permanents.items; legend = legend_seen o.legend.now }
+past_of o = record { choice = option_map decision_of o.choice; calls = map items_of o.calls.items; statuses = o.statuses.items; returned = map given_of o.returned.items; cells = o.permanents.items; legend = legend_seen o.legend.now }
 
 abbrev pub telling_of : Observer → List StoryEvent → Telling
 telling_of o events = record { events = map told_of events; past = past_of o }

@@ -51,7 +51,8 @@ pub fn aim_of(program: &Resolved, state: &State, pid: u8) -> Aim
     requires own { IsStateOf program.now state.now }
     requires pid { pid < length state.now.processes.items }
     requires ready { IsTrue (is_ready (machine_of state.now) pid) }
-    ensures { result.line ≡ spec.line_of_top program.now (thread_at (machine_of state.now).threads pid).stack }
+    ensures line { result.line ≡ spec.line_of_top program.now (thread_at (machine_of state.now).threads pid).stack }
+    ensures ends { result.ends_call ≡ spec.ends_call program.now (thread_at (machine_of state.now).threads pid).stack }
 {
     match top_of(state, pid) {
         Some(&Entry::Rest(at)) => aim_at(program, state, pid, at),
@@ -67,14 +68,21 @@ fn aim_at(program: &Resolved, state: &State, pid: u8, at: usize) -> Aim
     requires pid { pid < length state.now.processes.items }
     requires ready { IsTrue (is_ready (machine_of state.now) pid) }
     requires top { (thread_at (machine_of state.now).threads pid).stack ≡ Entry.Rest at ∷ under (machine_of state.now) pid }
-    ensures { result.line ≡ Some (item_at program.now at).line }
+    ensures line { result.line ≡ Some (item_at program.now at).line }
+    ensures ends { result.ends_call ≡ spec.is_continue (item_at program.now at).action }
 {
     let item = program.item(at);
     Aim {
         line: Some(item.line),
         queue: process_to_continue(state, pid, item).or(queue_of_delay(state, pid, item)),
-        ends_call: matches!(item.action, Action::Continue(_)),
+        ends_call: is_continue(item),
     }
+}
+
+fn is_continue(item: &Item) -> bool
+    ensures { result ≡ spec.is_continue item.now.action }
+{
+    matches!(item.action, Action::Continue(_))
 }
 
 // The cell of the queue that an item continues.

@@ -113,7 +113,8 @@ fn name_of(
 ) -> Result<String, AllocError>
     ensures { IfOk result (λ n. string_bytes n ≡ spec.name_of (legend_seen legend.now) (component_seen component.now) monitor (variable_seen variable.now)) }
 {
-    let inner = behind(".", behind(legend.monitor_name(monitor), component.path.as_str()));
+    let rest = behind(legend.monitor_name(monitor), component.path.as_str());
+    let inner = behind(".", rest);
     let mut name = String::from_str(alloc, inner)?;
     if !inner.is_empty() {
         name.push('.')?;

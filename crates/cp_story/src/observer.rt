@@ -1,13 +1,14 @@
 //! What is remembered from one event to the next.
 
-ghost use Rattle.std.specs.Prelude.{◌≡◌, IfOk, pos, unwrap_or};
+ghost use Rattle.std.specs.Prelude.{◌≡◌, IfOk, OnErr, pos, slice_get, unwrap_or};
 ghost use Rattle.cp_legend.specs.Names.{legend_seen};
 ghost use Rattle.cp_machine.specs.declared.event.Kernel.TheVariants as kernel;
 ghost use Rattle.cp_machine.specs.declared.shown.Shown.TheVariants.{Integer};
 ghost use Rattle.cp_machine.specs.Machine.{machine_of, thread_at};
 ghost use Rattle.cp_run.specs.declared.line.TraceEvent.TheVariants as event;
 ghost use Rattle.cp_story.specs.Events.{event_of};
-ghost use Rattle.cp_story.specs.Story.{Enters, call_begun, calls_after, innermost_call, is_gated, last_or, line_told, no_call, nothing_told, past_after, statuses_in, told_event, what_happened, with_call, with_calls};
+ghost use Rattle.cp_story.specs.Passed as passed;
+ghost use Rattle.cp_story.specs.Story.{Enters, call_begun, calls_after, innermost_call, is_gated, last_or, line_told, no_call, nothing_told, past_after, past_before, statuses_in, told_event, what_happened, with_call, with_calls};
 ghost use Rattle.cp_story.specs.Views.{happened_of, past_of, told_of};
 ghost use Rattle.cp_story.specs.Waiting.{innermost_open};
 
@@ -85,7 +86,8 @@ impl<'a> Observer<'a> {
         process: u8,
         aim: Aim,
     ) -> Result<(), AllocError>
-        ensures { past_of self.new ≡ past_of self.old }
+        ensures seen { IfOk result (λ _. past_of self.new ≡ past_before aim.ends_call (machine_of state.now) process (past_of self.old)) }
+        ensures failed { OnErr result (past_of self.new ≡ past_of self.old) }
     {
         let before = if self.last.process == process {
             self.last.line
@@ -195,7 +197,7 @@ impl<'a> Observer<'a> {
         aim: Aim,
     ) -> Result<Happening, AllocError>
         ensures kind { IfOk result (λ h. event_of h ≡ event.Kernel kernel.Enter) }
-        ensures happened { IfOk result (λ h. happened_of h ≡ Enters (call_begun (thread_at (machine_of state.now).threads process) aim.line) (is_gated (thread_at (machine_of state.now).threads process).status)) }
+        ensures happened { IfOk result (λ h. happened_of h ≡ Enters (call_begun (thread_at (machine_of state.now).threads process) aim.line) (passed.arguments (past_of self.old).legend (slice_get (machine_of state.now).threads process)) (is_gated (thread_at (machine_of state.now).threads process).status)) }
         ensures calls { IfOk result (λ _. past_of self.new ≡ with_calls (past_of self.old) (with_call (past_of self.old).calls process (call_begun (thread_at (machine_of state.now).threads process) aim.line))) }
     {
         let call = call_begun(state, process, aim.line);

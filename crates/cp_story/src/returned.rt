@@ -1,8 +1,15 @@
 //! What comes back from a call of a monitor's entry.
 
+ghost use Rattle.std.specs.Prelude.{◌≡◌, ◌++◌, IfOk, OnOk, flat_map, map, option_map, slice_get};
+ghost use Rattle.cp_legend.specs.Names.{legend_seen, routine_names_seen, variable_seen};
+ghost use Rattle.cp_legend.specs.Values.{value_seen};
+ghost use Rattle.cp_machine.specs.Machine.{machine_of, thread_of};
+ghost use Rattle.cp_story.specs.Passed as spec;
+ghost use Rattle.cp_story.specs.Views.{given_of};
+
 use crate::event::Returned;
-use crate::happening::local_name;
-use cp_legend::{Legend, LegendParameter, LegendPassing, LegendRoutine, SourceValue};
+use crate::happening::{address_of, place_named};
+use cp_legend::{Legend, LegendParameter, LegendPassing, LegendRoutine, SourceValue, Variable};
 use cp_machine::{ProcessState, State};
 use cp_store::Address;
 use std::alloc::{AllocError, Global};
@@ -12,44 +19,81 @@ pub fn values_returned(
     alloc: Global,
     legend: &Legend,
     state: &State,
-    process: u8,
-) -> Result<Vec<Returned>, AllocError> {
+    pid: u8,
+) -> Result<Vec<Returned>, AllocError>
+    ensures { IfOk result (λ v. map given_of v.items ≡ spec.given_back (legend_seen legend.now) (machine_of state.now).permanents (slice_get (machine_of state.now).threads pid)) }
+{
     let mut all = Vec::new(alloc);
-    let Some(process) = state.processes.get(process as usize) else {
+    let Some(process) = state.processes.get(pid as usize) else {
         return Ok(all);
     };
     let Some(routine) = legend.routines.get(process.frame.routine) else {
         return Ok(all);
     };
-    for parameter in &routine.parameters {
-        if parameter.passing == LegendPassing::Reference {
-            all.push(place_of(alloc, legend, state, process, *parameter)?)?;
-        }
-    }
-    if let Some(result) = result_of(alloc, legend, process, routine)? {
-        all.push(result)?;
-    }
+    push_parameters(alloc, legend, state, process, &routine.parameters, &mut all)?;
+    push_result(alloc, legend, process, routine, &mut all)?;
     Ok(all)
 }
 
-// The result of a call of a function.
-fn result_of(
+// Appends the places that these parameters name, as far as they are `var` parameters.
+fn push_parameters(
+    alloc: Global,
+    legend: &Legend,
+    state: &State,
+    process: &ProcessState,
+    parameters: &[LegendParameter],
+    all: &mut Vec<Returned>,
+) -> Result<(), AllocError>
+    ensures { OnOk result (map given_of all.new.items ≡ map given_of all.old.items ++ flat_map (spec.parameter_given (legend_seen legend.now) (machine_of state.now).permanents (thread_of process.now)) parameters.now) }
+{
+    for parameter in parameters {
+        push_parameter(alloc, legend, state, process, *parameter, all)?;
+    }
+    Ok(())
+}
+
+// Appends the place that a parameter names, if it is a `var` parameter.
+fn push_parameter(
+    alloc: Global,
+    legend: &Legend,
+    state: &State,
+    process: &ProcessState,
+    parameter: LegendParameter,
+    all: &mut Vec<Returned>,
+) -> Result<(), AllocError>
+    ensures { OnOk result (map given_of all.new.items ≡ map given_of all.old.items ++ spec.parameter_given (legend_seen legend.now) (machine_of state.now).permanents (thread_of process.now) parameter) }
+{
+    if let LegendPassing::Reference = parameter.passing {
+        all.push(place_of(alloc, legend, state, process, parameter)?)?;
+    }
+    Ok(())
+}
+
+// Appends the result of a call of a function.
+fn push_result(
     alloc: Global,
     legend: &Legend,
     process: &ProcessState,
     routine: &LegendRoutine,
-) -> Result<Option<Returned>, AllocError> {
-    let Some(place) = routine.result else {
-        return Ok(None);
-    };
-    let Some(variable) = routine.variables.get(place) else {
-        return Ok(None);
-    };
-    let at = process.frame.base.saturating_add(variable.slot);
-    Ok(Some(Returned {
-        name: String::new(alloc),
-        value: legend.value(alloc, variable.shape, &process.room.cells, at)?,
-    }))
+    all: &mut Vec<Returned>,
+) -> Result<(), AllocError>
+    ensures { OnOk result (map given_of all.new.items ≡ map given_of all.old.items ++ spec.result_given (legend_seen legend.now) (thread_of process.now) (spec.result_in (routine_names_seen routine.now))) }
+{
+    if let Some(variable) = result_of(routine) {
+        let at = process.frame.base.saturating_add(variable.slot);
+        all.push(Returned {
+            name: String::new(alloc),
+            value: legend.value(alloc, variable.shape, &process.room.cells, at)?,
+        })?;
+    }
+    Ok(())
+}
+
+// The result of a function, among its variables.
+fn result_of(routine: &LegendRoutine) -> Option<&Variable>
+    ensures { option_map (λ v. variable_seen v.now) result ≡ spec.result_in (routine_names_seen routine.now) }
+{
+    routine.variables.get(routine.result?)
 }
 
 // The place that a `var` parameter names, with its value.
@@ -59,22 +103,29 @@ fn place_of(
     state: &State,
     process: &ProcessState,
     parameter: LegendParameter,
-) -> Result<Returned, AllocError> {
-    let place = process.frame.references.saturating_add(parameter.slot);
+) -> Result<Returned, AllocError>
+    ensures { IfOk result (λ g. given_of g ≡ spec.place_given (legend_seen legend.now) (machine_of state.now).permanents (thread_of process.now) parameter) }
+{
+    Ok(Returned {
+        name: place_named(alloc, legend, process, parameter)?,
+        value: value_at(alloc, legend, state, process, parameter)?,
+    })
+}
+
+// The value of that place.
+fn value_at(
+    alloc: Global,
+    legend: &Legend,
+    state: &State,
+    process: &ProcessState,
+    parameter: LegendParameter,
+) -> Result<SourceValue, AllocError>
+    ensures { IfOk result (λ v. value_seen v ≡ spec.value_at (legend_seen legend.now) (machine_of state.now).permanents (thread_of process.now).cells (spec.address_of (thread_of process.now) parameter) parameter.shape) }
+{
     let shape = parameter.shape;
-    let cells = legend.shapes.cells_of(shape);
-    match process.room.references.get(place) {
-        Some(Address::Permanent(cell)) => Ok(Returned {
-            name: legend.permanent_name(alloc, *cell, cells)?,
-            value: legend.value(alloc, shape, &state.permanents, *cell)?,
-        }),
-        Some(Address::Local(cell)) => Ok(Returned {
-            name: local_name(alloc, legend, process, *cell, cells)?,
-            value: legend.value(alloc, shape, &process.room.cells, *cell)?,
-        }),
-        None => Ok(Returned {
-            name: String::new(alloc),
-            value: SourceValue::Integer(0),
-        }),
+    match address_of(process, parameter) {
+        Some(Address::Permanent(cell)) => legend.value(alloc, shape, &state.permanents, cell),
+        Some(Address::Local(cell)) => legend.value(alloc, shape, &process.room.cells, cell),
+        None => Ok(SourceValue::Integer(0)),
     }
 }
