@@ -1,7 +1,6 @@
 -- Each function call in an expression that breaks no rule is one that the rules allow.
 use Rattle.std.proofs.Common.{◌≡◌, ℕ, ◌+◌, Bool, true, false, ◌&&◌, if◌then◌else◌, List, [], ◌∷◌, ◌++◌, Option, Some, None, Ok, refl, sym, ap, subst, ◌∙◌}
-use Rattle.cp_resolved.proofs.Words.{Identifier, Sign, ValueType, Meaning, Judged, both, ◌>>=◌, Context, Operand, Named, is_function, Scope, Item}
-use Rattle.cp_resolved.proofs.Words.{function_call}
+use Rattle.cp_resolved.proofs.Words.{Identifier, Sign, ValueType, Meaning, Judged, both, ◌>>=◌, Context, Operand, Named, is_function, Scope, Item, function_call}
 use Rattle.cp_tree.specs.Syntax.{Expression, alone, related, Sum, sum, Terms, no_terms, more_terms as terms_more, Term, term, Factors, no_factors, more_factors as factors_more, Factor, named as factor_named, group, negated, set_of, Expressions, no_expressions, more_expressions, Designator, designator as name_with, Selectors, no_selectors, more_selectors, field, index}
 use Rattle.cp_scope.specs.declared.types.ValueType.TheVariants as types
 use Rattle.cp_scope.specs.declared.types.Meaning.TheVariants as meaning

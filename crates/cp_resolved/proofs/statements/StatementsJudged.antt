@@ -1,12 +1,10 @@
 -- Each call, `delay` and `continue` in statements that break no rule is one that the rules allow.
 use Rattle.std.proofs.Common.{◌≡◌, ℕ, suc, ◌+◌, Bool, true, false, ◌&&◌, if◌then◌else◌, List, [], ◌∷◌, ◌++◌, length, Option, Some, None, Ok, Err, refl, sym, ap, subst, ◌∙◌, arith}
-use Rattle.std.specs.Prelude.{nat_eq, not, slice_get}
-use Rattle.cp_resolved.proofs.Words.{Identifier, CheckFault, ValueType, Predeclared, Use, no_use, both_uses, agree, is_of, Judged, both, ◌>>=◌, Context}
-use Rattle.cp_resolved.proofs.Words.{Operand, OperandUse, Named, Label, is_function, is_assignable, variable_faults, all_variable_faults, Scope, Item}
-use Rattle.cp_resolved.proofs.Words.{expression_calls, expressions_calls, selectors_calls, designator_calls, Each}
+use Rattle.cp_resolved.proofs.Words.{nat_eq, not, slice_get, Identifier, CheckFault, ValueType, Predeclared, Use, no_use, both_uses, agree, is_of, Judged, both, ◌>>=◌}
+use Rattle.cp_resolved.proofs.Words.{Context, Operand, OperandUse, Named, Label, is_function, is_assignable, variable_faults, all_variable_faults, Scope, Item}
+use Rattle.cp_resolved.proofs.Words.{expression_calls, expressions_calls, selectors_calls, designator_calls, Each, C5, C6, C7, C12, Target}
 use Rattle.cp_tree.specs.Syntax.{Expression, Expressions, Designator, designator as name_with, Selectors, Start, Statement, empty, assign, invoke, block, if_then, if_else, case_of, while_do, repeat_until, for_do, cycle, init, Statements, no_statements, more_statements, Arms, no_arms, more_arms, Arm, arm}
 use Rattle.cp_scope.specs.declared.fault.CheckFault.TheVariants as check_fault
-use Rattle.cp_scope.specs.declared.fault.Rule.TheVariants.{C5, C6, C7, C12}
 use Rattle.cp_scope.specs.declared.types.Base.TheVariants as base
 use Rattle.cp_scope.specs.declared.types.ValueType.TheVariants as types
 use Rattle.cp_scope.specs.declared.types.Parameter as check_parameter
@@ -15,7 +13,6 @@ use Rattle.cp_scope.specs.Scopes.{Scopes, heading_at, body_at, shape_in, as_need
 use Rattle.cp_check.specs.declared.operand.OperandUse.TheVariants as place
 use Rattle.cp_check.specs.declared.operand.DesignatedName as check_designated
 use Rattle.cp_check.specs.declared.operand.Named.TheVariants as name
-use Rattle.cp_check.specs.declared.statement.Target.{Target}
 use Rattle.cp_check.specs.declared.statement.Target.TheVariants as target
 use Rattle.cp_check.specs.Names as names
 use Rattle.cp_check.specs.Calls as calls
