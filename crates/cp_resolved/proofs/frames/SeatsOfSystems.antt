@@ -3,7 +3,7 @@ use Rattle.cp_resolved.proofs.Words.{◌≡◌, ◌+◌, ◌-◌, ℕ, zero, suc
 use Rattle.cp_resolved.proofs.Words.{system_type, types_of, system_types, Layer, System, SystemView, no_system, Scope, permanent_variable, seen_inside, Parameter}
 use Rattle.cp_resolved.proofs.Words.{Heading, with_groups, parameter_variables, Enumerated, each_in, in_part, in_routine, in_definition, IsFitDefinition}
 use Rattle.cp_resolved.proofs.Words.{AreFitDefinitions, system_variables, Numbering, InStep, initial_meaning, Each, IsSmallSystem, IsSmallDefinition, AreNumbered}
-use Rattle.cp_resolved.proofs.Words.{IsParameter, definition_parts, definitions_parts, initial_or, components_among, none-some, same_Some, Parameters, routines, entered}
+use Rattle.cp_resolved.proofs.Words.{IsParameter, definition_parts, definitions_parts, initial_or, components_among, none-some, same_Some, Parameters, entered}
 use Rattle.cp_resolved.proofs.Words.{system_groups, system, initial_statement, system_definition, system_definitions, definition, SystemMeaning, system_in, Declared}
 use Rattle.cp_resolved.proofs.Words.{definition_in, definitions_in, system_of, routines_begun, initial_begun, parameters_of, parts_begun, system_begun, definition_begun}
 use Rattle.cp_resolved.proofs.Words.{definitions_begun, Opening, routine_openings, parts_scope, initial_opening, definition_openings, definitions_openings, AreOpened}

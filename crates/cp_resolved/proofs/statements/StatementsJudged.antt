@@ -24,7 +24,8 @@ use Rattle.cp_resolved.specs.SmallStatements.{IsSmallStart, IsSmallStatement, Ar
 use Rattle.cp_resolved.specs.Typed.{IsSmallExpression, AreSmallExpressions, IsSmallDesignator, AreSmallSelectors}
 use Rattle.cp_resolved.proofs.agreeing.Agreeing.{none_left, none_right}
 use Rattle.cp_resolved.proofs.statements.CallsJudged.{Below, first_below, second_below, AreBelow, total_below, unless_ok, OwnCall, CalledOk, called_ok, called_below, own_call, entry_call}
-use Rattle.cp_resolved.proofs.statements.ExpressionsJudged.{AllSaid, said_both, NoneFunctions, none_functions, never, expression_said, arguments_said, designator_said}
+use Rattle.cp_resolved.proofs.forms.UsedExpressions.{never}
+use Rattle.cp_resolved.proofs.statements.ExpressionsJudged.{AllSaid, said_both, NoneFunctions, none_functions, expression_said, arguments_said, designator_said}
 use Rattle.cp_resolved.proofs.agreeing.WithoutFaults.{ok_same, Then, then_of, both_of, if_of}
 
 module _ (s : Scopes) (w : Context) (f : Bool) (scope : Scope) where
@@ -87,7 +88,7 @@ module _ (s : Scopes) (w : Context) (f : Bool) (scope : Scope) where
   -- ---- assignments
 
   expression_of : (e : Expression) → IsSmallExpression e → (o : Operand) → Below f o.uses → expression s w false e ≡ Ok o → Said (expression_calls scope e)
-  expression_of e m o h is = expression_said s w f scope false e m o (never s w f scope o) h is
+  expression_of e m o h is = expression_said s w f scope false e m o (never o) h is
 
   either_refused : (A : Type 0) (b : Bool) (g k : CheckFault) (r : A) → (if b then (let j : Judged A = Err (g ∷ []) in j) else Err (k ∷ [])) ≡ Ok r → ⊥
   either_refused A true g k r e = cc
