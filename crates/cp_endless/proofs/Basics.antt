@@ -1,7 +1,6 @@
 -- Options, distances, and what is so of all elements of a list or of one.
-use Rattle.std.proofs.Common.{◌≡◌, ◌⊎◌, inl, inr, ⊎_elim, ◌+◌, ◌<◌, ◌≤◌, ℕ, zero, suc, List, [], ◌∷◌, ◌++◌, arith}
+use Rattle.cp_endless.proofs.Words.{◌≡◌, ◌⊎◌, inl, inr, ⊎_elim, ◌+◌, ◌<◌, ◌≤◌, ℕ, zero, suc, List, [], ◌∷◌, ◌++◌, arith, AnyOf}
 use Rattle.std.specs.List.{AllByRecursion as Each}
-use Rattle.cp_endless.specs.Moments.{AnyOf}
 
 -- ---- distances
 

@@ -1,7 +1,7 @@
 -- What breaks no rule gives no class to a monitor or process.
 use Rattle.std.proofs.Common.{◌≡◌, ℕ, zero, suc, ◌∙◌, Bool, true, false, if◌then◌else◌, List, [], ◌∷◌, ◌++◌, length, slice_get, Option, Some, None, Ok, Err, is_some, ap, sym, refl, subst, inl, inr}
 use Rattle.std.specs.Prelude.{◌⊎◌}
-use Rattle.cp_lawful.proofs.Words.{bytes_eq, Identifier, SystemKind, Meaning, ValueType, Use, Judged, ◌>>=◌, faults, Step, nothing, typed, faults_of}
+use Rattle.cp_lawful.proofs.Words.{bytes_eq, Identifier, SystemKind, Meaning, ValueType, Use, Judged, ◌>>=◌, faults, Step, nothing, typed, faults_of, Name, same_name}
 use Rattle.std.proofs.lemmas.Slice.Eq.{bytes_eq-Decides}
 use Rattle.cp_tree.specs.declared.declaration.SystemKind.TheVariants as system_kind
 use Rattle.cp_tree.specs.Syntax.{Simple, type_name, enumeration, TypeTerm, simple, array_of, set_type, record_of, FieldGroups, no_fields, more_fields, FieldGroup, fields, ConstantDefinition, VariableGroup, Group, System, Definition, type_definition, system_definition, SystemDefinition, ProgramPart, program_constants, program_types, program_variables, Program, Tree}
@@ -16,7 +16,6 @@ use Rattle.cp_check.specs.Names as names
 use Rattle.cp_check.specs.Types as typing
 use Rattle.cp_check.specs.Declarations.{as_declared, to_kind, reserve_name, reserve_names, add_names, add_all, add_one, constant_steps, variable_steps}
 use Rattle.cp_check.specs.Systems as systems
-use Rattle.cp_meaning.specs.Names.{Name, same_name}
 use Rattle.cp_meaning.specs.Types.{Base, Range, Ty, ordinal, queue_type, component_of, all_integers}
 use Rattle.cp_meaning.specs.Scopes as meant
 use Rattle.cp_meaning.specs.Scopes.{constant_meaning, type_meaning, permanent_variable, is_seen, seen_inside}

@@ -1,11 +1,10 @@
 -- What declarations leave as it was: the scopes around, and the names before them.
 use Rattle.std.proofs.Common.{◌≡◌, ℕ, ◌+◌, ◌∙◌, Bool, true, false, if◌then◌else◌, List, [], ◌∷◌, ◌++◌, Option, Some, None, Ok, Err, is_some, pos, ap, refl}
-use Rattle.cp_lawful.proofs.Words.{bytes_eq, Identifier, SystemKind, C2, Meaning, ValueType, Use, Judged, Spot}
+use Rattle.cp_lawful.proofs.Words.{bytes_eq, Identifier, SystemKind, C2, Meaning, ValueType, Use, Judged, Spot, ArrayShape}
 use Rattle.cp_tree.specs.Syntax.{Simple, enumeration, TypeTerm, simple, array_of, set_type, record_of, FieldGroups, no_fields, more_fields, FieldGroup, fields, ConstantDefinition, TypeDefinition, VariableGroup, Part, constants, types, variables, Group, ParameterGroup, RoutineKind, procedure, function, Routine, System, Definition, type_definition, system_definition, SystemDefinition, ProgramPart, program_constants, program_types, program_variables}
 use Rattle.cp_scope.specs.declared.fault.CheckFault.TheVariants as check_fault
 use Rattle.cp_scope.specs.declared.types.Meaning.TheVariants as meaning
 use Rattle.cp_scope.specs.declared.types.Base.{Base}
-use Rattle.cp_scope.specs.declared.shape.ArrayShape.{ArrayShape}
 use Rattle.cp_scope.specs.Scopes.{Names, Scope, Scopes, Shape, find, is_among, is_declared, with_name, with_pending, sealed, add, reserve, settle, enter, Around, around, last_of, leave, add_around, keep}
 use Rattle.cp_check.specs.declared.types.Spot.TheVariants as spot
 use Rattle.cp_check.specs.Types.{Step, nothing, member, members, simple_typed, keep_array, keep_record, typed, groups_typed, group_typed}

@@ -1,6 +1,6 @@
 -- Where every name stands for something, what has no fault stands for something.
 use Rattle.std.proofs.Common.{ℕ, ◌+◌, Bool, true, false, if◌then◌else◌, List, [], ◌∷◌, Option, Some, None, Ok, Err}
-use Rattle.cp_lawful.proofs.Words.{Identifier, CheckFault, ValueType, Meaning, Use}
+use Rattle.cp_lawful.proofs.Words.{Identifier, CheckFault, ValueType, Meaning, Use, Judged, both, ◌>>=◌, ConstantNumber}
 use Rattle.cp_tree.specs.declared.constant.Sign.{Sign}
 use Rattle.cp_tree.specs.declared.constant.Constant.{Constant}
 use Rattle.cp_tree.specs.declared.constant.ConstantKind.{ConstantKind}
@@ -14,8 +14,6 @@ use Rattle.cp_scope.specs.declared.types.Predeclared.{Predeclared}
 use Rattle.cp_scope.specs.declared.types.Predeclared.TheVariants as predeclared
 use Rattle.cp_scope.specs.Counts.{both_uses}
 use Rattle.cp_scope.specs.Scopes.{Scopes, field_at, member_at, heading_at}
-use Rattle.cp_scope.specs.Judged.{Judged, both, ◌>>=◌}
-use Rattle.cp_check.specs.declared.constant.ConstantNumber.{ConstantNumber}
 use Rattle.cp_check.specs.declared.case.Label.{Label}
 use Rattle.cp_check.specs.declared.operand.Context.{Context}
 use Rattle.cp_check.specs.declared.operand.Operand.{Operand}

@@ -1,6 +1,6 @@
 -- What breaks no rule declares each variable of a system type once.
 use Rattle.std.proofs.Common.{◌≡◌, ℕ, zero, suc, slice_get, ◌∙◌, ◌⊎◌, inl, inr, Bool, true, false, ◌||◌, if◌then◌else◌, List, [], ◌∷◌, ◌++◌, Option, Some, None, Ok, Err, is_some, ap, sym, refl, subst}
-use Rattle.cp_lawful.proofs.Words.{bytes_eq, Identifier, CheckFault, C2, Use, Judged, faults, ◌>>=◌, Spot, Ty}
+use Rattle.cp_lawful.proofs.Words.{bytes_eq, Identifier, CheckFault, C2, Use, Judged, faults, ◌>>=◌, Spot, Ty, after_faults, statements}
 use Rattle.std.proofs.lemmas.Slice.Eq.{bytes_eq-Decides}
 use Rattle.cp_tree.specs.Syntax.{VariableGroup, Part, constants, types, variables, System, Definition, type_definition, system_definition, SystemDefinition, ProgramPart, program_constants, program_types, program_variables, Tree}
 use Rattle.cp_scope.specs.declared.fault.CheckFault.TheVariants as check_fault
@@ -9,11 +9,9 @@ use Rattle.cp_scope.specs.Scopes.{Names, Scope, Scopes, find, is_among, is_decla
 use Rattle.cp_check.specs.declared.types.Spot.TheVariants as spot
 use Rattle.cp_check.specs.Types.{then_step, nothing, typed}
 use Rattle.cp_check.specs.Declarations.{reserve_name, reserve_names, add_names, add_all, as_declared, to_kind, to_variable, variable_step, variable_steps, part_step, part_steps}
-use Rattle.cp_check.specs.Headings.{after_faults}
 use Rattle.cp_check.specs.Systems as systems
 use Rattle.cp_check.specs.Faults.{declarations, program_context, opened, limit_faults, faults_of}
 use Rattle.cp_check.specs.Routines.{routine_steps}
-use Rattle.cp_check.specs.Statements.{statements}
 use Rattle.cp_scope.specs.Counts.{no_use}
 use Rattle.cp_meaning.specs.Scopes as meant
 use Rattle.cp_meaning.specs.Declarations.{Variable, Block, names_of, with_names, type_in, named_variables, variables_in, part_in, parts_in}

@@ -1,6 +1,6 @@
 -- Declarations that break no rule leave no name that stands for nothing.
 use Rattle.std.proofs.Common.{◌≡◌, ℕ, ◌+◌, ◌∙◌, Bool, true, false, if◌then◌else◌, List, [], ◌∷◌, ◌++◌, Option, Some, None, Ok, Err, is_some, pos, ap, sym, refl, subst}
-use Rattle.cp_lawful.proofs.Words.{bytes_eq, Identifier, SystemKind, CheckFault, C2, Meaning, ValueType, Use, Spot}
+use Rattle.cp_lawful.proofs.Words.{bytes_eq, Identifier, SystemKind, CheckFault, C2, Meaning, ValueType, Use, Spot, ArrayShape, ConstantNumber, statements, after_faults}
 use Rattle.cp_tree.specs.declared.declaration.SystemKind.TheVariants as system_kind
 use Rattle.cp_tree.specs.Syntax.{Simple, type_name, enumeration, subrange, TypeTerm, simple, array_of, set_type, record_of, FieldGroups, no_fields, more_fields, FieldGroup, fields, ConstantDefinition, TypeDefinition, VariableGroup, Part, constants, types, variables, Group, ParameterGroup, RoutineKind, procedure, function, Routine, System, Definition, type_definition, system_definition, SystemDefinition, ProgramPart, program_constants, program_types, program_variables}
 use Rattle.cp_scope.specs.declared.fault.CheckFault.TheVariants as check_fault
@@ -8,12 +8,10 @@ use Rattle.cp_scope.specs.declared.types.Meaning.TheVariants as meaning
 use Rattle.cp_scope.specs.declared.types.Base.{Base}
 use Rattle.cp_scope.specs.declared.types.Range.{Range}
 use Rattle.cp_scope.specs.declared.types.ValueType.TheVariants as value_type
-use Rattle.cp_scope.specs.declared.shape.ArrayShape.{ArrayShape}
 use Rattle.cp_scope.specs.Types.{is_open}
 use Rattle.cp_scope.specs.Counts.{no_use, times}
 use Rattle.cp_scope.specs.Judged.{Judged, both, ◌>>=◌, faults}
 use Rattle.cp_scope.specs.Scopes.{Names, Scope, new_scope, Scopes, Shape, record_shape, find, is_declared, through_seal, look_in, or_else, look_outer, look, with_name, sealed, add, reserve, settle, enter, Around, around, last_of, leave, add_around, keep, cells_of, count_of, start}
-use Rattle.cp_check.specs.declared.constant.ConstantNumber.{ConstantNumber}
 use Rattle.cp_check.specs.declared.types.Spot.TheVariants as spot
 use Rattle.cp_check.specs.declared.types.Holding.{Holding}
 use Rattle.cp_check.specs.declared.types.Holding.TheVariants as holds
@@ -22,10 +20,8 @@ use Rattle.cp_check.specs.Constants.{constant}
 use Rattle.cp_check.specs.Types as typing
 use Rattle.cp_check.specs.Types.{Step, nothing, Typed, typed}
 use Rattle.cp_check.specs.Records.{Fields, sound_of}
-use Rattle.cp_check.specs.Statements.{statements}
 use Rattle.cp_check.specs.Declarations.{as_declared, to_constant, to_kind, to_variable, reserve_name, reserve_names, add_names, add_all, add_one, constant_step, constant_steps, type_step, type_steps, variable_step, variable_steps, part_step, part_steps}
 use Rattle.cp_check.specs.Headings as headings
-use Rattle.cp_check.specs.Headings.{after_faults}
 use Rattle.cp_check.specs.Routines as routines
 use Rattle.cp_check.specs.Systems as systems
 use Rattle.cp_lawful.proofs.Kept.{pending_names, last_is, inside_outer}

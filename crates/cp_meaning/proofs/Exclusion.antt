@@ -1,13 +1,11 @@
 -- The opening state, a step and an admission keep what exclusion rests on.
 use Rattle.std.proofs.Common.{◌≡◌, ℕ, zero, suc, ◌<◌, ◌==◌, ◌∙◌, ◌⊎◌, inl, inr, Bool, true, false, List, [], ◌∷◌, length, map, slice_get, Option, Some, None, Ok, Err, ap, sym, refl, subst, arith, eqb-true, eq-eqb, if◌then◌else◌}
-use Rattle.cp_meaning.proofs.Words.{SystemKind, Program, Outcome, items_of_all, component_there, Doing, takes, line_of, begun}
+use Rattle.cp_meaning.proofs.Words.{SystemKind, Program, Outcome, items_of_all, component_there, Doing, takes, line_of, begun, Listed, components_of, IsExclusive}
 use Rattle.cp_tree.specs.declared.declaration.SystemKind.TheVariants as system_kind
 use Rattle.cp_meaning.specs.Values.{is_member}
 use Rattle.cp_meaning.specs.Systems.{SystemMeaning, declared, own_meaning, or_own, system_of, program_system}
-use Rattle.cp_meaning.specs.Components.{Listed, components_of}
 use Rattle.cp_meaning.specs.State.{initialising, initialised, Component, component_at, own_statement, Call, Item, end, ready, at_gate, Process, process_at, Gates, State, is_inside, initialises, Place}
 use Rattle.cp_meaning.specs.Steps.{first_component, unstarted_process, process_first, processes_from, own_begun, opening, settled, without, admitted_to}
-use Rattle.cp_meaning.specs.Exclusive.{IsExclusive}
 use Rattle.cp_meaning.proofs.Frames.{frames, entry_in, initial_in, fit-initial, plain-fit, ItemsFit, Descends, system_at}
 use Rattle.cp_meaning.proofs.PlainItems.{plain_all}
 use Rattle.cp_meaning.proofs.Good.{IsMonitor, GoodOutcome, or_cases}

@@ -1,9 +1,8 @@
 -- Programs whose values are worked out.
-use Rattle.std.specs.Prelude.{[], ◌∷◌, Some, None, true, false, codes}
+use Rattle.cp_meaning.proofs.Words.{[], ◌∷◌, Some, None, true, false, codes, Plus, Minus, Or}
 use Rattle.cp_tree.specs.declared.constant.Sign.TheVariants as sign
 use Rattle.cp_tree.specs.declared.constant.ConstantKind.TheVariants as constant_kind
 use Rattle.cp_tree.specs.declared.expression.Relation.TheVariants.{Equal, NotEqual, Less, Greater, AtLeast, In}
-use Rattle.cp_tree.specs.declared.expression.Addition.TheVariants.{Plus, Minus, Or}
 use Rattle.cp_tree.specs.declared.expression.Multiplication.TheVariants.{Times, Mod, And}
 use Rattle.cp_tree.specs.declared.statement.Direction.TheVariants as direction
 use Rattle.cp_tree.specs.declared.declaration.SystemKind.TheVariants as system_kind

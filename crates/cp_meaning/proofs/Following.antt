@@ -1,9 +1,7 @@
 -- Several steps in a row, for the worked programs.
 use Rattle.std.specs.Prelude.{ℕ, zero, suc, ℤ, Bool, true, false, if◌then◌else◌, List, [], ◌∷◌, map}
-use Rattle.cp_tree.specs.Syntax.{Program}
-use Rattle.cp_meaning.specs.State.{Process, first_gates, State, is_inside}
+use Rattle.cp_meaning.proofs.Words.{Program, Process, first_gates, State, is_inside, opening, step_of, admitted}
 use Rattle.cp_meaning.specs.Kernel.{Event, local_event, ended_event, fault_event, output_full, Stepped}
-use Rattle.cp_meaning.specs.Steps.{opening, step_of, admitted}
 
 abbrev pub is_local : Event → Bool
 is_local local_event = true

@@ -1,9 +1,8 @@
 -- What an item of a process may do, as far as exclusion goes.
 use Rattle.std.proofs.Common.{◌≡◌, ℕ, ◌∙◌, ◌⊎◌, inl, inr, Bool, true, false, ◌||◌, if◌then◌else◌, List, [], ◌∷◌, Ok, Err, sym, refl, subst}
 use Rattle.cp_tree.specs.declared.declaration.SystemKind.TheVariants as system_kind
-use Rattle.cp_meaning.specs.Outcome.{Outcome, ◌>>=◌}
+use Rattle.cp_meaning.proofs.Words.{Outcome, ◌>>=◌, Move, stays, enters, leaves, delays, continues, starts, shows, ends, Doing}
 use Rattle.cp_meaning.specs.State.{ComponentStatus, uninitialised, initialising, initialised, Component, component_at, Item}
-use Rattle.cp_meaning.specs.Move.{Move, stays, enters, leaves, delays, continues, starts, shows, ends, Doing}
 use Rattle.cp_meaning.proofs.Frames.{Frame, frames, entry_in, initial_in, ItemsFit, Descends}
 use Rattle.cp_meaning.proofs.Stored.{SameLayout, SameComponents}
 

@@ -1,14 +1,12 @@
 -- What a process holds by its open calls, and how environments change.
 use Rattle.std.proofs.Common.{◌≡◌, ℕ, zero, suc, ◌<◌, ◌≤◌, ◌==◌, ◌∙◌, ◌⊎◌, inl, inr, Bool, true, false, if◌then◌else◌, List, [], ◌∷◌, ◌++◌, length, get_or, set, slice_set, Option, Some, None, ap, sym, refl, subst, arith}
 use Rattle.cp_tree.specs.declared.declaration.SystemKind.TheVariants as system_kind
-use Rattle.cp_meaning.specs.Names.{Name, same_name, result_name}
+use Rattle.cp_meaning.proofs.Words.{Name, same_name, result_name, least_of, least_result, owner_of}
 use Rattle.cp_meaning.specs.Types.{Ty, has_components}
 use Rattle.cp_meaning.specs.Values.{Value, least}
 use Rattle.cp_meaning.specs.Declarations.{Variable}
 use Rattle.cp_meaning.specs.State.{Holder, in_call, in_component, Place, Content, holds, refers, knows, Environment, Component, component_at, no_component, Call}
 use Rattle.cp_meaning.specs.Places.{View, content_of, with_content, call_above, with_environment, with_call_environment, with_permanents, environment_of, with_environment_of, stored}
-use Rattle.cp_meaning.specs.Calls.{least_of, least_result}
-use Rattle.cp_meaning.specs.Ownership.{owner_of}
 use Rattle.cp_meaning.proofs.Frames.{at_set, Frame, frames, entry_in, initial_in}
 use Rattle.cp_meaning.proofs.Good.{or_right}
 use Rattle.cp_meaning.proofs.Stored.{frames_kept}

@@ -1,7 +1,6 @@
 -- Whoever is inside a monitor is its holder.
 use Rattle.std.proofs.Common.{◌≡◌, ℕ, zero, suc, ◌<◌, Bool, true, false, if◌then◌else◌, List, [], ◌∷◌, length, Some, ap, refl, arith}
-use Rattle.cp_meaning.specs.State.{Process, process_at, is_inside}
-use Rattle.cp_meaning.specs.Kernel.{after}
+use Rattle.cp_meaning.proofs.Words.{Process, process_at, is_inside, after}
 use Rattle.cp_meaning.specs.Readings.{first_inside, HolderLaw}
 use Rattle.cp_meaning.proofs.OwnershipLemmas.{reached}
 

@@ -2,9 +2,8 @@
 use Rattle.std.proofs.Common.{◌≡◌, ℕ, zero, suc, ◌<◌, ◌==◌, ◌∙◌, ◌⊎◌, inl, inr, Bool, true, false, ◌||◌, if◌then◌else◌, List, [], ◌∷◌, ◌++◌, length, slice_set, Option, Some, None, ap, sym, refl, subst, arith, eqb-true, eq-eqb, length-set}
 use Rattle.std.proofs.lemmas.Bool.{cases_eq}
 use Rattle.cp_tree.specs.declared.declaration.SystemKind.TheVariants as system_kind
-use Rattle.cp_meaning.proofs.Words.{Program, system_of, items_of_all, with_permanents}
+use Rattle.cp_meaning.proofs.Words.{Program, system_of, items_of_all, with_permanents, Move, stays, enters, leaves, delays, continues, starts, shows, ends, Doing}
 use Rattle.cp_meaning.specs.State.{Environment, uninitialised, initialising, initialised, Component, component_at, own_statement, end, Status, unstarted, ready, at_gate, delayed, ended, Process, process_at, State, waits_at, is_inside}
-use Rattle.cp_meaning.specs.Move.{Move, stays, enters, leaves, delays, continues, starts, shows, ends, Doing}
 use Rattle.cp_meaning.specs.Kernel.{output_room, moved_to, made_ready, let_in, is_anybody_inside, entering, is_delayed_in, continuing, process_of, begun, starting_as, starting, displaying, kernel_step}
 use Rattle.cp_meaning.proofs.Frames.{frames, entry_in, initial_in, descends_same, plain-fit}
 use Rattle.cp_meaning.proofs.PlainItems.{plain_all}

@@ -1,8 +1,6 @@
 -- Variables begin as the least values of their types, and lines are served in order, by computing.
 use Rattle.std.specs.Prelude.{◌≡◌, [], ◌∷◌, refl, pos, negsuc}
-use Rattle.cp_meaning.specs.State.{first_gates}
-use Rattle.cp_meaning.specs.Kernel.{enter_event, leave_event, delay_event, start_event, display_event, ended_event}
-use Rattle.cp_meaning.specs.Steps.{opening}
+use Rattle.cp_meaning.proofs.Words.{first_gates, enter_event, leave_event, delay_event, start_event, display_event, ended_event, opening}
 use Rattle.cp_meaning.proofs.Following.{ending, goes, traced}
 use Rattle.cp_meaning.proofs.LeastPrograms.{least_of_subrange, sign_of_mod, class_begins_least, monitor_begins_least, local_variables_begin_least, process_begins_least, line_in_order, delay_lets_line_in}
 

@@ -1,9 +1,7 @@
 -- Programs whose variables begin as the least values, and lines at gates.
-use Rattle.std.specs.Prelude.{[], ◌∷◌, Some, None, true, false, codes}
+use Rattle.cp_meaning.proofs.Words.{[], ◌∷◌, Some, None, true, false, codes, Equal, Mod}
 use Rattle.cp_tree.specs.declared.constant.Sign.TheVariants as sign
 use Rattle.cp_tree.specs.declared.constant.ConstantKind.TheVariants as constant_kind
-use Rattle.cp_tree.specs.declared.expression.Relation.TheVariants.{Equal}
-use Rattle.cp_tree.specs.declared.expression.Multiplication.TheVariants.{Mod}
 use Rattle.cp_tree.specs.declared.declaration.SystemKind.TheVariants as system_kind
 use Rattle.cp_tree.specs.Syntax.{alone, related, sum, no_terms, term, no_factors, more_factors, number, named, group, set_of, no_expressions, more_expressions, designator, no_selectors, more_selectors, field, index, empty, assign, invoke, init, no_statements, more_statements, type_name, enumeration, subrange, simple, array_of, set_type, record_of, no_fields, more_fields, fields, variables, procedure, function, type_definition, system_definition, program_types, program_variables, Program}
 use Rattle.cp_meaning.proofs.Written.{named_at, just}

@@ -1,7 +1,6 @@
 -- Programs of several lines that end in a run error.
-use Rattle.std.specs.Prelude.{[], ◌∷◌, None, true, false, codes}
+use Rattle.cp_meaning.proofs.Words.{[], ◌∷◌, None, true, false, codes, Equal, Plus, Div}
 use Rattle.cp_tree.specs.declared.constant.ConstantKind.TheVariants as constant_kind
-use Rattle.cp_meaning.proofs.Words.{Equal, Plus, Div}
 use Rattle.cp_tree.specs.declared.statement.Direction.TheVariants as direction
 use Rattle.cp_tree.specs.declared.declaration.SystemKind.TheVariants as system_kind
 use Rattle.cp_tree.specs.Syntax.{alone, related, sum, no_terms, more_terms, term, no_factors, more_factors, number, named, no_expressions, more_expressions, designator, no_selectors, empty, assign, invoke, if_then, case_of, repeat_until, for_do, init, no_statements, more_statements, no_arms, more_arms, arm, type_name, subrange, simple, procedure, function, type_definition, system_definition, program_types, program_variables, Program}

@@ -1,7 +1,6 @@
 -- The lines that run errors name, by computing.
 use Rattle.std.specs.Prelude.{◌≡◌, ℕ, List, [], ◌∷◌, refl}
-use Rattle.cp_tree.specs.Syntax.{Program}
-use Rattle.cp_meaning.specs.State.{first_gates}
+use Rattle.cp_meaning.proofs.Words.{Program, first_gates}
 use Rattle.cp_meaning.specs.Steps.{opening, line_at}
 use Rattle.cp_meaning.proofs.Following.{is_last, up_to}
 use Rattle.cp_meaning.proofs.LinedPrograms.{call_line, for_line, until_line, test_line, display_line, start_line, case_line, inner_line}

@@ -1,18 +1,15 @@
 -- Each local rule is good.
 use Rattle.std.proofs.Common.{◌≡◌, ℕ, zero, suc, ◌<◌, ◌≤◌, ◌==◌, ◌∙◌, ◌⊎◌, inl, inr, ℤ, true, false, if◌then◌else◌, List, [], ◌∷◌, ◌++◌, length, get_or, set, Option, Some, None, Ok, Err, ap, sym, refl, subst, arith, eqb-true, eq-eqb}
-use Rattle.cp_meaning.proofs.Words.{Identifier, SystemKind, result_name, Outcome, ◌>>=◌, SystemMeaning, system_of, Move, enters, stays, delays, continues}
-use Rattle.cp_meaning.proofs.Words.{starts, ends, Doing}
-use Rattle.cp_tree.specs.declared.statement.Direction.{Direction}
+use Rattle.cp_meaning.proofs.Words.{Identifier, SystemKind, result_name, Outcome, ◌>>=◌, SystemMeaning, system_of, Move, enters, stays, delays, continues, starts, ends}
+use Rattle.cp_meaning.proofs.Words.{Doing, Direction, Value, number_value, queue_value, number_of, waiting_in, items_of, items_of_all, until_items}
 use Rattle.cp_tree.specs.declared.declaration.SystemKind.TheVariants as system_kind
 use Rattle.cp_tree.specs.Syntax.{Expressions, Designator, Start, Statement, assign, invoke, block, if_then, if_else, case_of, while_do, repeat_until, for_do, cycle, Program}
-use Rattle.cp_meaning.specs.Values.{Value, number_value, queue_value, number_of, waiting_in}
 use Rattle.cp_meaning.specs.Scopes.{Meaning, constant_meaning, type_meaning, local_variable, permanent_variable, routine_meaning, standard_meaning, delay_procedure, continue_procedure, display_procedure}
 use Rattle.cp_meaning.specs.Declarations.{RoutineMeaning}
 use Rattle.cp_meaning.specs.State.{Place, Environment, ComponentStatus, uninitialised, initialising, initialised, Component, component_at, no_component, CallKind, own_statement, initial_statement, local_routine, entry_routine, Call, callers, Item, statement_item, function_call, start_item, until, successor, return, init_end, end, is_entry_kind}
 use Rattle.cp_meaning.specs.Places.{View, Target, target_named, value_at, stored, this_call, this_component, plain_place, component_there}
 use Rattle.cp_meaning.specs.Operations.{same_integer, is_true, checked}
 use Rattle.cp_meaning.specs.Expressions.{value, target_value, first_value, meaning_here, routine_called}
-use Rattle.cp_meaning.specs.Lifting.{items_of, items_of_all, until_items}
 use Rattle.cp_meaning.specs.Calls.{bound, opened, is_initialised, is_uninitialised, entered_as, with_move, with_items, entered, called_as, called, with_status, initial, initialised_in, started_as, started}
 use Rattle.cp_meaning.specs.LocalRules.{scope_here, becomes, assigned, arm_for, is_beyond, goes_on_with, queue_free, delayed_in, after_return, continued_from, in_place_of, argument_of, invoked, does, outer, with_result, leaving_move, return_move, returned, finished, takes}
 use Rattle.cp_meaning.proofs.Frames.{at_set, Frame, frames, entry_in, initial_in, below, frames-callers, TopReturns, TopStarts, ItemsFit, ArePlain, plain-append, plain-fit, system_at, Descends, no_entry_below, no_initial_below, entry_or_initial}

@@ -1,11 +1,10 @@
 -- Each kernel rule keeps what processes hold, and changes no variable but the parameters of a process that begins.
 use Rattle.std.proofs.Common.{◌≡◌, ◌≢◌, ℕ, suc, ◌<◌, ◌==◌, ◌∙◌, ◌⊎◌, inl, inr, Bool, true, false, if◌then◌else◌, List, [], ◌∷◌, ◌++◌, length, slice_set, Option, Some, None, ap, sym, refl, subst, arith, eqb-true, length-set}
 use Rattle.cp_tree.specs.declared.declaration.SystemKind.TheVariants as system_kind
-use Rattle.cp_meaning.proofs.Words.{Program, Name, system_of, content_of, with_permanents}
+use Rattle.cp_meaning.proofs.Words.{Program, Name, system_of, content_of, with_permanents, owner_of, IsStarted, is_parameter, IsParameterOf}
 use Rattle.cp_meaning.specs.State.{refers, knows, Environment, uninitialised, initialising, Component, component_at, Status, unstarted, ready, at_gate, delayed, ended, Process, process_at, Gates, first_gates, any_gates, State}
 use Rattle.cp_meaning.specs.Move.{Move, stays, enters, leaves, delays, continues, starts, shows, ends, Doing}
 use Rattle.cp_meaning.specs.Kernel.{output_room, line_of, with_line_of, moved_to, with_process_status, made_ready, first_in, one_in, let_in, is_anybody_inside, entering, is_delayed_in, continuing, after, process_of, begun, with_begun, starting_as, starting, displaying, kernel_step}
-use Rattle.cp_meaning.specs.Ownership.{owner_of, IsStarted, is_parameter, IsParameterOf}
 use Rattle.cp_meaning.proofs.Frames.{Frame, frames}
 use Rattle.cp_meaning.proofs.Good.{status_at}
 use Rattle.cp_meaning.proofs.Stored.{field_kept}

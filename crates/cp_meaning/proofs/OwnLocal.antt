@@ -1,24 +1,20 @@
 -- Each local rule changes only what the process holds, and keeps what is held.
 use Rattle.std.proofs.Common.{◌≡◌, ℕ, ◌<◌, ◌≤◌, ◌-◌, ◌==◌, ◌∙◌, ◌⊎◌, inl, inr, ℤ, Bool, true, false, ◌||◌, if◌then◌else◌, List, [], ◌∷◌, ◌++◌, length, Option, Some, None, Ok, Err, ap, sym, refl, subst, arith, eqb-true, eq-eqb}
-use Rattle.cp_meaning.proofs.Words.{Identifier, SystemKind, SystemMeaning, system_of, owner_of, is_parameter, IsParameterOf}
-use Rattle.cp_tree.specs.declared.statement.Direction.{Direction}
+use Rattle.cp_meaning.proofs.Words.{Identifier, SystemKind, SystemMeaning, system_of, owner_of, is_parameter, IsParameterOf, Direction, Value, number_value, queue_value}
+use Rattle.cp_meaning.proofs.Words.{number_of, waiting_in, step_down, Move, stays, enters, leaves, delays, continues, starts, shows, ends, Doing, HasNoClass, HasEarlier}
 use Rattle.cp_tree.specs.declared.declaration.SystemKind.TheVariants as system_kind
 use Rattle.cp_tree.specs.Syntax.{Expression, Expressions, more_expressions, Designator, designator, Selectors, no_selectors, more_selectors, Selector, field, index, Start, Statement, empty, assign, invoke, if_then, if_else, case_of, while_do, for_do, init, Program}
 use Rattle.cp_meaning.specs.Names.{Name, same_name, temporary, result_name}
 use Rattle.cp_meaning.specs.Outcome.{ErrorName, Outcome, ◌>>=◌}
 use Rattle.cp_meaning.specs.Types.{Ty, ordinal, queue_type, set_over, array_over, record_with, component_of, is_within}
-use Rattle.cp_meaning.specs.Values.{Value, number_value, queue_value, number_of, waiting_in}
 use Rattle.cp_meaning.specs.Scopes.{Meaning, constant_meaning, type_meaning, local_variable, permanent_variable, routine_meaning, standard_meaning, delay_procedure, continue_procedure, display_procedure, find}
 use Rattle.cp_meaning.specs.Declarations.{Parameter, RoutineMeaning}
-use Rattle.cp_meaning.specs.Components.{step_down}
 use Rattle.cp_meaning.specs.State.{Holder, in_call, in_component, Place, Content, holds, refers, knows, Environment, ComponentStatus, uninitialised, initialising, initialised, Component, component_at, CallKind, initial_statement, local_routine, entry_routine, Call, callers, Item, statement_item, function_call, start_item, until, successor, return, init_end, end}
 use Rattle.cp_meaning.specs.Places.{View, Target, content_of, call_above, environment_of, this_call, plain_place, referred, target_meant, target_named, value_at, stored, component_with, element_chosen, around_of, component_known, component_by, component_there}
 use Rattle.cp_meaning.specs.Operations.{same_integer, checked}
 use Rattle.cp_meaning.specs.Expressions.{value, target_value, selected, chosen, with_element_of, first_value, meaning_here, routine_called, variable_in}
-use Rattle.cp_meaning.specs.Move.{Move, stays, enters, leaves, delays, continues, starts, shows, ends, Doing}
 use Rattle.cp_meaning.specs.Calls.{refers_to, of_system, knows_of, bound_variable, bound_value, bound_argument, bound, least_of, least_result, opened, is_initialised, is_uninitialised, entered_as, with_move, with_items, entered, called_as, called, with_status, initial, initialised_in, started_as, started_at, started}
 use Rattle.cp_meaning.specs.LocalRules.{scope_here, becomes, assigned, arm_for, is_beyond, next_value, goes_on_with, queue_free, delayed_in, continued_from, in_place_of, argument_of, invoked, does, outer, return_move, returned, finished, takes}
-use Rattle.cp_meaning.specs.WellFormed.{HasNoClass, HasEarlier}
 use Rattle.cp_meaning.proofs.Frames.{Frame, frames, frames-callers, below, system_at}
 use Rattle.cp_meaning.proofs.Good.{status_at}
 use Rattle.cp_meaning.proofs.Stored.{stored_frames}

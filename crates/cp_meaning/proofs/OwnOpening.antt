@@ -1,9 +1,8 @@
 -- The opening state of a program whose components have distinct paths.
 use Rattle.std.proofs.Common.{◌≡◌, ℕ, zero, suc, ◌<◌, ◌≤◌, ◌+◌, ◌⊎◌, inl, inr, List, [], ◌∷◌, length, map, Some, None, refl, arith}
-use Rattle.cp_meaning.proofs.Words.{SystemKind, Program, Name, SystemMeaning, system_of, Content, refers, knows, Component, component_at, Process, Gates}
-use Rattle.cp_meaning.proofs.Words.{content_of, least_of, begun}
+use Rattle.cp_meaning.proofs.Words.{SystemKind, Program, Name, SystemMeaning, system_of, Content, refers, knows, Component, component_at, Process, Gates, content_of}
+use Rattle.cp_meaning.proofs.Words.{least_of, begun, Listed, components_of}
 use Rattle.cp_tree.specs.declared.declaration.SystemKind.TheVariants as system_kind
-use Rattle.cp_meaning.specs.Components.{Listed, components_of}
 use Rattle.cp_meaning.specs.Steps.{parameter_variables, first_environment, first_component, first_components, unstarted_process, process_first, processes_from, own_begun, opening}
 use Rattle.cp_meaning.proofs.ComponentTree.{kind_at, same_tree, own_owner}
 use Rattle.cp_meaning.proofs.Held.{permanents_at, IsValue, append_content, least_values}

@@ -1,13 +1,11 @@
 -- In every step each changed variable is one that the process holds.
 use Rattle.std.proofs.Common.{◌≡◌, ◌≢◌, ℕ, ◌<◌, ◌≤◌, ◌==◌, ◌∙◌, ◌⊎◌, inl, inr, Bool, true, false, ◌&&◌, List, [], ◌∷◌, length, Option, Some, None, Ok, Err, ap, sym, refl, subst, arith, eqb-true}
 use Rattle.cp_tree.specs.declared.declaration.SystemKind.TheVariants as system_kind
-use Rattle.cp_meaning.proofs.Words.{Program, Name, Outcome, content_of, Move, starts, Doing, takes, line_of, system_of}
+use Rattle.cp_meaning.proofs.Words.{Program, Name, Outcome, content_of, Move, starts, Doing, takes, line_of, system_of, IsExclusive, IsWellFormed}
 use Rattle.cp_meaning.specs.State.{Holder, in_call, in_component, Component, component_at, CallKind, own_statement, local_routine, Call, Item, ready, unstarted, Process, process_at, Gates, State, has_entry, initialises}
 use Rattle.cp_meaning.specs.Steps.{first_components, opening, settled, step_of, without, admitted_to, admitted, IsReached, at_first, by_step, by_admission, by_forgetting}
 use Rattle.cp_meaning.specs.Ownership.{owner_of, IsStarted, HoldsComponent, HoldsPlace, HoldsCalls, below_or_same, CallsDescend, IsLawfulProcess, IsLawful, is_parameter, IsParameterOf, ChangesHeld, OthersKept, VariablesKept}
-use Rattle.cp_meaning.specs.Exclusive.{IsExclusive}
 use Rattle.cp_meaning.specs.OwnershipLaw.{Ownership}
-use Rattle.cp_meaning.specs.WellFormed.{IsWellFormed}
 use Rattle.cp_meaning.proofs.Frames.{Frame, frames, entry_in, initial_in, entry-frames, fit-initial, Above, Descends}
 use Rattle.cp_meaning.proofs.Good.{NonEmpty, Good, GoodOutcome, or_cases}
 use Rattle.cp_meaning.proofs.Orderly.{ProcessFits}

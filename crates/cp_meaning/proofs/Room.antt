@@ -3,8 +3,7 @@ use Rattle.std.specs.Prelude.{◌≡◌, ℕ, [], length, refl, pos, codes, repl
 use Rattle.cp_tree.specs.Syntax.{number, no_expressions, more_expressions, designator, no_selectors, invoke, no_statements, more_statements, Program}
 use Rattle.cp_meaning.specs.Types.{integers}
 use Rattle.cp_meaning.specs.State.{first_gates, Shown, State}
-use Rattle.cp_meaning.specs.Kernel.{Event, display_event, output_full}
-use Rattle.cp_meaning.specs.Steps.{opening, step_of}
+use Rattle.cp_meaning.proofs.Words.{Event, display_event, output_full, opening, step_of}
 use Rattle.cp_meaning.proofs.Written.{named_at, just}
 
 -- begin display(7) end.

@@ -1,10 +1,7 @@
 -- Programs whose values are worked out.
-use Rattle.std.specs.Prelude.{[], ◌∷◌, Some, None, true, false, codes}
+use Rattle.cp_meaning.proofs.Words.{[], ◌∷◌, Some, None, true, false, codes, Equal, In, Plus, Minus, Or, Div, Mod, And}
 use Rattle.cp_tree.specs.declared.constant.Sign.TheVariants as sign
 use Rattle.cp_tree.specs.declared.constant.ConstantKind.TheVariants as constant_kind
-use Rattle.cp_tree.specs.declared.expression.Relation.TheVariants.{Equal, In}
-use Rattle.cp_tree.specs.declared.expression.Addition.TheVariants.{Plus, Minus, Or}
-use Rattle.cp_tree.specs.declared.expression.Multiplication.TheVariants.{Div, Mod, And}
 use Rattle.cp_tree.specs.declared.statement.Direction.TheVariants as direction
 use Rattle.cp_tree.specs.declared.declaration.SystemKind.TheVariants as system_kind
 use Rattle.cp_tree.specs.Syntax.{alone, related, sum, no_terms, more_terms, term, no_factors, more_factors, number, character, named, group, set_of, no_expressions, more_expressions, designator, no_selectors, more_selectors, field, index, empty, assign, invoke, if_then, if_else, for_do, init, no_statements, more_statements, type_name, enumeration, subrange, simple, array_of, set_type, procedure, function, type_definition, system_definition, program_types, program_variables, Program}

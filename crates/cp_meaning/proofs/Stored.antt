@@ -1,9 +1,7 @@
 -- What a change of components or of environments leaves as it was.
 use Rattle.std.proofs.Common.{◌≡◌, ℕ, ◌<◌, ◌≤◌, ◌==◌, ◌∙◌, ◌⊎◌, inl, inr, Bool, true, false, if◌then◌else◌, List, [], ◌∷◌, length, get_or, set, slice_set, ap, sym, refl}
 use Rattle.cp_meaning.specs.State.{Holder, in_call, in_component, Place, Environment, Component, component_at, no_component, ComponentStatus, Call}
-use Rattle.cp_meaning.specs.Values.{Value}
-use Rattle.cp_meaning.specs.Places.{View, with_environment, with_call_environment, with_permanents, with_environment_of, stored}
-use Rattle.cp_meaning.specs.Calls.{with_status}
+use Rattle.cp_meaning.proofs.Words.{Value, View, with_environment, with_call_environment, with_permanents, with_environment_of, stored, with_status}
 use Rattle.cp_meaning.proofs.Frames.{at_set, frames}
 
 pub record SameLayout (cs ds : List Component) : Type 0 where

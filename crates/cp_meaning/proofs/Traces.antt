@@ -1,9 +1,8 @@
 -- The kernel calls of programs, with who is inside each monitor after them, by computing.
 use Rattle.std.specs.Prelude.{◌≡◌, [], ◌∷◌, refl, pos}
 use Rattle.cp_meaning.specs.Outcome.{queue_in_use, init_twice}
-use Rattle.cp_meaning.specs.State.{first_gates, any_gates}
+use Rattle.cp_meaning.proofs.Words.{first_gates, any_gates, opening}
 use Rattle.cp_meaning.specs.Kernel.{local_event, enter_event, leave_event, delay_event, continue_event, start_event, display_event, ended_event, fault_event}
-use Rattle.cp_meaning.specs.Steps.{opening}
 use Rattle.cp_meaning.proofs.Following.{goes, goes_in, traced}
 use Rattle.cp_meaning.proofs.TracedPrograms.{inner_delay_keeps_outer, buffer_trace, queue_used, continue_admits_line, resumed_before_line, admits_third, start_order, unseen_variable, waits_in_other_monitor, array_of_processes, started_twice}
 

@@ -2,9 +2,7 @@
 use Rattle.std.proofs.Common.{◌≡◌, ℕ, zero, suc, ◌<◌, ◌≤◌, ◌∙◌, List, [], ◌∷◌, ◌++◌, length, ap, sym, refl, arith}
 use Rattle.cp_tree.specs.declared.declaration.SystemKind.TheVariants as system_kind
 use Rattle.cp_meaning.specs.Types.{Ty, component_of}
-use Rattle.cp_meaning.proofs.Words.{system_of, Component, component_at, component_with, first_components}
-use Rattle.cp_meaning.specs.Components.{PathStep, Path}
-use Rattle.cp_meaning.specs.WellFormed.{HasNoClass, HasEarlier, IsWellFormed}
+use Rattle.cp_meaning.proofs.Words.{system_of, Component, component_at, component_with, first_components, PathStep, Path, HasNoClass, HasEarlier, IsWellFormed}
 use Rattle.cp_meaning.proofs.ComponentTree.{path_at}
 use Rattle.cp_meaning.proofs.TracedPrograms.{admits_third}
 

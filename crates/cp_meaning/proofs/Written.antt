@@ -1,7 +1,5 @@
 -- Short words for writing a program as syntax.
-use Rattle.std.specs.Prelude.{ℕ, List, None}
-use Rattle.cp_tree.specs.declared.constant.Identifier.{Identifier}
-use Rattle.cp_tree.specs.Syntax.{Expression, alone, sum, no_terms, term, no_factors, Factor}
+use Rattle.cp_meaning.proofs.Words.{ℕ, List, None, Identifier, Expression, alone, sum, no_terms, term, no_factors, Factor}
 
 abbrev pub named_at : ℕ → List ℕ → Identifier
 named_at at x = record { at = at; name = x }

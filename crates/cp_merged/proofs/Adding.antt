@@ -1,20 +1,11 @@
 -- Leads and tallies are added to the entries of a map.
 use Rattle.std.proofs.Common.{◌≡◌, ◌∙◌, ◌+◌, ◌<◌, ◌⊎◌, inl, inr, ℕ, Bool, true, false, not, cond, if◌then◌else◌, List, [], ◌∷◌, map, None, Some, refl, sym, ap, unwrap_or, arith}
-use Rattle.std.specs.Prelude.{nat_eq}
-use Rattle.std.specs.Ordering.{nat_cmp, is_lt}
-use Rattle.std.specs.Cmp.Lexicographic.{slice_cmp}
+use Rattle.cp_merged.proofs.Words.{nat_eq, nat_cmp, is_lt, slice_cmp, nat_list_eq_equiv, insert_entry, Tally, outcome_numbers, same_outcome, up_to, lesser, Lead}
+use Rattle.cp_merged.proofs.Words.{with_lead, with_tally, keyed, end_of, EndKey, StateRow}
 use Rattle.std.specs.Map.{lookup, set_value}
 use Rattle.std.proofs.lemmas.Bool.{lt-ltb, le-ltb, eq-eqb, ne_eqb, cases_order}
-use Rattle.std.proofs.lemmas.Cmp.{nat_list_eq_equiv}
-use Rattle.indexmap.specs.IndexMap.{insert_entry}
 use lib.Pointwise.{pointwise}
-use Rattle.cp_walk.specs.Groups.{Tally}
-use Rattle.cp_walk.specs.Report.{outcome_numbers, same_outcome}
-use Rattle.cp_merged.specs.Layers.{up_to, lesser, Lead, with_lead, with_tally}
-use Rattle.cp_merged.specs.Code.{keyed, end_of}
-use Rattle.cp_merged.specs.declared.end_key.EndKey.{EndKey}
 use Rattle.cp_merged.specs.declared.prefixes.Prefixes as code
-use Rattle.cp_states.specs.declared.row.StateRow.{StateRow}
 
 -- the order of words by slices
 pub is_less : (w v : List ℕ) → is_lt (slice_cmp nat_cmp w v) ≡ not (up_to v w)

@@ -1,8 +1,7 @@
 -- Elements of lists by recursion, and lists that have more different elements than a number.
 use Rattle.std.proofs.Common.{◌≡◌, ◌≢◌, ◌⊎◌, inl, inr, ⊎_elim, ◌+◌, ◌<◌, ◌≤◌, ℕ, zero, suc, List, [], ◌∷◌, ◌++◌, length, map, take, refl, sym, ap, subst, ◌∙◌, arith, get_or}
-use Rattle.std.specs.Prelude.{Contains}
+use Rattle.cp_merged.proofs.Words.{Contains, All-from_recursion, recursion_from_All}
 use Rattle.std.specs.List.{AllPairs, AllByRecursion as Each}
-use Rattle.std.proofs.lemmas.List.Elements.{All-from_recursion, recursion_from_All}
 use Rattle.std.proofs.lemmas.List.Kept.{AllPairs-cons}
 use Rattle.cp_merged.specs.TooMany.{MoreThan}
 

@@ -1,37 +1,18 @@
 -- What is added to a frontier of the code arrives at the front that it stands for.
 use Rattle.std.proofs.Common.{◌≡◌, ◌∙◌, inl, inr, ◌+◌, ◌<◌, ◌≤◌, ℕ, Bool, true, false, cond, if◌then◌else◌, List, [], ◌∷◌, ◌++◌, length, map, Some, refl, sym, ap, subst, arith}
 use Rattle.std.specs.Prelude.{nat_eq, IfSome, IfOk, Result, Ok, Err, ◌^◌}
-use Rattle.std.specs.Map.{lookup}
-use Rattle.std.proofs.lemmas.List.{length-map}
+use Rattle.cp_merged.proofs.Words.{lookup, length-map, Tables, Machine, machine_of, output_of, IsStateOf, Gates, slots, node_of, Node, may, chosen, OutcomeKind, Halt}
+use Rattle.cp_merged.proofs.Words.{State, IsMachineOf, IsRowOf, KeepParts, Store, row_on, Tally, same_outcome, keyed, end_of, EndKey, StateRow, nat_list_eq_equiv}
 use lib.Pointwise.{pointwise}
-use Rattle.cp_slots.specs.Tables.{Tables}
-use Rattle.cp_machine.specs.System.{Machine, machine_of, output_of, IsStateOf}
-use Rattle.cp_machine.specs.declared.gates.Gates.{Gates}
-use Rattle.cp_run.specs.Slots.{slots}
-use Rattle.cp_run.specs.Code.{node_of}
-use Rattle.cp_run.specs.Run.{Node, may, chosen}
-use Rattle.cp_run.specs.declared.outcome.OutcomeKind.{OutcomeKind}
-use Rattle.cp_run.specs.declared.outcome.Halt.{Halt}
 use Rattle.cp_run.specs.declared.outcome.Halt.TheVariants.{Choice, Ended as HasEnded}
-use Rattle.cp_machine.specs.declared.state.State.{State}
 use Rattle.cp_key.specs.Key.{key_of}
-use Rattle.cp_key.specs.Room.{IsMachineOf}
 use Rattle.cp_key.proofs.Keys.{key_tells}
 use Rattle.cp_key.proofs.Owned.{machine_own}
-use Rattle.cp_states.specs.Rows.{IsRowOf, KeepParts}
-use Rattle.cp_states.specs.declared.store.Store.{Store}
 use Rattle.cp_states.proofs.Alone.{one_machine, one_row}
-use Rattle.cp_states.proofs.Following.{row_on}
-use Rattle.cp_walk.specs.Groups.{Tally}
-use Rattle.cp_walk.specs.Report.{same_outcome}
 use Rattle.cp_merged.specs.Layers.{Lead, Front, IsSound, lesser, merged_lead, with_lead, merged_tally, with_tally, arrived, after_choice}
-use Rattle.cp_merged.specs.Code.{keyed, end_of}
 use Rattle.cp_merged.specs.Holds.{same_key, IsLeadTo, AreLeadsTo, AreLeads, AreEnds, Holds, words_of, counts, total}
-use Rattle.cp_merged.specs.declared.end_key.EndKey.{EndKey}
 use Rattle.cp_merged.specs.declared.prefixes.Prefixes as code
-use Rattle.cp_states.specs.declared.row.StateRow.{StateRow}
 use Rattle.cp_merged.proofs.Exact.{one_list}
-use Rattle.std.proofs.lemmas.Cmp.{nat_list_eq_equiv}
 
 pub key_sound : IsSound same_key
 unfolding same_key

@@ -1,12 +1,7 @@
 -- Scores of outcomes, and lists of tallies that are apart and in order.
 use Rattle.std.specs.Prelude.{◌≡◌, ◌+◌, ℕ, List, [], ◌∷◌, true, false, Option, None, Some, if◌then◌else◌}
-use Rattle.cp_run.specs.declared.outcome.Outcome.{Outcome}
-use Rattle.cp_run.specs.System.{System}
-use Rattle.cp_run.specs.Table.{Line, table}
-use Rattle.cp_walk.specs.Groups.{Tally}
-use Rattle.cp_merged.specs.Tallies.{Sameness}
+use Rattle.cp_merged.proofs.Words.{Outcome, System, Line, table, Tally, Sameness, up_to, lesser}
 use Rattle.std.specs.List.{AllByRecursion as Each}
-use Rattle.cp_merged.specs.Layers.{up_to, lesser}
 
 -- what is known of an outcome: how many rows have it, and the first of their words in dictionary order
 pub record Score : Type 0 where

@@ -1,14 +1,12 @@
 -- Where a choice leads to, components are bound to others only where one started.
 use Rattle.std.proofs.Common.{◌≡◌, ℕ, zero, suc, Bool, true, false, if◌then◌else◌, List, [], ◌∷◌, ap, arith, sym, refl, subst}
 use Rattle.cp_slots.specs.Fits.{IsSound}
-use Rattle.cp_slots.specs.Tables.{Tables}
+use Rattle.cp_merged.proofs.Words.{Tables, Gates, State, node_of, processes_of, slots, Halt, AllWaiting, Finished}
 use Rattle.cp_machine.specs.Fits.{IsStateOf, LinesFit, MachineFits}
 use Rattle.cp_machine.specs.Reach.{Reaches}
 use Rattle.cp_machine.specs.System.{Machine, admitted, is_pending, is_ready, in_line, machine_of, step_at}
 use Rattle.cp_machine.specs.declared.event.Event.{Event}
 use Rattle.cp_machine.specs.declared.event.Event.TheVariants.{Local, Kernel, Ended as ProcessEnded, Fault, OutputFull}
-use Rattle.cp_machine.specs.declared.gates.Gates.{Gates}
-use Rattle.cp_machine.specs.declared.state.State.{State}
 use Rattle.cp_machine.proofs.CallerLemmas.{admitted_free, local_ready, ready_thread}
 use Rattle.cp_machine.proofs.rooms.KeepingAct.{step_fits}
 use Rattle.cp_machine.proofs.rooms.KernelFits.{admitted_fits}
@@ -16,13 +14,9 @@ use Rattle.cp_machine.proofs.lines.KernelLines.{admitted_lines}
 use Rattle.cp_machine.proofs.frames.ReachingKept.{admitted_reaches, step_reaches}
 use Rattle.cp_machine.proofs.lines.StepLines.{step_lines}
 use Rattle.cp_machine.proofs.Unmoved.{step_others}
-use Rattle.cp_run.specs.Code.{node_of}
 use Rattle.cp_run.specs.Run.{Node, Halted, Choosing, chosen, may, node_at, settled_turn, stretch, those_below, turn_after, turn_among}
-use Rattle.cp_run.specs.Slots.{processes_of, slots}
 use Rattle.cp_run.specs.Table.{IsAmong, Here}
-use Rattle.cp_run.specs.declared.outcome.Halt.{Halt}
 use Rattle.cp_run.specs.declared.outcome.Halt.TheVariants.{Choice, Ended}
-use Rattle.cp_run.specs.declared.outcome.OutcomeKind.TheVariants.{AllWaiting, Finished}
 use Rattle.cp_run.specs.declared.outcome.Turn.{Turn}
 use Rattle.cp_run.specs.declared.outcome.Turn.TheVariants.{Over, Due, Goes}
 use Rattle.cp_run.proofs.Choosing.{chosen_at_gate, chosen_free, may_be_ready, may_in_line}

@@ -3,13 +3,8 @@ use Rattle.std.proofs.Common.{◌≡◌, ◌∙◌, ⊎_elim, ◌+◌, ◌*◌, 
 use Rattle.std.proofs.lemmas.Bool.{cases_lt}
 use Rattle.std.proofs.Math.ListN.{get_or-append}
 use Rattle.std.proofs.Math.Seq.{get_or-append_seam}
-use Rattle.std.proofs.lemmas.List.{length-append}
-use Rattle.cp_run.specs.System.{System}
-use Rattle.cp_run.specs.Run.{may, chosen, those_below}
+use Rattle.cp_merged.proofs.Words.{length-append, System, may, chosen, those_below, Sameness, Lead, Front, arrived, after_choice, after_choices, total}
 use Rattle.cp_walk.proofs.Branches.{append_none}
-use Rattle.cp_merged.specs.Tallies.{Sameness}
-use Rattle.cp_merged.specs.Layers.{Lead, Front, arrived, after_choice, after_choices}
-use Rattle.cp_merged.specs.Holds.{total}
 use Rattle.cp_merged.proofs.Totals.{total_arrived}
 
 pub ok_to : {A E : Type 0} (r : Result A E) (P Q : A → Type 0) → IfOk r P → ((a : A) → P a → Q a) → IfOk r Q

@@ -1,16 +1,10 @@
 -- A table without choice-limit stays as it is with more choices; and closed states bound all tables.
 use Rattle.std.proofs.Common.{◌≡◌, ◌∙◌, ◌+◌, ℕ, zero, suc, Bool, true, false, if◌then◌else◌, List, [], ◌∷◌, ◌++◌, map, refl, sym, ap, subst}
 use native.Mathlib.Numerals.{unary_clauses}
-use Rattle.cp_run.specs.declared.outcome.OutcomeKind.{OutcomeKind}
-use Rattle.cp_run.specs.declared.outcome.OutcomeKind.TheVariants.{Finished, AllWaiting, RunError, ChoiceLimit, StepLimit, OutputLimit}
-use Rattle.cp_run.specs.System.{System}
-use Rattle.cp_run.specs.Run.{joined_below, Node, Halted, Choosing, may, chosen, opened}
-use Rattle.cp_run.specs.Table.{Line, table}
-use Rattle.cp_walk.specs.Walk.{behind, walk}
-use Rattle.cp_walk.proofs.Walks.{table_walk}
+use Rattle.cp_merged.proofs.Words.{OutcomeKind, Finished, AllWaiting, RunError, ChoiceLimit, StepLimit, OutputLimit, System, joined_below, Node, Halted, Choosing, may}
+use Rattle.cp_merged.proofs.Words.{chosen, opened, Line, table, behind, walk, table_walk, All-from_recursion, recursion_from_All}
 use Rattle.std.specs.List.{AllByRecursion as Each}
 use Rattle.std.specs.Prelude.{All}
-use Rattle.std.proofs.lemmas.List.Elements.{All-from_recursion, recursion_from_All}
 use Rattle.cp_merged.specs.Complete.{IsOver, IsComplete, IsIn, IsClosed, IsKnown}
 
 -- IsComplete by recursion

@@ -1,20 +1,13 @@
 -- Outcomes are one where their numbers are.
 use Rattle.std.proofs.Common.{◌≡◌, ◌∙◌, ℕ, zero, suc, Bool, true, false, ◌&&◌, ◌==◌, if◌then◌else◌, List, [], ◌∷◌, ◌++◌, pos, negsuc, neg_ℤ, refl, sym, ap, arith}
-use Rattle.std.specs.Prelude.{nat_eq}
+use Rattle.cp_merged.proofs.Words.{nat_eq, nat_list_eq_equiv, ErrorName, Shown, each, Outcome, OutcomeKind, IsExact}
 use Rattle.std.specs.Int.{is_negative}
-use Rattle.std.proofs.lemmas.Cmp.{nat_list_eq_equiv}
 use Rattle.std.proofs.lemmas.Bool.{eqb-true, le-ltb}
 use lib.Pointwise.{pointwise}
-use Rattle.cp_store.specs.declared.error.ErrorName.{ErrorName}
 use Rattle.cp_store.specs.declared.error.ErrorName.TheVariants.{Overflow, ZeroDivisor, Range, NoCase, QueueInUse, NotInit, InitTwice}
-use Rattle.cp_machine.specs.declared.shown.Shown.{Shown}
 use Rattle.cp_machine.specs.declared.shown.Shown.TheVariants.{Integer, Char, Truth, Constant}
-use Rattle.cp_run.specs.Table.{each}
-use Rattle.cp_run.specs.declared.outcome.Outcome.{Outcome}
-use Rattle.cp_run.specs.declared.outcome.OutcomeKind.{OutcomeKind}
 use Rattle.cp_run.specs.declared.outcome.OutcomeKind.TheVariants.{Finished, AllWaiting, RunError, ChoiceLimit, StepLimit, OutputLimit}
 use Rattle.cp_walk.specs.Report.{shown_numbers, number_of, kind_numbers, outcome_numbers, same_outcome}
-use Rattle.cp_merged.specs.Tallies.{IsExact}
 
 -- ---- back from the numbers
 

@@ -1,26 +1,13 @@
 -- From layer to layer: what fits, and which fault is due.
 use Rattle.std.proofs.Common.{◌≡◌, ◌∙◌, ◌⊎◌, inl, ⊎_elim, lit<, ◌+◌, ◌<◌, ◌≤◌, ℕ, List, [], length, map, sym, ap, subst, arith}
 use Rattle.std.specs.Prelude.{Result, Ok, Err, IfOk, IfErr, IsErrAnd, ◌^◌}
-use Rattle.std.proofs.Math.Nat.{pow-le-pow_right}
+use Rattle.cp_merged.proofs.Words.{pow-le-pow_right, Tables, Machine, Gates, slots, processes_of, Node, opened, Store, same_outcome, Front, arrived, front_at, by_layers}
+use Rattle.cp_merged.proofs.Words.{end_of, rows_in, same_key, AreLeads, AreEnds, Holds, IsStates, total, Reached, EndKey, StateRow}
 use Rattle.std.proofs.lemmas.Bool.{cases_order}
-use Rattle.cp_slots.specs.Tables.{Tables}
-use Rattle.cp_machine.specs.System.{Machine}
-use Rattle.cp_machine.specs.declared.gates.Gates.{Gates}
-use Rattle.cp_run.specs.Slots.{slots, processes_of}
-use Rattle.cp_run.specs.Run.{Node, opened}
-use Rattle.cp_states.specs.declared.store.Store.{Store}
-use Rattle.cp_walk.specs.Report.{same_outcome}
-use Rattle.cp_merged.specs.Layers.{Front, arrived, front_at, by_layers}
-use Rattle.cp_merged.specs.Code.{end_of}
-use Rattle.cp_merged.specs.Told.{rows_in}
-use Rattle.cp_merged.specs.Holds.{same_key, AreLeads, AreEnds, Holds, IsStates, total}
-use Rattle.cp_merged.specs.Reached.{Reached}
 use Rattle.cp_merged.specs.TooMany.{HasTooManyStates, HasTooManyOutcomes, FitsBefore, IsDueFault}
-use Rattle.cp_merged.specs.declared.end_key.EndKey.{EndKey}
 use Rattle.cp_merged.specs.declared.fault.MergeFault.{MergeFault}
 use Rattle.cp_merged.specs.declared.fault.MergeFault.TheVariants.{Memory, TooManyStates, TooManyOutcomes}
 use Rattle.cp_merged.specs.declared.prefixes.Prefixes as code
-use Rattle.cp_states.specs.declared.row.StateRow.{StateRow}
 use Rattle.cp_merged.proofs.Arriving.{key_sound, key_own, ends_few, ends_many}
 use Rattle.cp_merged.proofs.Exact.{exact_outcomes}
 use Rattle.cp_merged.proofs.Fronts.{is_front, once_at}

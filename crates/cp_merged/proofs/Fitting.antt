@@ -2,14 +2,7 @@
 use Rattle.std.proofs.Common.{◌≡◌, ◌≢◌, inl, inr, ◌<◌, ◌≤◌, ℕ, Bool, true, false, if◌then◌else◌, List, [], ◌∷◌, length, map, Option, None, Some, refl, sym, ap, subst, ◌∙◌, arith}
 use Rattle.std.specs.Prelude.{is_some}
 use Rattle.std.specs.List.{AllByRecursion as Each}
-use Rattle.std.proofs.lemmas.List.{length-map}
-use Rattle.cp_run.specs.declared.outcome.Outcome.{Outcome}
-use Rattle.cp_run.specs.System.{System}
-use Rattle.cp_run.specs.Run.{Choosing}
-use Rattle.cp_run.specs.Table.{Line, table}
-use Rattle.cp_walk.specs.Groups.{Tally}
-use Rattle.cp_merged.specs.Tallies.{Sameness, IsExact}
-use Rattle.cp_merged.specs.Layers.{Lead, IsSound, front_at, by_layers}
+use Rattle.cp_merged.proofs.Words.{length-map, Outcome, System, Choosing, Line, table, Tally, Sameness, IsExact, Lead, IsSound, front_at, by_layers}
 use Rattle.cp_merged.specs.TooMany.{IsInLayer, IsEndWithin, HasTooManyStates, HasTooManyOutcomes}
 use Rattle.cp_merged.proofs.Anywhere.{AnyOf, Has, Differ, more_than, no_more_than, has_from_contains, contains_from_has}
 use Rattle.cp_merged.proofs.Basics.{Score, plus, score, score_in, Apart}

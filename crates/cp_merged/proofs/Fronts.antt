@@ -1,16 +1,9 @@
 -- What a front has: the states and ends that words lead to, each once.
 use Rattle.std.proofs.Common.{◌≡◌, ◌⊎◌, inl, inr, ⊎_elim, ◌+◌, ◌<◌, ◌≤◌, ℕ, zero, suc, Bool, true, false, if◌then◌else◌, List, [], ◌∷◌, ◌++◌, length, Some, refl, sym, ap, subst, ◌∙◌, arith}
 use Rattle.std.specs.List.{AllByRecursion as Each}
-use Rattle.std.proofs.lemmas.List.{length-append}
+use Rattle.cp_merged.proofs.Words.{length-append, Outcome, OutcomeKind, System, Node, Halted, Choosing, may, chosen, opened, Tally, Sameness, IsExact, node_after}
 use Rattle.std.proofs.lemmas.Bool.{cases_order}
-use Rattle.cp_run.specs.declared.outcome.Outcome.{Outcome}
-use Rattle.cp_run.specs.declared.outcome.OutcomeKind.{OutcomeKind}
-use Rattle.cp_run.specs.System.{System}
-use Rattle.cp_run.specs.Run.{Node, Halted, Choosing, may, chosen, opened}
-use Rattle.cp_walk.specs.Groups.{Tally}
-use Rattle.cp_merged.specs.Tallies.{Sameness, IsExact}
 use Rattle.cp_merged.specs.Layers.{up_to, Lead, IsSound, merged_lead, with_lead, merged_tally, with_tally, Front, arrived, after_choice, after_choices, after_layer, front_at}
-use Rattle.cp_merged.specs.TooMany.{node_after}
 use Rattle.cp_merged.proofs.Anywhere.{AnyOf}
 use Rattle.cp_merged.proofs.Reaching.{may_below, snoc, step_on, step_back, IsEnd}
 use Rattle.cp_merged.proofs.Unique.{each_to}

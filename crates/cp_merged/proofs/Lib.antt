@@ -19,3 +19,4 @@ pub mod Starting
 pub mod Telling
 pub mod Totals
 pub mod Unique
+mod Words

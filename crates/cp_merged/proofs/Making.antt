@@ -1,26 +1,10 @@
 -- A layer in the making: the front so far, and the leads that are still to go on.
 use Rattle.std.proofs.Common.{◌≡◌, ◌∙◌, ◌+◌, ◌*◌, ◌^◌, ◌<◌, ◌≤◌, lit<, ℕ, suc, List, [], ◌∷◌, length, map, refl, sym, ap, subst, arith}
-use Rattle.std.proofs.Math.Nat.{pow-le-pow_right}
+use Rattle.cp_merged.proofs.Words.{pow-le-pow_right, length-map, Tables, Machine, output_of, Shown, ChoiceLimit, Gates, slots, processes_of, IsMachineOf, IsRowOf}
+use Rattle.cp_merged.proofs.Words.{KeepParts, Store, Tally, same_outcome, Lead, Front, after_choices, after_layer, at_limit, with_tally, front_at, by_layers, keyed}
+use Rattle.cp_merged.proofs.Words.{same_key, AreLeadsTo, AreLeads, AreEnds, Holds, words_of, counts, total, HasTooManyStates, EndKey, StateRow}
 use Rattle.std.specs.List.{AllByRecursion as Each}
-use Rattle.std.proofs.lemmas.List.{length-map}
-use Rattle.cp_slots.specs.Tables.{Tables}
-use Rattle.cp_machine.specs.System.{Machine, output_of}
-use Rattle.cp_machine.specs.declared.shown.Shown.{Shown}
-use Rattle.cp_run.specs.declared.outcome.OutcomeKind.TheVariants.{ChoiceLimit}
-use Rattle.cp_machine.specs.declared.gates.Gates.{Gates}
-use Rattle.cp_run.specs.Slots.{slots, processes_of}
-use Rattle.cp_key.specs.Room.{IsMachineOf}
-use Rattle.cp_states.specs.Rows.{IsRowOf, KeepParts}
-use Rattle.cp_states.specs.declared.store.Store.{Store}
-use Rattle.cp_walk.specs.Groups.{Tally}
-use Rattle.cp_walk.specs.Report.{same_outcome}
-use Rattle.cp_merged.specs.Layers.{Lead, Front, after_choices, after_layer, at_limit, with_tally, front_at, by_layers}
-use Rattle.cp_merged.specs.Code.{keyed}
-use Rattle.cp_merged.specs.Holds.{same_key, AreLeadsTo, AreLeads, AreEnds, Holds, words_of, counts, total}
-use Rattle.cp_merged.specs.TooMany.{HasTooManyStates}
-use Rattle.cp_merged.specs.declared.end_key.EndKey.{EndKey}
 use Rattle.cp_merged.specs.declared.prefixes.Prefixes as code
-use Rattle.cp_states.specs.declared.row.StateRow.{StateRow}
 use Rattle.cp_merged.proofs.Arriving.{key_sound, key_own, leads_on}
 use Rattle.cp_merged.proofs.Exact.{exact_outcomes}
 use Rattle.cp_merged.proofs.Fronts.{IsLead, IsFrontOf, OneEach, is_front, ends_later, front_choices, once_choices}

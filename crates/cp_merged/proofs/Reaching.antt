@@ -1,15 +1,8 @@
 -- Where words lead to, and the rows that they make.
 use Rattle.std.proofs.Common.{◌≡◌, ◌⊎◌, inl, inr, ⊎_elim, ◌<◌, ◌≤◌, ℕ, zero, suc, Bool, true, false, ◌&&◌, nat_lt, if◌then◌else◌, List, [], ◌∷◌, ◌++◌, length, map, None, Some, refl, sym, ap, subst, ◌∙◌, arith}
-use Rattle.std.specs.Prelude.{Contains}
+use Rattle.cp_merged.proofs.Words.{Contains, OutcomeKind, ChoiceLimit, System, Line, table, behind, walk, table_walk, node_after, IsEndWithin}
 use Rattle.std.proofs.lemmas.Bool.{ltb-true, cases_order}
-use Rattle.cp_run.specs.declared.outcome.OutcomeKind.{OutcomeKind}
-use Rattle.cp_run.specs.declared.outcome.OutcomeKind.TheVariants.{ChoiceLimit}
-use Rattle.cp_run.specs.System.{System}
 use Rattle.cp_run.specs.Run.{joined_below, Node, Halted, Choosing, may, chosen, opened}
-use Rattle.cp_run.specs.Table.{Line, table}
-use Rattle.cp_walk.specs.Walk.{behind, walk}
-use Rattle.cp_walk.proofs.Walks.{table_walk}
-use Rattle.cp_merged.specs.TooMany.{node_after, IsEndWithin}
 use Rattle.cp_merged.proofs.Anywhere.{Has, has_left, has_right, has_either, has_map, from_map, has_from_contains, contains_from_has}
 
 some_same : {A : Type 0} (x y : A) → Some x ≡ Some y → x ≡ y

@@ -1,18 +1,10 @@
 -- Layers find of each outcome what the table has of it.
 use Rattle.std.proofs.Common.{◌≡◌, ◌+◌, ◌*◌, ℕ, zero, suc, Bool, true, false, if◌then◌else◌, List, [], ◌∷◌, ◌++◌, map, length, Option, None, Some, sym, refl, ap, ◌∙◌, arith}
-use Rattle.std.proofs.lemmas.List.{append_assoc, length-append}
-use Rattle.cp_run.specs.declared.outcome.Outcome.{Outcome}
-use Rattle.cp_run.specs.declared.outcome.OutcomeKind.TheVariants.{ChoiceLimit}
-use Rattle.cp_run.specs.System.{System}
+use Rattle.cp_merged.proofs.Words.{append_assoc, length-append, Outcome, ChoiceLimit, System, Line, table, behind, walk, Tally, Sameness, IsSameness, table_walk}
 use Rattle.cp_run.specs.Run.{joined_below, Node, Halted, Choosing, may, chosen, opened}
-use Rattle.cp_run.specs.Table.{Line, table}
-use Rattle.cp_walk.specs.Walk.{behind, walk}
-use Rattle.cp_walk.specs.Groups.{Tally}
-use Rattle.cp_merged.specs.Tallies.{Sameness, IsSameness}
 use Rattle.cp_merged.specs.Layers.{lesser, Lead, IsSound, merged_lead, with_lead, with_tally, Front, arrived, after_choices, after_layer, at_limit, front_at, by_layers}
 use Rattle.cp_merged.proofs.Basics.{Score, joined, plus, score, score_in}
 use Rattle.cp_merged.proofs.Order.{lesser_flips, lesser_joins, lesser_behind, lesser_before, lesser_length}
-use Rattle.cp_walk.proofs.Walks.{table_walk}
 
 -- ---- scores add up in any order
 

@@ -1,12 +1,6 @@
 -- What the layers find, in the order of its first words, is what the report of the table tells.
 use Rattle.std.proofs.Common.{◌≡◌, ℕ, zero, suc, Bool, true, false, if◌then◌else◌, List, [], ◌∷◌, ◌++◌, refl, ap, ◌∙◌}
-use Rattle.cp_run.specs.declared.outcome.Outcome.{Outcome}
-use Rattle.cp_run.specs.declared.outcome.OutcomeKind.TheVariants.{ChoiceLimit}
-use Rattle.cp_run.specs.System.{System}
-use Rattle.cp_run.specs.Run.{Node, Halted, Choosing, may, chosen, opened}
-use Rattle.cp_run.specs.Table.{table}
-use Rattle.cp_walk.specs.Groups.{Tally}
-use Rattle.cp_merged.specs.Tallies.{Sameness, IsSameness, IsExact, tally}
+use Rattle.cp_merged.proofs.Words.{Outcome, ChoiceLimit, System, Node, Halted, Choosing, may, chosen, opened, table, Tally, Sameness, IsSameness, IsExact, tally}
 use Rattle.cp_merged.specs.Layers.{up_to, Lead, IsSound, merged_tally, with_tally, Front, arrived, after_choices, after_layer, at_limit, front_at, by_layers, placed, by_first}
 use Rattle.std.specs.List.{AllByRecursion as Each}
 use Rattle.cp_merged.proofs.Basics.{plus, score_in, Ordered, Apart}

@@ -2,8 +2,7 @@
 use Rattle.std.proofs.Common.{◌≡◌, ◌∙◌, ◌⊎◌, inl, inr, ◌+◌, ℕ, suc, Bool, true, false, not, List, [], ◌∷◌, map, None, Some, refl, sym, ap, subst, arith, get_or}
 use Rattle.std.specs.List.{IsDistinct, AllByRecursion as Each}
 use Rattle.std.specs.List.Sorted.{IsPermutation, IsSortedBy}
-use Rattle.std.specs.Ordering.{nat_cmp, is_lt}
-use Rattle.std.specs.Cmp.Lexicographic.{slice_cmp}
+use Rattle.cp_merged.proofs.Words.{nat_cmp, is_lt, slice_cmp, System, table, Outcome, Tally, same_outcome, IsSameness, tally, up_to, IsSound, by_layers, rows_in}
 use Rattle.std.specs.Borrow.{Bor}
 use Rattle.std.specs.Fn.{Called, ComparesAs}
 use Rattle.std.specs.Cmp.{IsStrictWeakOrder}
@@ -15,15 +14,7 @@ use denote.Param.Members.{Mut}
 use Rattle.std.proofs.lemmas.List.Elements.{All-from_recursion, recursion_from_All}
 use Rattle.std.proofs.lemmas.List.Sorted.{All-permutation, Contains-permutation, sum_by-IsPermutation}
 use Rattle.std.proofs.lemmas.Map.Keys.{IsDistinct-IsPermutation}
-use Rattle.cp_run.specs.System.{System}
-use Rattle.cp_run.specs.Table.{table}
-use Rattle.cp_run.specs.declared.outcome.Outcome.{Outcome}
-use Rattle.cp_walk.specs.Groups.{Tally}
-use Rattle.cp_walk.specs.Report.{same_outcome}
-use Rattle.cp_merged.specs.Tallies.{IsSameness, tally}
-use Rattle.cp_merged.specs.Layers.{up_to, IsSound, by_layers}
 use Rattle.cp_merged.specs.Code.{tally_of, by_word}
-use Rattle.cp_merged.specs.Told.{rows_in}
 use Rattle.cp_merged.specs.declared.tally.Tally as code
 use Rattle.cp_merged.proofs.Adding.{is_less}
 use Rattle.cp_merged.proofs.Anywhere.{Has, has_from_contains, contains_from_has, each_has}

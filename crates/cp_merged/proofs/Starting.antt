@@ -1,7 +1,7 @@
 -- Components are bound to others where one starts, and nowhere else.
 use Rattle.std.proofs.Common.{◌≡◌, ℕ, ◌<◌, ◌≤◌, ◌∙◌, ◌⊎◌, inl, inr, List, [], ◌∷◌, length, Option, Some, None, Result, Ok, Err, if◌then◌else◌, Bool, true, false, refl, sym, subst, ap, slice_set, slice_index_or, get_or-set_same, get_or-set_other, ◌==◌, ℤ, arith}
 use Rattle.std.specs.Ordering.{int_eq}
-use Rattle.std.specs.Prelude.{pos}
+use Rattle.cp_merged.proofs.Words.{pos, ErrorName, Gates, MOST_SHOWN}
 use Rattle.std.proofs.lemmas.Bool.{cases_eq, cases_lt}
 use Rattle.std.proofs.lemmas.List.{get_or_past, length-set}
 use Rattle.cp_slots.specs.Tables.{Tables, item_at, component_at, routine_at}
@@ -12,14 +12,12 @@ use Rattle.cp_slots.specs.declared.place.Argument.{Argument}
 use Rattle.cp_slots.specs.declared.tables.ComponentKind.{ComponentKind}
 use Rattle.cp_slots.specs.declared.tables.ComponentKind.TheVariants as kind
 use Rattle.cp_store.specs.declared.argument.Bound.{Bound}
-use Rattle.cp_store.specs.declared.error.ErrorName.{ErrorName}
 use Rattle.cp_store.specs.declared.memory.Address.{Address}
 use Rattle.cp_store.specs.declared.memory.Address.TheVariants as address
 use Rattle.cp_store.specs.declared.memory.Frame.{Frame}
 use Rattle.cp_store.specs.Sets as sets
 use Rattle.cp_store.specs.Arguments.{bound_in_component}
 use Rattle.cp_store.specs.Values.{is_true, ranged}
-use Rattle.cp_machine.specs.declared.gates.Gates.{Gates}
 use Rattle.cp_machine.specs.declared.gates.Gates.TheVariants.{First, Any}
 use Rattle.cp_machine.specs.declared.process.Entry.{Entry}
 use Rattle.cp_machine.specs.declared.process.Entry.TheVariants.{Rest, Successor, Return, InitEnd}
@@ -27,7 +25,6 @@ use Rattle.cp_machine.specs.declared.process.Status.{Status}
 use Rattle.cp_machine.specs.declared.process.Status.TheVariants.{Ready, AtGate, Delayed, Ended}
 use Rattle.cp_machine.specs.declared.state.Phase.{Phase}
 use Rattle.cp_machine.specs.declared.state.Phase.TheVariants.{Uninitialised, Initialising, Initialised}
-use Rattle.cp_machine.specs.declared.state.TheConstants.{MOST_SHOWN}
 use Rattle.cp_machine.specs.Calls.{frame_behind, opened, left, called, called_in, called_by, start_process, start_inside, started, returned, init_ended, delayed_in, delay_at, continued_from, continue_at}
 use Rattle.cp_machine.specs.Kernel.{first_in, one_in, let_in, let_in_by, goes_in, entered, entered_by, delayed, resumed, continued, waits_in}
 use Rattle.cp_machine.specs.Machine.{Machine, Thread, thread_at, no_thread, monitor_at, phase_at, is_initialised, is_uninitialised, is_unstarted, with_thread, with_stack, with_status, with_permanents}

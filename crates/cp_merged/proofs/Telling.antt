@@ -1,24 +1,14 @@
 -- The report of a table is told by its tallies.
 use Rattle.std.proofs.Common.{◌≡◌, ◌∙◌, ◌+◌, ℕ, Bool, true, false, if◌then◌else◌, List, [], ◌∷◌, ◌++◌, length, map, refl, sym, ap, arith, codes}
-use Rattle.std.specs.Prelude.{nat_eq}
-use Rattle.std.specs.Map.{lookup}
-use Rattle.std.proofs.lemmas.Cmp.{nat_list_eq_equiv}
-use Rattle.std.proofs.lemmas.List.{append_assoc, length-map}
-use Rattle.indexmap.specs.IndexMap.{insert_entry}
+use Rattle.cp_merged.proofs.Words.{nat_eq, lookup, nat_list_eq_equiv, append_assoc, length-map, insert_entry, Line, each, Tally, tally_text, one, more, noted, tally_onto}
+use Rattle.cp_merged.proofs.Words.{tally, tally_of, counts, rows_in, told_text, sum_by}
 use lib.Pointwise.{pointwise}
 use Rattle.cp_natural.specs.Decimal.{number_text}
-use Rattle.cp_run.specs.Table.{Line, each}
 use Rattle.cp_walk.specs.Report.{outcome_numbers, same_outcome, outcomes_of, group_text, groups_text, report_text}
 use Rattle.cp_walk.specs.Groups as groups
-use Rattle.cp_walk.specs.Groups.{Tally, tally_text}
 use Rattle.cp_walk.specs.Text.{Spellings}
 use Rattle.cp_walk.proofs.Grouping.{tallies_more}
-use Rattle.cp_merged.specs.Tallies.{one, more, noted, tally_onto, tally}
-use Rattle.cp_merged.specs.Code.{tally_of}
 use Rattle.cp_merged.specs.declared.tally.Tally as code
-use Rattle.cp_merged.specs.Holds.{counts}
-use Rattle.cp_merged.specs.Told.{rows_in, told_text}
-use Rattle.std.specs.Prelude.{sum_by}
 use Rattle.std.proofs.lemmas.List.Sums.{sum_by-append}
 
 -- a tally behind the numbers of its outcome

@@ -1,12 +1,7 @@
 -- How many words a front is of.
 use Rattle.std.proofs.Common.{◌≡◌, ◌+◌, ◌*◌, ◌≤◌, ◌^◌, ℕ, zero, suc, Bool, true, false, if◌then◌else◌, List, [], ◌∷◌, ◌++◌, arith}
-use Rattle.cp_run.specs.System.{System}
-use Rattle.cp_run.specs.declared.outcome.OutcomeKind.TheVariants.{ChoiceLimit}
-use Rattle.cp_run.specs.Run.{Node, Halted, Choosing, may, chosen, opened}
-use Rattle.cp_walk.specs.Groups.{Tally}
-use Rattle.cp_merged.specs.Tallies.{Sameness}
+use Rattle.cp_merged.proofs.Words.{System, ChoiceLimit, Node, Halted, Choosing, may, chosen, opened, Tally, Sameness, words_of, counts, total}
 use Rattle.cp_merged.specs.Layers.{Lead, merged_lead, with_lead, merged_tally, with_tally, Front, arrived, after_choices, after_layer, at_limit, front_at, by_layers}
-use Rattle.cp_merged.specs.Holds.{words_of, counts, total}
 
 module _ {S : Type 0} (sys : System S) (same : Sameness) (eq : S → S → Bool) (steps : ℕ) where
   words_with : (xs : List (Lead S)) (x : Lead S) → words_of (with_lead eq xs x) ≡ words_of xs + x.count

@@ -1,18 +1,11 @@
 -- The tallies of a table are the only ones that tell its outcomes.
 use Rattle.std.proofs.Common.{◌≡◌, ◌+◌, ◌<◌, ℕ, zero, suc, Bool, true, false, if◌then◌else◌, List, [], ◌∷◌, ◌++◌, map, Option, None, Some, sym, refl, ap, subst, ◌∙◌, arith}
-use Rattle.cp_run.specs.declared.outcome.Outcome.{Outcome}
-use Rattle.cp_run.specs.System.{System}
-use Rattle.cp_run.specs.Run.{joined_below, Node, Halted, Choosing, may, chosen, opened}
-use Rattle.cp_run.specs.Table.{Line, table}
-use Rattle.cp_walk.specs.Walk.{behind, walk}
-use Rattle.cp_walk.specs.Groups.{Tally}
+use Rattle.cp_merged.proofs.Words.{Outcome, System, joined_below, Node, Halted, Choosing, may, chosen, opened, Line, table, behind, walk, Tally, up_to, table_walk}
 use Rattle.cp_merged.specs.Tallies.{Sameness, IsSameness, IsExact, one, more, noted, tally_onto, tally}
-use Rattle.cp_merged.specs.Layers.{up_to}
 use Rattle.std.specs.List.{AllByRecursion as Each}
 use Rattle.cp_merged.proofs.Basics.{Score, plus, score, score_in, Ordered, Apart, Tells}
 use Rattle.cp_merged.proofs.Order.{total, up_after, up_equal}
 use Rattle.cp_merged.proofs.Scores.{scored, score_one, plus_none, plus_joins, plus_flips}
-use Rattle.cp_walk.proofs.Walks.{table_walk}
 
 -- the second word comes before the first
 abbrev Later : List ℕ → List ℕ → Type 0

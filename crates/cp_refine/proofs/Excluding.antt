@@ -1,15 +1,11 @@
 -- In every state that a run passes through at most one process is inside each monitor.
 use Rattle.std.proofs.Common.{◌≡◌, ℕ, zero, suc, Bool, true, false, if◌then◌else◌, List, [], ◌∷◌, ◌++◌, All, refl}
-use Rattle.std.proofs.Math.Logic.{∥∥₁_elim}
-use Rattle.std.proofs.Props.{props}
+use Rattle.cp_refine.proofs.Words.{∥∥₁_elim, props, IsRead, Tree, plain, laid, Tables, IsAccepted, well_formed, Gates, IfGoes, slots, System, Turn, layouts_of, CanGo}
+use Rattle.cp_refine.proofs.Words.{GoInStep, Simulates, named, gates_of, exclusive, Goes}
 use Rattle.std.proofs.lemmas.List.Elements.{All-nil, All-cons, All-append}
-use Rattle.cp_refine.proofs.Words.{IsRead, Tree, plain, laid, Tables, IsAccepted, well_formed, Gates, IfGoes, slots, System, Turn, layouts_of, CanGo}
-use Rattle.cp_refine.proofs.Words.{GoInStep, Simulates, named, gates_of}
 use Rattle.cp_meaning.specs.Exclusive.{IsExclusive}
-use Rattle.cp_meaning.proofs.OwnershipLemmas.{exclusive}
 use Rattle.cp_run.specs.Run.{settled_turn, turn_at, turn_after, Node, Halted, Choosing, opened, may, chosen}
 use Rattle.cp_refine.specs.States.{states_on, stretch_states, opened_states, chosen_states, states_from, run_states}
-use Rattle.cp_run.specs.declared.outcome.Turn.TheVariants.{Goes}
 use Rattle.cp_refine.specs.Excluding.{RunsExclude}
 use Rattle.cp_refine.proofs.Alike.{goes_on, opening_goes, may_go, may_enter, admitted_goes, openings, choices_alike, NodesAlike}
 use Rattle.cp_refine.proofs.Meaning.{goes_in_step}

@@ -1,8 +1,7 @@
 -- A machine without what it displayed stands for the state without what it displayed.
-use Rattle.cp_refine.proofs.Words.{ℕ, List, [], ◌∷◌, refl, Tree, Program, Tables, component_at, ComponentKind, Frame, Entry, Rest, Successor, Return, InitEnd}
-use Rattle.cp_refine.proofs.Words.{Machine, thread_at, ComponentStatus, uninitialised, State, by_forgetting, Layouts, Ground, ground_of, Simulates}
-use Rattle.cp_refine.proofs.Words.{Represents, ComponentIs, MonitorIs}
-use Rattle.cp_machine.specs.Fits.{MachineFits, LinesFit}
+use Rattle.cp_refine.proofs.Words.{ℕ, List, [], ◌∷◌, refl, Tree, Program, Tables, component_at, ComponentKind, Frame, Entry, Rest, Successor, Return, InitEnd, Machine}
+use Rattle.cp_refine.proofs.Words.{thread_at, ComponentStatus, uninitialised, State, by_forgetting, Layouts, Ground, ground_of, Simulates, Represents, ComponentIs}
+use Rattle.cp_refine.proofs.Words.{MonitorIs, MachineFits, LinesFit}
 use Rattle.cp_machine.specs.Reach.{Reaches, HasBegunAs, ExecutesAs, StackExecutes, EndsBegun}
 use Rattle.cp_slots.specs.declared.tables.ComponentKind.TheVariants as kind
 use Rattle.cp_meaning.specs.State as named

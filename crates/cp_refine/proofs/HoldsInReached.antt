@@ -1,11 +1,10 @@
 -- What holds in each reached state of a well-formed program, as the steps on slots want it.
 use Rattle.std.proofs.Common.{◌≡◌, ◌≢◌, ◌∙◌, ◌⊎◌, inl, inr, ℕ, zero, suc, ◌<◌, true, false, List, [], ◌∷◌, Some, None, ap, sym, refl, subst, arith, length}
-use Rattle.cp_refine.proofs.Words.{SystemKind, Program, Tree, Path, line_of, component_with, component_there, first_inside, is_member, IsWellFormed}
-use Rattle.cp_refine.proofs.Words.{IsAccepted, well_formed, IsMonitor, OrderlyState}
+use Rattle.cp_refine.proofs.Words.{SystemKind, Program, Tree, Path, line_of, component_with, component_there, first_inside, is_member, IsWellFormed, IsAccepted}
+use Rattle.cp_refine.proofs.Words.{well_formed, IsMonitor, OrderlyState, first_components, IsReached, at_first, by_step, by_admission, by_forgetting, view_of}
 use Rattle.cp_tree.specs.declared.declaration.SystemKind.TheVariants as system_kind
 use Rattle.cp_meaning.specs.Ownership.{owner_from, owner_of, HoldsComponent, HoldsCalls, CallsDescend, IsLawful}
 use Rattle.cp_meaning.specs.State.{uninitialised, initialising, initialised, unstarted, ready, Component, component_at, CallKind, entry_routine, initial_statement, own_statement, local_routine, Call, current, Item, init_end, process_at, Gates, State, Place, has_entry, is_inside}
-use Rattle.cp_meaning.specs.Steps.{first_components, IsReached, at_first, by_step, by_admission, by_forgetting, view_of}
 use Rattle.cp_meaning.proofs.Frames.{Frame, frames, entry_in, initial_in, system_at, Descends, ItemsFit, TopStarts}
 use Rattle.cp_meaning.proofs.OwnershipLemmas.{reached, lawful as lawful_when_reached, ownership}
 use Rattle.cp_refine.proofs.reached.ReachedCalls.{IsOuterKind, lies_lower, one_entry, none_open, entered_or_initial}

@@ -1,10 +1,7 @@
 -- The tables of a tree that was read and is accepted go in step with its meaning.
-use Rattle.cp_refine.proofs.Words.{◌≡◌, ℕ, refl, subst, IsRead, Tree, plain, laid, Tables, IsAccepted, Gates, slots, AreTablesOf, layouts_of, AllKnown}
-use Rattle.cp_refine.proofs.Words.{GoInStep}
-use Rattle.std.proofs.Math.Logic.{∥∥₁_elim}
+use Rattle.cp_refine.proofs.Words.{◌≡◌, ℕ, refl, subst, IsRead, Tree, plain, laid, Tables, IsAccepted, Gates, slots, AreTablesOf, layouts_of, AllKnown, GoInStep}
+use Rattle.cp_refine.proofs.Words.{∥∥₁_elim, First, Any, resolving_law}
 use Rattle.cp_machine.specs.declared.gates.Gates as slot_gates
-use Rattle.cp_machine.specs.declared.gates.Gates.TheVariants.{First, Any}
-use Rattle.cp_resolved.proofs.Resolving.{resolving_law}
 use Rattle.cp_refine.specs.Law.{Simulates, SameRuns, MeansTheSame}
 use Rattle.cp_refine.specs.Named.{named, gates_of, named_gates}
 use Rattle.cp_refine.proofs.steps.GoingInStep.{in_step}

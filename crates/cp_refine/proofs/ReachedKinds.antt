@@ -1,14 +1,13 @@
 -- The kinds of components in the tables, and the numbers of monitors and processes.
 use Rattle.std.proofs.Common.{◌≡◌, ◌∙◌, ◌⊎◌, inl, inr, ℕ, zero, suc, ◌<◌, ◌≤◌, ◌==◌, Bool, true, false, if◌then◌else◌, List, [], ◌∷◌, Some, ap, sym, refl, subst, arith, length, eq-eqb}
-use Rattle.cp_refine.proofs.Words.{slice_index_or, cases_lt, eqb-true, SystemKind, Program, Tree, ComponentKind, IsItself, IsTyped, after, process_of}
-use Rattle.cp_refine.proofs.Words.{first_gates, Process, State, first_components, opening, Layouts, SameKind, KindsAgree, ground_of}
+use Rattle.cp_refine.proofs.Words.{slice_index_or, cases_lt, eqb-true, SystemKind, Program, Tree, ComponentKind, IsItself, IsTyped, after, process_of, first_gates}
+use Rattle.cp_refine.proofs.Words.{Process, State, first_components, opening, Layouts, SameKind, KindsAgree, ground_of, monitors_of}
 use Rattle.cp_tree.specs.declared.declaration.SystemKind.TheVariants as system_kind
 use Rattle.cp_slots.specs.declared.tables.Component.{Component}
 use Rattle.cp_slots.specs.declared.tables.ComponentKind.TheVariants as kind
 use Rattle.cp_slots.specs.declared.tables.Process as slot_process
 use Rattle.cp_slots.specs.Tables as tables
 use Rattle.cp_slots.specs.Tables.{Tables, component_at, process_at}
-use Rattle.cp_meaning.specs.Readings.{monitors_of}
 use Rattle.cp_meaning.specs.State as named
 use Rattle.cp_resolved.specs.Resolved.{KindIs, Stands}
 use Rattle.cp_refine.proofs.gates.Gates.{OwnNumbers}

@@ -1,10 +1,8 @@
 -- The tables of a tree that was read and is accepted stand for it, and are sound.
-use Rattle.cp_resolved.proofs.Words.{◌≡◌, ◌<◌, ◌≤◌, ℕ, length, refl, arith, IsRead, Tree, IsSound, most, plain, laid, Tables, system_at, IsAccepted}
-use Rattle.cp_resolved.proofs.Words.{ground_of, AreFew, IsFramed, IsPlaced, Stands, layouts_of}
+use Rattle.cp_resolved.proofs.Words.{◌≡◌, ◌<◌, ◌≤◌, ℕ, length, refl, arith, IsRead, Tree, IsSound, most, plain, laid, Tables, system_at, IsAccepted, ground_of, AreFew}
+use Rattle.cp_resolved.proofs.Words.{IsFramed, IsPlaced, Stands, layouts_of, constant_names, ItemsInside}
 use Rattle.std.proofs.Math.Logic.{∥∥₁_elim, ∥∥₁_map}
 use Rattle.std.proofs.Props.{props}
-use Rattle.cp_resolved.specs.Enumerations.{constant_names}
-use Rattle.cp_resolved.specs.ItemsInside.{ItemsInside}
 use Rattle.cp_resolved.specs.Resolving.{ResolvingLaw, IsProgramOf}
 use Rattle.cp_resolved.specs.Soundness.{NamesHold}
 use Rattle.cp_resolved.proofs.forms.BodiesFormed.{bodies_formed}

@@ -1,6 +1,5 @@
 -- What schedules of any length come to is met in what is gone through leg by leg, where some quiet legs are made at once and others left out.
-use Rattle.std.proofs.Common.{◌≡◌, ◌⊎◌, inl, inr, ℕ, zero, suc, ◌≤◌, true, subst, arith}
-use Rattle.cp_run.specs.System.{System}
+use Rattle.cp_at_once_laws.proofs.Words.{◌≡◌, ◌⊎◌, inl, inr, ℕ, zero, suc, ◌≤◌, true, subst, arith, System}
 use Rattle.cp_at_once_laws.specs.AtOnce.{Leg, QuietLeg, Comes, done, meets, goes, Commutes, NobodyReady, GoalStays, OwnGoal}
 use Rattle.cp_at_once_laws.proofs.search.Front.{as_leg, leg_met, InFront, to_front}
 

@@ -1,10 +1,8 @@
 -- Nothing is left out: each end to which a word leads is found, and what a process meets in a stretch it meets in one that is gone through.
 use Rattle.std.proofs.Common.{◌≡◌, ◌≢◌, ◌⊎◌, inl, inr, ◌∙◌, ◌+◌, ℕ, Bool, true, false, if◌then◌else◌, List, [], Some, ap, sym, refl, subst}
-use Rattle.cp_at_once_laws.proofs.Words.{Event, OutcomeKind, Over, System, EndsAfter, SetsOut, spot_after, IsTurnKnown, HasQuietLeg, GoesThrough, IsPlain}
-use Rattle.cp_at_once_laws.proofs.Words.{some_same}
-use Rattle.cp_machine.specs.declared.event.Event.TheVariants.{Local, Fault, OutputFull}
+use Rattle.cp_at_once_laws.proofs.Words.{Event, OutcomeKind, Over, System, EndsAfter, SetsOut, spot_after, IsTurnKnown, HasQuietLeg, GoesThrough, IsPlain, some_same}
+use Rattle.cp_at_once_laws.proofs.Words.{Local, Fault, OutputFull, is_call, Comes, Fails, fails, later_fails, Commutes, NobodyReady, GoalStays, OwnGoal}
 use Rattle.cp_run.specs.declared.outcome.OutcomeKind.TheVariants.{Finished, AllWaiting, RunError, ChoiceLimit, StepLimit, OutputLimit}
-use Rattle.cp_at_once_laws.specs.AtOnce.{is_call, Comes, Fails, fails, later_fails, Commutes, NobodyReady, GoalStays, OwnGoal}
 use Rattle.cp_at_once_laws.proofs.search.Goals.{errors_stay, own_errors}
 use Rattle.cp_at_once_laws.proofs.limits.Turns.{ready_in, none_ready}
 use Rattle.cp_at_once_laws.proofs.limits.Closed.{IsHit, hits}

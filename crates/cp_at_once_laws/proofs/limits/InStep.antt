@@ -1,7 +1,6 @@
 -- What is gone through in one of two systems that go in step is gone through in the other.
 use Rattle.std.proofs.Common.{◌≡◌, ◌⊎◌, inl, inr, ◌∙◌, ℕ, zero, suc, true, false, Some, ap, sym, refl, subst}
-use Rattle.cp_at_once_laws.proofs.Words.{OutcomeKind, Turn, Over, Due, Goes, System, may, turn_at, turn_after, CanGo, GoInStep, spot_after, spot_by}
-use Rattle.cp_at_once_laws.proofs.Words.{some_same}
+use Rattle.cp_at_once_laws.proofs.Words.{OutcomeKind, Turn, Over, Due, Goes, System, may, turn_at, turn_after, CanGo, GoInStep, spot_after, spot_by, some_same}
 use Rattle.cp_run.specs.Code.{IfGoes}
 use Rattle.cp_refine.proofs.Alike.{goes_on, goes_same, may_go, may_same, opening_goes}
 use Rattle.cp_refine.proofs.Turns.{turn_same}

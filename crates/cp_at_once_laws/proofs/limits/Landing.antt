@@ -1,9 +1,8 @@
 -- A leg of a process that stands in a stretch which is gone through comes to what is gone through: to a choice, to an end, or on in this stretch.
 use Rattle.std.proofs.Common.{◌≡◌, ◌⊎◌, ◌<◌, ◌&&◌, inl, inr, ◌∙◌, ◌+◌, ℕ, Bool, true, false, if◌then◌else◌, [], ◌∷◌, Some, ap, sym, refl, subst}
-use Rattle.cp_at_once_laws.proofs.Words.{Local, OutcomeKind, Finished, AllWaiting, Turn, Over, Goes, System, may, settled_turn, turn_at, turn_after}
-use Rattle.cp_at_once_laws.proofs.Words.{spot_after, spot_by, from_there, Leg, calls, after_local, Commutes}
+use Rattle.cp_at_once_laws.proofs.Words.{Local, OutcomeKind, Finished, AllWaiting, Turn, Over, Goes, System, may, settled_turn, turn_at, turn_after, spot_after, spot_by}
+use Rattle.cp_at_once_laws.proofs.Words.{from_there, Leg, calls, after_local, Commutes, may_go}
 use Rattle.std.proofs.lemmas.Bool.{lt-ltb}
-use Rattle.cp_refine.proofs.Alike.{may_go}
 use Rattle.cp_at_once_laws.specs.Through.{IsTurnKnown, IsOpeningKnown, FollowsEach, HasQuietLeg, FollowsOne, GoesThrough, IsPlain}
 use Rattle.cp_at_once_laws.proofs.search.Front.{as_leg}
 use Rattle.cp_at_once_laws.proofs.limits.Turns.{CallTurn, nobody, alone, choice, ready_in, call_turn, local_turn, which_turn, none_ready, one_ready, head_ready}

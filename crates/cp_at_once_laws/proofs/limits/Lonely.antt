@@ -1,8 +1,7 @@
 -- Who makes every step of a stretch that goes on for ever, and calls again and again, is alone.
 use Rattle.std.proofs.Common.{◌≡◌, ◌≢◌, ◌⊎◌, inl, inr, ◌∙◌, ◌+◌, ◌≤◌, ℕ, zero, suc, Bool, true, false, if◌then◌else◌, [], Some, ap, sym, refl, subst, arith}
-use Rattle.cp_at_once_laws.proofs.Words.{Event, OutcomeKind, Turn, Over, Due, Goes, System, settled_turn, turn_after, IsKernelCall, spot_after, spot_by}
-use Rattle.cp_at_once_laws.proofs.Words.{from_there, is_call, after_steps, Commutes, IsPlain, some_same, distance, same_or_not}
-use Rattle.cp_machine.specs.declared.event.Event.TheVariants.{Local, Kernel}
+use Rattle.cp_at_once_laws.proofs.Words.{Event, Turn, Over, Due, Goes, System, settled_turn, turn_after, IsKernelCall, spot_after, spot_by, from_there}
+use Rattle.cp_at_once_laws.proofs.Words.{is_call, after_steps, Commutes, IsPlain, some_same, distance, same_or_not, Local, Kernel}
 use Rattle.cp_at_once_laws.proofs.limits.Meeting.{GoesAlone}
 use Rattle.cp_at_once_laws.proofs.limits.Turns.{CallTurn, nobody, alone, choice, call_turn, which_turn, none_ready, one_ready, head_ready}
 use Rattle.cp_at_once_laws.proofs.limits.Words.{EventKind, is_local, is_kernel, is_stop, which_event, stop_turn}

@@ -1,10 +1,9 @@
 -- The search at once on one of two systems that go in step leaves nothing out of the other: whatever the limit of steps.
 use Rattle.std.proofs.Common.{◌≡◌, ◌≢◌, ◌⊎◌, inl, inr, ◌∙◌, ◌+◌, ◌≤◌, ℕ, zero, suc, true, false, List, None, Some, ap, sym, subst, arith}
-use Rattle.cp_at_once_laws.proofs.Words.{Event, Local, OutcomeKind, StepLimit, Turn, Goes, System, turn_after, CanGo, GoInStep, AnyOf, EndsAfter, SetsOut}
-use Rattle.cp_at_once_laws.proofs.Words.{spot_after, spot_by, is_call, after_steps, Spins, Commutes, HasQuietLeg, GoesThrough, IsPlain, some_same, distance}
-use Rattle.cp_endless.specs.Repeats.{CallsAt, IsKernelCall, Repeats, repeated_part}
+use Rattle.cp_at_once_laws.proofs.Words.{Event, Local, OutcomeKind, StepLimit, Turn, Goes, System, turn_after, CanGo, GoInStep, AnyOf, EndsAfter, SetsOut, spot_after}
+use Rattle.cp_at_once_laws.proofs.Words.{spot_by, is_call, after_steps, Spins, Commutes, HasQuietLeg, GoesThrough, IsPlain, some_same, distance, CallsAt, IsKernelCall}
+use Rattle.cp_at_once_laws.proofs.Words.{Repeats, repeated_part, ComesOut, GoesRound, SearchesAtOnce}
 use Rattle.cp_endless.proofs.steps.Rounds.{cut_if_on}
-use Rattle.cp_at_once_laws.specs.Search.{ComesOut, GoesRound, SearchesAtOnce}
 use Rattle.cp_at_once_laws.proofs.limits.Complete.{end_known}
 use Rattle.cp_at_once_laws.proofs.limits.InStep.{StandsAlike, stands_alike, Among, Begun, goes_through_too}
 use Rattle.cp_at_once_laws.proofs.limits.Meeting.{GoesAlone, MovesOn, loops_there, alone_there, MarkThere, marks_there}

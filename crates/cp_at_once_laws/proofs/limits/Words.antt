@@ -1,20 +1,10 @@
 -- What a word leads to with some limit of steps, legs without a limit come to.
 use Rattle.std.proofs.Common.{◌≡◌, ◌⊎◌, inl, inr, ◌∙◌, ℕ, zero, suc, Bool, true, false, if◌then◌else◌, List, [], Option, None, Some, ap, sym, refl, subst}
-use Rattle.cp_machine.specs.declared.event.Event.{Event}
-use Rattle.cp_machine.specs.declared.event.Event.TheVariants.{Local, Kernel, Ended, Fault, OutputFull}
-use Rattle.cp_run.specs.declared.outcome.OutcomeKind.{OutcomeKind}
-use Rattle.cp_run.specs.declared.outcome.OutcomeKind.TheVariants.{Finished, AllWaiting, RunError, StepLimit, OutputLimit}
-use Rattle.cp_run.specs.declared.outcome.Turn.{Turn}
-use Rattle.cp_run.specs.declared.outcome.Turn.TheVariants.{Over, Due, Goes}
-use Rattle.cp_run.specs.System.{System}
-use Rattle.cp_run.specs.Run.{Halted, Choosing, node_at, may, settled_turn, turn_at, turn_after, stretch, opened, chosen}
-use Rattle.cp_refine.proofs.Alike.{may_go}
-use Rattle.cp_endless.specs.Reachable.{EndsAfter}
-use Rattle.cp_endless.specs.Rounds.{SetsOut, spot_after, spot_by}
+use Rattle.cp_at_once_laws.proofs.Words.{Event, Local, Kernel, Ended, Fault, OutputFull, OutcomeKind, Finished, AllWaiting, RunError, StepLimit, OutputLimit, Turn, Over}
+use Rattle.cp_at_once_laws.proofs.Words.{Due, Goes, System, Halted, Choosing, node_at, may, settled_turn, turn_at, turn_after, stretch, opened, chosen, may_go, EndsAfter}
+use Rattle.cp_at_once_laws.proofs.Words.{SetsOut, spot_after, spot_by, is_call, Leg, calls, after_local, Comes, done, meets, goes, Commutes, IsPlain}
 use Rattle.cp_endless.specs.Settled.{IsClosed, IsIn}
 use Rattle.cp_endless.proofs.possible.Settled.{leads_in}
-use Rattle.cp_at_once_laws.specs.AtOnce.{is_call, Leg, calls, after_local, Comes, done, meets, goes, Commutes}
-use Rattle.cp_at_once_laws.specs.Through.{IsPlain}
 use Rattle.cp_at_once_laws.proofs.limits.Landing.{local_goes}
 use Rattle.cp_at_once_laws.proofs.limits.Turns.{CallTurn, nobody, alone, choice, ready_in, call_turn, local_turn, which_turn, head_ready}
 use Rattle.cp_resolved.proofs.names.Alike.{same_inside as some_same}

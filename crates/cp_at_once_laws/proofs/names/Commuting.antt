@@ -1,17 +1,13 @@
 -- Quiet steps and steps of other ready processes may be made in either order, on the meaning of a program on its own names.
 use Rattle.std.proofs.Common.{◌≡◌, ◌≢◌, ◌⊎◌, inl, inr, ◌∙◌, ◌<◌, ◌≤◌, ◌==◌, ℕ, zero, suc, Bool, true, false, List, [], ◌∷◌, length, Option, None, Some, Ok, Err, ap, sym, refl, subst, arith, slice_index}
-use Rattle.std.specs.Prelude.{Contains, map}
-use Rattle.cp_at_once_laws.proofs.Words.{Program, Tree, Outcome, Move, stays, starts, shows, Doing, takes, IsWellFormed, CanGo, is_call, Commutes, IsPlain}
+use Rattle.cp_at_once_laws.proofs.Words.{Contains, map, Program, Tree, Outcome, Move, stays, starts, shows, Doing, takes, IsWellFormed, CanGo, is_call, Commutes, IsPlain}
+use Rattle.cp_at_once_laws.proofs.Words.{is_ready, shown_of, event_of, is_some, constants_before, names, is_quiet, IsSomewhere, IsQuietStep}
 use Rattle.cp_machine.specs.declared.event.Event.TheVariants as event
 use Rattle.cp_machine.specs.declared.shown.Shown as slot_shown
 use Rattle.cp_meaning.specs.Kernel.{Event, local_event, enter_event, fault_event, output_full, output_room, moved_to, process_of, starting_as, starting, displaying, kernel_step}
 use Rattle.cp_meaning.specs.State.{Environment, Status, unstarted, ready, Process, process_at, Shown, State}
-use Rattle.cp_meaning.specs.Readings.{is_ready}
 use Rattle.cp_meaning.specs.Steps.{settled, step_of, view_of, at_items, line_at}
-use Rattle.cp_refine.specs.Named.{shown_of, event_of, is_some}
-use Rattle.cp_resolved.specs.Enumerations.{constants_before}
 use Rattle.cp_refine.specs.Running.{steps, met_first, met_by_step}
-use Rattle.cp_at_once_laws.specs.Quiet.{names, is_quiet, IsSomewhere, IsQuietStep}
 use Rattle.cp_at_once_laws.proofs.names.Beside.{is_failure, QuietHere, Beside, BesideLaw}
 use Rattle.cp_at_once_laws.proofs.names.Opening.{first_ready, later_not_ready}
 use Rattle.cp_at_once_laws.proofs.names.States.{Kept, Known, known, fits, ready_told}

@@ -1,13 +1,10 @@
 -- What the search at once on the slot machine goes through leaves nothing out of the meaning of the program on its own names.
-use Rattle.cp_at_once_laws.proofs.Words.{◌≡◌, ℕ, true, false, List, ap, subst, Contains, IsRead, Tree, plain, laid, Tables, IsAccepted, well_formed, Machine}
-use Rattle.cp_at_once_laws.proofs.Words.{First, first_gates, State, IsWellFormed, OutcomeKind, CanGo, GoInStep, Commutes, ShowsValue, names, IsSomewhere}
-use Rattle.cp_at_once_laws.proofs.Words.{IsQuietStep, SearchesAtOnce, HasQuietLeg, IsPlain}
+use Rattle.cp_at_once_laws.proofs.Words.{◌≡◌, ℕ, true, false, List, ap, subst, Contains, IsRead, Tree, plain, laid, Tables, IsAccepted, well_formed, Machine, First}
+use Rattle.cp_at_once_laws.proofs.Words.{first_gates, State, IsWellFormed, OutcomeKind, CanGo, GoInStep, Commutes, ShowsValue, names, IsSomewhere, IsQuietStep}
+use Rattle.cp_at_once_laws.proofs.Words.{SearchesAtOnce, HasQuietLeg, IsPlain, slots, named, is_some, named_without_output, silent_slots}
 use Rattle.cp_machine.specs.declared.shown.Shown.{Shown}
-use Rattle.cp_run.specs.Slots.{slots}
-use Rattle.cp_refine.specs.Named.{named, is_some}
 use Rattle.cp_refine.proofs.Meaning.{goes_in_step}
 use Rattle.cp_endless.specs.Shown.{ShowsAfter}
-use Rattle.cp_endless.specs.Silent.{named_without_output, silent_slots}
 use Rattle.cp_at_once_laws.specs.OnSlots.{IsQuietOnSlots, Tells, LeavesNone, LeavesNothingOut}
 use Rattle.cp_at_once_laws.proofs.rules.StartsKnown.{StartsKnown}
 use Rattle.cp_at_once_laws.proofs.limits.NothingLeft.{met_there, no_end_left}

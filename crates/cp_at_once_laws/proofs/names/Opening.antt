@@ -1,8 +1,7 @@
 -- At the start process 0 alone is ready.
-use Rattle.cp_at_once_laws.proofs.Words.{◌≡◌, ◌∙◌, ℕ, zero, suc, List, [], ◌∷◌, sym, refl, SystemKind, Program, Component, unstarted, ready, Process}
-use Rattle.cp_at_once_laws.proofs.Words.{process_at, first_gates, first_components, process_first, processes_from, own_begun, opening, kind_at}
+use Rattle.cp_at_once_laws.proofs.Words.{◌≡◌, ◌∙◌, ℕ, zero, suc, List, [], ◌∷◌, sym, refl, SystemKind, Program, Component, unstarted, ready, Process, process_at}
+use Rattle.cp_at_once_laws.proofs.Words.{first_gates, first_components, process_first, processes_from, own_begun, opening, kind_at, program_kind}
 use Rattle.cp_tree.specs.declared.declaration.SystemKind.TheVariants as system_kind
-use Rattle.cp_meaning.proofs.Exclusion.{program_kind}
 
 unstarted_first : (k : SystemKind) (n : ℕ) (ps : List Process) → ((q : ℕ) → (process_at ps q).status ≡ unstarted) → (q : ℕ) → (process_at (process_first k n ps) q).status ≡ unstarted
 unstarted_first system_kind.Process n ps h zero = refl

@@ -1,7 +1,7 @@
 -- A leg that may be made at once on slots is a quiet leg on names: what is as it was after the leg was so after each of its steps.
-use Rattle.cp_at_once_laws.proofs.Words.{◌≡◌, ◌∙◌, ◌⊎◌, inl, inr, ℕ, ◌<◌, ◌≤◌, length, ap, sym, refl, arith, IsRead, Program, Tree, SystemKind, plain, laid}
-use Rattle.cp_at_once_laws.proofs.Words.{Tables, IsAccepted, well_formed, Machine, First, first_components, kind_at, status_at, reached, CanGo, GoInStep}
-use Rattle.cp_at_once_laws.proofs.Words.{is_call, QuietLeg, calls_quietly, after_quiet, HasQuietLeg, status_told}
+use Rattle.cp_at_once_laws.proofs.Words.{◌≡◌, ◌∙◌, ◌⊎◌, inl, inr, ℕ, ◌<◌, ◌≤◌, length, ap, sym, refl, arith, IsRead, Program, Tree, SystemKind, plain, laid, Tables}
+use Rattle.cp_at_once_laws.proofs.Words.{IsAccepted, well_formed, Machine, First, first_components, kind_at, status_at, reached, CanGo, GoInStep, is_call, QuietLeg}
+use Rattle.cp_at_once_laws.proofs.Words.{calls_quietly, after_quiet, HasQuietLeg, status_told, slots, named, names, is_quiet, IsQuietStep}
 use Rattle.std.proofs.lemmas.Bool.{cases_lt}
 use Rattle.std.specs.Prelude.{slice_index_or}
 use Rattle.cp_tree.specs.declared.declaration.SystemKind.TheVariants as system_kind
@@ -14,9 +14,7 @@ use Rattle.cp_meaning.specs.State.{ComponentStatus, uninitialised, initialising,
 use Rattle.cp_meaning.proofs.Held.{kind_past}
 use Rattle.cp_resolved.specs.Resolved.{KindIs}
 use Rattle.cp_resolved.specs.TreeLayouts.{layouts_of}
-use Rattle.cp_run.specs.Slots.{slots}
 use Rattle.cp_refine.specs.Law.{Simulates}
-use Rattle.cp_refine.specs.Named.{named}
 use Rattle.cp_refine.specs.Represents.{PhaseIs}
 use Rattle.cp_refine.proofs.Forgetting.{forgets}
 use Rattle.cp_refine.proofs.Meaning.{it, goes_in_step}
@@ -24,7 +22,6 @@ use Rattle.cp_endless.specs.Silent.{named_without_output, silent_slots, without_
 use Rattle.cp_endless.proofs.names.Going.{silent_in_step}
 use Rattle.cp_endless.proofs.names.Meant.{leaves}
 use Rattle.cp_at_once_laws.specs.OnSlots.{IsQuietEvent, IsQuietOnSlots}
-use Rattle.cp_at_once_laws.specs.Quiet.{names, is_quiet, IsQuietStep}
 use Rattle.cp_at_once_laws.proofs.rules.StartsKnown.{StartsKnown}
 use Rattle.cp_at_once_laws.proofs.names.Commuting.{within_of}
 use Rattle.cp_at_once_laws.proofs.names.Reached.{unpending}

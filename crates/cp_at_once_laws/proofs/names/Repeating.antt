@@ -1,15 +1,13 @@
 -- A stretch that is seen to repeat on slots goes on for ever on names, and one process makes each of its steps.
 use Rattle.std.proofs.Common.{◌≡◌, inl, inr, ◌∙◌, ◌+◌, ◌≤◌, ℕ, zero, suc, true, List, Option, None, Some, ap, sym, refl, subst, arith}
-use Rattle.cp_at_once_laws.proofs.Words.{IsRead, Tree, plain, laid, Tables, IsAccepted, well_formed, Machine, First, State, IsWellFormed, Turn, Over, Due}
-use Rattle.cp_at_once_laws.proofs.Words.{Goes, System, Choosing, opened, turn_after, CanGo, GoInStep, AnyOf, stretch_moments, silent_slots, Commutes, names}
-use Rattle.cp_at_once_laws.proofs.Words.{IsSomewhere, IsQuietStep, IsPlain, some_same, distance}
+use Rattle.cp_at_once_laws.proofs.Words.{IsRead, Tree, plain, laid, Tables, IsAccepted, well_formed, Machine, First, State, IsWellFormed, Turn, Over, Due, Goes, System}
+use Rattle.cp_at_once_laws.proofs.Words.{Choosing, opened, turn_after, CanGo, GoInStep, AnyOf, stretch_moments, silent_slots, Commutes, names, IsSomewhere, IsQuietStep}
+use Rattle.cp_at_once_laws.proofs.Words.{IsPlain, some_same, distance, Repeats, repeated_part, CallsAt, IsKernelCall, from_there, rounds, happens_early}
 use Rattle.cp_machine.specs.declared.event.Event as slot_event
 use Rattle.cp_machine.specs.declared.event.Event.TheVariants as event
-use Rattle.cp_endless.specs.Repeats.{Repeats, repeated_part, CallsAt, IsKernelCall}
 use Rattle.cp_endless.specs.Rounds.{IsRound, SetsOut, chosen_spot, opening_spot, spot_after, spot_by}
 use Rattle.cp_endless.proofs.names.Going.{in_choices}
 use Rattle.cp_endless.proofs.names.Together.{ChoicesAlike, after_there, choosing_alike, turned}
-use Rattle.cp_endless.proofs.steps.Rounds.{from_there, rounds, happens_early}
 use Rattle.cp_at_once_laws.specs.OnSlots.{RepeatsByOneLaw}
 use Rattle.cp_at_once_laws.proofs.rules.StartsKnown.{StartsKnown}
 use Rattle.cp_at_once_laws.specs.Whole.{GoesOnBy, IsAloneBy, SpinsBy}

@@ -1,12 +1,10 @@
 -- What is known of the states that are met without output, where the first of a line goes in.
 use Rattle.std.proofs.Common.{◌≡◌, ◌⊎◌, inl, inr, ◌∙◌, ◌+◌, ◌<◌, ◌≤◌, ℕ, zero, suc, true, false, List, [], ◌∷◌, length, None, ap, sym, refl, arith}
 use Rattle.std.proofs.lemmas.Bool.{cases_order}
-use Rattle.cp_at_once_laws.proofs.Words.{SystemKind, Program, Tree, Component, ready, Process, process_at, Gates, first_gates, State, IsWellFormed, kind_at}
-use Rattle.cp_at_once_laws.proofs.Words.{OrderlyState, reached, OwnedState, is_some, names, IsSomewhere, status_told}
+use Rattle.cp_at_once_laws.proofs.Words.{SystemKind, Program, Tree, Component, ready, Process, process_at, Gates, first_gates, State, IsWellFormed, kind_at, OrderlyState}
+use Rattle.cp_at_once_laws.proofs.Words.{reached, OwnedState, is_some, names, IsSomewhere, status_told, program_kind}
 use Rattle.cp_tree.specs.declared.declaration.SystemKind.TheVariants as system_kind
-use Rattle.cp_meaning.specs.Readings.{is_ready}
 use Rattle.cp_meaning.specs.Steps.{first_components, process_first, processes_from, own_begun, opening, step_of, IsReached, at_first, by_step, by_forgetting}
-use Rattle.cp_meaning.proofs.Exclusion.{program_kind}
 use Rattle.cp_refine.specs.Running.{Happening, IsMet, met_first, met_by_step, met_by_admission}
 use Rattle.cp_at_once_laws.proofs.pairs.Fit.{StartsKnown, Waiting, ProcessesUnknown, Fits}
 use Rattle.cp_at_once_laws.proofs.pairs.Facts.{facts}

@@ -1,17 +1,14 @@
 -- A value that a word shows is shown by a call of the stretch to which the word leads.
 use Rattle.std.proofs.Common.{◌≡◌, ◌⊎◌, inl, inr, ◌∙◌, ◌==◌, ℕ, zero, suc, Bool, true, false, if◌then◌else◌, List, [], ◌∷◌, length, Option, None, Some, Ok, Err, ap, refl, subst, arith}
-use Rattle.std.specs.Prelude.{Contains, map}
+use Rattle.cp_at_once_laws.proofs.Words.{Contains, map, Program, Tree, Outcome, Move, enters, leaves, delays, continues, starts, shows, Doing, takes, Turn, Over, Due}
+use Rattle.cp_at_once_laws.proofs.Words.{Goes, System, may, turn_at, turn_after, settled_turn, SetsOut, spot_after, spot_by, is_call, ShowsValue, names, Environment}
+use Rattle.cp_at_once_laws.proofs.Words.{Status, unstarted, ready, delayed, process_at, Gates, first_gates, any_gates, State, constants_before, event_of, shown_of}
 use Rattle.std.proofs.lemmas.List.Elements.{Contains-append_cases}
-use Rattle.cp_at_once_laws.proofs.Words.{Program, Tree, Outcome, Move, enters, leaves, delays, continues, starts, shows, Doing, takes, Turn, Over, Due, Goes}
-use Rattle.cp_at_once_laws.proofs.Words.{System, may, turn_at, turn_after, settled_turn, SetsOut, spot_after, spot_by, is_call, ShowsValue, names}
 use Rattle.cp_machine.specs.declared.shown.Shown.{Shown}
 use Rattle.cp_meaning.specs.State as meaning
-use Rattle.cp_meaning.specs.State.{Environment, Status, unstarted, ready, delayed, process_at, Gates, first_gates, any_gates, State}
 use Rattle.cp_meaning.specs.Kernel.{Event, display_event, Stepped, output_room, line_of, moved_to, first_in, one_in, let_in, is_anybody_inside, entering, is_delayed_in, continuing, process_of, starting_as, starting, displaying, kernel_step}
 use Rattle.cp_meaning.specs.Steps.{settled, step_of, view_of, line_at}
-use Rattle.cp_resolved.specs.Enumerations.{constants_before}
 use Rattle.cp_run.specs.Table.{each}
-use Rattle.cp_refine.specs.Named.{event_of, shown_of}
 use Rattle.cp_endless.specs.Forgetting.{forgetting_system}
 use Rattle.cp_endless.specs.Moments.{Moment, moments_by, stretch_moments, moments, AnyOf}
 use Rattle.cp_endless.specs.Shown.{shown_at, ShowsAfter}

@@ -1,7 +1,6 @@
 -- A step of a process needs nothing of others: from what it holds and what its call concerns.
 use Rattle.std.proofs.Common.{◌≡◌, ℕ, ◌<◌, ◌≤◌, ◌∙◌, ◌⊎◌, inl, inr, Bool, true, false, List, [], ◌∷◌, length, Ok, Err, ap, sym, refl, subst, length-set}
-use Rattle.cp_at_once_laws.proofs.Words.{Program, Outcome, View, Doing, takes, moved_to, first_components, status_at, HeldBy, HeldCalls, OrderlyState}
-use Rattle.cp_at_once_laws.proofs.Words.{OwnedState}
+use Rattle.cp_at_once_laws.proofs.Words.{Program, Outcome, View, Doing, takes, moved_to, first_components, status_at, HeldBy, HeldCalls, OrderlyState, OwnedState}
 use Rattle.cp_meaning.specs.State.{initialised, initial_statement, CallKind, Call, Item, init_end, ready, Process, process_at, first_gates, State}
 use Rattle.cp_meaning.proofs.Frames.{Frame, frames, TopStarts, ItemsFit}
 use Rattle.cp_at_once_laws.proofs.reading.Reading.{OwnCalls}

@@ -1,8 +1,7 @@
 -- A quiet step beside any step of another ready process.
 use Rattle.std.proofs.Common.{◌≡◌, ◌≢◌, ℕ, ◌∙◌, ◌⊎◌, inl, inr, true, false, Option, Some, None, Ok, Err, ap, sym, refl, subst}
-use Rattle.cp_at_once_laws.proofs.Words.{cases_eq, Program, Outcome, ready, process_at, State, kernel_step, Move, enters, leaves, delays, continues, Doing}
-use Rattle.cp_at_once_laws.proofs.Words.{settled, step_of, IsWellFormed, status_at}
-use Rattle.cp_meaning.proofs.LineLaw.{some_is}
+use Rattle.cp_at_once_laws.proofs.Words.{cases_eq, Program, Outcome, ready, process_at, State, kernel_step, Move, enters, leaves, delays, continues, Doing, settled}
+use Rattle.cp_at_once_laws.proofs.Words.{step_of, IsWellFormed, status_at, some_is}
 use Rattle.cp_at_once_laws.proofs.pairs.Beside.{QuietHere, Beside, beside_apart}
 use Rattle.cp_at_once_laws.proofs.pairs.Changes.{GoesFrom}
 use Rattle.cp_at_once_laws.proofs.pairs.Facts.{done}

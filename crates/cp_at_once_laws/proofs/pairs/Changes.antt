@@ -1,10 +1,9 @@
 -- What a step changes: which processes, and how.
 use Rattle.std.proofs.Common.{◌≡◌, ◌≢◌, ℕ, ◌<◌, ◌≤◌, ◌==◌, ◌∙◌, ◌⊎◌, inl, inr, Bool, true, false, if◌then◌else◌, List, [], ◌∷◌, length, slice_set, Option, Some, None, ap, sym, refl, subst}
-use Rattle.cp_at_once_laws.proofs.Words.{Program, system_of, delayed_told, LineFits, line_at, process_found, different}
+use Rattle.cp_at_once_laws.proofs.Words.{Program, system_of, delayed_told, LineFits, line_at, process_found, different, at_set}
 use Rattle.cp_meaning.specs.State.{Environment, component_at, Status, unstarted, ready, at_gate, delayed, ended, Process, process_at, no_process, Gates, first_gates, any_gates, Shown, State}
 use Rattle.cp_meaning.specs.Move.{Move, stays, enters, leaves, delays, continues, starts, shows, ends, Doing}
 use Rattle.cp_meaning.specs.Kernel.{output_room, moved_to, with_process_status, made_ready, first_in, let_in, is_anybody_inside, entering, is_delayed_in, continuing, process_of, begun, starting_as, starting, displaying, kernel_step}
-use Rattle.cp_meaning.proofs.Frames.{at_set}
 
 -- ---- one process replaced
 

@@ -1,11 +1,10 @@
 -- What is known of what an item of a ready process does.
 use Rattle.std.proofs.Common.{◌≡◌, ℕ, ◌<◌, ◌==◌, ◌∙◌, ◌⊎◌, inl, inr, Bool, true, false, if◌then◌else◌, List, [], ◌∷◌, ◌++◌, length, Option, Some, Ok, Err, ap, sym, refl, subst, arith, eqb-true}
 use Rattle.cp_tree.specs.declared.declaration.SystemKind.TheVariants as system_kind
-use Rattle.cp_at_once_laws.proofs.Words.{Expressions, Program, Name, Outcome, Parameter, system_of, PathStep, step_down, takes, owner_of, first_components}
-use Rattle.cp_at_once_laws.proofs.Words.{view_of, IsWellFormed, Frame, frames, entry_in, ItemsFit, OrderlyState, OwnedState}
+use Rattle.cp_at_once_laws.proofs.Words.{Expressions, Program, Name, Outcome, Parameter, system_of, PathStep, step_down, takes, owner_of, first_components, view_of}
+use Rattle.cp_at_once_laws.proofs.Words.{IsWellFormed, Frame, frames, entry_in, ItemsFit, OrderlyState, OwnedState, of_system, bound}
 use Rattle.cp_meaning.specs.State.{Holder, in_call, in_component, Place, Content, knows, Environment, initial_statement, initialised, component_at, Call, ready, unstarted, Process, process_at, State}
 use Rattle.cp_meaning.specs.Places.{View, content_of, component_with, element_chosen, around_of, component_known, component_by}
-use Rattle.cp_meaning.specs.Calls.{of_system, bound}
 use Rattle.cp_meaning.specs.Move.{Move, Doing, stays, enters, leaves, delays, continues, starts, shows, ends}
 use Rattle.cp_meaning.proofs.ComponentTree.{path_at, kind_at, own_owner, found}
 use Rattle.cp_meaning.proofs.Good.{NonEmpty, IsMonitor, status_at, Good, GoodOutcome}

@@ -1,8 +1,7 @@
 -- What is known of a program, and of each of its states that is met.
-use Rattle.cp_at_once_laws.proofs.Words.{◌≡◌, ℕ, ◌<◌, ◌⊎◌, List, [], length, None, Program, Component, unstarted, delayed, Process, process_at, first_gates}
-use Rattle.cp_at_once_laws.proofs.Words.{State, first_components, frames, entry_in, initial_in, kind_at, IsMonitor, Known, OrderlyState, OwnedState}
+use Rattle.cp_at_once_laws.proofs.Words.{◌≡◌, ℕ, ◌<◌, ◌⊎◌, List, [], length, None, Program, Component, unstarted, delayed, Process, process_at, first_gates, State}
+use Rattle.cp_at_once_laws.proofs.Words.{first_components, frames, entry_in, initial_in, kind_at, IsMonitor, Known, OrderlyState, OwnedState, true}
 use Rattle.cp_tree.specs.declared.declaration.SystemKind.TheVariants as system_kind
-use Rattle.std.specs.Prelude.{true}
 pub use Rattle.cp_at_once_laws.proofs.rules.StartsKnown.{HasNoProcess, StartsKnown}
 
 -- who is delayed in a monitor has an open entry of it or initialises it; and who is unstarted has no open call

@@ -1,12 +1,10 @@
 -- What of a state is process a's, for its next step: what it holds; who waits at the monitor that its call goes out of, and the line of this monitor; whom it starts. And that none of this is another ready process's.
 use Rattle.std.proofs.Common.{◌≡◌, ◌≢◌, ℕ, ◌<◌, ◌==◌, ◌∙◌, ◌⊎◌, inl, inr, Bool, true, false, ◌||◌, not, if◌then◌else◌, zero, suc, List, [], ◌∷◌, length, Option, Some, None, Ok, ap, sym, refl, subst, arith, eqb-true, eq-eqb}
 use Rattle.cp_tree.specs.declared.declaration.SystemKind.TheVariants as system_kind
-use Rattle.cp_at_once_laws.proofs.Words.{Program, owner_of, first_components, IsWellFormed, Frame, frames, or_cases, or_right, status_at, StatusMoves, HeldBy}
-use Rattle.cp_at_once_laws.proofs.Words.{HeldCalls, begun_process, delayed_told, LineFits, line_at, process_found, or_left, different}
-use Rattle.cp_meaning.specs.Components.{around}
+use Rattle.cp_at_once_laws.proofs.Words.{Program, owner_of, first_components, IsWellFormed, Frame, frames, or_cases, or_right, status_at, StatusMoves, HeldBy, HeldCalls}
+use Rattle.cp_at_once_laws.proofs.Words.{begun_process, delayed_told, LineFits, line_at, process_found, or_left, different, around, enter_event, moved_to, is_delayed_in}
+use Rattle.cp_at_once_laws.proofs.Words.{process_of, after, kernel_step, Move, stays, enters, leaves, delays, continues, starts, shows, ends, Doing}
 use Rattle.cp_meaning.specs.State.{Environment, initialising, initialised, initial_statement, Component, Call, unstarted, ready, at_gate, delayed, Process, process_at, State, waits_at}
-use Rattle.cp_meaning.specs.Kernel.{enter_event, moved_to, is_delayed_in, process_of, after, kernel_step}
-use Rattle.cp_meaning.specs.Move.{Move, stays, enters, leaves, delays, continues, starts, shows, ends, Doing}
 use Rattle.cp_meaning.proofs.ComponentTree.{path_at, kind_at, own_owner, around_step}
 use Rattle.cp_at_once_laws.proofs.pairs.Apart.{Flagged}
 use Rattle.cp_at_once_laws.proofs.pairs.Changes.{GoesFrom, moved_status, moved_component}

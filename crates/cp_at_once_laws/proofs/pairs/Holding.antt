@@ -1,12 +1,10 @@
 -- What a process holds can be told, and of two that are ready neither holds what the other one does.
 use Rattle.std.proofs.Common.{◌≡◌, ◌≢◌, ℕ, ◌<◌, ◌==◌, ◌∙◌, ◌⊎◌, inl, inr, Bool, true, false, ◌||◌, ◌&&◌, List, [], ◌∷◌, length, ap, sym, refl, subst, eqb-true, eq-eqb}
-use Rattle.cp_at_once_laws.proofs.Words.{SystemKind, Program, Doing, owner_of, Owned, or_left}
+use Rattle.cp_at_once_laws.proofs.Words.{SystemKind, Program, Doing, owner_of, Owned, or_left, inside_from, Orderly, kind_at, SameTree}
 use Rattle.cp_tree.specs.declared.declaration.SystemKind.TheVariants as system_kind
 use Rattle.cp_meaning.specs.State.{initial_statement, uninitialised, Holder, in_call, in_component, initialising, initialised, Component, Call, ready, Process, process_at, State, waits_at}
 use Rattle.cp_meaning.proofs.Frames.{Frame, frames, is_initial_kind, entry_in, initial_in}
 use Rattle.cp_meaning.proofs.Good.{or_cases, or_right, status_at, GoodDoing, StatusMoves}
-use Rattle.cp_meaning.proofs.Orderly.{inside_from, Orderly}
-use Rattle.cp_meaning.proofs.ComponentTree.{kind_at, SameTree}
 use Rattle.cp_meaning.proofs.Held.{HeldBy, HeldPlace, HeldCalls, held_more}
 use Rattle.cp_at_once_laws.proofs.reading.Reading.{OwnPlace, OwnCalls}
 use Rattle.cp_resolved.proofs.components.ComponentImages.{both as and_parts}

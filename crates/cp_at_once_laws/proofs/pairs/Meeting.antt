@@ -1,14 +1,12 @@
 -- Process a goes out of a monitor that process b enters.
 use Rattle.std.proofs.Common.{◌≡◌, ◌≢◌, ℕ, ◌<◌, ◌∙◌, ◌⊎◌, inl, inr, Bool, true, false, if◌then◌else◌, List, [], ◌∷◌, ◌++◌, length, slice_set, Option, Some, None, Ok, ap, sym, refl, subst, length-set}
-use Rattle.cp_at_once_laws.proofs.Words.{cases_eq, Program, Move, enters, leaves, delays, continues, starts, Doing, settled, step_of, IsWellFormed, frames}
-use Rattle.cp_at_once_laws.proofs.Words.{entry_in, initial_in}
+use Rattle.cp_at_once_laws.proofs.Words.{cases_eq, Program, Move, enters, leaves, delays, continues, starts, Doing, settled, step_of, IsWellFormed, frames, entry_in}
+use Rattle.cp_at_once_laws.proofs.Words.{initial_in, IsMonitor, NoneEntered, MoveFits, status_at, line_status, inside_from, LineFits, line_at, Nobody, Orderly}
 use Rattle.cp_tree.specs.declared.declaration.SystemKind.TheVariants as system_kind
 use Rattle.cp_meaning.specs.State.{component_at, initialising, initialised, is_inside, waits_at, Status, unstarted, ready, at_gate, delayed, Process, process_at, Gates, first_gates, any_gates, State}
 use Rattle.cp_meaning.specs.Kernel.{enter_event, Stepped, line_of, with_line_of, moved_to, with_process_status, made_ready, first_in, one_in, let_in, is_anybody_inside, entering, is_delayed_in, continuing, kernel_step}
-use Rattle.cp_meaning.proofs.Good.{IsMonitor, NoneEntered, MoveFits, status_at}
 use Rattle.cp_meaning.proofs.KernelLaw.{begun_process, delayed_told, nobody_left, nobody_delayed, goes_on}
 use Rattle.cp_meaning.proofs.LocalLaw.{within}
-use Rattle.cp_meaning.proofs.Orderly.{line_status, inside_from, LineFits, line_at, Nobody, Orderly}
 use Rattle.cp_at_once_laws.proofs.reading.Mixed.{one_of, mix_at}
 use Rattle.cp_at_once_laws.proofs.reading.Taking.{also_mixed, all_mixed}
 use Rattle.cp_at_once_laws.proofs.pairs.Apart.{Other, itself, Moves, apart, taken}

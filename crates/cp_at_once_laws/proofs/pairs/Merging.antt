@@ -1,9 +1,7 @@
 -- A step does the same where others have changed what is not its process's own: what the kernel does.
 use Rattle.std.proofs.Common.{◌≡◌, ℕ, zero, suc, ◌==◌, ◌∙◌, ◌⊎◌, inl, inr, Bool, true, false, if◌then◌else◌, List, [], ◌∷◌, ◌++◌, length, slice_set, Option, Some, None, Ok, Err, ap, sym, refl, arith}
-use Rattle.cp_at_once_laws.proofs.Words.{Program, system_of, takes, view_of, settled, step_of, status_at}
-use Rattle.cp_meaning.specs.Outcome.{Outcome, init_twice}
+use Rattle.cp_at_once_laws.proofs.Words.{Program, system_of, takes, view_of, settled, step_of, status_at, Outcome, init_twice, View, with_permanents}
 use Rattle.cp_meaning.specs.State.{Environment, initialised, Component, component_at, Call, Status, unstarted, ready, at_gate, delayed, ended, Process, process_at, no_process, Gates, first_gates, any_gates, Shown, State}
-use Rattle.cp_meaning.specs.Places.{View, with_permanents}
 use Rattle.cp_meaning.specs.Move.{Move, stays, enters, leaves, delays, continues, starts, shows, ends, Doing}
 use Rattle.cp_meaning.specs.Kernel.{fault_event, start_event, display_event, Stepped, output_room, with_line, with_line_of, line_of, moved_to, with_process_status, made_ready, first_in, let_in, is_anybody_inside, entering, is_delayed_in, continuing, after, process_of, begun, with_begun, starting_as, starting, displaying, kernel_step}
 use Rattle.cp_at_once_laws.proofs.reading.Mixed.{one_of, mix, mix_at, mix_set, mix_system}

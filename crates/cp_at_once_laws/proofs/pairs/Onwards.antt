@@ -1,11 +1,10 @@
 -- In a step the status of a component goes on, from uninitialised to initialising to initialised, and that of a process stays.
 use Rattle.std.proofs.Common.{◌≡◌, ℕ, ◌<◌, ◌≤◌, ◌==◌, ◌&&◌, ◌||◌, ◌∙◌, ◌⊎◌, inl, inr, Bool, true, false, List, [], ◌∷◌, length, Ok, Err, ap, sym, refl, subst, arith, eqb-true, eq-eqb}
 use Rattle.cp_tree.specs.declared.declaration.SystemKind.TheVariants as system_kind
-use Rattle.cp_at_once_laws.proofs.Words.{Program, Outcome, Doing, kernel_step, owner_of, first_components, settled, step_of, IsWellFormed, kind_at, own_owner}
-use Rattle.cp_at_once_laws.proofs.Words.{status_at, StatusMoves, or_cases, OrderlyState, OwnedState}
+use Rattle.cp_at_once_laws.proofs.Words.{Program, Outcome, Doing, kernel_step, owner_of, first_components, settled, step_of, IsWellFormed, kind_at, own_owner, status_at}
+use Rattle.cp_at_once_laws.proofs.Words.{StatusMoves, or_cases, OrderlyState, OwnedState, HeldBy, HeldCalls, Bottom, held_more}
 use Rattle.cp_meaning.specs.State.{ComponentStatus, uninitialised, initialising, initialised, Component, own_statement, initial_statement, local_routine, entry_routine, Call, ready, process_at, first_gates, State}
 use Rattle.cp_meaning.proofs.Frames.{Frame, frames, is_initial_kind, initial_in, system_at, Descends}
-use Rattle.cp_meaning.proofs.Held.{HeldBy, HeldCalls, Bottom, held_more}
 use Rattle.cp_at_once_laws.proofs.pairs.Facts.{Facts, AllFacts, done, facts}
 use Rattle.cp_at_once_laws.proofs.pairs.Fit.{StartsKnown, ProcessesUnknown}
 use Rattle.cp_at_once_laws.proofs.pairs.Shape.{kernel_shape}

@@ -1,15 +1,11 @@
 -- What no step changes, and what becomes of the statuses of components.
 use Rattle.std.proofs.Common.{◌≡◌, ℕ, ◌<◌, ◌==◌, ◌∙◌, ◌⊎◌, inl, inr, Bool, true, false, if◌then◌else◌, List, [], ◌∷◌, ◌++◌, length, Option, Some, None, Ok, Err, ap, sym, refl, subst, length-set}
-use Rattle.cp_at_once_laws.proofs.Words.{Program, Outcome, system_of, first_components, settled, step_of, frames, status_at, StatusMoves, IsWellFormed}
+use Rattle.cp_at_once_laws.proofs.Words.{Program, Outcome, system_of, first_components, settled, step_of, frames, status_at, StatusMoves, IsWellFormed, SameTree}
+use Rattle.cp_at_once_laws.proofs.Words.{line_status, OwnedState, kernel_step_owned, starts_process, OrderlyState, some_is}
 use Rattle.cp_meaning.specs.State.{Environment, initialised, uninitialised, initialising, Component, component_at, Status, unstarted, ready, at_gate, delayed, ended, Process, process_at, Gates, first_gates, any_gates, Shown, State}
 use Rattle.cp_meaning.specs.Move.{Move, stays, enters, leaves, delays, continues, starts, shows, ends, Doing}
 use Rattle.cp_meaning.specs.Kernel.{Event, Stepped, local_event, enter_event, leave_event, delay_event, continue_event, start_event, display_event, ended_event, fault_event, output_full, output_room, line_of, with_line_of, moved_to, with_process_status, made_ready, first_in, let_in, is_anybody_inside, entering, is_delayed_in, continuing, process_of, begun, starting_as, starting, displaying, kernel_step}
-use Rattle.cp_meaning.proofs.ComponentTree.{SameTree}
-use Rattle.cp_meaning.proofs.Orderly.{line_status}
-use Rattle.cp_meaning.proofs.OwnKernel.{OwnedState, kernel_step_owned}
-use Rattle.cp_meaning.proofs.OwnershipLemmas.{starts_process}
 use Rattle.cp_meaning.proofs.Stored.{permanents_kept}
-use Rattle.cp_meaning.proofs.LineLaw.{OrderlyState, some_is}
 use Rattle.cp_at_once_laws.proofs.pairs.Apart.{Other}
 use Rattle.cp_at_once_laws.proofs.pairs.Changes.{Changes, same, itself, woken, begins, left_by, kernel_changes}
 use Rattle.cp_at_once_laws.proofs.pairs.Facts.{done, AllFacts}

@@ -1,10 +1,8 @@
 -- Nobody but a process itself makes it unready, and it is ready after a local step.
 use Rattle.std.proofs.Common.{◌≡◌, ◌≢◌, ℕ, ◌<◌, ◌≤◌, ◌==◌, ◌∙◌, ◌⊎◌, inl, inr, Bool, true, false, if◌then◌else◌, List, [], ◌∷◌, length, get_or, set, slice_set, Option, Some, None, Ok, Err, ap, refl}
-use Rattle.cp_at_once_laws.proofs.Words.{Program, Outcome, settled, step_of}
+use Rattle.cp_at_once_laws.proofs.Words.{Program, Outcome, settled, step_of, Move, stays, enters, leaves, delays, continues, starts, shows, ends, Doing, at_set}
 use Rattle.cp_meaning.specs.State.{Environment, Status, unstarted, ready, at_gate, delayed, ended, Process, process_at, no_process, Gates, first_gates, any_gates, Shown, State}
-use Rattle.cp_meaning.specs.Move.{Move, stays, enters, leaves, delays, continues, starts, shows, ends, Doing}
 use Rattle.cp_meaning.specs.Kernel.{output_room, line_of, moved_to, first_in, one_in, let_in, is_anybody_inside, entering, is_delayed_in, continuing, process_of, starting_as, starting, displaying, kernel_step}
-use Rattle.cp_meaning.proofs.Frames.{at_set}
 use Rattle.cp_at_once_laws.proofs.pairs.Merging.{done_of}
 
 abbrev status_of : List Process → ℕ → Status

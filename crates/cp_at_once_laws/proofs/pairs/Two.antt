@@ -1,7 +1,6 @@
 -- Two steps whose processes have nothing in common make the same state in either order.
 use Rattle.std.proofs.Common.{◌≡◌, ℕ, suc, ◌∙◌, Bool, true, false, not, if◌then◌else◌, List, [], ◌∷◌, length, Option, ap, sym, refl, arith}
-use Rattle.cp_at_once_laws.proofs.Words.{SystemKind, Program, Path, step_of}
-use Rattle.cp_meaning.specs.State.{Environment, ComponentStatus, Component, component_at, Process, Gates, Shown, State}
+use Rattle.cp_at_once_laws.proofs.Words.{SystemKind, Program, Path, step_of, Environment, ComponentStatus, Component, component_at, Process, Gates, Shown, State}
 use Rattle.cp_at_once_laws.proofs.reading.Mixed.{one_of, mix}
 use Rattle.cp_at_once_laws.proofs.pairs.Merging.{mixed_processes, merged, merged_step, IsApart, step_merged}
 

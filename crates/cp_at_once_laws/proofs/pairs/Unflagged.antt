@@ -1,11 +1,10 @@
 -- What process b's call concerns is not a's: whom it wakes or starts, and the line of its monitor.
 use Rattle.std.proofs.Common.{◌≡◌, ◌≢◌, ℕ, ◌<◌, ◌==◌, ◌∙◌, ◌⊎◌, inl, inr, Bool, true, false, ◌&&◌, not, List, [], ◌∷◌, length, Option, Some, None, Ok, ap, sym, refl, subst, length-set}
 use Rattle.cp_tree.specs.declared.declaration.SystemKind.TheVariants as system_kind
-use Rattle.cp_at_once_laws.proofs.Words.{Program, moved_to, is_anybody_inside, is_delayed_in, process_of, first_components, IsWellFormed, kind_at, frames}
-use Rattle.cp_at_once_laws.proofs.Words.{entry_in, begun_process, delayed_told, LineFits, line_at, process_found, different}
+use Rattle.cp_at_once_laws.proofs.Words.{Program, moved_to, is_anybody_inside, is_delayed_in, process_of, first_components, IsWellFormed, kind_at, frames, entry_in}
+use Rattle.cp_at_once_laws.proofs.Words.{begun_process, delayed_told, LineFits, line_at, process_found, different, IsMonitor, NoneEntered, MoveFits}
 use Rattle.cp_meaning.specs.State.{Environment, Component, Status, unstarted, ready, at_gate, delayed, ended, Process, process_at, State, is_inside, waits_at}
 use Rattle.cp_meaning.specs.Move.{Move, stays, enters, leaves, delays, continues, starts, shows, ends, Doing}
-use Rattle.cp_meaning.proofs.Good.{IsMonitor, NoneEntered, MoveFits}
 use Rattle.cp_at_once_laws.proofs.pairs.Changes.{GoesFrom, Becomes, Changes, same, itself, woken, begins, left_by, moved_status, moved_component}
 use Rattle.cp_at_once_laws.proofs.pairs.Facts.{done, Facts}
 use Rattle.cp_at_once_laws.proofs.pairs.Fit.{StartsKnown, Fits}

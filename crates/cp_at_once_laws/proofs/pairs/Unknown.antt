@@ -1,11 +1,9 @@
 -- No component knows a process: at the start, and after each step.
 use Rattle.std.proofs.Common.{◌≡◌, ℕ, ◌<◌, ◌==◌, ◌⊎◌, inl, inr, Bool, true, false, if◌then◌else◌, List, [], ◌∷◌, length, Option, Some, None, Ok, Err}
-use Rattle.cp_at_once_laws.proofs.Words.{Program, Outcome, Name, content_of, Move, enters, leaves, delays, continues, starts, shows, Doing, first_components}
-use Rattle.cp_at_once_laws.proofs.Words.{opening, settled, step_of, IsWellFormed, OrderlyState, OwnedState}
-use Rattle.cp_meaning.specs.Components.{components_of}
+use Rattle.cp_at_once_laws.proofs.Words.{Program, Outcome, Name, content_of, Move, enters, leaves, delays, continues, starts, shows, Doing, first_components, opening}
+use Rattle.cp_at_once_laws.proofs.Words.{settled, step_of, IsWellFormed, OrderlyState, OwnedState, components_of, Known, append_content, known_set}
 use Rattle.cp_meaning.specs.State.{knows, Environment, component_at, Status, unstarted, ready, at_gate, delayed, process_at, Gates, first_gates, any_gates, Shown, State}
 use Rattle.cp_meaning.specs.Kernel.{output_room, line_of, with_line_of, moved_to, made_ready, first_in, let_in, is_anybody_inside, entering, is_delayed_in, continuing, process_of, starting_as, starting, displaying, kernel_step}
-use Rattle.cp_meaning.proofs.Held.{Known, append_content, known_set}
 use Rattle.cp_meaning.proofs.OwnOpening.{first_values}
 use Rattle.cp_at_once_laws.proofs.pairs.Facts.{NoProcess, GivesNone, done, AllFacts, facts}
 use Rattle.cp_at_once_laws.proofs.pairs.Fit.{StartsKnown, ProcessesUnknown}

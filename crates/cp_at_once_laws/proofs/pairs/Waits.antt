@@ -1,14 +1,11 @@
 -- Who is delayed in a monitor has an open entry of it or initialises it, and who is unstarted has no open call: at the start, and after each step.
 use Rattle.std.proofs.Common.{◌≡◌, ℕ, zero, suc, ◌<◌, ◌∙◌, ◌⊎◌, inl, inr, true, List, [], ◌∷◌, length, None, Ok, Err, ap, sym, refl, subst}
-use Rattle.cp_at_once_laws.proofs.Words.{SystemKind, Program, Outcome, system_of, View, bound, Move, enters, delays, ends, Doing, takes, kernel_step}
-use Rattle.cp_at_once_laws.proofs.Words.{IsWellFormed, frames, entry_in, initial_in, HeldCalls, Bottom, OrderlyState}
+use Rattle.cp_at_once_laws.proofs.Words.{SystemKind, Program, Outcome, system_of, View, bound, Move, enters, delays, ends, Doing, takes, kernel_step, IsWellFormed}
+use Rattle.cp_at_once_laws.proofs.Words.{frames, entry_in, initial_in, HeldCalls, Bottom, OrderlyState, MoveFits, Good, GoodOutcome, Owned, OwnedBy, both, starts_process}
 use Rattle.cp_tree.specs.declared.declaration.SystemKind.TheVariants as system_kind
 use Rattle.cp_meaning.specs.State.{Component, component_at, Call, Environment, Status, unstarted, ready, at_gate, delayed, ended, Process, process_at, Gates, first_gates, State}
 use Rattle.cp_meaning.specs.Steps.{first_components, unstarted_process, process_first, processes_from, own_begun, opening, settled, step_of}
-use Rattle.cp_meaning.proofs.Good.{MoveFits, Good, GoodOutcome}
 use Rattle.cp_meaning.proofs.OwnKernel.{OwnedState, kernel_step_owned}
-use Rattle.cp_meaning.proofs.OwnLocal.{Owned, OwnedBy}
-use Rattle.cp_meaning.proofs.OwnershipLemmas.{both, starts_process}
 use Rattle.cp_at_once_laws.proofs.reading.Sources.{AllKnow, FromHere, AllCome, takes_comes}
 use Rattle.cp_at_once_laws.proofs.pairs.Changes.{Becomes, Changes, same, itself, woken, begins, kernel_changes}
 use Rattle.cp_at_once_laws.proofs.pairs.Facts.{done, Open, open_of}

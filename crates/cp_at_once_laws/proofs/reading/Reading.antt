@@ -1,8 +1,7 @@
 -- An item of a process reads only variables that are its own.
 use Rattle.std.proofs.Common.{◌≡◌, ℕ, ◌-◌, ◌==◌, ◌∙◌, ℤ, Bool, true, false, if◌then◌else◌, List, [], ◌∷◌, length, Option, Some, None, Ok, Err, ap, sym, refl, arith, eq-eqb}
 use Rattle.cp_tree.specs.Syntax.{Expression, alone, related, Sum, sum, Terms, no_terms, more_terms, Term, term, Factors, no_factors, more_factors, Factor, named, group, negated, set_of, Expressions, no_expressions, more_expressions, Designator, designator, Selectors, no_selectors, more_selectors, Selector, field, index, Program}
-use Rattle.cp_at_once_laws.proofs.Words.{Name, number_of, Parameter, step_down}
-use Rattle.cp_meaning.specs.Outcome.{ErrorName, Outcome, ◌>>=◌}
+use Rattle.cp_at_once_laws.proofs.Words.{Name, number_of, Parameter, step_down, ErrorName, Outcome, ◌>>=◌}
 use Rattle.cp_meaning.specs.Types.{Ty, ordinal, queue_type, set_over, array_over, record_with, component_of, is_within}
 use Rattle.cp_meaning.specs.Scopes.{Meaning, constant_meaning, local_variable, permanent_variable, standard_meaning, find}
 use Rattle.cp_meaning.specs.State.{Holder, in_call, in_component, Place, Content, holds, refers, knows, Component, component_at, Call}

@@ -1,17 +1,14 @@
 -- Where the move of an item comes from, and which components are known after it.
-use Rattle.std.proofs.Common.{◌≡◌, ℕ, ◌⊎◌, inl, inr, ℤ, Bool, true, false, if◌then◌else◌, List, [], ◌∷◌, ◌++◌, Option, Some, None, Ok, Err, refl}
-use Rattle.cp_at_once_laws.proofs.Words.{Identifier, Direction, SystemKind, Name, temporary, Outcome, ◌>>=◌, Value, number_value, queue_value, number_of}
-use Rattle.cp_at_once_laws.proofs.Words.{waiting_in, RoutineMeaning, SystemMeaning, system_of, same_integer, checked, value, target_value, first_value}
-use Rattle.cp_at_once_laws.proofs.Words.{meaning_here, routine_called, Frame, frames}
+use Rattle.cp_at_once_laws.proofs.Words.{◌≡◌, ℕ, ◌⊎◌, inl, inr, ℤ, Bool, true, false, if◌then◌else◌, List, [], ◌∷◌, ◌++◌, Option, Some, None, Ok, Err, refl, Identifier}
+use Rattle.cp_at_once_laws.proofs.Words.{Direction, SystemKind, Name, temporary, Outcome, ◌>>=◌, Value, number_value, queue_value, number_of, waiting_in, RoutineMeaning}
+use Rattle.cp_at_once_laws.proofs.Words.{SystemMeaning, system_of, same_integer, checked, value, target_value, first_value, meaning_here, routine_called, Frame, frames}
+use Rattle.cp_at_once_laws.proofs.Words.{content_of, View, Target, target_named, value_at, stored, component_there, Expressions, Designator, Start, Statement, assign}
+use Rattle.cp_at_once_laws.proofs.Words.{invoke, if_then, if_else, case_of, while_do, for_do, Program, Meaning, standard_meaning, routine_meaning, delay_procedure}
+use Rattle.cp_at_once_laws.proofs.Words.{continue_procedure, display_procedure, Move, Doing, stays, enters, leaves, delays, continues, starts, shows, ends, stored_frames}
 use Rattle.cp_tree.specs.declared.declaration.SystemKind.TheVariants as system_kind
-use Rattle.cp_tree.specs.Syntax.{Expressions, Designator, Start, Statement, assign, invoke, if_then, if_else, case_of, while_do, for_do, Program}
-use Rattle.cp_meaning.specs.Scopes.{Meaning, standard_meaning, routine_meaning, delay_procedure, continue_procedure, display_procedure}
 use Rattle.cp_meaning.specs.State.{knows, is_entry_kind, Place, Environment, Component, component_at, CallKind, entry_routine, Call, Item, statement_item, function_call, start_item, until, successor, return, init_end, end}
-use Rattle.cp_meaning.specs.Places.{content_of, View, Target, target_named, value_at, stored, component_there}
-use Rattle.cp_meaning.specs.Move.{Move, Doing, stays, enters, leaves, delays, continues, starts, shows, ends}
 use Rattle.cp_meaning.specs.Calls.{bound, is_initialised, is_uninitialised, entered_as, with_move, with_items, entered, called_as, called, initial, initialised_in, started_as, started}
 use Rattle.cp_meaning.specs.LocalRules.{leaving_move, return_move, scope_here, assigned, arm_for, is_beyond, next_value, goes_on_with, queue_free, delayed_in, continued_from, in_place_of, argument_of, invoked, does, returned, finished, takes}
-use Rattle.cp_meaning.proofs.Stored.{stored_frames}
 use Rattle.cp_meaning.proofs.Held.{Known, append_content, known_set, stored_known}
 
 module _ (p : Program) (c : Call) (calls : List Call) (cs : List Component) (pid : ℕ) where

@@ -1,8 +1,8 @@
 -- An item does the same where others have changed what is not its process's own.
 use Rattle.std.proofs.Common.{◌≡◌, ℕ, zero, suc, ◌≤◌, ◌∙◌, ◌⊎◌, inl, inr, ℤ, Bool, true, false, if◌then◌else◌, List, [], ◌∷◌, ◌++◌, length, slice_set, Option, Some, None, Ok, Err, ap, sym, refl, arith}
-use Rattle.cp_at_once_laws.proofs.Words.{Identifier, Direction, SystemKind, Name, temporary, Value, number_value, queue_value, number_of, waiting_in}
-use Rattle.cp_at_once_laws.proofs.Words.{RoutineMeaning, SystemMeaning, system_of, value, target_value, first_value, meaning_here, routine_called, stays}
-use Rattle.cp_at_once_laws.proofs.Words.{delays, continues, Doing, status_at}
+use Rattle.cp_at_once_laws.proofs.Words.{Identifier, Direction, SystemKind, Name, temporary, Value, number_value, queue_value, number_of, waiting_in, RoutineMeaning}
+use Rattle.cp_at_once_laws.proofs.Words.{SystemMeaning, system_of, value, target_value, first_value, meaning_here, routine_called, stays, delays, continues, Doing}
+use Rattle.cp_at_once_laws.proofs.Words.{status_at, Typed, same_integer, checked, status_set}
 use Rattle.cp_tree.specs.declared.declaration.SystemKind.TheVariants as system_kind
 use Rattle.cp_tree.specs.Syntax.{Expression, Expressions, Designator, Start, Statement, assign, invoke, if_then, if_else, case_of, while_do, for_do, Program}
 use Rattle.cp_meaning.specs.Outcome.{ErrorName, Outcome, ◌>>=◌, not_init, init_twice}
@@ -10,11 +10,9 @@ use Rattle.cp_meaning.specs.Scopes.{Meaning, constant_meaning, type_meaning, loc
 use Rattle.cp_meaning.specs.State.{Holder, in_call, in_component, Place, Environment, ComponentStatus, uninitialised, initialising, initialised, Component, component_at, CallKind, local_routine, entry_routine, Call, callers, Item, statement_item, function_call, start_item, until, successor, return, init_end, end, is_entry_kind}
 use Rattle.cp_meaning.specs.Places.{View, Target, with_content, content_of, value_held, with_permanents, environment_of, with_environment_of, target_named, value_at, stored, component_there}
 use Rattle.cp_meaning.specs.Values.{with_part}
-use Rattle.cp_meaning.specs.Operations.{Typed, same_integer, checked}
 use Rattle.cp_meaning.specs.Lifting.{items_of}
 use Rattle.cp_meaning.specs.Calls.{bound, opened, is_initialised, is_uninitialised, entered_as, with_move, with_items, entered, called_as, called, with_status, initial, initialised_in, started_as, started_at, started}
 use Rattle.cp_meaning.specs.LocalRules.{becomes, assigned, arm_for, is_beyond, next_value, goes_on_with, queue_free, delayed_in, after_return, continued_from, in_place_of, argument_of, invoked, does, with_result, leaving_move, return_move, returned, finished, takes}
-use Rattle.cp_meaning.proofs.LocalLaw.{status_set}
 use Rattle.cp_at_once_laws.proofs.reading.Mixed.{mix_length, one_of, mix, mix_at, mix_set, mix_kind, mix_system, mix_own}
 use Rattle.cp_at_once_laws.proofs.reading.Reading.{OwnPlace, OwnCalls, v, m, OwnTarget, named_own, target_own, environment_same, read_same, named_same, value_same, first_same, target_same, there_same, bound_same}
 

@@ -1,7 +1,7 @@
 -- A component that stands directly in another one is one of its variables. So a process stands in a process, since no system type has process variables (C13).
 use Rattle.std.proofs.Common.{◌≡◌, ℕ, zero, suc, ◌<◌, ◌≤◌, ◌∙◌, ◌⊎◌, inl, inr, true, false, List, [], ◌∷◌, ◌++◌, map, length, slice_get, get_or, Option, Some, None, ap, sym, refl, subst, arith}
 use Rattle.std.proofs.lemmas.Option.{slice_get_cases}
-use Rattle.cp_at_once_laws.proofs.Words.{SystemKind, IsRead, Program, Tree, IsAccepted, Name, Component, component_at, IsWellFormed}
+use Rattle.cp_at_once_laws.proofs.Words.{SystemKind, IsRead, Program, Tree, IsAccepted, Name, Component, component_at, IsWellFormed, tokens_of}
 use Rattle.cp_tree.specs.declared.declaration.SystemKind.TheVariants as system_kind
 use Rattle.cp_scope.specs.Scopes.{Names, Shapes, start}
 use Rattle.cp_check.specs.declared.types.Spot.TheVariants as spot
@@ -12,7 +12,6 @@ use Rattle.cp_meaning.specs.Declarations.{Variable}
 use Rattle.cp_meaning.specs.Systems.{SystemMeaning, declared, program_system, own_meaning, or_own, system_of}
 use Rattle.cp_meaning.specs.Components.{PathStep, Path, Listed, step_down, listed_elements, listed_variable, listed_variables, listed, components_of, around}
 use Rattle.cp_meaning.specs.Steps.{first_component, first_components}
-use Rattle.cp_resolved.specs.Judging.{tokens_of}
 use Rattle.cp_resolved.proofs.agreeing.AgreeingTypes.{OwnedAt}
 use Rattle.cp_resolved.proofs.agreeing.VariablesAmongNames.{Declares, Counted}
 use Rattle.cp_resolved.proofs.counts.FewComponents.{agreed}

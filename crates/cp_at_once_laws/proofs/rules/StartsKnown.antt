@@ -1,7 +1,6 @@
 -- Who may start a process: what the rules C13 and C15 say of it.
-use Rattle.std.specs.Prelude.{◌≡◌, ℕ, ◌<◌, List, [], ◌∷◌, ◌++◌, length}
+use Rattle.cp_at_once_laws.proofs.Words.{◌≡◌, ℕ, ◌<◌, List, [], ◌∷◌, ◌++◌, length, Program, component_of, Parameter, system_of, PathStep, component_at, first_components}
 use Rattle.cp_tree.specs.declared.declaration.SystemKind.TheVariants as system_kind
-use Rattle.cp_at_once_laws.proofs.Words.{Program, component_of, Parameter, system_of, PathStep, component_at, first_components}
 
 -- no parameter is of a process type
 abbrev pub HasNoProcess : Program → List Parameter → Type 0

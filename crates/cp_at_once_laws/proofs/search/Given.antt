@@ -1,7 +1,6 @@
 -- From steps that commute to what the search finds on names; and what the search comes to with a limit of steps.
 use Rattle.std.proofs.Common.{◌≡◌, ◌∙◌, ℕ, suc, Bool, true, false, if◌then◌else◌, List, [], ◌∷◌, ◌++◌, Option, None, Some, ap, sym, refl}
-use Rattle.cp_at_once_laws.proofs.Words.{Tree, State, System, met_first, names, IsSomewhere, IsQuietStep}
-use Rattle.cp_run.specs.Run.{Node, Choosing, may, chosen, opened}
+use Rattle.cp_at_once_laws.proofs.Words.{Tree, State, System, met_first, names, IsSomewhere, IsQuietStep, Node, Choosing, may, chosen, opened}
 use Rattle.cp_endless.specs.Reachable.{LeadsTo}
 use Rattle.cp_endless.proofs.possible.Words.{after_append}
 use Rattle.cp_at_once_laws.specs.AtOnce.{Fails, Spins, IsAlone, Commutes, PicksQuiet, NobodyReady, GoalStays, OwnGoal}

@@ -1,6 +1,5 @@
 -- Run errors, endless loops, who is alone for ever and what is displayed: each is met in every order.
-use Rattle.std.proofs.Common.{◌≡◌, ◌≢◌, ◌⊎◌, inl, inr, ℕ, zero, suc, ◌∙◌, true, false, ap, sym, subst}
-use Rattle.cp_at_once_laws.proofs.Words.{Event, Local, System}
+use Rattle.cp_at_once_laws.proofs.Words.{◌≡◌, ◌≢◌, ◌⊎◌, inl, inr, ℕ, zero, suc, ◌∙◌, true, false, ap, sym, subst, Event, Local, System}
 use Rattle.cp_at_once_laws.specs.AtOnce.{is_call, Leg, calls, after_local, QuietLeg, calls_quietly, after_quiet, Fails, fails, later_fails, after_steps, Spins, IsAlone, Marks, marks, later_marks, Commutes, GoalStays, OwnGoal}
 use Rattle.cp_at_once_laws.proofs.search.Front.{local_no_call, not_other, beside}
 

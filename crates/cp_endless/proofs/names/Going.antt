@@ -1,11 +1,9 @@
 -- Two systems that go in step, where forgetting keeps them so, are alike from choice to choice.
 use Rattle.std.proofs.Common.{◌≡◌, ◌∙◌, ℕ, zero, suc, Bool, true, false, if◌then◌else◌, List, refl, sym, subst, Option, Some}
 use Rattle.cp_endless.proofs.Words.{Turn, Over, Due, Goes, System, may, turn_after, settled_turn, turn_at, forgetting_system, Moment, moments, moments_by}
-use Rattle.cp_endless.proofs.Words.{stretch_moments, chosen_spot, opening_spot, spot_after, spot_by}
-use Rattle.cp_run.specs.Code.{IfGoes}
+use Rattle.cp_endless.proofs.Words.{stretch_moments, chosen_spot, opening_spot, spot_after, spot_by, IfGoes, turn_same}
 use Rattle.cp_refine.specs.InStep.{CanGo, CanEnter, GoInStep}
 use Rattle.cp_refine.proofs.Alike.{goes_on, goes_same, openings, may_same, may_go, may_enter, admitted_same, admitted_goes, choices_alike, opening_goes}
-use Rattle.cp_refine.proofs.Turns.{turn_same}
 use Rattle.cp_endless.proofs.names.Together.{MomentsAlike, ChoicesAlike, SpotsAlike}
 
 moments_on : {S T : Type 0} (R : S → T → Type 0) (P : ℕ → Type 0) (on : ℕ → List (Moment S)) (un : ℕ → List (Moment T)) (u v : Turn) → u ≡ v → IfGoes u P → ((q : ℕ) → P q → MomentsAlike R (on q) (un q)) → MomentsAlike R (moments_by on u) (moments_by un v)

@@ -1,15 +1,11 @@
 -- A process has an open call of an entry of a monitor on names where it has on slots.
 use Rattle.std.proofs.Common.{◌≡◌, ◌∙◌, ◌⊎◌, inl, inr, ⊎_elim, ℕ, ◌<◌, ◌≤◌, Bool, false, ◌&&◌, ◌||◌, List, [], ◌∷◌, length, Option, Some, None, refl, sym, ap, subst, arith}
-use Rattle.cp_endless.proofs.Words.{cases_order, ComponentKind, Frame, Entry, Machine, Thread, thread_at, named}
-use Rattle.cp_tree.specs.Syntax.{Program}
+use Rattle.cp_endless.proofs.Words.{cases_order, ComponentKind, Frame, Entry, Machine, Thread, thread_at, Program, rest_of, Layouts, Ground}
 use Rattle.cp_tree.specs.declared.declaration.SystemKind.{SystemKind}
 use Rattle.cp_slots.specs.Tables.{Tables, component_at, process_at}
 use Rattle.cp_store.specs.Memory.{Memory}
 use Rattle.cp_machine.specs.declared.process.Entry.TheVariants.{Rest, Successor, Return, InitEnd}
-use Rattle.cp_machine.specs.Stack.{rest_of}
 use Rattle.cp_meaning.specs.State.{State, Call, CallKind, own_statement, initial_statement, entry_routine, Item, Process, unstarted, ready, at_gate, delayed, ended}
-use Rattle.cp_resolved.specs.Layouts.{Layouts}
-use Rattle.cp_resolved.specs.Stands.{Ground}
 use Rattle.cp_refine.specs.Kinds.{SameKind, KindsAgree}
 use Rattle.cp_refine.specs.Represents.{frames_of, CallsHold, StackIs, StatusIs, Runs, own_memory, monitor_left, Represents}
 use Rattle.cp_tree.specs.declared.declaration.SystemKind.TheVariants as system_kind

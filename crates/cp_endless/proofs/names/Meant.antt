@@ -1,5 +1,5 @@
 -- What is said of the slot machine holds of the meaning of the program on its own names.
-use Rattle.cp_endless.proofs.Words.{◌≡◌, ◌∙◌, ℕ, List, refl, sym, subst, Tables, Machine, State, ready, slots, GoInStep, CanGo, Line, Contains, System}
+use Rattle.cp_endless.proofs.Words.{◌≡◌, ◌∙◌, ℕ, List, refl, sym, subst, Tables, Machine, State, slots, GoInStep, CanGo, Line, Contains, System}
 use Rattle.cp_tree.specs.Syntax.{Tree}
 use Rattle.cp_tree.specs.Read.{IsRead}
 use Rattle.cp_layout.specs.Laid.{plain, laid}

@@ -1,18 +1,13 @@
 -- A process waits on names where it waits on slots.
 use Rattle.std.proofs.Common.{◌≡◌, ◌∙◌, ◌⊎◌, ⊎_elim, ℕ, zero, suc, ◌<◌, ◌≤◌, List, [], ◌∷◌, length, refl, sym, ap, arith}
-use Rattle.std.proofs.lemmas.Bool.{cases_order}
-use Rattle.cp_tree.specs.Syntax.{Program}
+use Rattle.cp_endless.proofs.Words.{cases_order, Program, Layouts, Ground, waits_on_names, waits_on_slots}
 use Rattle.cp_machine.specs.Machine.{Machine, Thread, thread_at, no_thread, is_waiting}
 use Rattle.cp_meaning.specs.State.{State, Process, unstarted, ready, at_gate, delayed, ended, no_process}
-use Rattle.cp_resolved.specs.Layouts.{Layouts}
-use Rattle.cp_resolved.specs.Stands.{Ground}
-use Rattle.cp_refine.specs.Named.{named}
 use Rattle.cp_refine.specs.Represents.{StatusIs, Represents}
 use Rattle.cp_machine.specs.declared.process.Status as slot_status
 use Rattle.cp_machine.specs.declared.process.Status.TheVariants as status
 use Rattle.cp_meaning.specs.State as named
 use Rattle.cp_meaning.specs.Readings as named_readings
-use Rattle.cp_endless.specs.Silent.{waits_on_names, waits_on_slots}
 
 -- a process waits on names where it waits on slots
 status_waits : (g : Ground) (p : Program) (l : Layouts) (q : ℕ) (x : Process) (t : Thread) (s : named.Status) (u : slot_status.Status) → StatusIs g p l q x t s u → named_readings.is_waiting s ≡ is_waiting u

@@ -1,10 +1,8 @@
 -- Two systems whose choices lead to states that are related have the same ends after each word.
 use Rattle.std.proofs.Common.{◌≡◌, inl, inr, ◌∙◌, ℕ, ◌<◌, Bool, true, false, if◌then◌else◌, List, [], ◌∷◌, None, Some, refl, sym, ap, subst, Option}
-use Rattle.cp_endless.proofs.Words.{Each, OutcomeKind, System, Node, Halted, Choosing, may, chosen, opened, AnyOf, Moment, moments, chosen_spot, opening_spot}
-use Rattle.cp_endless.proofs.Words.{spot_after, some_same}
-use Rattle.cp_refine.proofs.Alike.{NodesAlike}
+use Rattle.cp_endless.proofs.Words.{Each, OutcomeKind, System, Node, Halted, Choosing, may, chosen, opened, AnyOf, Moment, moments, chosen_spot, opening_spot, spot_after}
+use Rattle.cp_endless.proofs.Words.{some_same, NodesAlike, EndsAfter, IsPossible, node_after}
 use Rattle.cp_endless.specs.Meaning.{EndsTheSame}
-use Rattle.cp_endless.specs.Reachable.{EndsAfter, IsPossible, node_after}
 
 abbrev pub MomentsAlike : {S T : Type 0} → (S → T → Type 0) → List (Moment S) → List (Moment T) → Type 0
 MomentsAlike R [] [] = Unit {0}

@@ -1,10 +1,8 @@
 -- Two systems that go in step display the same values after each word.
 use Rattle.std.proofs.Common.{◌≡◌, ◌∙◌, inl, inr, ℕ, zero, suc, Bool, true, false, if◌then◌else◌, List, ◌++◌, Some, refl, sym, ap, subst}
-use Rattle.cp_endless.proofs.Words.{Contains, Shown, Turn, Over, Due, Goes, System, Choosing, may, turn_at, turn_after, settled_turn, opened, each, CanGo}
-use Rattle.cp_endless.proofs.Words.{GoInStep, forgetting_system, Moment, moments, moments_by, stretch_moments}
-use Rattle.cp_run.specs.Code.{IfGoes}
+use Rattle.cp_endless.proofs.Words.{Contains, Shown, Turn, Over, Due, Goes, System, Choosing, may, turn_at, turn_after, settled_turn, opened, each, CanGo, GoInStep}
+use Rattle.cp_endless.proofs.Words.{forgetting_system, Moment, moments, moments_by, stretch_moments, IfGoes, turn_same}
 use Rattle.cp_refine.proofs.Alike.{goes_on, goes_same, may_same, may_go, may_enter, admitted_same, admitted_goes, opening_goes}
-use Rattle.cp_refine.proofs.Turns.{turn_same}
 use Rattle.cp_endless.specs.Meaning.{ShowsTheSame}
 use Rattle.cp_endless.specs.Shown.{ShowsAfter, shown_at, shown_first, shown_then}
 use Rattle.cp_endless.proofs.names.Together.{ChoicesAlike, turned, after_there, choosing_alike}

@@ -1,9 +1,7 @@
 -- In two systems whose choices lead to states that are related the same processes wait for ever.
 use Rattle.std.proofs.Common.{◌≡◌, ◌⊎◌, inl, inr, ⊎_elim, ◌∙◌, ℕ, zero, suc, ◌<◌, Bool, true, false, List, None, Some, sym, ap, subst, Option, arith, ◌+◌}
-use Rattle.cp_endless.proofs.Words.{Each, System, Choosing, may, chosen, opened, Moment, moments, node_after, SetsOut, chosen_spot, opening_spot, spot_after}
-use Rattle.cp_endless.proofs.Words.{some_same}
-use Rattle.cp_refine.proofs.Alike.{NodesAlike}
-use Rattle.cp_endless.specs.Fair.{IsEndless, IsFair, IsServed}
+use Rattle.cp_endless.proofs.Words.{Each, System, Choosing, may, chosen, opened, Moment, moments, node_after, SetsOut, chosen_spot, opening_spot, spot_after, some_same}
+use Rattle.cp_endless.proofs.Words.{NodesAlike, IsEndless, IsFair, IsServed}
 use Rattle.cp_endless.specs.Meaning.{LingersTheSame, WaitsTheSame}
 use Rattle.cp_endless.specs.Standstill.{GoesOn, IsFairStretch, MayStandStill}
 use Rattle.cp_endless.specs.Traps.{IsStuckAfter}
@@ -123,7 +121,7 @@ spot_there {S} {T} V s p (Some x) (Some y) e h =
     (y.0, ap (λ (n : ℕ). Some (y.0, n)) (sym h.0 ∙ ap (λ (z : S × ℕ). z.1) same), subst (λ (z : S × ℕ). V z.0 y.0 z.1) same h.1)
 
 module _ {S T : Type 0} (a : System S) (b : System T) (steps : ℕ) (R : S → T → Type 0) (V : S → T → ℕ → Type 0) (h : ChoicesAlike a b steps R V) where
-  sets_out_there : (word : List ℕ) (s : S) (p : ℕ) → SetsOut a steps word s p → (t : T) × SetsOut b steps word t p × V s t p
+  pub sets_out_there : (word : List ℕ) (s : S) (p : ℕ) → SetsOut a steps word s p → (t : T) × SetsOut b steps word t p × V s t p
   sets_out_there word s p (inl x) = let y = spot_there V s p (opening_spot a) (opening_spot b) x.1 h.spots_first in (y.0, inl (x.0, y.1), y.2)
   sets_out_there word s p (inr x) =
       let l = after_there a b steps R V h x.0 (opened a steps) (Choosing x.2) (opened b steps) h.begins x.4 in
@@ -132,10 +130,10 @@ module _ {S T : Type 0} (a : System S) (b : System T) (steps : ℕ) (R : S → T
       (y.0, inr (x.0, x.1, c.0, x.3, l.1 ∙ ap Some c.1, sym (h.same x.2 c.0 x.1 c.2) ∙ x.5, y.1), y.2)
 
   module _ (s : S) (p : ℕ) (t : T) (v : V s t p) (state : ℕ → S) (mover : ℕ → ℕ) (goes : GoesOn a s p state mover) where
-    one_more : (n : ℕ) → spot_after a 1 (state n) (mover n) ≡ Some (state (suc n), mover (suc n))
+    pub one_more : (n : ℕ) → spot_after a 1 (state n) (mover n) ≡ Some (state (suc n), mover (suc n))
     one_more n = sym (from_there a n 1 s p (state n) (mover n) (goes n)) ∙ ap (λ i. spot_after a i s p) (plus n) ∙ goes (suc n)
 
-    abbrev stands : (n : ℕ) → (u : T) × V (state n) u (mover n) × (spot_after b n t p ≡ Some (u, mover n))
+    abbrev pub stands : (n : ℕ) → (u : T) × V (state n) u (mover n) × (spot_after b n t p ≡ Some (u, mover n))
     stands zero = let e = some_same (s, p) (state 0, mover 0) (goes 0) in (t, subst (λ (z : S × ℕ). V z.0 t z.1) e v, ap (λ (z : S × ℕ). Some (t, z.1)) e)
     stands (suc n) =
         let r = stands n in

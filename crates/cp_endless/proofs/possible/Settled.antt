@@ -1,7 +1,6 @@
 -- What closed states say of words of any length.
 use Rattle.std.proofs.Common.{◌≡◌, ℕ, Bool, true, false, if◌then◌else◌, List, [], ◌∷◌, None, Some, refl, subst}
-use Rattle.cp_endless.proofs.Words.{Contains, OutcomeKind, System, Node, Halted, Choosing, may, chosen, opened, some_same}
-use Rattle.cp_endless.specs.Reachable.{IsPossible, IsReachable, LeadsTo, node_after}
+use Rattle.cp_endless.proofs.Words.{Contains, OutcomeKind, System, Node, Halted, Choosing, may, chosen, opened, some_same, IsPossible, IsReachable, LeadsTo, node_after}
 use Rattle.cp_endless.specs.Settled.{IsClosed, IsIn, SettledLaw}
 
 -- where no choice leads out of some states, no word does

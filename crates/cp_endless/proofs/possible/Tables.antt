@@ -1,12 +1,11 @@
 -- What is closed where nothing is shown bounds the ends of the tables of the machine that shows, and its words are schedules of that machine.
 use Rattle.std.proofs.Common.{◌≡◌, ◌⊎◌, inl, inr, ⊎_elim, ◌∙◌, ℕ, zero, suc, Bool, true, false, ◌&&◌, nat_lt, ◌==◌, if◌then◌else◌, List, [], ◌∷◌, ◌++◌, length, Option, None, Some, ◌≤◌, arith, refl, sym, ap, subst}
-use Rattle.cp_endless.proofs.Words.{Contains, Each, Event, OutcomeKind, Turn, Over, Due, Goes, System, node_after, IsClosed, IsIn}
+use Rattle.cp_endless.proofs.Words.{Contains, Each, Event, OutcomeKind, Turn, Over, Due, Goes, System, node_after, IsClosed, IsIn, Line, lines_of, each, words, table}
 use Rattle.std.proofs.lemmas.List.Elements.{All-from_recursion}
 use Rattle.cp_machine.specs.declared.event.Event.TheVariants.{Local, Fault, OutputFull}
 use Rattle.cp_run.specs.declared.outcome.OutcomeKind.TheVariants.{Finished, AllWaiting, ChoiceLimit, OutputLimit}
 use Rattle.cp_run.specs.declared.outcome.Outcome.{Outcome}
 use Rattle.cp_run.specs.Run.{those_below, Node, Halted, Choosing, node_at, turn_among, settled_turn, turn_at, turn_after, stretch, opened, may, chosen, Answer, Ended as HasEnded, Wants, NotReady, later, run_from, run}
-use Rattle.cp_run.specs.Table.{Line, lines_of, each, words, table}
 use Rattle.cp_endless.specs.Forgetting.{OutputDecidesNothing, forgetting_system}
 use Rattle.cp_endless.specs.Tables.{IsKnownEnd, TablesLaw, WitnessLaw}
 use Rattle.cp_endless.proofs.Basics.{each_append}

@@ -1,7 +1,5 @@
 -- No word shows a value but those of a closed set.
-use Rattle.std.proofs.Common.{◌≡◌, ◌+◌, ◌≤◌, ◌<◌, ℕ, inl, inr, List, [], ◌∷◌, ◌++◌, length, ap, arith}
-use Rattle.std.proofs.lemmas.List.{length-append}
-use Rattle.cp_endless.proofs.Words.{OutcomeKind, System, Choosing, forgetting_system}
+use Rattle.cp_endless.proofs.Words.{◌≡◌, ◌≤◌, ◌<◌, ℕ, inl, inr, List, [], ◌∷◌, ◌++◌, length, ap, arith, OutcomeKind, System, Choosing, forgetting_system, length-append}
 use Rattle.cp_endless.specs.Shown.{ValuesLaw, ValuesToLaw}
 use Rattle.cp_endless.proofs.possible.Layers.{leads_to}
 use Rattle.cp_endless.proofs.possible.Settled.{leads_in}

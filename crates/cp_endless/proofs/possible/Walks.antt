@@ -4,10 +4,8 @@ use Rattle.std.proofs.lemmas.Bool.{eq-eqb, ne_eqb}
 use Rattle.std.proofs.lemmas.Bool.Decides.{eqb_tells}
 use Rattle.std.proofs.lemmas.List.{append_assoc, map-append}
 use Rattle.cp_run.specs.declared.outcome.Outcome.{Outcome}
-use Rattle.cp_run.specs.declared.outcome.OutcomeKind.TheVariants.{ChoiceLimit}
-use Rattle.cp_run.specs.System.{System}
+use Rattle.cp_endless.proofs.Words.{ChoiceLimit, System, Line, words, lines_of, each, table}
 use Rattle.cp_run.specs.Run.{joined_below, Node, Halted, Choosing, Answer, Ended, NotReady, later, may, chosen, opened, run_from}
-use Rattle.cp_run.specs.Table.{Line, words, lines_of, each, table}
 use Rattle.cp_refine.proofs.Alike.{each_same}
 
 -- a row, one number further

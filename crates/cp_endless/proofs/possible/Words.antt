@@ -1,8 +1,6 @@
 -- Words, one number after the other.
 use Rattle.std.proofs.Common.{◌≡◌, ℕ, Bool, true, false, if◌then◌else◌, List, [], ◌∷◌, ◌++◌, None, Some, refl, ap}
-use Rattle.cp_run.specs.System.{System}
-use Rattle.cp_run.specs.Run.{Node, Halted, Choosing, may, chosen}
-use Rattle.cp_endless.specs.Reachable.{node_after}
+use Rattle.cp_endless.proofs.Words.{System, Node, Halted, Choosing, may, chosen, node_after}
 use Rattle.cp_resolved.proofs.names.Alike.{same_inside as some_same}
 
 module _ {S : Type 0} (sys : System S) (steps : ℕ) where

@@ -1,33 +1,18 @@
 -- Two machines that differ in what they displayed alone, the second no more than the first, take the same steps until the output of the first is full.
 -- Only `display` looks at the output, at how long it is.
 use Rattle.std.proofs.Common.{◌≡◌, ◌⊎◌, inl, inr, ⊎_elim, ℕ, ◌+◌, ◌<◌, ◌≤◌, arith, List, [], ◌∷◌, ◌++◌, length, Option, Some, None, Result, Ok, Err, if◌then◌else◌, Bool, true, false, refl, sym, subst, ap}
-use Rattle.std.specs.Prelude.{ℤ, pos, slice_set, slice_index_or, ◌==◌}
-use Rattle.std.specs.Ordering.{int_eq}
-use Rattle.std.proofs.lemmas.List.{length-append}
+use Rattle.cp_endless.proofs.Words.{ℤ, pos, slice_set, slice_index_or, ◌==◌, int_eq, Tables, item_at, component_at, Action, Item, Argument, ComponentKind, Frame, Event}
+use Rattle.cp_endless.proofs.Words.{Entry, Rest, Successor, Return, Shown, Bound, ErrorName, Address, is_true, ranged, Gates, First, Any, MOST_SHOWN, from_end, rest_of}
+use Rattle.cp_endless.proofs.Words.{act, take_top, step_at, OutputFull, Kernel, length-append}
 use Rattle.std.proofs.lemmas.Bool.{cases_order, ne_eqb, eqb-false}
-use Rattle.cp_slots.specs.Tables.{Tables, item_at, component_at}
-use Rattle.cp_slots.specs.declared.item.Action.{Action}
 use Rattle.cp_slots.specs.declared.item.Action.TheVariants.{Assign, AssignSet, Copy, If, Case, While, Until, For, Call, Start, Delay, Continue, Display}
-use Rattle.cp_slots.specs.declared.item.Item.{Item}
-use Rattle.cp_slots.specs.declared.place.Argument.{Argument}
-use Rattle.cp_endless.proofs.Words.{ComponentKind, Frame, Event, Entry, Rest, Successor, Return, Shown}
-use Rattle.cp_store.specs.declared.argument.Bound.{Bound}
-use Rattle.cp_store.specs.declared.error.ErrorName.{ErrorName}
-use Rattle.cp_store.specs.declared.memory.Address.{Address}
-use Rattle.cp_store.specs.Values.{is_true, ranged}
-use Rattle.cp_machine.specs.declared.gates.Gates.{Gates}
-use Rattle.cp_machine.specs.declared.gates.Gates.TheVariants.{First, Any}
 use Rattle.cp_machine.specs.declared.process.Status.TheVariants.{Delayed}
-use Rattle.cp_machine.specs.declared.state.TheConstants.{MOST_SHOWN}
 use Rattle.cp_machine.specs.Calls.{left, called, called_in, called_by, start_process, start_inside, started, returned, delayed_in, delay_at, continued_from, continue_at}
 use Rattle.cp_machine.specs.Kernel.{first_in, one_in, let_in, let_in_by, entered, entered_by, delayed, resumed, continued, waits_in}
 use Rattle.cp_machine.specs.Machine.{Machine, thread_at, monitor_at, phase_at, is_initialised, is_uninitialised, is_unstarted, is_ready, is_pending, in_line, waits, with_stack, with_status, with_permanents, with_output}
 use Rattle.cp_machine.specs.Memory.{value_of, set_of, address_of, component_of, arguments_of}
 use Rattle.cp_machine.specs.Opening.{admitted, admitted_at}
-use Rattle.cp_machine.specs.Stack.{from_end, rest_of}
 use Rattle.cp_machine.specs.Statements.{Stepped, fault, with_value, arm_for, is_beyond, next_value, succeeded, show, shown_as}
-use Rattle.cp_machine.specs.Step.{act, take_top, step_at}
-use Rattle.cp_machine.specs.declared.event.Event.TheVariants.{OutputFull, Kernel}
 use Rattle.cp_slots.specs.declared.tables.ComponentKind.TheVariants as kind
 use Rattle.cp_store.specs.declared.memory.Address.TheVariants as address
 use Rattle.cp_store.specs.Sets as sets

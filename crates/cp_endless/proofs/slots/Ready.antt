@@ -1,37 +1,22 @@
 -- Who is ready stays ready until its own step.
 use Rattle.std.proofs.Common.{◌≡◌, ℕ, ◌<◌, ◌≤◌, ◌∙◌, ◌⊎◌, inl, inr, List, [], ◌∷◌, length, Option, Some, None, Result, Ok, Err, if◌then◌else◌, Bool, true, false, sym, subst, ap, get_or-set_same, get_or-set_other}
 use Rattle.std.specs.Prelude.{ℤ, pos, slice_set, slice_index_or, ◌==◌}
-use Rattle.std.specs.Ordering.{int_eq}
+use Rattle.cp_endless.proofs.Words.{int_eq, Tables, item_at, component_at, Action, Item, Argument, ComponentKind, Frame, Entry, slots, Bound, ErrorName, Address, is_true}
+use Rattle.cp_endless.proofs.Words.{ranged, Gates, First, Any, Rest, Successor, Return, InitEnd, MOST_SHOWN, from_end, act, take_top, step_at, StaysReady}
 use Rattle.std.proofs.lemmas.Bool.{cases_eq, cases_lt}
 use Rattle.std.proofs.lemmas.List.{get_or_past, length-set}
-use Rattle.cp_slots.specs.Tables.{Tables, item_at, component_at}
-use Rattle.cp_slots.specs.declared.item.Action.{Action}
 use Rattle.cp_slots.specs.declared.item.Action.TheVariants.{Assign, AssignSet, Copy, If, Case, While, Until, For, Call, Start, Delay, Continue, Display}
-use Rattle.cp_slots.specs.declared.item.Item.{Item}
-use Rattle.cp_slots.specs.declared.place.Argument.{Argument}
-use Rattle.cp_endless.proofs.Words.{ComponentKind, Frame, Entry, slots}
-use Rattle.cp_store.specs.declared.argument.Bound.{Bound}
-use Rattle.cp_store.specs.declared.error.ErrorName.{ErrorName}
-use Rattle.cp_store.specs.declared.memory.Address.{Address}
-use Rattle.cp_store.specs.Values.{is_true, ranged}
-use Rattle.cp_machine.specs.declared.gates.Gates.{Gates}
-use Rattle.cp_machine.specs.declared.gates.Gates.TheVariants.{First, Any}
-use Rattle.cp_machine.specs.declared.process.Entry.TheVariants.{Rest, Successor, Return, InitEnd}
 use Rattle.cp_machine.specs.declared.process.Status.{Status}
 use Rattle.cp_machine.specs.declared.process.Status.TheVariants.{Ready, AtGate, Delayed, Ended}
-use Rattle.cp_machine.specs.declared.state.TheConstants.{MOST_SHOWN}
 use Rattle.cp_machine.specs.Calls.{opened, left, called, called_in, called_by, start_process, start_inside, started, returned, init_ended, delayed_in, delay_at, continued_from, continue_at}
 use Rattle.cp_machine.specs.Kernel.{first_in, one_in, let_in, let_in_by, goes_in, entered, entered_by, delayed, resumed, continued, waits_in}
 use Rattle.cp_machine.specs.Machine.{Machine, Thread, thread_at, no_thread, monitor_at, phase_at, is_initialised, is_uninitialised, is_unstarted, is_ready, is_ready_status, with_thread, with_stack, with_status, with_permanents}
 use Rattle.cp_machine.specs.Memory.{value_of, set_of, address_of, component_of, arguments_of, parameters_bound}
 use Rattle.cp_machine.specs.Opening.{admitted_at}
-use Rattle.cp_machine.specs.Stack.{from_end}
 use Rattle.cp_machine.specs.Statements.{Stepped, with_value, arm_for, is_beyond, next_value, succeeded}
-use Rattle.cp_machine.specs.Step.{act, take_top, step_at}
 use Rattle.cp_slots.specs.declared.tables.ComponentKind.TheVariants as kind
 use Rattle.cp_store.specs.declared.memory.Address.TheVariants as address
 use Rattle.cp_store.specs.Sets as sets
-use Rattle.cp_endless.specs.Fair.{StaysReady}
 use Rattle.cp_endless.specs.Silent.{SlotsStayReadyLaw}
 
 -- ---- what is kept

@@ -1,8 +1,7 @@
 -- A word that leads to a round ends at the limit of steps, whatever the limit is, from its own on.
 use Rattle.std.proofs.Common.{◌≡◌, inl, inr, ◌∙◌, ◌+◌, ℕ, Bool, true, false, if◌then◌else◌, List, [], ◌∷◌, ◌++◌, None, Some, sym, ap, subst}
-use Rattle.cp_endless.proofs.Words.{StepLimit, Turn, Goes, System, some_same}
+use Rattle.cp_endless.proofs.Words.{StepLimit, Turn, Goes, System, some_same, EndsAfter, LeadsTo, node_after}
 use Rattle.cp_run.specs.Run.{Node, Halted, Choosing, node_at, settled_turn, turn_at, stretch, opened, may, chosen}
-use Rattle.cp_endless.specs.Reachable.{EndsAfter, LeadsTo, node_after}
 use Rattle.cp_endless.specs.Rounds.{AloneLaw, IsCut, IsRound, SetsOut, chosen_spot, opening_spot, spot_by}
 use Rattle.cp_endless.proofs.possible.Words.{after_append}
 use Rattle.cp_endless.proofs.steps.Nodes.{cut_node, chosen_same, opened_same}

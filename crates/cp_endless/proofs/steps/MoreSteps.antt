@@ -1,8 +1,7 @@
 -- What is settled is so for every greater limit of steps, where each stretch that is cut goes on for ever; so too where none is cut.
 use Rattle.std.proofs.Common.{◌≡◌, ◌⊎◌, inl, inr, ⊎_elim, ◌∙◌, ◌+◌, ℕ, Bool, true, false, if◌then◌else◌, List, [], ◌∷◌, Option, None, Some, refl, sym, ap, subst}
-use Rattle.cp_endless.proofs.Words.{Contains, OutcomeKind, StepLimit, System, Node, Halted, Choosing, opened, may, chosen, node_after, IsCut}
+use Rattle.cp_endless.proofs.Words.{Contains, OutcomeKind, StepLimit, System, Node, Halted, Choosing, opened, may, chosen, node_after, IsCut, IsIn, IsSettled}
 use Rattle.cp_endless.specs.MoreSteps.{CutsAreRounds, MoreStepsLaw, MoreStepsRoundsLaw}
-use Rattle.cp_endless.specs.Settled.{IsIn, IsSettled}
 use Rattle.cp_endless.proofs.steps.Alone.{opened_spot, chosen_at, leads_more}
 use Rattle.cp_endless.proofs.steps.Nodes.{cut_node, cut_or_not, chosen_same, opened_same}
 use Rattle.cp_endless.proofs.steps.Rounds.{rounds, cut_if_on}

@@ -1,7 +1,6 @@
 -- A stretch that is not cut is the same for every greater limit of steps.
 use Rattle.std.proofs.Common.{◌≡◌, ◌⊎◌, inl, inr, ◌∙◌, ◌+◌, ℕ, zero, suc, Bool, true, false, if◌then◌else◌, refl, ap, subst, arith}
-use Rattle.cp_endless.proofs.Words.{StepLimit, Turn, Goes, System, IsCut}
-use Rattle.cp_run.specs.Run.{Node, Halted, node_at, settled_turn, turn_at, turn_after, stretch, opened, chosen}
+use Rattle.cp_endless.proofs.Words.{StepLimit, Turn, Goes, System, IsCut, Node, Halted, node_at, settled_turn, turn_at, turn_after, stretch, opened, chosen}
 
 pub cut_node : {S : Type 0} (x : Node S) → IsCut x → (s : S) × (x ≡ Halted StepLimit s)
 cut_node (Halted StepLimit s) c = (s, refl)

@@ -1,8 +1,7 @@
 -- A table in which no schedule ends for want of steps is the same for every greater limit.
 use Rattle.std.proofs.Common.{◌≡◌, ◌∙◌, ◌+◌, ℕ, zero, suc, Bool, true, false, if◌then◌else◌, List, [], ◌∷◌, ◌++◌, map, refl, sym, ap, subst}
-use Rattle.cp_endless.proofs.Words.{Each, StepLimit, System, Line, table, IsCut}
+use Rattle.cp_endless.proofs.Words.{Each, StepLimit, System, Line, table, IsCut, joined_below, Node, Halted, Choosing, may, opened, chosen}
 use Rattle.std.proofs.lemmas.List.Elements.{recursion_from_All}
-use Rattle.cp_run.specs.Run.{joined_below, Node, Halted, Choosing, may, opened, chosen}
 use Rattle.cp_endless.specs.MoreSteps.{IsUncut, MoreStepsTablesLaw}
 use Rattle.cp_endless.proofs.Basics.{each_left, each_right}
 use Rattle.cp_endless.proofs.possible.Walks.{behind, walk, table_walk}

@@ -1,14 +1,11 @@
 -- Small systems, to see that the definitions speak of something, and of what they should.
 use Rattle.std.proofs.Common.{◌≡◌, inl, inr, ◌<◌, ◌++◌, ℕ, zero, suc, Bool, true, false, if◌then◌else◌, List, [], ◌∷◌, None, refl, subst, arith}
-use Rattle.cp_endless.proofs.Words.{Contains, pos, Event, Shown, System, Choosing, stretch, opened, chosen, may, IsServed, forgetting_system, moments}
-use Rattle.cp_endless.proofs.Words.{moments_along, stretch_moments, MayWaitForEver}
-use Rattle.cp_machine.specs.declared.event.Event.TheVariants.{Local, Kernel}
+use Rattle.cp_endless.proofs.Words.{Contains, pos, Event, Shown, System, Choosing, stretch, opened, chosen, may, IsServed, forgetting_system, moments, moments_along}
+use Rattle.cp_endless.proofs.Words.{stretch_moments, MayWaitForEver, Local, Kernel, IsReachable, IsSettled}
 use Rattle.cp_machine.specs.declared.event.Kernel.TheVariants as call
 use Rattle.cp_machine.specs.declared.shown.Shown.TheVariants as shown
 use Rattle.cp_endless.specs.Lasso.{IsLasso, IsWaitingLoop}
-use Rattle.cp_endless.specs.Reachable.{IsReachable}
 use Rattle.cp_endless.specs.Repeats.{IsAloneAfter, SpinsAfter}
-use Rattle.cp_endless.specs.Settled.{IsSettled}
 use Rattle.cp_endless.specs.Shown.{ShowsAfter}
 use Rattle.cp_endless.proofs.waiting.Lassos.{lassos}
 

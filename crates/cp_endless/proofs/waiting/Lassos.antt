@@ -1,7 +1,6 @@
 -- A loop that is gone again and again is a schedule without end: it is fair if the loop is, and in it a process waits for ever if it waits in the loop.
 use Rattle.std.proofs.Common.{◌≡◌, ◌⊎◌, inl, inr, ⊎_elim, ◌+◌, ◌<◌, ◌≤◌, ℕ, zero, suc, Bool, true, false, List, [], ◌∷◌, ◌++◌, length, Option, Some, refl, sym, ap, subst, ◌∙◌, arith}
-use Rattle.cp_endless.proofs.Words.{Each, System, Node, Halted, Choosing, may, chosen, opened, AnyOf, Moment, moments, moments_along, states_along, LeadsTo}
-use Rattle.cp_endless.proofs.Words.{node_after}
+use Rattle.cp_endless.proofs.Words.{Each, System, Node, Halted, Choosing, may, chosen, opened, AnyOf, Moment, moments, moments_along, states_along, LeadsTo, node_after}
 use Rattle.cp_endless.specs.Fair.{IsEndless, IsFair, IsServed}
 use Rattle.cp_endless.specs.Lasso.{IsLasso, IsWaitingLoop, LassoLaw, LingerLaw, WaitsAlong}
 use Rattle.cp_endless.specs.WaitsForEver.{MayWaitForEver, WaitsFrom, WaitsIn, WaitsSometime}

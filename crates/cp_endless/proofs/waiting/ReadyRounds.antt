@@ -1,7 +1,6 @@
 -- A process that is ready somewhere in a round and makes no step in it is ready in all of it.
 use Rattle.std.proofs.Common.{◌≡◌, ◌⊎◌, inl, inr, ⊎_elim, ℕ, zero, suc, Bool, true, false, if◌then◌else◌, List, [], ◌∷◌, Some, refl, sym, subst, ◌∙◌}
-use Rattle.cp_endless.proofs.Words.{Each, Turn, Goes, System, node_after, some_same}
-use Rattle.cp_run.specs.Run.{Node, Halted, Choosing, node_at, settled_turn, turn_after, stretch, chosen}
+use Rattle.cp_endless.proofs.Words.{Each, Turn, Goes, System, node_after, some_same, Node, Halted, Choosing, node_at, settled_turn, turn_after, stretch, chosen}
 use Rattle.cp_endless.specs.Fair.{IsServed, ReadyRoundLaw, ReadyServedLaw, StaysReady}
 use Rattle.cp_endless.specs.Moments.{AnyOf, Moment, moments, moments_along, moments_by, states_along, stretch_moments}
 use Rattle.cp_endless.proofs.Basics.{each_left, each_right, each_append, any_split}

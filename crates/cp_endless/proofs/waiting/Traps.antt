@@ -1,6 +1,5 @@
 -- No word leads out of a trap.
-use Rattle.cp_run.specs.System.{System}
-use Rattle.cp_run.specs.Run.{Choosing}
+use Rattle.cp_endless.proofs.Words.{System, Choosing}
 use Rattle.cp_endless.specs.Traps.{TrapLaw}
 use Rattle.cp_endless.proofs.possible.Settled.{after_in}
 

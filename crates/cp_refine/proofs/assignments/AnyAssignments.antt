@@ -1,12 +1,11 @@
 -- The whole step of an assignment, of whatever type the target is.
 use Rattle.std.proofs.Common.{◌≡◌, ◌∙◌, ℕ, true, List, [], ◌∷◌, ◌++◌, Option, Some, ap, sym, refl, subst, arith}
-use Rattle.cp_refine.proofs.Words.{ℤ, pos, int_le, slice_index, Program, Expression, Designator, assign, Address, Frame, HasCells, Memory, put_number, Entry}
-use Rattle.cp_refine.proofs.Words.{Machine, thread_at, with_stack, memory_at, number_put, rest_of, step_at, Range, Ty, ordinal, set_over, array_over}
-use Rattle.cp_refine.proofs.Words.{record_with, is_within, number_value, Place, Item, statement_item, State, stored, becomes, view_of, step_of, settled}
-use Rattle.cp_refine.proofs.Words.{cells_of, Layouts, here, HasType, Sees, PlaceAt}
+use Rattle.cp_refine.proofs.Words.{ℤ, pos, int_le, slice_index, Program, Expression, Designator, assign, Address, Frame, HasCells, Memory, put_number, Entry, Machine}
+use Rattle.cp_refine.proofs.Words.{thread_at, with_stack, memory_at, number_put, rest_of, step_at, Range, Ty, ordinal, set_over, array_over, record_with, is_within}
+use Rattle.cp_refine.proofs.Words.{number_value, Place, Item, statement_item, State, stored, becomes, view_of, step_of, settled, cells_of, Layouts, here, HasType, Sees}
+use Rattle.cp_refine.proofs.Words.{PlaceAt, Form, as_ordinal, as_set, as_place, a_variable, expression_form, designator_form}
 use Rattle.cp_slots.specs.Code as code
 use Rattle.cp_machine.specs.Statements as statements
-use Rattle.cp_resolved.specs.Compiled.{Form, as_ordinal, as_set, as_place, a_variable, expression_form, designator_form}
 use Rattle.cp_resolved.specs.Stands.{Ground, ItemAt, AssignedBy}
 use Rattle.cp_refine.proofs.assignments.Assignments.{assign_runs}
 use Rattle.cp_refine.proofs.assignments.Blocks.{WritesBlock, none_written, one_written}

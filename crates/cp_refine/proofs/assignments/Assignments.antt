@@ -1,11 +1,10 @@
 -- The whole step of an assignment of an ordinal, and that to a variable of an open call.
 use Rattle.std.proofs.Common.{◌≡◌, ◌∙◌, ℕ, Bool, true, false, if◌then◌else◌, List, ◌∷◌, ◌++◌, Option, Some, ap, sym, refl, subst}
-use Rattle.cp_refine.proofs.Words.{ℤ, Result, Ok, Err, slice_index, Program, Expression, Designator, assign, Action, item_at, Address, Frame, Entry, Machine}
-use Rattle.cp_refine.proofs.Words.{thread_at, with_stack, memory_at, number_put, address_of, rest_of, step_at, Outcome, out_of_range, ◌>>=◌, Range, Ty}
-use Rattle.cp_refine.proofs.Words.{ordinal, is_within, Value, number_value, Place, Item, statement_item, State, Typed, Target, stored, value, target_value}
-use Rattle.cp_refine.proofs.Words.{Stepped, assigned, becomes, view_of, step_of, settled, plain_value, plain_address, Layouts, Here, here, as_ordinal}
-use Rattle.cp_refine.proofs.Words.{a_variable, expression_form, designator_form, Ground, ItemAt, PlaceAt, OrdinalAgrees, TargetAgrees, Sees, expression_calls}
-use Rattle.cp_refine.proofs.Words.{designator_calls}
+use Rattle.cp_refine.proofs.Words.{ℤ, Result, Ok, Err, slice_index, Program, Expression, Designator, assign, Action, item_at, Address, Frame, Entry, Machine, thread_at}
+use Rattle.cp_refine.proofs.Words.{with_stack, memory_at, number_put, address_of, rest_of, step_at, Outcome, out_of_range, ◌>>=◌, Range, Ty, ordinal, is_within, Value}
+use Rattle.cp_refine.proofs.Words.{number_value, Place, Item, statement_item, State, Typed, Target, stored, value, target_value, Stepped, assigned, becomes, view_of}
+use Rattle.cp_refine.proofs.Words.{step_of, settled, plain_value, plain_address, Layouts, Here, here, as_ordinal, a_variable, expression_form, designator_form, Ground}
+use Rattle.cp_refine.proofs.Words.{ItemAt, PlaceAt, OrdinalAgrees, TargetAgrees, Sees, expression_calls, designator_calls}
 use Rattle.cp_slots.specs.declared.item.Action.TheVariants as action
 use Rattle.cp_slots.specs.declared.place.OrdinalExpression as code_expression
 use Rattle.cp_slots.specs.declared.place.Place as code_place

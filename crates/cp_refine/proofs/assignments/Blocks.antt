@@ -1,9 +1,8 @@
 -- Cells that are written one after the other: a set, and the copy of an array or a record.
 use Rattle.std.proofs.Common.{◌≡◌, ◌≢◌, ◌∙◌, ℕ, zero, suc, ◌+◌, ◌*◌, ◌-◌, ◌/◌, ◌%◌, ◌^◌, ◌<◌, ◌≤◌, ◌⊎◌, inl, inr, List, Some, ap, sym, refl, subst, arith, length, get_or}
-use Rattle.cp_refine.proofs.Words.{ℤ, pos, slice_index_or, cases_lt, Address, Permanent, Local, HasCells, Ty, Value, Choice, with_part, cells_of, encode}
-use Rattle.cp_refine.proofs.Words.{set_cells, HasType, chosen_at, Few, further, LiesAt}
+use Rattle.cp_refine.proofs.Words.{ℤ, pos, slice_index_or, cases_lt, Address, Permanent, Local, HasCells, Ty, Value, Choice, with_part, cells_of, encode, set_cells}
+use Rattle.cp_refine.proofs.Words.{HasType, chosen_at, Few, further, LiesAt, Memory, cell_at, moved, put_number, put_copy}
 use Rattle.std.specs.Int.{cast_signed, w16}
-use Rattle.cp_store.specs.Memory.{Memory, cell_at, moved, put_number, put_copy}
 use Rattle.cp_store.specs.Sets.{put_word, put_pair, put_quad, put_set}
 use Rattle.cp_refine.specs.Given.{OthersKept, PutsBlock}
 use Rattle.cp_refine.proofs.control.Moving.{same_or_other}

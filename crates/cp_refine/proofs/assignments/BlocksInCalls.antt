@@ -1,8 +1,7 @@
 -- A value of any type that is written into a variable of an open call, or a part of one: all open calls hold what they hold then.
 use Rattle.std.proofs.Common.{◌≡◌, ◌∙◌, ℕ, ◌+◌, ◌<◌, ◌≤◌, ◌==◌, ◌⊎◌, inl, inr, Bool, true, false, if◌then◌else◌, List, [], ◌∷◌, Option, Some, ap, sym, refl, subst, arith, length}
-use Rattle.cp_refine.proofs.Words.{bytes_eq-Decides, Tables, Local, Frame, Memory, referred, Name, same_name, Ty, Value, Choice, with_part, Content, holds}
-use Rattle.cp_refine.proofs.Words.{refers, Place, Environment, Call, cells_of, Layouts, cell_named, look, encode, HasType, chosen_at, LiesAt, frame_above}
-use Rattle.cp_refine.proofs.Words.{PlaceAt, CallHolds, CallsHold}
+use Rattle.cp_refine.proofs.Words.{bytes_eq-Decides, Tables, Local, Frame, Memory, referred, Name, same_name, Ty, Value, Choice, with_part, Content, holds, refers, Place}
+use Rattle.cp_refine.proofs.Words.{Environment, Call, cells_of, Layouts, cell_named, look, encode, HasType, chosen_at, LiesAt, frame_above, PlaceAt, CallHolds, CallsHold}
 use Rattle.cp_meaning.specs.Places.{content_of, with_content, value_held, call_above, with_environment, with_call_environment}
 use Rattle.cp_refine.proofs.assignments.Blocks.{WritesBlock, block_kept, block_new}
 use Rattle.cp_refine.proofs.expressions.Parts.{encode_length}

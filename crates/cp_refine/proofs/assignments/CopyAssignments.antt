@@ -1,14 +1,12 @@
 -- The whole step of an assignment of an array or a record.
-use Rattle.std.proofs.Common.{◌≡◌, ◌∙◌, ℕ, List, ◌∷◌, ◌++◌, Option, Some, ap, sym, refl, subst, arith}
-use Rattle.cp_refine.proofs.Words.{Result, Ok, Err, slice_index, Program, Expression, Designator, assign, Action, item_at, Address, Frame, Entry, Machine}
-use Rattle.cp_refine.proofs.Words.{thread_at, with_stack, rest_of, step_at, Outcome, ◌>>=◌, Ty, Value, Place, Item, statement_item, State, Typed, checked}
-use Rattle.cp_refine.proofs.Words.{Target, value_at, stored, value, target_value, Stepped, expression_calls, designator_calls, assigned, becomes, view_of}
-use Rattle.cp_refine.proofs.Words.{step_of, settled, cells_of, Layouts, Here, here, as_place, a_variable, expression_form, designator_form, encode, Ground}
-use Rattle.cp_refine.proofs.Words.{ItemAt, TargetAgrees, Sees, plain_address, PlaceAt, CallsHold, own_memory}
+use Rattle.cp_refine.proofs.Words.{◌≡◌, ◌∙◌, ℕ, List, ◌∷◌, ◌++◌, Option, Some, ap, sym, refl, subst, arith, Result, Ok, Err, slice_index, Program, Expression, Designator}
+use Rattle.cp_refine.proofs.Words.{assign, Action, item_at, Address, Frame, Entry, Machine, thread_at, with_stack, rest_of, step_at, Outcome, ◌>>=◌, Ty, Value, Place}
+use Rattle.cp_refine.proofs.Words.{Item, statement_item, State, Typed, checked, Target, value_at, stored, value, target_value, Stepped, expression_calls}
+use Rattle.cp_refine.proofs.Words.{designator_calls, assigned, becomes, view_of, step_of, settled, cells_of, Layouts, Here, here, as_place, a_variable, expression_form}
+use Rattle.cp_refine.proofs.Words.{designator_form, encode, Ground, ItemAt, TargetAgrees, Sees, plain_address, PlaceAt, CallsHold, own_memory, put_copy}
 use Rattle.cp_slots.specs.declared.item.Action.TheVariants as action
 use Rattle.cp_slots.specs.declared.place.Place as code_place
 use Rattle.cp_store.specs.declared.error.ErrorName as slots
-use Rattle.cp_store.specs.Memory.{put_copy}
 use Rattle.cp_machine.specs.Memory.{memory_at, cells_put, address_of}
 use Rattle.cp_machine.specs.Statements as statements
 use Rattle.cp_meaning.specs.State as named

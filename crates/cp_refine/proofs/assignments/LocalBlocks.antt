@@ -1,9 +1,8 @@
 -- A value of any type is assigned to a variable of an open call, or to a part of one: what stands for what is kept.
-use Rattle.std.proofs.Common.{◌≡◌, ◌∙◌, ℕ, ◌+◌, ◌<◌, ◌≤◌, List, Option, Some, None, ap, sym, refl, subst, arith, length}
-use Rattle.cp_refine.proofs.Words.{ℤ, slice_set, Program, component_at, Address, Permanent, Local, Frame, Memory, cell_at, Entry, Machine, Thread, thread_at}
-use Rattle.cp_refine.proofs.Words.{no_thread, with_stack, memory_at, with_memory, Name, Ty, Value, Choice, in_call, ready, Environment, Call, Item, Process}
-use Rattle.cp_refine.proofs.Words.{State, content_of, value_held, call_above, with_call_environment, stored, becomes, view_of, settled, cells_of, Layouts}
-use Rattle.cp_refine.proofs.Words.{cell_named, look, encode, HasType, chosen_at, Ground}
+use Rattle.cp_refine.proofs.Words.{◌≡◌, ◌∙◌, ℕ, ◌+◌, ◌<◌, ◌≤◌, List, Option, Some, None, ap, sym, refl, subst, arith, length, ℤ, slice_set, Program, component_at}
+use Rattle.cp_refine.proofs.Words.{Address, Permanent, Local, Frame, Memory, cell_at, Entry, Machine, Thread, thread_at, no_thread, with_stack, memory_at, with_memory}
+use Rattle.cp_refine.proofs.Words.{Name, Ty, Value, Choice, in_call, ready, Environment, Call, Item, Process, State, content_of, value_held, call_above}
+use Rattle.cp_refine.proofs.Words.{with_call_environment, stored, becomes, view_of, settled, cells_of, Layouts, cell_named, look, encode, HasType, chosen_at, Ground}
 use Rattle.cp_machine.specs.Statements as statements
 use Rattle.cp_meaning.specs.State as named
 use Rattle.cp_refine.specs.Represents.{further, frame_above, InFrame, PlaceAt, StackIs, CallsHold, frames_of, own_memory, ProcessIs, StatusIs, Represents}

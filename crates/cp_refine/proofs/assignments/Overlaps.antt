@@ -1,11 +1,10 @@
 -- Two places of one type are the same, or have no cell in common; so that a copy reads no cell that it has written.
 use Rattle.std.proofs.Common.{◌≡◌, ◌≢◌, ◌∙◌, ℕ, suc, ◌+◌, ◌*◌, ◌<◌, ◌≤◌, ◌⊎◌, inl, inr, Bool, true, false, if◌then◌else◌, List, [], ◌∷◌, Option, Some, None, ap, sym, refl, subst, arith}
-use Rattle.cp_refine.proofs.Words.{nat_lt, bytes_eq-Decides, Address, Permanent, Local, Memory, Name, same_name, Value, Choice, the_field, the_element}
-use Rattle.cp_refine.proofs.Words.{part_of, cells_of, further, LiesAt}
+use Rattle.cp_refine.proofs.Words.{nat_lt, bytes_eq-Decides, Address, Permanent, Local, Memory, Name, same_name, Value, Choice, the_field, the_element, part_of, cells_of}
+use Rattle.cp_refine.proofs.Words.{further, LiesAt, HasType, Chosen, further_chosen, field_chosen, one_chosen, then_chosen, chosen_at}
 use Rattle.std.proofs.lemmas.Bool.{cases_order}
 use Rattle.std.proofs.Math.Nat.{suc-mul, mul-le-mul_right}
 use Rattle.cp_meaning.specs.Types.{Ty, array_over, record_with, FieldTypes, no_field_types, more_field_types, length_of_range}
-use Rattle.cp_resolved.specs.Encoded.{HasType, Chosen, further_chosen, field_chosen, one_chosen, then_chosen, chosen_at}
 use Rattle.cp_refine.proofs.assignments.Blocks.{ReadsFirst}
 use Rattle.cp_refine.proofs.expressions.Parts.{encode_length, one_part, part_stands, some_chosen}
 use Rattle.cp_refine.proofs.assignments.Writing.{further_apart}

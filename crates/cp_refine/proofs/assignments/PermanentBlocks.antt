@@ -1,10 +1,9 @@
 -- A value of any type is assigned to a permanent variable, or to a part of one: what stands for what is kept.
 use Rattle.std.proofs.Common.{◌≡◌, ◌≢◌, ◌∙◌, ℕ, ◌+◌, ◌<◌, ◌⊎◌, inl, inr, Bool, true, false, List, [], Option, Some, None, ap, sym, refl, subst, arith, length, length-set}
-use Rattle.cp_refine.proofs.Words.{ℤ, slice_set, bytes_eq-Decides, Program, ComponentKind, component_at, Address, Permanent, Local, Frame, Memory, cell_at}
-use Rattle.cp_refine.proofs.Words.{Entry, Machine, Thread, thread_at, no_thread, phase_at, with_stack, memory_at, with_memory, Name, same_name, Ty}
-use Rattle.cp_refine.proofs.Words.{queue_type, Value, Choice, part_at, View, content_of, value_held, environment_of, value_at, stored, becomes, view_of}
-use Rattle.cp_refine.proofs.Words.{settled, Layouts, look, encode, HasType, chosen_at, Ground}
-use Rattle.std.proofs.lemmas.List.{set-get_or}
+use Rattle.cp_refine.proofs.Words.{ℤ, slice_set, bytes_eq-Decides, Program, ComponentKind, component_at, Address, Permanent, Local, Frame, Memory, cell_at, Entry}
+use Rattle.cp_refine.proofs.Words.{Machine, Thread, thread_at, no_thread, phase_at, with_stack, memory_at, with_memory, Name, same_name, Ty, queue_type, Value, Choice}
+use Rattle.cp_refine.proofs.Words.{part_at, View, content_of, value_held, environment_of, value_at, stored, becomes, view_of, settled, Layouts, look, encode, HasType}
+use Rattle.cp_refine.proofs.Words.{chosen_at, Ground, set-get_or}
 use Rattle.cp_slots.specs.declared.tables.ComponentKind.TheVariants as kind
 use Rattle.cp_machine.specs.Statements as statements
 use Rattle.cp_meaning.specs.State as named

@@ -1,11 +1,10 @@
 -- The whole step of an assignment of a set.
 use Rattle.std.proofs.Common.{◌≡◌, ◌∙◌, ℕ, Bool, true, false, if◌then◌else◌, List, ◌∷◌, ◌++◌, Option, Some, ap, sym, refl, subst, arith}
-use Rattle.cp_refine.proofs.Words.{pos, int_le, Result, Ok, Err, slice_index, Program, Expression, Designator, assign, Action, item_at, Address, Frame}
-use Rattle.cp_refine.proofs.Words.{SetValue, Memory, Entry, Machine, thread_at, with_stack, rest_of, step_at, Outcome, out_of_range, ◌>>=◌, Range, Ty}
-use Rattle.cp_refine.proofs.Words.{set_over, natural_of, Value, set_value, Place, Item, statement_item, State, Typed, Target, stored, value, target_value}
-use Rattle.cp_refine.proofs.Words.{Stepped, expression_calls, designator_calls, assigned, becomes, view_of, step_of, settled, Layouts, Here, here, as_set}
-use Rattle.cp_refine.proofs.Words.{a_variable, expression_form, designator_form, bits_of, set_cells, AreMembers, Ground, ItemAt, SetAgrees, TargetAgrees}
-use Rattle.cp_refine.proofs.Words.{Sees, plain_set, plain_address, PlaceAt}
+use Rattle.cp_refine.proofs.Words.{pos, int_le, Result, Ok, Err, slice_index, Program, Expression, Designator, assign, Action, item_at, Address, Frame, SetValue, Memory}
+use Rattle.cp_refine.proofs.Words.{Entry, Machine, thread_at, with_stack, rest_of, step_at, Outcome, out_of_range, ◌>>=◌, Range, Ty, set_over, natural_of, Value}
+use Rattle.cp_refine.proofs.Words.{set_value, Place, Item, statement_item, State, Typed, Target, stored, value, target_value, Stepped, expression_calls, designator_calls}
+use Rattle.cp_refine.proofs.Words.{assigned, becomes, view_of, step_of, settled, Layouts, Here, here, as_set, a_variable, expression_form, designator_form, bits_of}
+use Rattle.cp_refine.proofs.Words.{set_cells, AreMembers, Ground, ItemAt, SetAgrees, TargetAgrees, Sees, plain_set, plain_address, PlaceAt}
 use Rattle.cp_slots.specs.declared.item.Action.TheVariants as action
 use Rattle.cp_slots.specs.declared.place.SetExpression as code_set
 use Rattle.cp_slots.specs.declared.place.Place as code_place

@@ -1,9 +1,8 @@
 -- A number that is written into a variable of an open call, or a part of one: all open calls hold what they hold then.
 use Rattle.std.proofs.Common.{◌≡◌, ◌∙◌, ℕ, ◌+◌, ◌<◌, ◌≤◌, ◌==◌, ◌⊎◌, inl, inr, Bool, true, false, if◌then◌else◌, List, [], ◌∷◌, Option, Some, ap, sym, refl, subst, arith, length}
-use Rattle.cp_refine.proofs.Words.{ℤ, bytes_eq-Decides, Tables, Local, Frame, Memory, referred, Name, same_name, Range, Ty, ordinal, number_value, Choice}
-use Rattle.cp_refine.proofs.Words.{with_part, Content, holds, refers, Place, Environment, Call, cells_of, Layouts, cell_named, look, HasType, chosen_at}
-use Rattle.cp_refine.proofs.Words.{LiesAt, frame_above, PlaceAt, CallHolds, CallsHold}
-use Rattle.cp_meaning.specs.Places.{content_of, with_content, value_held, call_above, with_environment, with_call_environment}
+use Rattle.cp_refine.proofs.Words.{ℤ, bytes_eq-Decides, Tables, Local, Frame, Memory, referred, Name, same_name, Range, Ty, ordinal, number_value, Choice, with_part}
+use Rattle.cp_refine.proofs.Words.{Content, holds, refers, Place, Environment, Call, cells_of, Layouts, cell_named, look, HasType, chosen_at, LiesAt, frame_above}
+use Rattle.cp_refine.proofs.Words.{PlaceAt, CallHolds, CallsHold, content_of, with_content, value_held, call_above, with_environment, with_call_environment}
 use Rattle.cp_refine.proofs.expressions.Reading.{calls_frames, frame_same as frame_is}
 use Rattle.cp_refine.proofs.assignments.Writing.{WritesCell, lies_kept, lies_new, content_here, content_there}
 

@@ -1,12 +1,11 @@
 -- The frame of a call, as its parameters are bound: each variable lies in its cells, and each `var` parameter has its place.
 use Rattle.std.proofs.Common.{◌≡◌, ◌≢◌, ◌∙◌, ℕ, ◌+◌, ◌^◌, ◌<◌, ◌≤◌, ◌⊎◌, inl, inr, true, false, List, [], ◌∷◌, Some, ap, sym, refl, subst, arith, length, length-set}
-use Rattle.cp_refine.proofs.Words.{pos, slice_index_or, Argument, Tables, Bound, Address, Permanent, Local, Frame, referred, Name, same_name, Ty, Value}
-use Rattle.cp_refine.proofs.Words.{Parameter, Content, holds, refers, knows, Environment, encode, IsOther, AreDifferent, LiesAt, PlaceAt, onward_is}
+use Rattle.cp_refine.proofs.Words.{pos, slice_index_or, Argument, Tables, Bound, Address, Permanent, Local, Frame, referred, Name, same_name, Ty, Value, Parameter}
+use Rattle.cp_refine.proofs.Words.{Content, holds, refers, knows, Environment, encode, IsOther, AreDifferent, LiesAt, PlaceAt, onward_is, cells_of, Layouts, FrameLayout}
+use Rattle.cp_refine.proofs.Words.{cell_named, look, AreApart, ParameterIs, ParametersAre}
 use Rattle.cp_store.specs.declared.argument.Bound.TheVariants.{Copy, Reference, Component}
 use Rattle.cp_store.specs.Arguments.{put_value, put_in_frame, bound_in_frame}
 use Rattle.cp_store.specs.Memory.{Memory, nowhere, onward, put_reference}
-use Rattle.cp_resolved.specs.Layouts.{cells_of, Layouts, FrameLayout, cell_named, look}
-use Rattle.cp_resolved.specs.Resolved.{AreApart, ParameterIs, ParametersAre}
 use Rattle.cp_refine.specs.Given.{PutsBlock, IsValue, Keeps, IsApartFrom, GivesValue, IsBound, AreBound}
 use Rattle.cp_refine.proofs.control.Moving.{set_here, set_there}
 use Rattle.cp_refine.proofs.expressions.Parts.{encode_length}

@@ -1,9 +1,8 @@
 -- What the arguments of a call give, and the component that it names, at the item of the call: premises of the whole step of a call.
-use Rattle.cp_refine.proofs.Words.{◌≡◌, ℕ, List, ◌∷◌, Option, sym, subst, true, false, Some, map, Program, Expressions, Designator, Argument, ComponentPlace}
-use Rattle.cp_refine.proofs.Words.{Bound, Frame, Entry, Machine, thread_at, Name, bound, RoutineMeaning, name_of, target_value, expressions_calls}
-use Rattle.cp_refine.proofs.Words.{designator_calls, Meaning, routine_meaning, find, Environment, Item, State, view_of, a_component, designator_form}
-use Rattle.cp_refine.proofs.Words.{cell_named, Layouts, Here, here, Ground, AreGiven, CalleeIs, CallItem, AreBound, BoundsAgree, ComponentAgrees, AreKept}
-use Rattle.cp_refine.proofs.Words.{frames_of}
+use Rattle.cp_refine.proofs.Words.{◌≡◌, ℕ, List, ◌∷◌, Option, sym, subst, true, false, Some, map, Program, Expressions, Designator, Argument, ComponentPlace, Bound}
+use Rattle.cp_refine.proofs.Words.{Frame, Entry, Machine, thread_at, Name, bound, RoutineMeaning, name_of, target_value, expressions_calls, designator_calls, Meaning}
+use Rattle.cp_refine.proofs.Words.{routine_meaning, find, Environment, Item, State, view_of, a_component, designator_form, cell_named, Layouts, Here, here, Ground}
+use Rattle.cp_refine.proofs.Words.{AreGiven, CalleeIs, CallItem, AreBound, BoundsAgree, ComponentAgrees, AreKept, frames_of}
 use Rattle.cp_slots.specs.Code as code
 use Rattle.cp_machine.specs.Memory.{memory_at, component_of, arguments_of}
 use Rattle.cp_refine.proofs.expressions.Arguments.{ArgumentsKnown, arguments_agree}

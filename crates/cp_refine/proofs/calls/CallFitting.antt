@@ -1,8 +1,6 @@
 -- A call of a component that is found fits: there is room for the frame, and the routine is one of the component's system type.
-use Rattle.cp_refine.proofs.Words.{◌∙◌, ℕ, ◌<◌, List, sym, refl, arith, length, Tree, Argument, IsOf, Tables, routine_at, Entry, frame_behind, Machine}
-use Rattle.cp_refine.proofs.Words.{thread_at, memory_at, Layouts, ground_of, Prepared}
-use Rattle.cp_slots.specs.Fits.{CallFits, RoutineFits}
-use Rattle.cp_machine.specs.Fits.{FrameFits, StackFits, MachineFits}
+use Rattle.cp_refine.proofs.Words.{◌∙◌, ℕ, ◌<◌, List, sym, refl, arith, length, Tree, Argument, IsOf, Tables, routine_at, Entry, frame_behind, Machine, thread_at}
+use Rattle.cp_refine.proofs.Words.{memory_at, Layouts, ground_of, Prepared, CallFits, RoutineFits, FrameFits, StackFits, MachineFits}
 use Rattle.cp_refine.proofs.calls.Calling.{CanCall}
 use Rattle.cp_refine.proofs.steps.Executed.{own_frame, thread_fits, few_permanents}
 use Rattle.cp_refine.proofs.calls.NewFrame.{CanOpen}

@@ -1,14 +1,12 @@
 -- The whole step of a call: the component's place first, then the arguments, then whether the component is initialised.
 use Rattle.std.proofs.Common.{◌≡◌, ◌∙◌, ℕ, ◌<◌, Bool, true, false, if◌then◌else◌, List, [], ◌∷◌, ◌++◌, Option, Some, None, ap, sym, refl, subst, length}
-use Rattle.cp_refine.proofs.Words.{Result, Ok, Err, map, slice_index, Global, Vec, SystemKind, Program, Routine, Designator, Expressions, invoke, Action}
-use Rattle.cp_refine.proofs.Words.{Argument, ComponentPlace, ComponentKind, Tables, component_at, item_at, Bound, Frame, Memory, Entry, Phase, Machine}
-use Rattle.cp_refine.proofs.Words.{thread_at, phase_at, rest_of, act, step_at, Name, temporary, RoutineMeaning, View, Target, this_component, component_there}
-use Rattle.cp_refine.proofs.Words.{target_value, name_of, routine_called, invoked, view_of, step_of, settled, Layouts, Here, here, cell_named, Ground}
-use Rattle.cp_refine.proofs.Words.{InvokedBy, CallItem, CalleeIs, result_cell, AreBound, BoundsAgree, ComponentAgrees, SameKind, KindsAgree, PhaseIs}
-use Rattle.cp_refine.proofs.Words.{CallsHold, own_memory, frames_of}
+use Rattle.cp_refine.proofs.Words.{Result, Ok, Err, map, slice_index, Global, Vec, SystemKind, Program, Routine, Designator, Expressions, invoke, Action, Argument}
+use Rattle.cp_refine.proofs.Words.{ComponentPlace, ComponentKind, Tables, component_at, item_at, Bound, Frame, Memory, Entry, Phase, Machine, thread_at, phase_at}
+use Rattle.cp_refine.proofs.Words.{rest_of, act, step_at, Name, temporary, RoutineMeaning, View, Target, this_component, component_there, target_value, name_of}
+use Rattle.cp_refine.proofs.Words.{routine_called, invoked, view_of, step_of, settled, Layouts, Here, here, cell_named, Ground, InvokedBy, CallItem, CalleeIs}
+use Rattle.cp_refine.proofs.Words.{result_cell, AreBound, BoundsAgree, ComponentAgrees, SameKind, KindsAgree, PhaseIs, CallsHold, own_memory, frames_of, Own}
 use Rattle.cp_tree.specs.declared.declaration.SystemKind.TheVariants as system_kind
 use Rattle.cp_slots.specs.declared.item.Action.TheVariants as action
-use Rattle.cp_slots.specs.declared.place.ComponentPlace.TheVariants.{Own}
 use Rattle.cp_slots.specs.declared.tables.ComponentKind.TheVariants as kind
 use Rattle.cp_slots.specs.Code as code
 use Rattle.cp_store.specs.declared.error.ErrorName as slots

@@ -1,9 +1,9 @@
 -- A call is opened: its frame stands above those of its callers, and its end returns to the caller.
 use Rattle.std.proofs.Common.{◌≡◌, ◌∙◌, ℕ, ◌+◌, ◌<◌, ◌==◌, true, false, List, [], ◌∷◌, ◌++◌, append_assoc, Option, Some, None, ap, sym, refl, subst, arith, length}
-use Rattle.cp_refine.proofs.Words.{◌&&◌, ◌||◌, ℤ, not, slice_set, Program, Argument, ComponentKind, component_at, routine_at, Bound, Frame, bound_in_frame}
-use Rattle.cp_refine.proofs.Words.{Memory, Entry, Return, frame_behind, StackFits, size_of, Machine, Thread, no_thread, monitor_at, thread_at, with_thread}
-use Rattle.cp_refine.proofs.Words.{rest_of, Name, RoutineMeaning, items_of_all, Doing, enters, first_inside, Layouts, here, cell_named, first_values}
-use Rattle.cp_refine.proofs.Words.{RoutineIs, Ground, result_cell, ResultGoes, AreBound}
+use Rattle.cp_refine.proofs.Words.{◌&&◌, ◌||◌, ℤ, not, slice_set, Program, Argument, ComponentKind, component_at, routine_at, Bound, Frame, bound_in_frame, Memory, Entry}
+use Rattle.cp_refine.proofs.Words.{Return, frame_behind, StackFits, size_of, Machine, Thread, no_thread, monitor_at, thread_at, with_thread, rest_of, Name}
+use Rattle.cp_refine.proofs.Words.{RoutineMeaning, items_of_all, Doing, enters, first_inside, Layouts, here, cell_named, first_values, RoutineIs, Ground, result_cell}
+use Rattle.cp_refine.proofs.Words.{ResultGoes, AreBound, memory_at, frame_opened, with_memory, least_of, least_result}
 use Rattle.std.proofs.lemmas.Bool.{eq-eqb}
 use Rattle.cp_slots.specs.declared.tables.ComponentKind.TheVariants as kind
 use Rattle.cp_machine.specs.declared.event.Event.TheVariants as event
@@ -11,13 +11,11 @@ use Rattle.cp_machine.specs.declared.event.Kernel.TheVariants as event_call
 use Rattle.cp_machine.specs.declared.process.Status.TheVariants as status
 use Rattle.cp_machine.specs.Calls as calls
 use Rattle.cp_machine.specs.Kernel as machine
-use Rattle.cp_machine.specs.Memory.{memory_at, frame_opened, with_memory}
 use Rattle.cp_machine.specs.Statements as statements
 use Rattle.cp_meaning.specs.State as named
 use Rattle.cp_meaning.specs.State.{ready, at_gate, Status, Environment, CallKind, local_routine, entry_routine, Call, Item, return, Process, State, has_entry, is_entry_kind, waits_at}
 use Rattle.cp_meaning.specs.Kernel as meaning
 use Rattle.cp_meaning.specs.Kernel.{local_event, enter_event, is_anybody_inside}
-use Rattle.cp_meaning.specs.Calls.{least_of, least_result}
 use Rattle.cp_refine.specs.Represents.{StackIs, StatusIs, ProcessIs, Runs, monitor_left, CallIs, CallsHold, MonitorIs, frames_of, own_memory, Represents}
 use Rattle.cp_refine.proofs.assignments.Assigning.{set_set}
 use Rattle.cp_refine.proofs.control.Control.{Goes, StepIs}

@@ -1,11 +1,9 @@
 -- The parameters of functions are no `var` parameters.
-use Rattle.std.proofs.Common.{◌≡◌, ◌∙◌, false, List, [], ◌∷◌, ◌++◌, Option, Some, None, ap, sym, refl, subst}
+use Rattle.cp_refine.proofs.Words.{◌≡◌, ◌∙◌, false, List, [], ◌∷◌, ◌++◌, Option, Some, None, ap, sym, refl, subst, Name, Ty, array_over, component_of, system_of, Each}
+use Rattle.cp_refine.proofs.Words.{Meaning, local_variable, permanent_variable, routine_meaning, Scope, find, since, last_field}
 use Rattle.cp_tree.specs.Syntax.{Designator, designator, Group, RoutineKind, procedure, function, Routine, Program}
-use Rattle.cp_refine.proofs.Words.{Name, Ty, array_over, component_of, system_of, Each}
-use Rattle.cp_meaning.specs.Scopes.{Meaning, local_variable, permanent_variable, routine_meaning, Scope, find, since}
 use Rattle.cp_meaning.specs.Declarations.{type_named, names_of, Parameter, Heading, parameters_named, with_group, with_groups, heading_of, result_of, RoutineMeaning, routine_in}
 use Rattle.cp_meaning.specs.Expressions.{routine_of_system, routine_of_type, routine_meant, routine_called}
-use Rattle.cp_meaning.specs.Lifting.{last_field}
 
 abbrev IsValue : Parameter → Type 0
 IsValue q = q.is_var ≡ false

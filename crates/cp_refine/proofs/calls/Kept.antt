@@ -1,10 +1,8 @@
 -- The results of the calls of a statement have their cells, and so have those of the calls inside each of these.
-use Rattle.std.proofs.Common.{◌≡◌, ◌∙◌, ℕ, Bool, true, false, List, [], ◌∷◌, ◌++◌, Option, Some, None, ap, sym}
-use Rattle.cp_tree.specs.Syntax.{Expression, alone, related, Sum, sum, Terms, no_terms, more_terms, Term, term, Factors, no_factors, more_factors, Factor, number, named, group, negated, set_of, Expressions, no_expressions, more_expressions, Designator, designator, Selectors, no_selectors, more_selectors, Selector, field, index}
-use Rattle.cp_refine.proofs.Words.{temporary, Ty, Item, function_call, RoutineMeaning, result_type, result_called, routine_called, Here}
+use Rattle.cp_refine.proofs.Words.{◌≡◌, ◌∙◌, ℕ, Bool, true, false, List, [], ◌∷◌, ◌++◌, Option, Some, None, ap, sym, temporary, Ty, Item, function_call, RoutineMeaning}
+use Rattle.cp_refine.proofs.Words.{result_type, result_called, routine_called, Here, Ground, ResultGoes, CallItem, CallsAre, IsKept, AreKept}
+use Rattle.cp_tree.specs.Syntax.{Expression, alone, related, Sum, sum, Terms, no_terms, more_terms, Term, term, Factors, no_factors, more_factors, Factor, named, group, negated, set_of, Expressions, no_expressions, more_expressions, Designator, designator, Selectors, no_selectors, more_selectors, Selector, field, index}
 use Rattle.cp_meaning.specs.Lifting.{is_call, own_call, expression_calls, sum_calls, terms_calls, term_calls, factors_calls, factor_calls, expressions_calls, designator_calls, selectors_calls, selector_calls}
-use Rattle.cp_resolved.specs.Stands.{Ground, ResultGoes, CallItem, CallsAre}
-use Rattle.cp_refine.specs.Remaining.{IsKept, AreKept}
 
 -- ---- lists of calls
 

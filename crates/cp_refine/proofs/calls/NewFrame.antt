@@ -1,15 +1,12 @@
 -- The frame that a call opens holds the environment of the call: its parameters, and first values for all else.
 use Rattle.std.proofs.Common.{◌≡◌, ◌∙◌, ℕ, ◌+◌, ◌^◌, ◌<◌, Bool, true, false, if◌then◌else◌, List, [], ◌∷◌, ◌++◌, Option, Some, None, ap, sym, refl, subst, arith, length}
-use Rattle.cp_refine.proofs.Words.{pos, replicate, slice_index_or, bytes_eq-Decides, Program, Argument, routine_at, Bound, Reference, Local, Frame}
-use Rattle.cp_refine.proofs.Words.{bound_in_frame, referred, size_of, Name, same_name, Ty, has_components, Variable, Parameter, RoutineMeaning, Content}
-use Rattle.cp_refine.proofs.Words.{holds, refers, knows, Place, Environment, Call, content_of, value_held, parameter_variables, Ground, IsBound, AreBound}
-use Rattle.cp_refine.proofs.Words.{IsOther, AreDifferent, LiesAt, PlaceAt, CallHolds, content_second}
+use Rattle.cp_refine.proofs.Words.{pos, replicate, slice_index_or, bytes_eq-Decides, Program, Argument, routine_at, Bound, Reference, Local, Frame, bound_in_frame}
+use Rattle.cp_refine.proofs.Words.{referred, size_of, Name, same_name, Ty, has_components, Variable, Parameter, RoutineMeaning, Content, holds, refers, knows, Place}
+use Rattle.cp_refine.proofs.Words.{Environment, Call, content_of, value_held, parameter_variables, Ground, IsBound, AreBound, IsOther, AreDifferent, LiesAt, PlaceAt}
+use Rattle.cp_refine.proofs.Words.{CallHolds, content_second, least, least_of, least_result, Layouts, FrameLayout, cell_named, look}
 use Rattle.std.proofs.lemmas.List.{get_or_append_left, get_or-append-add, length-append, length-replicate}
 use Rattle.cp_slots.specs.declared.place.PlaceOrigin.TheVariants.{Reference as reference_origin}
 use Rattle.cp_store.specs.Memory.{Memory, nowhere, opened}
-use Rattle.cp_meaning.specs.Values.{least}
-use Rattle.cp_meaning.specs.Calls.{least_of, least_result}
-use Rattle.cp_resolved.specs.Layouts.{Layouts, FrameLayout, cell_named, look}
 use Rattle.cp_resolved.specs.Resolved.{first_values, first_value, FrameIs, ParameterIs, ParametersAre, RoutineIs}
 use Rattle.cp_refine.proofs.calls.Binding.{Binds, OneLies, AllLie, AllBound, all_bound, free_cells}
 use Rattle.cp_refine.proofs.expressions.Parts.{encode_length}

@@ -1,12 +1,11 @@
 -- The step with which a call returns: the caller goes on, with the result of a function; the return from an entry of a monitor leaves it.
 use Rattle.std.proofs.Common.{◌≡◌, ◌≢◌, ◌∙◌, ℕ, ◌^◌, ◌<◌, ◌==◌, Bool, true, false, if◌then◌else◌, List, [], ◌∷◌, Option, Some, None, ap, sym, refl, subst, arith, length, length-set}
-use Rattle.cp_refine.proofs.Words.{◌&&◌, ◌||◌, not, slice_set, eqb-true, SystemKind, Program, ComponentKind, component_at, Frame, Entry, Return, StackFits}
-use Rattle.cp_refine.proofs.Words.{ThreadFits, take_top, step_at, Name, Range, Ty, ordinal, stays, with_items, with_move, View, view_of, step_of, settled}
-use Rattle.cp_refine.proofs.Words.{Layouts, here, RoutineIs, Ground, result_cell, ResultGoes, SameKind, KindsAgree}
+use Rattle.cp_refine.proofs.Words.{◌&&◌, ◌||◌, not, slice_set, eqb-true, SystemKind, Program, ComponentKind, component_at, Frame, Entry, Return, StackFits, ThreadFits}
+use Rattle.cp_refine.proofs.Words.{take_top, step_at, Name, Range, Ty, ordinal, stays, with_items, with_move, View, view_of, step_of, settled, Layouts, here, RoutineIs}
+use Rattle.cp_refine.proofs.Words.{Ground, result_cell, ResultGoes, SameKind, KindsAgree, First, Any, takes, with_result, leaving_move, return_move}
 use Rattle.cp_tree.specs.declared.declaration.SystemKind.TheVariants as system_kind
 use Rattle.cp_slots.specs.declared.tables.ComponentKind.TheVariants as kind
 use Rattle.cp_machine.specs.declared.gates.Gates as slot_gates
-use Rattle.cp_machine.specs.declared.gates.Gates.TheVariants.{First, Any}
 use Rattle.cp_machine.specs.declared.process.Status.TheVariants as status
 use Rattle.cp_machine.specs.Calls as calls
 use Rattle.cp_machine.specs.Kernel as machine
@@ -16,7 +15,6 @@ use Rattle.cp_meaning.specs.State as named
 use Rattle.cp_meaning.specs.State.{ready, at_gate, Component, CallKind, entry_routine, Call, current, callers, Item, return, Process, no_process, State, has_entry, is_entry_kind, is_inside, waits_at}
 use Rattle.cp_meaning.specs.Kernel as meaning
 use Rattle.cp_meaning.specs.Kernel.{kernel_step, local_event, leave_event}
-use Rattle.cp_meaning.specs.LocalRules.{takes, with_result, leaving_move, return_move}
 use Rattle.cp_refine.specs.Represents.{StackIs, StatusIs, ProcessIs, Runs, ReturnIs, monitor_left, CallsHold, MonitorIs, frames_of, own_memory, Represents}
 use Rattle.cp_refine.proofs.assignments.Assigning.{entries_kept, stack_kept, set_set}
 use Rattle.cp_refine.proofs.control.Control.{StepIs}

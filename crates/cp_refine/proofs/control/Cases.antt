@@ -1,9 +1,9 @@
 -- The step of `case`: the same arm is chosen on names and on slots, or none.
 use Rattle.std.proofs.Common.{◌≡◌, ◌∙◌, ℕ, Bool, true, false, if◌then◌else◌, List, [], ◌∷◌, ◌++◌, map, Option, None, ap, sym, refl, subst, arith}
-use Rattle.cp_refine.proofs.Words.{ℤ, ◌||◌, Result, Ok, Err, slice_index, int_eq, Vec, Global, ints, Program, Expression, Statement, Arms, no_arms, more_arms}
-use Rattle.cp_refine.proofs.Words.{arm, case_of, Action, item_at, Entry, Machine, thread_at, with_stack, memory_at, rest_of, act, step_at, Outcome, ◌>>=◌}
-use Rattle.cp_refine.proofs.Words.{Scope, Ty, number_of, Item, statement_item, State, Typed, same_integer, value, items_of, view_of, step_of, settled}
-use Rattle.cp_refine.proofs.Words.{Layouts, Here, here, error_of, plain_value, OrdinalAgrees}
+use Rattle.cp_refine.proofs.Words.{ℤ, ◌||◌, Result, Ok, Err, slice_index, int_eq, Vec, Global, ints, Program, Expression, Statement, Arms, no_arms, more_arms, arm}
+use Rattle.cp_refine.proofs.Words.{case_of, Action, item_at, Entry, Machine, thread_at, with_stack, memory_at, rest_of, act, step_at, Outcome, ◌>>=◌, Scope, Ty}
+use Rattle.cp_refine.proofs.Words.{number_of, Item, statement_item, State, Typed, same_integer, value, items_of, view_of, step_of, settled, Layouts, Here, here, error_of}
+use Rattle.cp_refine.proofs.Words.{plain_value, OrdinalAgrees, becomes, has_label, arm_for}
 use Rattle.cp_tree.specs.declared.constant.Constant.{Constant}
 use Rattle.cp_slots.specs.declared.item.Action.TheVariants as action
 use Rattle.cp_slots.specs.declared.item.ResolvedArm as slot_arm
@@ -12,7 +12,6 @@ use Rattle.cp_slots.specs.Code as code
 use Rattle.cp_store.specs.declared.error.ErrorName as slots
 use Rattle.cp_machine.specs.Statements as statements
 use Rattle.cp_meaning.specs.Declarations.{constant_of}
-use Rattle.cp_meaning.specs.LocalRules.{becomes, has_label, arm_for}
 use Rattle.cp_resolved.specs.Stands.{Ground, labels_of, OwnArms, StatementIs}
 use Rattle.cp_refine.proofs.control.Control.{Taken, StepIs, takes_item, acts, fails, local_step, scope_is}
 use Rattle.cp_refine.proofs.control.Lists.{statement_items}

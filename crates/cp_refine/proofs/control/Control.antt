@@ -1,10 +1,10 @@
 -- Steps that only change what is still to be done: the empty statement, `begin`, `if` and the loops' beginnings.
 use Rattle.std.proofs.Common.{◌≡◌, ◌∙◌, ℕ, ◌<◌, Bool, true, false, if◌then◌else◌, List, [], ◌∷◌, ◌++◌, Option, None, ap, sym, refl, subst, length}
-use Rattle.cp_refine.proofs.Words.{Result, Ok, Err, ℤ, pos, int_lt, slice_set, slice_index, Expression, Statement, empty, block, if_then, Statements, Program}
-use Rattle.cp_refine.proofs.Words.{Action, Tables, component_at, item_at, Frame, Memory, Entry, Rest, Successor, Return, InitEnd, Machine, Thread, thread_at}
-use Rattle.cp_refine.proofs.Words.{with_stack, memory_at, rest_of, act, take_top, step_at, items_of, items_of_all, ready, Item, statement_item, Process}
-use Rattle.cp_refine.proofs.Words.{State, Call, current, view_of, step_of, settled, takes, becomes, stays, Scope, value, Typed, is_true, Value, number_of, Ty}
-use Rattle.cp_refine.proofs.Words.{OrdinalAgrees, is_boolean, plain_value, Layouts, Here, here, Ground, ItemAt, AreKept, calls_before, ItemIs, ItemsAre}
+use Rattle.cp_refine.proofs.Words.{Result, Ok, Err, ℤ, pos, int_lt, slice_set, slice_index, Expression, Statement, empty, block, if_then, Statements, Program, Action}
+use Rattle.cp_refine.proofs.Words.{Tables, component_at, item_at, Frame, Memory, Entry, Rest, Successor, Return, InitEnd, Machine, Thread, thread_at, with_stack}
+use Rattle.cp_refine.proofs.Words.{memory_at, rest_of, act, take_top, step_at, items_of, items_of_all, ready, Item, statement_item, Process, State, Call, current}
+use Rattle.cp_refine.proofs.Words.{view_of, step_of, settled, takes, becomes, stays, Scope, value, Typed, is_true, Value, number_of, Ty, OrdinalAgrees, is_boolean}
+use Rattle.cp_refine.proofs.Words.{plain_value, Layouts, Here, here, Ground, ItemAt, AreKept, calls_before, ItemIs, ItemsAre, Outcome, ErrorName, ◌>>=◌}
 use Rattle.cp_slots.specs.declared.item.Action.TheVariants as action
 use Rattle.cp_slots.specs.declared.item.Item as slot_item
 use Rattle.cp_slots.specs.declared.place.OrdinalExpression as code_expression
@@ -15,7 +15,6 @@ use Rattle.cp_machine.specs.declared.process.Status.TheVariants as status
 use Rattle.cp_machine.specs.Statements as statements
 use Rattle.cp_meaning.specs.State as named
 use Rattle.cp_meaning.specs.Kernel.{Stepped, local_event, fault_event, moved_to}
-use Rattle.cp_meaning.specs.Outcome.{Outcome, ErrorName, ◌>>=◌}
 use Rattle.cp_slots.specs.Code as code
 use Rattle.cp_refine.specs.Named.{error_of, event_of}
 use Rattle.cp_refine.specs.Represents.{StatusIs, StackIs, CallsHold, frames_of, own_memory, ProcessIs, Represents}

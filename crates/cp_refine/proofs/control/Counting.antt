@@ -1,16 +1,14 @@
 -- Steps of `for` and of the successor of its value.
 use Rattle.std.proofs.Common.{◌≡◌, ◌∙◌, ℕ, Bool, true, false, if◌then◌else◌, List, ◌∷◌, ◌++◌, Option, None, ap, sym, refl, subst, arith}
-use Rattle.std.specs.Prelude.{ℤ, pos, negsuc, ◌+ℤ◌, ◌-ℤ◌, int_le, int_lt, ◌&&◌, Result, Ok, Err, slice_index}
-use Rattle.cp_refine.proofs.Words.{ints, Identifier, Direction, Program, Expression, Statement, for_do, Action, item_at, Address, Permanent, Local, HasCells}
-use Rattle.cp_refine.proofs.Words.{Memory, moved, Entry, Successor, Machine, thread_at, with_stack, rest_of, act, take_top, step_at, Outcome, out_of_range}
-use Rattle.cp_refine.proofs.Words.{◌>>=◌, Scope, Range, Ty, ordinal, is_within, Value, number_value, number_of, current, Place, Item, statement_item}
-use Rattle.cp_refine.proofs.Words.{successor, State, Typed, same_integer, View, target_named, stored, value, Stepped, Doing, expression_calls, items_of}
-use Rattle.cp_refine.proofs.Words.{view_of, step_of, settled, Layouts, Here, here, Designated, as_ordinal, plain_value, OrdinalAgrees, TargetAgrees}
-use Rattle.cp_refine.proofs.Words.{BegunAgrees, Few, Sees, ItemsAre, Frame}
+use Rattle.cp_refine.proofs.Words.{ℤ, pos, negsuc, ◌+ℤ◌, ◌-ℤ◌, int_le, int_lt, ◌&&◌, Result, Ok, Err, slice_index, ints, Identifier, Direction, Program, Expression}
+use Rattle.cp_refine.proofs.Words.{Statement, for_do, Action, item_at, Address, Permanent, Local, HasCells, Memory, moved, Entry, Successor, Machine, thread_at}
+use Rattle.cp_refine.proofs.Words.{with_stack, rest_of, act, take_top, step_at, Outcome, out_of_range, ◌>>=◌, Scope, Range, Ty, ordinal, is_within, Value, number_value}
+use Rattle.cp_refine.proofs.Words.{number_of, current, Place, Item, statement_item, successor, State, Typed, same_integer, View, target_named, stored, value, Stepped}
+use Rattle.cp_refine.proofs.Words.{Doing, expression_calls, items_of, view_of, step_of, settled, Layouts, Here, here, Designated, as_ordinal, plain_value, OrdinalAgrees}
+use Rattle.cp_refine.proofs.Words.{TargetAgrees, BegunAgrees, Few, Sees, ItemsAre, Frame, PlaceOrigin, PlaceAt, StackIs, TurnIs, CallsHold, own_memory, frames_of}
 use Rattle.cp_tree.specs.declared.statement.Direction.TheVariants.{To, Downto}
 use Rattle.cp_slots.specs.declared.item.Action.TheVariants as action
 use Rattle.cp_slots.specs.declared.place.OrdinalExpression as code_expression
-use Rattle.cp_slots.specs.declared.place.PlaceOrigin.{PlaceOrigin}
 use Rattle.cp_slots.specs.Code as code
 use Rattle.cp_store.specs.declared.error.ErrorName as slots
 use Rattle.cp_store.specs.declared.error.ErrorName.TheVariants as error
@@ -19,7 +17,6 @@ use Rattle.cp_machine.specs.Statements as statements
 use Rattle.cp_meaning.specs.State as named
 use Rattle.cp_meaning.specs.LocalRules.{takes, assigned, becomes, is_beyond, next_value}
 use Rattle.cp_resolved.specs.Stands.{Ground, ForItem, StatementIs, is_down}
-use Rattle.cp_refine.specs.Represents.{PlaceAt, StackIs, TurnIs, CallsHold, own_memory, frames_of}
 use Rattle.cp_refine.proofs.control.Control.{Taken, Goes, goes, goes_still, StepIs, takes_item, acts, fails, scope_is, top_frame, call_scope}
 use Rattle.cp_refine.proofs.expressions.Expressions.{expression_ok}
 use Rattle.cp_refine.proofs.expressions.Numbers.{same_is_equal}

@@ -1,12 +1,12 @@
 -- The step of `display`: the value comes at the end of the output, if there is room for it.
 use Rattle.std.proofs.Common.{◌≡◌, ◌∙◌, ℕ, ◌+◌, ◌<◌, ◌==◌, Bool, true, false, if◌then◌else◌, List, [], ◌∷◌, ◌++◌, Option, Some, None, ap, sym, refl, subst, arith, length, map}
-use Rattle.std.specs.Prelude.{ℤ, pos, negsuc, ◌-◌, Result, Ok, Err, slice_index}
+use Rattle.cp_refine.proofs.Words.{ℤ, pos, negsuc, ◌-◌, Result, Ok, Err, slice_index, ints, Program, Expression, Expressions, more_expressions, Designator, invoke}
+use Rattle.cp_refine.proofs.Words.{Action, ComponentKind, component_at, item_at, Entry, memory_at, rest_of, act, step_at, Outcome, ◌>>=◌, Value, number_value, Meaning}
+use Rattle.cp_refine.proofs.Words.{standard_meaning, display_procedure, find, Stepped, displaying, moved_to, output_room, Doing, value, name_of, expression_calls}
+use Rattle.cp_refine.proofs.Words.{expressions_calls, designator_calls, Typed, range_of_base, view_of, step_of, settled, Layouts, Here, here, as_ordinal, plain_value}
+use Rattle.cp_refine.proofs.Words.{HasBegun, ComponentIs, MonitorIs, Represents, OrdinalAgrees, MOST_SHOWN, Base, integers, booleans, characters, enumerated, Range, Ty}
+use Rattle.cp_refine.proofs.Words.{ordinal, is_within, ready, Item, statement_item, Shown, ComponentStatus, uninitialised, State}
 use Rattle.std.proofs.lemmas.List.{map-append, length-map}
-use Rattle.cp_refine.proofs.Words.{ints, Program, Expression, Expressions, more_expressions, Designator, invoke, Action, ComponentKind, component_at, item_at}
-use Rattle.cp_refine.proofs.Words.{Entry, memory_at, rest_of, act, step_at, Outcome, ◌>>=◌, Value, number_value, Meaning, standard_meaning, display_procedure}
-use Rattle.cp_refine.proofs.Words.{find, Stepped, displaying, moved_to, output_room, Doing, value, name_of, expression_calls, expressions_calls}
-use Rattle.cp_refine.proofs.Words.{designator_calls, Typed, range_of_base, view_of, step_of, settled, Layouts, Here, here, as_ordinal, plain_value, HasBegun}
-use Rattle.cp_refine.proofs.Words.{ComponentIs, MonitorIs, Represents, OrdinalAgrees}
 use Rattle.cp_slots.specs.declared.item.Action.TheVariants as action
 use Rattle.cp_slots.specs.declared.item.ShownKind.{ShownKind}
 use Rattle.cp_slots.specs.declared.place.OrdinalExpression as code_expression
@@ -17,13 +17,10 @@ use Rattle.cp_machine.specs.declared.event.Event.TheVariants as event
 use Rattle.cp_machine.specs.declared.event.Kernel.TheVariants as kernel
 use Rattle.cp_machine.specs.declared.shown.Shown as slot_shown
 use Rattle.cp_machine.specs.declared.shown.Shown.TheVariants as shown_variant
-use Rattle.cp_machine.specs.declared.state.TheConstants.{MOST_SHOWN}
 use Rattle.cp_machine.specs.Machine.{Machine, thread_at, with_stack, with_output}
 use Rattle.cp_machine.specs.Statements as statements
 use Rattle.cp_machine.specs.Statements.{shown_as}
-use Rattle.cp_meaning.specs.Types.{Base, integers, booleans, characters, enumerated, Range, Ty, ordinal, is_within}
 use Rattle.cp_meaning.specs.State as named
-use Rattle.cp_meaning.specs.State.{ready, Item, statement_item, Shown, ComponentStatus, uninitialised, State}
 use Rattle.cp_meaning.specs.LocalRules.{invoked, shown}
 use Rattle.cp_resolved.specs.Stands.{Ground, DisplayItem, InvokedBy, kind_of}
 use Rattle.cp_refine.specs.Named.{shown_by, shown_of}

@@ -1,11 +1,10 @@
 -- The step of a process that has done all its items: it has ended.
-use Rattle.std.proofs.Common.{◌≡◌, ◌∙◌, ℕ, ◌<◌, not, List, [], ◌∷◌, ap, sym, refl, subst, length}
-use Rattle.cp_refine.proofs.Words.{◌&&◌, slice_set, Program, ComponentKind, component_at, Entry, Machine, Thread, thread_at, with_thread, take_top, step_at}
-use Rattle.cp_refine.proofs.Words.{takes, view_of, step_of, settled, Layouts, Ground, StatusIs, StackIs, Runs, MonitorIs, Represents}
+use Rattle.cp_refine.proofs.Words.{◌≡◌, ◌∙◌, ℕ, ◌<◌, not, List, [], ◌∷◌, ap, sym, refl, subst, length, ◌&&◌, slice_set, Program, ComponentKind, component_at, Entry}
+use Rattle.cp_refine.proofs.Words.{Machine, Thread, thread_at, with_thread, take_top, step_at, takes, view_of, step_of, settled, Layouts, Ground, StatusIs, StackIs, Runs}
+use Rattle.cp_refine.proofs.Words.{MonitorIs, Represents, ready, ended, Status, Item, end, Process, State, is_inside, has_entry, waits_at}
 use Rattle.cp_slots.specs.declared.tables.ComponentKind.TheVariants as kind
 use Rattle.cp_machine.specs.declared.process.Status.TheVariants as status
 use Rattle.cp_meaning.specs.State as named
-use Rattle.cp_meaning.specs.State.{ready, ended, Status, Item, end, Process, State, is_inside, has_entry, waits_at}
 use Rattle.cp_refine.proofs.control.Control.{StepIs}
 use Rattle.cp_refine.proofs.control.Moving.{inside_same, moved}
 

@@ -1,8 +1,7 @@
 -- The items of statements are items of the lists that stand for them, and what is put on a control stack.
-use Rattle.std.proofs.Common.{◌≡◌, ℕ, List, [], ◌∷◌, ◌++◌, append_assoc, Option, Some, None, sym, refl, subst}
+use Rattle.cp_refine.proofs.Words.{◌≡◌, ℕ, List, [], ◌∷◌, ◌++◌, append_assoc, Option, Some, None, sym, refl, subst, Frame, Entry, rest_of, Call, Item, statement_item}
+use Rattle.cp_refine.proofs.Words.{function_call, start_item, Layouts, Here, here, AreKept, calls_before, ItemIs, ItemsAre, StackIs, frames_of}
 use Rattle.cp_tree.specs.Syntax.{Start, Statement, empty, assign, invoke, block, if_then, if_else, case_of, while_do, repeat_until, for_do, cycle, init, Statements, no_statements, more_statements, Program}
-use Rattle.cp_refine.proofs.Words.{Frame, Entry, rest_of, Call, Item, statement_item, function_call, start_item, Layouts, Here, here, AreKept, calls_before}
-use Rattle.cp_refine.proofs.Words.{ItemIs, ItemsAre, StackIs, frames_of}
 use Rattle.cp_meaning.specs.Lifting.{expression_calls, expressions_calls, designator_calls, start_items, items_of, items_of_all}
 use Rattle.cp_resolved.specs.Stands.{Ground, CallsAre, StartsAre, OwnAll, StatementIs}
 use Rattle.cp_refine.proofs.calls.Kept.{kept_left, kept_right, calls_kept, InnerKept, inner_both, expression_inner, expressions_inner, designator_inner}

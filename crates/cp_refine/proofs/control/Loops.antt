@@ -1,17 +1,15 @@
 -- Steps of `if` with `else`, and of the loops `while`, `repeat` and `cycle`.
-use Rattle.std.proofs.Common.{◌≡◌, ◌∙◌, ℕ, Bool, true, false, if◌then◌else◌, List, [], ◌∷◌, ◌++◌, append_assoc, Option, Some, None, ap, sym, refl, subst}
-use Rattle.cp_refine.proofs.Words.{ℤ, Result, Ok, Err, int_lt, pos, slice_index, Action, item_at, Entry, Rest, Machine, thread_at, with_stack, memory_at}
-use Rattle.cp_refine.proofs.Words.{value_of, rest_of, act, step_at, Outcome, ◌>>=◌, Scope, Value, number_of, Item, statement_item, until, State, Typed}
-use Rattle.cp_refine.proofs.Words.{is_true, value, expression_calls, items_of, items_of_all, until_items, becomes, Layouts, Here, here, plain_value, AreKept}
-use Rattle.cp_refine.proofs.Words.{ItemsAre, StackIs, frames_of, OrdinalAgrees}
-use Rattle.cp_tree.specs.Syntax.{Program, Expression, Statement, Statements, if_else, while_do, repeat_until, cycle}
+use Rattle.cp_refine.proofs.Words.{◌≡◌, ◌∙◌, ℕ, Bool, true, false, if◌then◌else◌, List, [], ◌∷◌, ◌++◌, append_assoc, Option, Some, None, ap, sym, refl, subst, ℤ, Result}
+use Rattle.cp_refine.proofs.Words.{Ok, Err, int_lt, pos, slice_index, Action, item_at, Entry, Rest, Machine, thread_at, with_stack, memory_at, value_of, rest_of, act}
+use Rattle.cp_refine.proofs.Words.{step_at, Outcome, ◌>>=◌, Scope, Value, number_of, Item, statement_item, until, State, Typed, is_true, value, expression_calls}
+use Rattle.cp_refine.proofs.Words.{items_of, items_of_all, until_items, becomes, Layouts, Here, here, plain_value, AreKept, ItemsAre, StackIs, frames_of, OrdinalAgrees}
+use Rattle.cp_refine.proofs.Words.{Program, Expression, Statement, Statements, if_else, while_do, repeat_until, cycle, view_of, step_of, settled, at_expression}
 use Rattle.cp_slots.specs.declared.item.Action.TheVariants as action
 use Rattle.cp_slots.specs.declared.place.OrdinalExpression as code_expression
 use Rattle.cp_slots.specs.Code as code
 use Rattle.cp_store.specs.declared.error.ErrorName as slots
 use Rattle.cp_store.specs.Values as cells
 use Rattle.cp_machine.specs.Statements as statements
-use Rattle.cp_meaning.specs.Steps.{view_of, step_of, settled, at_expression}
 use Rattle.cp_resolved.specs.Stands.{Ground, OwnAll, UntilItem}
 use Rattle.cp_refine.proofs.control.Control.{Taken, StepIs, TestAgrees, takes_item, acts, acts_before, fails, branches, calls_now, stack_after, local_to, scope_is, is_block, is_if as is_if_else}
 use Rattle.cp_refine.proofs.calls.Kept.{calls_kept, expression_inner}

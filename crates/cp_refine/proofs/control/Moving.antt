@@ -1,8 +1,7 @@
 -- A step of one process that enters and leaves no monitor and writes no variable keeps what stands for what.
 use Rattle.std.proofs.Common.{◌≡◌, ◌≢◌, ◌∙◌, ℕ, zero, suc, ◌+◌, ◌<◌, ◌⊎◌, inl, inr, Bool, not, if◌then◌else◌, List, [], ◌∷◌, Option, Some, ap, sym, refl, subst, arith, length, length-set, get_or-set_same, get_or-set_other}
-use Rattle.cp_refine.proofs.Words.{◌&&◌, slice_index_or, slice_set, Program, ComponentKind, component_at, Machine, Monitor, Thread, thread_at, no_thread}
-use Rattle.cp_refine.proofs.Words.{phase_at, with_thread, after, View, content_of, value_held, environment_of, value_at, part_at, Permanent, first_inside}
-use Rattle.cp_refine.proofs.Words.{Layouts, Ground}
+use Rattle.cp_refine.proofs.Words.{◌&&◌, slice_index_or, slice_set, Program, ComponentKind, component_at, Machine, Monitor, Thread, thread_at, no_thread, phase_at}
+use Rattle.cp_refine.proofs.Words.{with_thread, after, View, content_of, value_held, environment_of, value_at, part_at, Permanent, first_inside, Layouts, Ground}
 use Rattle.cp_slots.specs.declared.tables.ComponentKind.TheVariants as kind
 use Rattle.cp_machine.specs.declared.process.Status.TheVariants as status
 use Rattle.cp_meaning.specs.State as named

@@ -1,22 +1,20 @@
 -- What arguments give: a value of any type, and a place for a `var` parameter, are on slots what they are on names.
 use Rattle.std.proofs.Common.{◌≡◌, ◌∙◌, ℕ, ◌≤◌, Bool, true, false, if◌then◌else◌, List, [], ◌∷◌, ◌++◌, Option, Some, None, ap, sym, refl, subst, arith, length, append_assoc}
-use Rattle.cp_refine.proofs.Words.{ℤ, map, Result, Ok, Err, Expression, Expressions, no_expressions, more_expressions, Designator, Tables, Argument}
-use Rattle.cp_refine.proofs.Words.{ArgumentValue, Bound, Address, Permanent, Local, Frame, SetValue, HasCells, Memory, then_with, ranged, Name, Outcome}
-use Rattle.cp_refine.proofs.Words.{out_of_range, ◌>>=◌, Value, number_value, set_value, Parameter, Content, holds, refers, knows, Environment, Typed, checked}
-use Rattle.cp_refine.proofs.Words.{View, Target, value, target_value, variable_in, is_call, expression_calls, expressions_calls, cells_of, Layouts, Here}
-use Rattle.cp_refine.proofs.Words.{encode, bits_of, AreMembers, HasType, OrdinalAgrees, SetAgrees, PlaceAgrees, TargetAgrees, Sees, GivesValue, IsBound}
-use Rattle.cp_refine.proofs.Words.{AreBound, BoundsAgree, error_of, plain_value, plain_set, plain_address, AreKept, LiesAt, PlaceAt}
+use Rattle.cp_refine.proofs.Words.{ℤ, map, Result, Ok, Err, Expression, Expressions, no_expressions, more_expressions, Designator, Tables, Argument, ArgumentValue, Bound}
+use Rattle.cp_refine.proofs.Words.{Address, Permanent, Local, Frame, SetValue, HasCells, Memory, then_with, ranged, Name, Outcome, out_of_range, ◌>>=◌, Value}
+use Rattle.cp_refine.proofs.Words.{number_value, set_value, Parameter, Content, holds, refers, knows, Environment, Typed, checked, View, Target, value, target_value}
+use Rattle.cp_refine.proofs.Words.{variable_in, is_call, expression_calls, expressions_calls, cells_of, Layouts, Here, encode, bits_of, AreMembers, HasType}
+use Rattle.cp_refine.proofs.Words.{OrdinalAgrees, SetAgrees, PlaceAgrees, TargetAgrees, Sees, GivesValue, IsBound, AreBound, BoundsAgree, error_of, plain_value}
+use Rattle.cp_refine.proofs.Words.{plain_set, plain_address, AreKept, LiesAt, PlaceAt, Scalar, Set, Copy, Reference, refers_to, bound_variable, bound_value}
+use Rattle.cp_refine.proofs.Words.{bound_argument, bound, Form, as_ordinal, as_set, as_place, place_form, expression_form}
 use Rattle.cp_slots.specs.Code as code
 use Rattle.cp_slots.specs.declared.place.ArgumentValue.TheVariants as value_of
-use Rattle.cp_store.specs.declared.argument.Bound.TheVariants.{Scalar, Set, Copy, Reference}
 use Rattle.cp_store.specs.declared.error.ErrorName as slots
 use Rattle.cp_store.specs.declared.error.ErrorName.TheVariants as error
 use Rattle.cp_store.specs.Arguments.{bound_at, bounds_after, bounds_at, put_value}
 use Rattle.cp_store.specs.Sets as sets
 use Rattle.cp_meaning.specs.Types.{Ty, Range, ordinal, set_over, array_over, record_with, component_of, natural_of, is_within}
 use Rattle.cp_meaning.specs.Operations as names
-use Rattle.cp_meaning.specs.Calls.{refers_to, bound_variable, bound_value, bound_argument, bound}
-use Rattle.cp_resolved.specs.Compiled.{Form, as_ordinal, as_set, as_place, place_form, expression_form}
 use Rattle.cp_resolved.specs.Stands.{ValueGiven, PlaceGiven, GivenBy, IsGiven, AreGiven}
 use Rattle.cp_refine.proofs.assignments.AnyAssignments.{number_writes, RangeKnown}
 use Rattle.cp_refine.proofs.assignments.Blocks.{WritesFirst, puts_block, set_writes, copy_writes}

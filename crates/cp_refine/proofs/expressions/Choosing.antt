@@ -1,21 +1,16 @@
 -- A part of a variable stands as many cells further on as a field or an index says, on names and on slots.
 use Rattle.std.proofs.Common.{◌≡◌, ◌∙◌, ℕ, ◌+◌, ◌-◌, ◌*◌, ◌^◌, ◌<◌, ◌≤◌, Bool, true, false, if◌then◌else◌, List, [], ◌∷◌, ◌++◌, Option, Some, None, ap, sym, refl, subst, arith}
-use Rattle.std.specs.Prelude.{ℤ, pos, negsuc, ◌+ℤ◌, ◌-ℤ◌, neg_ℤ, int_le, int_lt, ◌&&◌, min, unsigned_abs, Result, Ok, Err}
-use Rattle.cp_refine.proofs.Words.{ints, lt-ltb, Tables, Address, Permanent, Local, Frame, HasCells, then_with, Name, same_name, Outcome, ◌>>=◌, out_of_range}
-use Rattle.cp_refine.proofs.Words.{number_of, Choice, the_field, the_element, Place, Typed, View, Target, with_choice, value_at, cells_of, Layouts, Here}
-use Rattle.cp_refine.proofs.Words.{further, PlaceAt}
+use Rattle.cp_refine.proofs.Words.{ℤ, pos, negsuc, ◌+ℤ◌, ◌-ℤ◌, neg_ℤ, int_le, int_lt, ◌&&◌, min, unsigned_abs, Result, Ok, Err, ints, lt-ltb, Tables, Address, Permanent}
+use Rattle.cp_refine.proofs.Words.{Local, Frame, HasCells, then_with, Name, same_name, Outcome, ◌>>=◌, out_of_range, number_of, Choice, the_field, the_element, Place}
+use Rattle.cp_refine.proofs.Words.{Typed, View, Target, with_choice, value_at, cells_of, Layouts, Here, further, PlaceAt, Memory, moved, onward, stretch, origin_address}
+use Rattle.cp_refine.proofs.Words.{element_offset, with_field, with_index, with_element_of, Chosen, further_chosen, field_chosen, one_chosen, then_chosen, chosen_at}
+use Rattle.cp_refine.proofs.Words.{plain_value, plain_address, plain_indexed, OrdinalAgrees, FormAgrees, TargetAgrees, DesignatedAgrees, Sees}
 use Rattle.cp_slots.specs.Code as code
 use Rattle.cp_store.specs.declared.error.ErrorName as slots
 use Rattle.cp_store.specs.declared.error.ErrorName.TheVariants.{Range as Outside}
-use Rattle.cp_store.specs.Memory.{Memory, moved, onward, stretch}
-use Rattle.cp_store.specs.Places.{origin_address, element_offset}
 use Rattle.cp_meaning.specs.Types.{Range, Ty, ordinal, array_over, record_with, FieldTypes, no_field_types, more_field_types, natural_of, length_of_range, field_type, field_type_in, is_within}
-use Rattle.cp_meaning.specs.Expressions.{with_field, with_index, with_element_of}
-use Rattle.cp_resolved.specs.Encoded.{Chosen, further_chosen, field_chosen, one_chosen, then_chosen, chosen_at}
 use Rattle.cp_resolved.specs.Compiled as compiled
 use Rattle.cp_resolved.specs.Compiled.{Form, as_ordinal, as_set, as_place, as_component, Formed, Designated, a_variable, some_components, a_component, then_form, part_of_form, with_field_form, with_element_form, with_index_form}
-use Rattle.cp_refine.specs.PlainValues.{plain_value, plain_address, plain_indexed}
-use Rattle.cp_refine.specs.Agrees.{OrdinalAgrees, FormAgrees, TargetAgrees, DesignatedAgrees, Sees}
 use Rattle.cp_refine.proofs.expressions.Parts.{encode_length, one_part, some_chosen}
 use Rattle.cp_refine.proofs.expressions.Reading.{further_further}
 use Rattle.cp_refine.proofs.expressions.SetCells.{moved_on as moved_is}

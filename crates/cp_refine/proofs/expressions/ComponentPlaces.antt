@@ -1,24 +1,19 @@
 -- A component that is named: its number on slots is that of the component that stands at the place on names.
 use Rattle.std.proofs.Common.{◌≡◌, ◌∙◌, ℕ, suc, ◌+◌, ◌-◌, ◌*◌, ◌^◌, min, ◌<◌, ◌≤◌, Bool, true, false, if◌then◌else◌, List, [], ◌∷◌, ◌++◌, Option, Some, None, ap, sym, refl, subst, arith, length, append_assoc}
-use Rattle.std.specs.Prelude.{ℤ, pos, ◌+ℤ◌, ◌-ℤ◌, neg_ℤ, unsigned_abs, slice_index_or, Result, Ok, Err}
+use Rattle.cp_refine.proofs.Words.{ℤ, pos, ◌+ℤ◌, ◌-ℤ◌, neg_ℤ, unsigned_abs, slice_index_or, Result, Ok, Err, Tables, ComponentPlace, Frame, then_with, Name, Outcome}
+use Rattle.cp_refine.proofs.Words.{out_of_range, ◌>>=◌, Choice, the_field, the_element, number_of, in_component, Place, knows, Component, system_of, Typed}
+use Rattle.cp_refine.proofs.Words.{designator_calls, selectors_calls, selector_calls, field_chosen, OrdinalAgrees, FormAgrees, Sees, ComponentAgrees, error_of}
+use Rattle.cp_refine.proofs.Words.{plain_value, AreKept, Element, Memory, onward, stretch, element_offset, Path, step_down, same_path, Scope, Meaning, local_variable}
+use Rattle.cp_refine.proofs.Words.{permanent_variable, routine_meaning, find, value, target_value, selected, chosen, with_field, with_index, with_element_of}
 use Rattle.std.proofs.lemmas.Bool.{eq-eqb}
 use Rattle.cp_tree.specs.Syntax.{Designator, designator, Selectors, no_selectors, more_selectors, Selector, field, index}
 use Rattle.cp_slots.specs.Code as code
-use Rattle.cp_refine.proofs.Words.{Tables, ComponentPlace, Frame, then_with, Name, Outcome, out_of_range, ◌>>=◌, Choice, the_field, the_element, number_of}
-use Rattle.cp_refine.proofs.Words.{in_component, Place, knows, Component, system_of, Typed, designator_calls, selectors_calls, selector_calls, field_chosen}
-use Rattle.cp_refine.proofs.Words.{OrdinalAgrees, FormAgrees, Sees, ComponentAgrees, error_of, plain_value, AreKept}
-use Rattle.cp_slots.specs.declared.place.ComponentPlace.TheVariants.{Element}
 use Rattle.cp_store.specs.declared.error.ErrorName as slots
 use Rattle.cp_store.specs.declared.error.ErrorName.TheVariants as error
 use Rattle.cp_store.specs.Components.{component_at}
-use Rattle.cp_store.specs.Memory.{Memory, onward, stretch}
-use Rattle.cp_store.specs.Places.{element_offset}
-use Rattle.cp_meaning.specs.Components.{Path, step_down, same_path}
 use Rattle.cp_meaning.specs.Types.{Ty, Range, ordinal, queue_type, set_over, array_over, record_with, component_of, natural_of, length_of_range, is_within}
-use Rattle.cp_meaning.specs.Scopes.{Scope, Meaning, local_variable, permanent_variable, routine_meaning, find}
 use Rattle.cp_meaning.specs.State as named
 use Rattle.cp_meaning.specs.Places.{View, Target, content_of, target_meant, target_named, plain_place, with_choice, this_component, component_with, component_known, component_there}
-use Rattle.cp_meaning.specs.Expressions.{value, target_value, selected, chosen, with_field, with_index, with_element_of}
 use Rattle.cp_resolved.specs.Layouts.{Layouts, Here, system_here, is_parameter, is_own}
 use Rattle.cp_resolved.specs.Compiled as compiled
 use Rattle.cp_resolved.specs.Compiled.{Form, as_ordinal, as_set, as_place, as_component, Formed, Designated, a_variable, some_components, a_component, then_form, component_begun, result_begun, begun_form, part_of_form, field_of_form, with_field_form, element_of_form, with_element_form, with_index_form, expression_form, designator_form, selected_form, chosen_form}

@@ -1,7 +1,6 @@
 -- The names of components at a process that runs: they stand for the components of the tables, since its own component has begun.
-use Rattle.cp_refine.proofs.Words.{◌≡◌, Some, ◌∙◌, ℕ, ◌+◌, ◌^◌, ◌<◌, sym, subst, arith, length, Tree, Program, Tables, component_at, MachineFits, Machine}
-use Rattle.cp_refine.proofs.Words.{thread_at, Name, current, State, view_of, Ty, Layouts, here, look, Ground, NamesKnown, ground_of, Prepared, HasBegun}
-use Rattle.cp_refine.proofs.Words.{CallsHold, own_memory}
+use Rattle.cp_refine.proofs.Words.{◌≡◌, Some, ◌∙◌, ℕ, ◌+◌, ◌^◌, ◌<◌, sym, subst, arith, length, Tree, Program, Tables, component_at, MachineFits, Machine, thread_at}
+use Rattle.cp_refine.proofs.Words.{Name, current, State, view_of, Ty, Layouts, here, look, Ground, NamesKnown, ground_of, Prepared, HasBegun, CallsHold, own_memory}
 use Rattle.cp_machine.specs.Reach.{Reaches, FrameReaches}
 use Rattle.cp_machine.proofs.frames.Covered.{frame_reaches}
 use Rattle.cp_meaning.specs.State as named

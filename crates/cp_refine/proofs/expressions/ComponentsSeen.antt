@@ -1,9 +1,8 @@
 -- What names of components stand for in a state for which a machine stands.
 use Rattle.std.proofs.Common.{◌≡◌, ◌∙◌, ℕ, ◌+◌, ◌*◌, ◌^◌, ◌<◌, true, false, List, [], ◌∷◌, Option, Some, None, ap, sym, refl, subst, arith, length}
-use Rattle.cp_refine.proofs.Words.{slice_index_or, Program, Tables, component_at, Frame, Memory, onward, Machine, Path, step_down, Name, Ty, component_of}
-use Rattle.cp_refine.proofs.Words.{array_over, permanent_variable, find, Call, current, knows, State, first_components, system_of, View, content_of}
-use Rattle.cp_refine.proofs.Words.{this_component, component_with, Layouts, here, is_parameter, look, Ground, NamesKnown, CallIs, CallsHold, HasBegun}
-use Rattle.cp_refine.proofs.Words.{Represents}
+use Rattle.cp_refine.proofs.Words.{slice_index_or, Program, Tables, component_at, Frame, Memory, onward, Machine, Path, step_down, Name, Ty, component_of, array_over}
+use Rattle.cp_refine.proofs.Words.{permanent_variable, find, Call, current, knows, State, first_components, system_of, View, content_of, this_component, component_with}
+use Rattle.cp_refine.proofs.Words.{Layouts, here, is_parameter, look, Ground, NamesKnown, CallIs, CallsHold, HasBegun, Represents}
 use Rattle.cp_meaning.specs.State as named
 use Rattle.cp_resolved.specs.Resolved as resolved
 use Rattle.cp_refine.proofs.expressions.ComponentPlaces.{own_component, ComponentsKnown}

@@ -1,10 +1,9 @@
 -- A name with selectors designates a part of what the name stands for: a variable of the open call, or of the component that is executed.
-use Rattle.std.proofs.Common.{◌≡◌, ℕ, Bool, true, false, if◌then◌else◌, Option, Some, None, Ok, Err, sym, refl, subst}
-use Rattle.cp_refine.proofs.Words.{ℤ, ◌+ℤ◌, neg_ℤ, Identifier, Name, Outcome, out_of_range, ◌>>=◌, Typed, Ty, array_over, record_with, component_of}
-use Rattle.cp_refine.proofs.Words.{natural_of, is_within, Meaning, local_variable, permanent_variable, routine_meaning, find, Holder, in_call, in_component}
-use Rattle.cp_refine.proofs.Words.{Place, current, the_element, number_of, View, Target, target_meant, target_named, with_choice, this_component, value}
-use Rattle.cp_refine.proofs.Words.{target_value, selected, chosen, with_index, with_element_of, Here, is_own, is_parameter, field_chosen}
-use Rattle.cp_tree.specs.Syntax.{Designator, designator, Selectors, no_selectors, more_selectors, Selector, field, index}
+use Rattle.cp_refine.proofs.Words.{◌≡◌, ℕ, Bool, true, false, if◌then◌else◌, Option, Some, None, Ok, Err, sym, refl, subst, ℤ, ◌+ℤ◌, neg_ℤ, Identifier, Name, Outcome}
+use Rattle.cp_refine.proofs.Words.{out_of_range, ◌>>=◌, Typed, Ty, array_over, record_with, component_of, natural_of, is_within, Meaning, local_variable}
+use Rattle.cp_refine.proofs.Words.{permanent_variable, routine_meaning, find, Holder, in_call, in_component, Place, current, the_element, number_of, View, Target}
+use Rattle.cp_refine.proofs.Words.{target_meant, target_named, with_choice, this_component, value, target_value, selected, chosen, with_index, with_element_of, Here}
+use Rattle.cp_refine.proofs.Words.{is_own, is_parameter, field_chosen, Designator, designator, Selectors, no_selectors, more_selectors, Selector, field, index}
 use Rattle.cp_slots.specs.Code as code
 use Rattle.cp_resolved.specs.Compiled.{then_form, Designated, a_variable, some_components, a_component, part_of_form, component_begun, permanent_begun, result_begun, begun_form, field_of_form, with_field_form, element_of_form, with_element_form, with_index_form, ordinal_form, chosen_form, selected_form, designator_form, expression_form}
 

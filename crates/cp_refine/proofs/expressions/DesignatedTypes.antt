@@ -1,10 +1,9 @@
 -- A variable with selectors has a type that stands, as the names of the program have, and so a value in a range of it has its type.
 use Rattle.std.proofs.Common.{◌≡◌, ℕ, ◌+◌, pos, int_le, Bool, true, false, ◌&&◌, arith, [], ◌∷◌, Option, Some, None, ap, refl, subst}
-use Rattle.cp_tree.specs.Syntax.{Designator, designator, Selectors, no_selectors, more_selectors, Selector, field, index, Program}
+use Rattle.cp_refine.proofs.Words.{Designator, designator, Selectors, no_selectors, more_selectors, Selector, field, index, Program, Name, the_field, result_type}
+use Rattle.cp_refine.proofs.Words.{Meaning, local_variable, permanent_variable, routine_meaning, find, Here, here, Layouts, is_own, is_parameter, Chosen, field_chosen}
+use Rattle.cp_refine.proofs.Words.{then_chosen, second_true, Range, Ty, ordinal, set_over, array_over, record_with, component_of, FieldTypes}
 use Rattle.cp_slots.specs.Code as code
-use Rattle.cp_refine.proofs.Words.{Name, the_field, result_type, Meaning, local_variable, permanent_variable, routine_meaning, find, Here, here, Layouts}
-use Rattle.cp_refine.proofs.Words.{is_own, is_parameter, Chosen, field_chosen, then_chosen, second_true}
-use Rattle.cp_meaning.specs.Types.{Range, Ty, ordinal, set_over, array_over, record_with, component_of, FieldTypes}
 use Rattle.cp_resolved.specs.Compiled.{then_form, Designated, a_variable, some_components, a_component, part_of_form, component_begun, permanent_begun, result_begun, begun_form, with_field_form, with_element_form, with_index_form, ordinal_form, chosen_form, selected_form, designator_form, expression_form}
 use Rattle.cp_resolved.specs.Standing.{is_bounded, is_based, is_indexed, is_element, is_standing, IsFit, IsFreeResult}
 use Rattle.cp_resolved.proofs.counts.FewCells.{in_order, left_of as first_true}

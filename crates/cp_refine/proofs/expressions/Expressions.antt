@@ -1,9 +1,8 @@
 -- Expressions give the same on names and on slots: the induction.
-use Rattle.std.proofs.Common.{◌≡◌, ◌∙◌, ℕ, ◌+◌, ◌++◌, Bool, true, false, not, if◌then◌else◌, List, [], Option, Some, None, ap, sym, refl, subst, arith}
-use Rattle.cp_refine.proofs.Words.{ℤ, pos, neg_ℤ, int_lt, ◌&&◌, Result, Ok, Err, Identifier, Relation, Addition, Multiplication, Tables, Address, Frame}
-use Rattle.cp_refine.proofs.Words.{Memory, cell_at, then_with, temporary, Outcome, ◌>>=◌, Scope, Meaning, constant_meaning, standard_meaning, Standard, find}
-use Rattle.cp_refine.proofs.Words.{View, Target, target_named, value_at, plain_place, this_call, plain_value, plain_set, plain_address, encode, HasType}
-use Rattle.cp_tree.specs.declared.constant.Sign.{Sign}
+use Rattle.std.proofs.Common.{◌≡◌, ◌∙◌, ℕ, ◌++◌, Bool, true, false, not, if◌then◌else◌, List, [], Option, Some, None, ap, sym, refl, subst, arith}
+use Rattle.cp_refine.proofs.Words.{ℤ, pos, neg_ℤ, int_lt, ◌&&◌, Result, Ok, Err, Identifier, Relation, Addition, Multiplication, Tables, Address, Frame, Memory, cell_at}
+use Rattle.cp_refine.proofs.Words.{then_with, temporary, Outcome, ◌>>=◌, Scope, Meaning, constant_meaning, standard_meaning, Standard, find, View, Target, target_named}
+use Rattle.cp_refine.proofs.Words.{value_at, plain_place, this_call, plain_value, plain_set, plain_address, encode, HasType, Sign, BlockAt, LiesAt, IsKept, AreKept}
 use Rattle.cp_tree.specs.declared.constant.Sign.TheVariants as sign
 use Rattle.cp_tree.specs.Syntax.{Expression, alone, related, Sum, sum, Terms, no_terms, more_terms, Term, term, Factors, no_factors, more_factors, Factor, number, character, named, group, negated, set_of, Expressions, no_expressions, more_expressions, Designator, designator, Selectors, no_selectors, more_selectors, Selector, field, index, Program}
 use Rattle.cp_store.specs.declared.error.ErrorName as slots
@@ -17,9 +16,7 @@ use Rattle.cp_meaning.specs.Lifting.{is_call, own_call, expression_calls, sum_ca
 use Rattle.cp_slots.specs.Code as code
 use Rattle.cp_resolved.specs.Layouts.{Layouts, Here, frame_here, look}
 use Rattle.cp_resolved.specs.Compiled.{Form, as_ordinal, as_set, Formed, Designated, a_variable, then_form, is_integer, is_boolean, compared_forms, added_forms, multiplied_forms, signed_ordinal, signed_form, not_form_of, not_form, applied_form, valued_form, loaded_form, call_form, constant_form, named_form, begun_form, expression_form, sum_form, terms_form, term_form, factors_form, factor_form, first_form, members_form, set_form, with_member_form, designator_form, selected_form, chosen_form}
-use Rattle.cp_refine.specs.Represents.{BlockAt, LiesAt}
 use Rattle.cp_refine.specs.Agrees.{OrdinalAgrees, SetAgrees, PlaceAgrees, FormAgrees, TargetAgrees, DesignatedAgrees, BegunAgrees, Sees}
-use Rattle.cp_refine.specs.Remaining.{IsKept, AreKept}
 use Rattle.cp_refine.proofs.expressions.Choosing.{field_ok, index_ok}
 use Rattle.cp_refine.proofs.calls.Kept.{kept_left, kept_right}
 use Rattle.cp_refine.proofs.expressions.Standards.{base_again, signed_plus, applied_ok}

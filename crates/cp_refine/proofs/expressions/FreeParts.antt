@@ -1,8 +1,7 @@
 -- Parts of variables whose types stand: no variable has both a queue and a part in which no queue is.
 use Rattle.std.proofs.Common.{◌≡◌, ◌∙◌, ℕ, ◌+◌, true, false, List, [], ◌∷◌, Option, Some, None, inl, inr, refl, sym, ap, subst}
-use Rattle.std.specs.Prelude.{◌⊎◌}
-use Rattle.cp_refine.proofs.Words.{Range, Ty, queue_type, array_over, component_of, Choice, the_field, the_element, Chosen, further_chosen, one_chosen}
-use Rattle.cp_refine.proofs.Words.{then_chosen, chosen_at, is_indexed, is_free, is_standing, second_true}
+use Rattle.cp_refine.proofs.Words.{◌⊎◌, Range, Ty, queue_type, array_over, component_of, Choice, the_field, the_element, Chosen, further_chosen, one_chosen, then_chosen}
+use Rattle.cp_refine.proofs.Words.{chosen_at, is_indexed, is_free, is_standing, second_true}
 use Rattle.cp_resolved.proofs.declarations.StandingParts.{free_part, element_is, no_part}
 use Rattle.cp_resolved.proofs.names.Alike.{same_inside as some_same}
 

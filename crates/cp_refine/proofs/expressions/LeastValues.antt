@@ -1,7 +1,6 @@
 -- In no least value does a process wait, nor in a part of one.
-use Rattle.std.proofs.Common.{ℕ, zero, suc, Bool, true, false, if◌then◌else◌, List, [], ◌∷◌, ◌++◌, Some}
-use Rattle.cp_refine.proofs.Words.{Name, same_name, Variable, holds, Environment, content_of, value_held, least_of}
-use Rattle.cp_meaning.specs.Types.{Ty, array_over, record_with, FieldTypes, no_field_types, more_field_types, has_components, length_of_range}
+use Rattle.cp_refine.proofs.Words.{ℕ, zero, suc, Bool, true, false, if◌then◌else◌, List, [], ◌∷◌, ◌++◌, Some, Name, same_name, Variable, holds, Environment, content_of}
+use Rattle.cp_refine.proofs.Words.{value_held, least_of, Ty, array_over, record_with, FieldTypes, no_field_types, more_field_types, has_components, length_of_range}
 use Rattle.cp_meaning.specs.Values.{Value, array_value, record_value, queue_value, Values, no_values, more_values, FieldValues, no_field_values, more_field_values, Choice, the_field, the_element, copies, least, least_fields, element_at, field_at, part_of, part_at}
 
 abbrev mutual

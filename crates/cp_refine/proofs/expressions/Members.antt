@@ -4,13 +4,11 @@ use Rattle.std.specs.Prelude.{pos, filter, bit_or, bit_and, bit_xor, bytes_eq}
 use Rattle.std.specs.Int.{bit_at}
 use Rattle.std.proofs.lemmas.Bool.{cases_lt, cases_eq, cases_order}
 use Rattle.std.proofs.lemmas.Bool.Decides.{Decides-eqb, same_from_decides}
-use Rattle.cp_refine.proofs.Words.{ints, bytes_eq-Decides, SetValue, bits_of, AreMembers}
+use Rattle.cp_refine.proofs.Words.{ints, bytes_eq-Decides, SetValue, bits_of, AreMembers, SetOperation, Union, Difference, Intersection}
 use Rattle.std.proofs.lemmas.Nat.{and_le_l, or_lt, pow-add, pow_pos, pow_below}
 use Rattle.std.proofs.lemmas.Nat.Bits.{bit_at-zero, bit_at-lt, bit_at-pow_same, bit_at-pow_other, bit_at_cat_low, bit_at_cat_high, same_from_bits_below}
 use Rattle.std.proofs.Math.Nat.{add-mul, mul_assoc}
 use Rattle.std.proofs.Math.Pow.{pow_mono}
-use Rattle.cp_slots.specs.declared.place.SetOperation.{SetOperation}
-use Rattle.cp_slots.specs.declared.place.SetOperation.TheVariants.{Union, Difference, Intersection}
 use Rattle.cp_store.specs.Sets.{has_bit, combined}
 use Rattle.cp_store.specs.SetLaws.{is_joined}
 use Rattle.cp_store.specs.Values.{is_within}

@@ -1,15 +1,13 @@
 -- The names that a process sees begin where their slots do.
 use Rattle.std.proofs.Common.{◌≡◌, ◌∙◌, ℕ, suc, ◌+◌, ◌-◌, ◌^◌, ◌<◌, ◌==◌, ◌⊎◌, inl, inr, Bool, true, false, if◌then◌else◌, List, [], ◌∷◌, Option, Some, None, ap, sym, refl, subst, arith, length, eq-eqb}
-use Rattle.cp_refine.proofs.Words.{Ok, eqb-true, Tables, component_at, routine_at, Address, Permanent, Local, Frame, HasCells, Memory, moved, onward}
-use Rattle.cp_refine.proofs.Words.{origin_address, referred, Routine, Program, Name, temporary, result_name, Holder, in_call, in_component, Place, Content}
-use Rattle.cp_refine.proofs.Words.{refers, Component, Call, system_of, plain_address, cells_of, Layouts, here, cell_named, is_own, is_parameter, look}
-use Rattle.cp_refine.proofs.Words.{component_begun, permanent_begun, result_begun, begun_form, Ground, RoutineIs, further, frame_above, InFrame, BeginsAt}
-use Rattle.cp_refine.proofs.Words.{PlaceAt, CallIs, CallHolds, TargetAgrees, BegunAgrees, Few, Sees, onward_is}
+use Rattle.cp_refine.proofs.Words.{Ok, eqb-true, Tables, component_at, routine_at, Address, Permanent, Local, Frame, HasCells, Memory, moved, onward, origin_address}
+use Rattle.cp_refine.proofs.Words.{referred, Routine, Program, Name, temporary, result_name, Holder, in_call, in_component, Place, Content, refers, Component, Call}
+use Rattle.cp_refine.proofs.Words.{system_of, plain_address, cells_of, Layouts, here, cell_named, is_own, is_parameter, look, component_begun, permanent_begun}
+use Rattle.cp_refine.proofs.Words.{result_begun, begun_form, Ground, RoutineIs, further, frame_above, InFrame, BeginsAt, PlaceAt, CallIs, CallHolds, TargetAgrees}
+use Rattle.cp_refine.proofs.Words.{BegunAgrees, Few, Sees, onward_is, Meaning, local_variable, permanent_variable, routine_meaning, find, since, routine_in}
 use Rattle.cp_slots.specs.declared.place.PlaceOrigin.TheVariants as origin
 use Rattle.cp_meaning.specs.Types.{Range, Ty, ordinal, queue_type, set_over, array_over, record_with, component_of}
-use Rattle.cp_meaning.specs.Scopes.{Meaning, local_variable, permanent_variable, routine_meaning, find, since}
 use Rattle.cp_meaning.specs.Places.{View, Target, content_of, call_above, environment_of, this_call, plain_place, referred as refers_to, result_type, target_meant, target_named}
-use Rattle.cp_meaning.specs.Declarations.{routine_in}
 use Rattle.cp_slots.specs.Code as code
 use Rattle.cp_refine.proofs.expressions.Reading.{calls_frames, AllLie, place_lies}
 use Rattle.cp_refine.proofs.expressions.Members.{not_equal as differ}

@@ -1,7 +1,6 @@
 -- A set that lies in cells is read as the set that it is: the eight words of its bits put together are these bits.
-use Rattle.std.proofs.Common.{◌≡◌, ◌∙◌, ℕ, ◌+◌, ◌*◌, ◌/◌, ◌%◌, ◌^◌, ◌<◌, ◌≤◌, List, ap, sym, refl, arith}
-use Rattle.cp_refine.proofs.Words.{pos, slice_index_or, Address, Permanent, Local, HasCells, Memory, cell_at, moved, Range, set_over, set_value, bits_of}
-use Rattle.cp_refine.proofs.Words.{set_cells, Few, further, LiesAt}
+use Rattle.cp_refine.proofs.Words.{◌≡◌, ◌∙◌, ℕ, ◌+◌, ◌*◌, ◌/◌, ◌%◌, ◌^◌, ◌<◌, ◌≤◌, List, ap, sym, refl, arith, pos, slice_index_or, Address, Permanent, Local, HasCells}
+use Rattle.cp_refine.proofs.Words.{Memory, cell_at, moved, Range, set_over, set_value, bits_of, set_cells, Few, further, LiesAt}
 use Rattle.std.specs.Int.{cast_unsigned, cast_signed, w16}
 use Rattle.std.proofs.lemmas.Int.{of_z-to_z}
 use Rattle.std.proofs.Math.Nat.{div-div-eq-div-mul, mod-add-div'}

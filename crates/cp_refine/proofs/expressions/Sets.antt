@@ -1,19 +1,16 @@
 -- Operations on sets, and tests of them, give the same on names and on slots.
 use Rattle.std.proofs.Common.{◌≡◌, ◌∙◌, ℕ, ◌^◌, ◌<◌, ◌≤◌, ◌==◌, ◌⊎◌, inl, inr, Bool, true, false, not, if◌then◌else◌, List, [], ◌∷◌, Some, ap, sym, refl, subst, arith}
-use Rattle.cp_refine.proofs.Words.{ℤ, pos, negsuc, ◌&&◌, Result, Ok, Err, unsigned_abs, cases_lt, ints, Relation, Equal, NotEqual, In, Addition, Plus, Minus}
-use Rattle.cp_refine.proofs.Words.{Or, Multiplication, And, Address, Frame, SetValue, Memory, then_with, Outcome, out_of_range, ◌>>=◌, bits_of, AreMembers}
-use Rattle.cp_refine.proofs.Words.{HasType, OrdinalAgrees, SetAgrees, FormAgrees, Few, error_of, plain_value, plain_set, plain_address, LiesAt}
+use Rattle.cp_refine.proofs.Words.{ℤ, pos, negsuc, ◌&&◌, Result, Ok, Err, unsigned_abs, cases_lt, ints, Relation, Equal, NotEqual, In, Addition, Plus, Minus, Or}
+use Rattle.cp_refine.proofs.Words.{Multiplication, And, Address, Frame, SetValue, Memory, then_with, Outcome, out_of_range, ◌>>=◌, bits_of, AreMembers, HasType}
+use Rattle.cp_refine.proofs.Words.{OrdinalAgrees, SetAgrees, FormAgrees, Few, error_of, plain_value, plain_set, plain_address, LiesAt, SetOperation, Union, Difference}
+use Rattle.cp_refine.proofs.Words.{Intersection, Ty, ordinal, set_over, Range, all_integers, all_booleans, all_characters, natural_of, is_within, with_member_checked}
 use Rattle.cp_slots.specs.Code as code
-use Rattle.cp_slots.specs.declared.place.SetOperation.{SetOperation}
-use Rattle.cp_slots.specs.declared.place.SetOperation.TheVariants.{Union, Difference, Intersection}
 use Rattle.cp_store.specs.declared.error.ErrorName as slots
 use Rattle.cp_store.specs.declared.error.ErrorName.TheVariants as error
 use Rattle.cp_store.specs.Sets as sets
 use Rattle.cp_store.specs.Values as cells
-use Rattle.cp_meaning.specs.Types.{Ty, ordinal, set_over, Range, all_integers, all_booleans, all_characters, natural_of, is_within}
 use Rattle.cp_meaning.specs.Values.{Value, number_value, array_value, record_value, set_value, queue_value, number_of, is_member, with_member}
 use Rattle.cp_meaning.specs.Operations.{Typed, truth, set_of_members, is_among, related_values, added_values, multiplied_values}
-use Rattle.cp_meaning.specs.Expressions.{with_member_checked}
 use Rattle.cp_resolved.specs.Compiled.{Form, as_ordinal, as_set, Formed, compared_forms, added_forms, multiplied_forms, with_member_form}
 use Rattle.cp_refine.proofs.expressions.Members.{bits_are, none_above, equal_bits, joined, set_with, bits_joined, members_joined}
 use Rattle.cp_refine.proofs.expressions.SetCells.{set_lies}

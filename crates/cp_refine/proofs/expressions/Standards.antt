@@ -1,20 +1,17 @@
 -- Signs and the standard functions give the same on names and on slots.
-use Rattle.std.proofs.Common.{◌≡◌, ◌∙◌, ◌+◌, Bool, true, false, if◌then◌else◌, Option, Some, None, ap, sym, refl, subst, arith}
+use Rattle.cp_refine.proofs.Words.{◌≡◌, ◌∙◌, Bool, true, false, if◌then◌else◌, Option, Some, None, ap, sym, refl, subst, arith, ints, Address, Frame, Memory}
+use Rattle.cp_refine.proofs.Words.{cell_at, then_with, Outcome, ◌>>=◌, out_of_range, encode, flag_of, HasType, plain_value, plain_address, OrdinalAgrees, PlaceAgrees}
+use Rattle.cp_refine.proofs.Words.{FormAgrees, loaded, Value, number_value, array_value, record_value, set_value, queue_value, number_of, waiting_in, BlockAt, LiesAt}
 use Rattle.std.specs.Prelude.{ℕ, ℤ, pos, negsuc, ◌+ℤ◌, ◌-ℤ◌, neg_ℤ, int_le, int_lt, ◌&&◌, not, is_none, unsigned_abs, Result, Ok, Err}
-use Rattle.cp_refine.proofs.Words.{ints, Address, Frame, Memory, cell_at, then_with, Outcome, ◌>>=◌, out_of_range, encode, flag_of, HasType, plain_value}
-use Rattle.cp_refine.proofs.Words.{plain_address, OrdinalAgrees, PlaceAgrees, FormAgrees}
 use Rattle.cp_tree.specs.declared.constant.Sign.TheVariants as sign
 use Rattle.cp_slots.specs.Code as code
 use Rattle.cp_store.specs.declared.error.ErrorName as slots
 use Rattle.cp_store.specs.declared.error.ErrorName.TheVariants.{Range as Outside}
-use Rattle.cp_store.specs.Places.{loaded}
 use Rattle.cp_store.specs.Values as cells
 use Rattle.cp_meaning.specs.Types.{Base, integers, characters, Range, Ty, ordinal, queue_type, all_integers, all_booleans, all_characters, is_within}
-use Rattle.cp_meaning.specs.Values.{Value, number_value, array_value, record_value, set_value, queue_value, number_of, waiting_in}
 use Rattle.cp_meaning.specs.Scopes.{Standard, succ_function, pred_function, chr_function, ord_function, abs_function, empty_function, delay_procedure, continue_procedure, display_procedure}
 use Rattle.cp_meaning.specs.Operations.{Typed, truth, signed_value, range_of_base, in_base, standard_value, fitting}
 use Rattle.cp_resolved.specs.Compiled.{Form, as_ordinal, as_set, as_place, as_component, Formed, is_integer, applied_ordinal, applied_place, applied_form_of, applied_form, integer_form}
-use Rattle.cp_refine.specs.Represents.{BlockAt, LiesAt}
 use Rattle.cp_refine.proofs.expressions.Numbers.{fits_narrowed, truth_agrees}
 use Rattle.cp_refine.proofs.expressions.Values.{FormOk, integer_range}
 use Rattle.cp_refine.proofs.expressions.SetCells.{no_further as further_none}

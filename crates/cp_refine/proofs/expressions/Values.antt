@@ -1,10 +1,8 @@
 -- Expressions give the same on names and on slots.
 use Rattle.std.proofs.Common.{◌≡◌, Bool, true, not, Option, Some, None, ap, sym, refl, subst}
 use Rattle.std.specs.Prelude.{ℤ, ◌+ℤ◌, ◌-ℤ◌, ◌*ℤ◌, int_le, int_lt, Result, Ok, Err}
-use Rattle.cp_refine.proofs.Words.{int_eq, ints, Relation, Addition, Plus, Minus, Or, Multiplication, Frame, Memory, then_with, Outcome, ◌>>=◌, Value}
-use Rattle.cp_refine.proofs.Words.{number_value, plain_value, HasType, OrdinalAgrees, FormAgrees}
-use Rattle.cp_tree.specs.declared.expression.Relation.TheVariants.{Equal, NotEqual, Less, Greater, AtMost, AtLeast, In}
-use Rattle.cp_tree.specs.declared.expression.Multiplication.TheVariants.{Times, Div, Mod, And}
+use Rattle.cp_refine.proofs.Words.{int_eq, ints, Relation, Addition, Plus, Minus, Or, Multiplication, Frame, Memory, then_with, Outcome, ◌>>=◌, Value, number_value}
+use Rattle.cp_refine.proofs.Words.{plain_value, HasType, OrdinalAgrees, FormAgrees, Equal, NotEqual, Less, Greater, AtMost, AtLeast, In, Times, Div, Mod, And}
 use Rattle.cp_store.specs.declared.error.ErrorName as slots
 use Rattle.cp_store.specs.Values as cells
 use Rattle.cp_meaning.specs.Types.{Ty, ordinal, Base, integers, booleans, characters, enumerated, all_integers, all_booleans, is_within}

@@ -1,14 +1,11 @@
 -- An expression that is a variable: it is found where the variable is.
 use Rattle.std.proofs.Common.{◌≡◌, ◌∙◌, ℕ, ◌++◌, Bool, true, false, if◌then◌else◌, List, [], Option, Some, None, ap, sym, refl, subst}
-use Rattle.cp_refine.proofs.Words.{ℤ, pos, Ok, Err, Relation, Addition, Plus, Minus, Or, Multiplication, Tables, Frame, Memory, Outcome, ◌>>=◌, Typed}
-use Rattle.cp_refine.proofs.Words.{signed_value, range_of_base, View, Target, value_at, Layouts, Here, TargetAgrees, Sees, plain_address, AreKept}
-use Rattle.cp_tree.specs.declared.constant.Sign.{Sign}
+use Rattle.cp_refine.proofs.Words.{ℤ, pos, Ok, Err, Relation, Addition, Plus, Minus, Or, Multiplication, Tables, Frame, Memory, Outcome, ◌>>=◌, Typed, signed_value}
+use Rattle.cp_refine.proofs.Words.{range_of_base, View, Target, value_at, Layouts, Here, TargetAgrees, Sees, plain_address, AreKept, Sign, Equal, NotEqual, Less, Greater}
+use Rattle.cp_refine.proofs.Words.{AtMost, AtLeast, In, Times, Div, Mod, And, Ty, ordinal, queue_type, Base, integers, characters, all_integers, is_within}
 use Rattle.cp_tree.specs.declared.constant.Sign.TheVariants as sign
-use Rattle.cp_tree.specs.declared.expression.Relation.TheVariants.{Equal, NotEqual, Less, Greater, AtMost, AtLeast, In}
-use Rattle.cp_tree.specs.declared.expression.Multiplication.TheVariants.{Times, Div, Mod, And}
 use Rattle.cp_tree.specs.Syntax.{Expression, alone, related, sum, Terms, no_terms, more_terms, term, Factors, no_factors, more_factors, Factor, number, character, named, group, negated, set_of, Expressions, no_expressions, more_expressions, Designator}
 use Rattle.cp_slots.specs.Code as code
-use Rattle.cp_meaning.specs.Types.{Ty, ordinal, queue_type, Base, integers, characters, all_integers, is_within}
 use Rattle.cp_meaning.specs.Scopes.{Scope, Meaning, constant_meaning, standard_meaning, Standard, succ_function, pred_function, chr_function, ord_function, abs_function, empty_function, find}
 use Rattle.cp_meaning.specs.Expressions.{value, factor_value, first_value, target_value, named_value, name_of, result_called, routine_called, variable_in, variable_in_factor}
 use Rattle.cp_meaning.specs.Lifting.{is_call, own_call, expression_calls, factor_calls, expressions_calls, designator_calls}

@@ -1,6 +1,5 @@
 -- The code's expressions, sets and places are what their views are.
-use Rattle.std.proofs.Common.{◌≡◌, ◌∙◌, List, [], ◌∷◌, map, not, ap, sym, refl, subst}
-use Rattle.cp_refine.proofs.Words.{pos, Result, Ok, Err, Address, Frame, Memory, moved}
+use Rattle.cp_refine.proofs.Words.{◌≡◌, ◌∙◌, List, [], ◌∷◌, map, not, ap, sym, refl, subst, pos, Result, Ok, Err, Address, Frame, Memory, moved}
 use Rattle.cp_slots.specs.declared.place.OrdinalExpression.{OrdinalExpression}
 use Rattle.cp_slots.specs.declared.place.SetExpression.{SetExpression}
 use Rattle.cp_slots.specs.declared.place.Index.{Index}

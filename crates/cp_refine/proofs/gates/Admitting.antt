@@ -1,8 +1,7 @@
 -- The admission of a process of the pending monitor's line: it goes in, and the line stands without it.
 use Rattle.std.proofs.Common.{◌≡◌, ◌∙◌, ℕ, suc, ◌+◌, ◌<◌, ◌≤◌, ◌==◌, ◌⊎◌, inl, inr, Bool, true, false, cond, ltb, if◌then◌else◌, List, [], ◌∷◌, Option, Some, None, ap, sym, refl, subst, arith, length}
-use Rattle.cp_refine.proofs.Words.{not, cases_lt, lt-ltb, le-ltb, Program, component_at, Machine, monitor_at, first_inside, at_gate, has_entry, State}
-use Rattle.cp_refine.proofs.Words.{Layouts, Ground, MonitorIs, PendingIs, Represents}
-use Rattle.std.specs.List.{position_or_len}
+use Rattle.cp_refine.proofs.Words.{not, cases_lt, lt-ltb, le-ltb, Program, component_at, Machine, monitor_at, first_inside, at_gate, has_entry, State, Layouts, Ground}
+use Rattle.cp_refine.proofs.Words.{MonitorIs, PendingIs, Represents, position_or_len}
 use Rattle.cp_slots.specs.declared.tables.ComponentKind.TheVariants as kind
 use Rattle.cp_machine.specs.Kernel as machine
 use Rattle.cp_machine.specs.Opening as slots

@@ -1,11 +1,10 @@
 -- Entering a monitor: who is inside on names is the holder on slots.
 use Rattle.std.proofs.Common.{◌≡◌, ◌≢◌, ◌∙◌, ℕ, zero, suc, ◌<◌, ◌⊎◌, inl, inr, Bool, true, false, not, if◌then◌else◌, List, [], ◌∷◌, ◌++◌, Option, Some, None, ap, sym, refl, subst, arith, length, length-set, eq-eqb}
-use Rattle.cp_refine.proofs.Words.{◌&&◌, ◌||◌, slice_index_or, slice_set, Program, ComponentKind, component_at, Layouts, Ground, Runs, StatusIs, ProcessIs}
-use Rattle.cp_refine.proofs.Words.{MonitorIs, Represents}
+use Rattle.cp_refine.proofs.Words.{◌&&◌, ◌||◌, slice_index_or, slice_set, Program, ComponentKind, component_at, Layouts, Ground, Runs, StatusIs, ProcessIs, MonitorIs}
+use Rattle.cp_refine.proofs.Words.{Represents, Machine, Monitor, Thread, thread_at, monitor_at, no_monitor, with_thread}
 use Rattle.cp_slots.specs.declared.tables.ComponentKind.TheVariants as kind
 use Rattle.cp_machine.specs.declared.process.Status as slot_status
 use Rattle.cp_machine.specs.declared.process.Status.TheVariants as status
-use Rattle.cp_machine.specs.Machine.{Machine, Monitor, Thread, thread_at, monitor_at, no_monitor, with_thread}
 use Rattle.cp_machine.specs.Kernel.{entered_by}
 use Rattle.cp_meaning.specs.State as named
 use Rattle.cp_meaning.specs.State.{Component, no_component, ready, at_gate, Status, Process, no_process, State, is_inside, has_entry, waits_at}

@@ -1,13 +1,11 @@
 -- The line of a monitor in which nobody is is let in, under both kinds of gates.
-use Rattle.std.proofs.Common.{◌≡◌, ◌∙◌, ℕ, ◌<◌, true, List, [], ◌∷◌, Option, Some, None, ap, sym, refl, subst, length}
-use Rattle.cp_refine.proofs.Words.{slice_set, Program, ComponentKind, component_at, Machine, Monitor, no_monitor, monitor_at, first_inside, Layouts, Ground}
-use Rattle.cp_refine.proofs.Words.{gates_of, HasBegun, ComponentIs, MonitorIs, PendingIs, Represents}
-use Rattle.std.proofs.lemmas.List.{set-get_or}
+use Rattle.cp_refine.proofs.Words.{◌≡◌, ◌∙◌, ℕ, ◌<◌, true, List, [], ◌∷◌, Option, Some, None, ap, sym, refl, subst, length, slice_set, Program, ComponentKind}
+use Rattle.cp_refine.proofs.Words.{component_at, Machine, Monitor, no_monitor, monitor_at, first_inside, Layouts, Ground, gates_of, HasBegun, ComponentIs, MonitorIs}
+use Rattle.cp_refine.proofs.Words.{PendingIs, Represents, set-get_or, at_gate, has_entry, Gates, first_gates, any_gates, ComponentStatus, uninitialised, State}
 use Rattle.cp_slots.specs.declared.tables.ComponentKind.TheVariants as kind
 use Rattle.cp_machine.specs.Kernel as machine
 use Rattle.cp_meaning.specs.Kernel as meaning
 use Rattle.cp_meaning.specs.State as named
-use Rattle.cp_meaning.specs.State.{at_gate, has_entry, Gates, first_gates, any_gates, ComponentStatus, uninitialised, State}
 use Rattle.cp_refine.proofs.gates.Gates.{OwnNumbers, goes_in}
 
 -- ---- what is pending is no part of anything else

@@ -1,7 +1,5 @@
 -- The monitors of a program by their numbers: the number of a monitor is its place among the components that are monitors.
-use Rattle.std.proofs.Common.{◌≡◌, ◌∙◌, ℕ, zero, suc, ◌+◌, ◌<◌, List, [], ◌∷◌, ap, refl, arith, length}
-use Rattle.std.specs.Prelude.{slice_index_or}
-use Rattle.cp_tree.specs.declared.declaration.SystemKind.{SystemKind}
+use Rattle.cp_refine.proofs.Words.{◌≡◌, ◌∙◌, ℕ, zero, suc, ◌+◌, ◌<◌, List, [], ◌∷◌, ap, refl, arith, length, slice_index_or, SystemKind}
 use Rattle.cp_tree.specs.declared.declaration.SystemKind.TheVariants as system_kind
 use Rattle.cp_meaning.specs.Readings.{monitor_first, monitors_from}
 use Rattle.cp_meaning.specs.State.{Component, component_at}

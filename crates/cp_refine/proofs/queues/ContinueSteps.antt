@@ -1,10 +1,10 @@
 -- The whole step of `continue`, in an entry procedure of a monitor.
 use Rattle.std.proofs.Common.{◌≡◌, ◌∙◌, ℕ, ◌<◌, List, ◌∷◌, ◌++◌, Option, Some, None, ap, sym, refl, subst, length}
-use Rattle.cp_refine.proofs.Words.{Result, Ok, Err, slice_index, slice_set, Program, Expression, Expressions, more_expressions, Designator, invoke, Action}
-use Rattle.cp_refine.proofs.Words.{component_at, item_at, Address, Permanent, Entry, Return, Machine, Thread, thread_at, memory_at, act, step_at, Outcome}
-use Rattle.cp_refine.proofs.Words.{◌>>=◌, queue_type, Value, queue_value, waiting_in, Meaning, standard_meaning, continue_procedure, find, View, Target}
-use Rattle.cp_refine.proofs.Words.{this_component, content_of, value_held, Stepped, Doing, target_value, name_of, view_of, step_of, settled, Layouts, here}
-use Rattle.cp_refine.proofs.Words.{Ground, QueueItem, InvokedBy, TargetAgrees, plain_address, further, PlaceAt, monitor_left, frames_of, Represents}
+use Rattle.cp_refine.proofs.Words.{Result, Ok, Err, slice_index, slice_set, Program, Expression, Expressions, more_expressions, Designator, invoke, Action, component_at}
+use Rattle.cp_refine.proofs.Words.{item_at, Address, Permanent, Entry, Return, Machine, Thread, thread_at, memory_at, act, step_at, Outcome, ◌>>=◌, queue_type, Value}
+use Rattle.cp_refine.proofs.Words.{queue_value, waiting_in, Meaning, standard_meaning, continue_procedure, find, View, Target, this_component, content_of, value_held}
+use Rattle.cp_refine.proofs.Words.{Stepped, Doing, target_value, name_of, view_of, step_of, settled, Layouts, here, Ground, QueueItem, InvokedBy, TargetAgrees}
+use Rattle.cp_refine.proofs.Words.{plain_address, further, PlaceAt, monitor_left, frames_of, Represents, after_return, continued_from, in_place_of, invoked}
 use Rattle.cp_slots.specs.declared.item.Action.TheVariants as action
 use Rattle.cp_slots.specs.declared.place.Place as code_place
 use Rattle.cp_slots.specs.declared.tables.ComponentKind.TheVariants as kind
@@ -18,7 +18,6 @@ use Rattle.cp_machine.specs.Statements as statements
 use Rattle.cp_meaning.specs.State as named
 use Rattle.cp_meaning.specs.State.{Holder, in_component, Place, ready, CallKind, entry_routine, Call, current, callers, Item, statement_item, Process, State}
 use Rattle.cp_meaning.specs.Kernel as meaning
-use Rattle.cp_meaning.specs.LocalRules.{after_return, continued_from, in_place_of, invoked}
 use Rattle.cp_refine.proofs.assignments.Assigning.{set_set}
 use Rattle.cp_refine.proofs.queues.Continuing as continuing
 use Rattle.cp_refine.proofs.queues.Continuing.{MayContinue, EndsWith, ends, no_return, returns, process_ends, state_ends, here_process, call_is, machine_ends, state_left, machine_left, old_queue, continues_on}

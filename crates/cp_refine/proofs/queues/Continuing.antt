@@ -1,13 +1,12 @@
 -- `continue` in an entry procedure: the rest of the entry is removed and its call given up; who waited in the queue goes on, or else the line is let in.
 use Rattle.std.proofs.Common.{◌≡◌, ◌≢◌, ◌∙◌, ℕ, ◌^◌, ◌<◌, true, false, if◌then◌else◌, List, [], ◌∷◌, ◌++◌, Option, Some, None, ap, sym, refl, subst, arith, length, length-set, eq-eqb}
-use Rattle.cp_refine.proofs.Words.{pos, slice_set, Program, component_at, Frame, Entry, Rest, Successor, Return, InitEnd, StackFits, ThreadFits, Name}
-use Rattle.cp_refine.proofs.Words.{same_name, Range, Ty, ordinal, queue_type, Value, queue_value, Choice, after_return, first_inside, Layouts, Here, here}
-use Rattle.cp_refine.proofs.Words.{look, chosen_at, RoutineIs, Ground, ItemsAre, StackIs, frames_of, Represents}
+use Rattle.cp_refine.proofs.Words.{pos, slice_set, Program, component_at, Frame, Entry, Rest, Successor, Return, InitEnd, StackFits, ThreadFits, Name, same_name, Range}
+use Rattle.cp_refine.proofs.Words.{Ty, ordinal, queue_type, Value, queue_value, Choice, after_return, first_inside, Layouts, Here, here, look, chosen_at, RoutineIs}
+use Rattle.cp_refine.proofs.Words.{Ground, ItemsAre, StackIs, frames_of, Represents, from_end}
 use Rattle.cp_slots.specs.declared.tables.ComponentKind.TheVariants as kind
 use Rattle.cp_machine.specs.declared.process.Status.TheVariants as status
 use Rattle.cp_machine.specs.Kernel as machine
 use Rattle.cp_machine.specs.Machine.{Machine, Monitor, Thread, no_thread, no_monitor, monitor_at, thread_at, with_stack}
-use Rattle.cp_machine.specs.Stack.{from_end}
 use Rattle.cp_meaning.specs.State as named
 use Rattle.cp_meaning.specs.State.{ready, delayed, Status, own_statement, initial_statement, entry_routine, Call, callers, Item, statement_item, function_call, start_item, until, return, Process, no_process, State, has_entry, is_inside}
 use Rattle.cp_meaning.specs.Kernel as meaning

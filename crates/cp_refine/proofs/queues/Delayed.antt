@@ -1,15 +1,14 @@
 -- A process is delayed: it waits in a queue of its monitor, in which nobody is then.
 use Rattle.std.proofs.Common.{◌≡◌, ◌≢◌, ◌∙◌, ℕ, ◌+◌, ◌<◌, ◌⊎◌, inl, inr, true, false, List, [], Some, None, ap, sym, refl, subst, arith, length, length-set, eq-eqb}
-use Rattle.cp_refine.proofs.Words.{◌&&◌, not, slice_set, bytes_eq-Decides, Program, ComponentKind, component_at, Permanent, Entry, Machine, Thread, no_thread}
-use Rattle.cp_refine.proofs.Words.{monitor_at, thread_at, Name, same_name, Ty, queue_type, Value, queue_value, Choice, part_at, View, value_at, first_inside}
-use Rattle.cp_refine.proofs.Words.{Layouts, look, Chosen, chosen_at, Ground}
+use Rattle.cp_refine.proofs.Words.{◌&&◌, not, slice_set, bytes_eq-Decides, Program, ComponentKind, component_at, Permanent, Entry, Machine, Thread, no_thread, monitor_at}
+use Rattle.cp_refine.proofs.Words.{thread_at, Name, same_name, Ty, queue_type, Value, queue_value, Choice, part_at, View, value_at, first_inside, Layouts, look, Chosen}
+use Rattle.cp_refine.proofs.Words.{chosen_at, Ground, further, StackIs, ProcessIs, CallsHold, MonitorIs, HasBegun, BeginsAt, PlaceAt, frames_of, own_memory, Represents}
 use Rattle.cp_slots.specs.declared.tables.ComponentKind.TheVariants as kind
 use Rattle.cp_machine.specs.declared.process.Status.TheVariants as status
 use Rattle.cp_machine.specs.Kernel as machine
 use Rattle.cp_meaning.specs.State as named
 use Rattle.cp_meaning.specs.State.{Holder, in_call, in_component, Place, ComponentStatus, uninitialised, unstarted, ready, delayed, Status, Item, Process, no_process, State, has_entry, is_inside, waits_at}
 use Rattle.cp_meaning.specs.Kernel as meaning
-use Rattle.cp_refine.specs.Represents.{further, StackIs, ProcessIs, CallsHold, MonitorIs, HasBegun, BeginsAt, PlaceAt, frames_of, own_memory, Represents}
 use Rattle.cp_refine.proofs.control.Control.{Goes}
 use Rattle.cp_refine.proofs.gates.Gates.{OwnNumbers, OthersOutside, none_left, monitors_change, and_false}
 use Rattle.cp_refine.proofs.gates.LettingIn.{FirstWaits, lets_in}

@@ -1,11 +1,11 @@
 -- The whole step of `delay`: the caller waits in the queue, unless another process does.
-use Rattle.std.proofs.Common.{◌≡◌, ◌∙◌, ℕ, ◌+◌, ◌<◌, if◌then◌else◌, List, ◌++◌, Option, Some, None, ap, sym, refl, subst, arith, length}
-use Rattle.cp_refine.proofs.Words.{ℤ, pos, Result, Ok, Err, slice_index, slice_index_or, slice_set, Program, Expression, Expressions, more_expressions}
-use Rattle.cp_refine.proofs.Words.{Designator, invoke, Action, component_at, item_at, Address, Permanent, Entry, Machine, Thread, no_thread, thread_at}
-use Rattle.cp_refine.proofs.Words.{with_stack, memory_at, rest_of, act, step_at, queue_type, Value, queue_value, part_at, waiting_in, Meaning}
-use Rattle.cp_refine.proofs.Words.{standard_meaning, delay_procedure, find, Holder, in_component, Place, Item, statement_item, State, Stepped, delays, Doing}
-use Rattle.cp_refine.proofs.Words.{with_items, with_move, View, Target, this_component, stored, target_value, variable_in, name_of, view_of, step_of, settled}
-use Rattle.cp_refine.proofs.Words.{Layouts, here, HasType, flag_of, Ground, QueueItem, InvokedBy, TargetAgrees, plain_address}
+use Rattle.cp_refine.proofs.Words.{◌≡◌, ◌∙◌, ℕ, ◌+◌, ◌<◌, if◌then◌else◌, List, ◌++◌, Option, Some, None, ap, sym, refl, subst, arith, length, ℤ, pos, Result, Ok, Err}
+use Rattle.cp_refine.proofs.Words.{slice_index, slice_index_or, slice_set, Program, Expression, Expressions, more_expressions, Designator, invoke, Action, component_at}
+use Rattle.cp_refine.proofs.Words.{item_at, Address, Permanent, Entry, Machine, Thread, no_thread, thread_at, with_stack, memory_at, rest_of, act, step_at, queue_type}
+use Rattle.cp_refine.proofs.Words.{Value, queue_value, part_at, waiting_in, Meaning, standard_meaning, delay_procedure, find, Holder, in_component, Place, Item}
+use Rattle.cp_refine.proofs.Words.{statement_item, State, Stepped, delays, Doing, with_items, with_move, View, Target, this_component, stored, target_value, variable_in}
+use Rattle.cp_refine.proofs.Words.{name_of, view_of, step_of, settled, Layouts, here, HasType, flag_of, Ground, QueueItem, InvokedBy, TargetAgrees, plain_address}
+use Rattle.cp_refine.proofs.Words.{queue_free, delayed_in, in_place_of, invoked, further, LiesAt, PlaceAt, CallsHold, all_permanents, own_memory, frames_of, Represents}
 use Rattle.cp_slots.specs.declared.item.Action.TheVariants as action
 use Rattle.cp_slots.specs.declared.place.Place as code_place
 use Rattle.cp_slots.specs.declared.tables.ComponentKind.TheVariants as kind
@@ -22,8 +22,6 @@ use Rattle.cp_machine.specs.Statements as statements
 use Rattle.cp_meaning.specs.Outcome.{Outcome, ◌>>=◌, queue_in_use}
 use Rattle.cp_meaning.specs.State as named
 use Rattle.cp_meaning.specs.Kernel as meaning
-use Rattle.cp_meaning.specs.LocalRules.{queue_free, delayed_in, in_place_of, invoked}
-use Rattle.cp_refine.specs.Represents.{further, LiesAt, PlaceAt, CallsHold, all_permanents, own_memory, frames_of, Represents}
 use Rattle.cp_refine.proofs.assignments.Assigning.{set_set}
 use Rattle.cp_refine.proofs.calls.CallSteps.{call_component}
 use Rattle.cp_refine.proofs.control.Control.{Taken, StepIs, goes, takes_item, acts, fails, scope_is, stack_after, top_frame}

@@ -1,12 +1,11 @@
 -- A queue that is named stands at its place, which is one of the component itself: what `delay` and `continue` ask.
 use Rattle.std.proofs.Common.{◌≡◌, ◌∙◌, ℕ, Bool, true, false, if◌then◌else◌, List, ◌∷◌, Option, Some, ap, sym, refl, subst}
-use Rattle.cp_refine.proofs.Words.{ℤ, ◌+ℤ◌, neg_ℤ, Ok, Err, Entry, Machine, thread_at, memory_at, Outcome, out_of_range, ◌>>=◌, Ty, queue_type, array_over}
-use Rattle.cp_refine.proofs.Words.{natural_of, is_within, the_element, number_of, Meaning, permanent_variable, find, in_component, Item, State, current}
-use Rattle.cp_refine.proofs.Words.{Typed, View, Target, target_meant, with_choice, this_component, expression_calls, view_of, Layouts, here, as_place}
-use Rattle.cp_refine.proofs.Words.{expression_form, Ground, TargetAgrees, plain_address, AreKept}
+use Rattle.cp_refine.proofs.Words.{ℤ, ◌+ℤ◌, neg_ℤ, Ok, Err, Entry, Machine, thread_at, memory_at, Outcome, out_of_range, ◌>>=◌, Ty, queue_type, array_over, natural_of}
+use Rattle.cp_refine.proofs.Words.{is_within, the_element, number_of, Meaning, permanent_variable, find, in_component, Item, State, current, Typed, View, Target}
+use Rattle.cp_refine.proofs.Words.{target_meant, with_choice, this_component, expression_calls, view_of, Layouts, here, as_place, expression_form, Ground, TargetAgrees}
+use Rattle.cp_refine.proofs.Words.{plain_address, AreKept, value, target_value, selected, chosen, with_index, with_element_of, name_of, variable_in}
 use Rattle.cp_tree.specs.Syntax.{Program, Expression, Designator, designator, Selectors, no_selectors, more_selectors, Selector, field, index}
 use Rattle.cp_slots.specs.Code as code
-use Rattle.cp_meaning.specs.Expressions.{value, target_value, selected, chosen, with_index, with_element_of, name_of, variable_in}
 use Rattle.cp_refine.proofs.control.Control.{Taken, top_frame}
 use Rattle.cp_refine.proofs.queues.Delaying.{QueueNamed}
 use Rattle.cp_refine.proofs.control.Running.{Executes, frames_below, sees_now}

@@ -1,13 +1,12 @@
 -- A queue of a component is written: what it holds lies in its cell, and all else lies as it did.
 use Rattle.std.proofs.Common.{◌≡◌, ◌≢◌, ◌∙◌, ℕ, ◌+◌, ◌<◌, ◌≤◌, ◌⊎◌, inl, inr, Bool, true, false, List, [], ◌∷◌, Option, Some, None, ap, sym, refl, subst, arith, length, length-set, get_or}
-use Rattle.cp_refine.proofs.Words.{ℤ, pos, slice_index_or, slice_set, cases_lt, bytes_eq-Decides, Program, ComponentKind, component_at, Address, Permanent}
-use Rattle.cp_refine.proofs.Words.{Memory, cell_at, put_number, Machine, phase_at, Name, same_name, Ty, queue_type, Value, queue_value, Choice, with_part}
-use Rattle.cp_refine.proofs.Words.{part_at, cells_of, Layouts, look, encode, flag_of, chosen_at, Ground}
+use Rattle.cp_refine.proofs.Words.{ℤ, pos, slice_index_or, slice_set, cases_lt, bytes_eq-Decides, Program, ComponentKind, component_at, Address, Permanent, Memory}
+use Rattle.cp_refine.proofs.Words.{cell_at, put_number, Machine, phase_at, Name, same_name, Ty, queue_type, Value, queue_value, Choice, with_part, part_at, cells_of}
+use Rattle.cp_refine.proofs.Words.{Layouts, look, encode, flag_of, chosen_at, Ground, View, content_of, with_content, value_held, with_permanents, environment_of}
+use Rattle.cp_refine.proofs.Words.{value_at, further, LiesAt, BeginsAt, PlaceAt, PhaseIs, HasBegun, ComponentIs, all_permanents, Represents}
 use Rattle.cp_machine.specs.declared.state.Phase.TheVariants as phase
 use Rattle.cp_meaning.specs.State as named
 use Rattle.cp_meaning.specs.State.{Holder, in_call, in_component, Place, Content, holds, knows, Environment, Component, no_component, ComponentStatus, State}
-use Rattle.cp_meaning.specs.Places.{View, content_of, with_content, value_held, with_permanents, environment_of, value_at}
-use Rattle.cp_refine.specs.Represents.{further, LiesAt, BeginsAt, PlaceAt, PhaseIs, HasBegun, ComponentIs, all_permanents, Represents}
 use Rattle.cp_refine.proofs.control.Moving.{set_here, set_there, same_or_other}
 use Rattle.cp_refine.proofs.expressions.Parts.{encode_length, part_stands}
 use Rattle.cp_refine.proofs.queues.QueueParts.{part_written, part_other}

@@ -2,13 +2,11 @@
 use Rattle.std.proofs.Common.{◌≡◌, ◌∙◌, ℕ, ◌+◌, ℤ, Bool, true, false, if◌then◌else◌, [], ◌∷◌, Option, Some, None, ap, sym, refl, subst}
 use Rattle.cp_tree.specs.Syntax.{Expression, no_expressions, Designator, designator, Selectors, no_selectors, more_selectors, Selector, field, index}
 use Rattle.cp_slots.specs.Code as code
-use Rattle.cp_refine.proofs.Words.{Name, the_field, View, range_of_base, name_of, variable_in, Chosen, field_chosen, then_chosen, Here, is_indexed, is_free}
-use Rattle.cp_refine.proofs.Words.{IsFit, free_part, second_true}
-use Rattle.cp_meaning.specs.Types.{Base, Ty, ordinal, queue_type, array_over, record_with, component_of, FieldTypes, is_within}
+use Rattle.cp_refine.proofs.Words.{Name, the_field, View, range_of_base, name_of, variable_in, Chosen, field_chosen, then_chosen, Here, is_indexed, is_free, IsFit}
+use Rattle.cp_refine.proofs.Words.{free_part, second_true, Base, Ty, ordinal, queue_type, array_over, record_with, component_of, FieldTypes, is_within, HasQueue}
 use Rattle.cp_meaning.specs.Scopes.{Meaning, constant_meaning, type_meaning, local_variable, permanent_variable, routine_meaning, standard_meaning, find}
 use Rattle.cp_meaning.specs.Lifting.{is_call, is_call_meant, last_field}
 use Rattle.cp_resolved.specs.Compiled.{Form, as_ordinal, as_place, as_component, Formed, loaded_form, then_form, Designated, a_variable, a_component, part_of_form, valued_form, constant_form, named_form, begun_form, with_field_form, with_element_form, with_index_form, ordinal_form, chosen_form, selected_form, designator_form, expression_form}
-use Rattle.cp_resolved.specs.Formed.{HasQueue}
 use Rattle.cp_refine.proofs.expressions.VariableExpressions.{IsName, variable_is}
 
 -- ---- parts of what has no queues

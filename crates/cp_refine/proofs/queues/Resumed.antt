@@ -1,10 +1,9 @@
 -- A queue is emptied: who waited in it is ready and inside its monitor, where nobody was.
 use Rattle.std.proofs.Common.{◌≡◌, ◌≢◌, ◌∙◌, ℕ, suc, zero, ◌+◌, ◌<◌, ◌==◌, ◌⊎◌, inl, inr, Bool, true, false, cond, ltb, List, [], ◌∷◌, Some, None, ap, sym, refl, subst, arith, length, length-set, eq-eqb}
 use Rattle.std.specs.Prelude.{◌&&◌, not, position, pos, slice_index_or, slice_set}
-use Rattle.std.specs.List.{position_or_len}
-use Rattle.cp_refine.proofs.Words.{eqb-true, lt-ltb, le-ltb, Program, ComponentKind, component_at, Address, Permanent, Name, same_name, Ty, queue_type, Value}
-use Rattle.cp_refine.proofs.Words.{queue_value, Choice, part_at, View, content_of, value_held, environment_of, value_at, first_inside, Layouts, look}
-use Rattle.cp_refine.proofs.Words.{chosen_at, Ground}
+use Rattle.cp_refine.proofs.Words.{position_or_len, eqb-true, lt-ltb, le-ltb, Program, ComponentKind, component_at, Address, Permanent, Name, same_name, Ty, queue_type}
+use Rattle.cp_refine.proofs.Words.{Value, queue_value, Choice, part_at, View, content_of, value_held, environment_of, value_at, first_inside, Layouts, look, chosen_at}
+use Rattle.cp_refine.proofs.Words.{Ground, further, LiesAt, StatusIs, ProcessIs, MonitorIs, HasBegun, BeginsAt, PlaceAt, all_permanents, Represents}
 use Rattle.cp_slots.specs.declared.tables.ComponentKind.TheVariants as kind
 use Rattle.cp_machine.specs.declared.process.Status as slot_status
 use Rattle.cp_machine.specs.declared.process.Status.TheVariants as status
@@ -12,7 +11,6 @@ use Rattle.cp_machine.specs.Kernel as machine
 use Rattle.cp_machine.specs.Machine.{Machine, Thread, no_thread, monitor_at, thread_at, is_delayed_at}
 use Rattle.cp_meaning.specs.State as named
 use Rattle.cp_meaning.specs.State.{Holder, in_call, in_component, Place, Component, ComponentStatus, uninitialised, unstarted, ready, at_gate, delayed, ended, Status, Process, no_process, State, has_entry, waits_at}
-use Rattle.cp_refine.specs.Represents.{further, LiesAt, StatusIs, ProcessIs, MonitorIs, HasBegun, BeginsAt, PlaceAt, all_permanents, Represents}
 use Rattle.cp_refine.proofs.gates.Gates.{OwnNumbers, all_outside, only_one, monitors_change}
 use Rattle.cp_refine.proofs.control.Moving.{set_here, set_there, same_or_other, inside_same}
 use Rattle.cp_refine.proofs.queues.QueueWriting.{old, components_after, permanents_after, old_lies, line_same, count_same, components_stand, variables_after, IsWritten, written_value, old_written, queue_kept, cell, there_named}

@@ -1,13 +1,12 @@
 -- In each reached state all that is still to be done stands in the bodies of the open calls' routines, and who waits in a queue has an open entry call.
 use Rattle.std.proofs.Common.{◌≡◌, ◌∙◌, ◌⊎◌, inl, inr, ℕ, zero, suc, ◌<◌, ◌==◌, Bool, true, false, if◌then◌else◌, List, [], ◌∷◌, ◌++◌, length, slice_set, Option, Some, None, Ok, Err, ap, sym, refl, subst, arith}
-use Rattle.cp_refine.proofs.Words.{Program, RoutineMeaning, takes, Outcome, system_of, IsWellFormed, items_of_all, frames, Descends, FramesFit, reached}
-use Rattle.cp_refine.proofs.Words.{Layouts, initial_meaning}
+use Rattle.cp_refine.proofs.Words.{Program, RoutineMeaning, takes, Outcome, system_of, IsWellFormed, items_of_all, frames, Descends, FramesFit, reached, Layouts}
+use Rattle.cp_refine.proofs.Words.{initial_meaning, Traits, scope_of, body_of, RoutinesKnown, CallsFit, ItemsFit, StandsInBodies}
 use Rattle.cp_meaning.specs.Kernel.{output_room, line_of, moved_to, with_process_status, made_ready, first_in, one_in, let_in, is_anybody_inside, entering, is_delayed_in, continuing, process_of, begun, starting_as, starting, displaying, kernel_step}
 use Rattle.cp_meaning.specs.Move.{Move, stays, enters, leaves, delays, continues, starts, shows, ends, Doing}
 use Rattle.cp_meaning.specs.State.{Environment, Component, component_at, Call, Item, end, Status, unstarted, ready, at_gate, delayed, ended, Process, process_at, Gates, first_gates, any_gates, Shown, State, has_entry}
 use Rattle.cp_meaning.specs.Steps.{first_components, processes_from, own_begun, opening, settled, step_of, view_of, admitted_to, IsReached, at_first, by_step, by_admission, by_forgetting}
 use Rattle.cp_meaning.proofs.Orderly.{which, within_set}
-use Rattle.cp_refine.specs.RoutinesKnown.{Traits, scope_of, body_of, RoutinesKnown, CallsFit, ItemsFit, StandsInBodies}
 use Rattle.cp_refine.proofs.reached.BodiesKept.{MoveFits, DoingFits, OutcomeFits, takes_fits, fit_append}
 use Rattle.cp_refine.proofs.reached.BodyItems.{body_stands}
 use Rattle.cp_refine.proofs.HoldsInReached.{holds_in_reached}

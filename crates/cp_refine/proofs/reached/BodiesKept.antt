@@ -1,15 +1,14 @@
 -- What one item does keeps that all that is still to be done stands in the bodies of the open calls' routines.
 use Rattle.std.proofs.Common.{◌≡◌, ◌∙◌, ◌⊎◌, inl, inr, ℕ, ◌<◌, ◌≤◌, ◌==◌, ℤ, Bool, true, false, if◌then◌else◌, List, [], ◌∷◌, ◌++◌, length, get_or, set, slice_set, Option, Some, None, Ok, Err, ap, sym, refl, subst, eq-eqb}
-use Rattle.cp_refine.proofs.Words.{◌&&◌, ◌||◌, Identifier, Direction, SystemKind, Name, temporary, result_name, Outcome, ◌>>=◌, Value, number_value}
-use Rattle.cp_refine.proofs.Words.{queue_value, number_of, waiting_in, RoutineMeaning, system_of, first_components, same_integer, is_true, checked, items_of}
-use Rattle.cp_refine.proofs.Words.{items_of_all, until_items, Layouts, initial_meaning}
+use Rattle.cp_refine.proofs.Words.{◌&&◌, ◌||◌, Identifier, Direction, SystemKind, Name, temporary, result_name, Outcome, ◌>>=◌, Value, number_value, queue_value}
+use Rattle.cp_refine.proofs.Words.{number_of, waiting_in, RoutineMeaning, system_of, first_components, same_integer, is_true, checked, items_of, items_of_all}
+use Rattle.cp_refine.proofs.Words.{until_items, Layouts, initial_meaning, Move, enters, stays, delays, starts, ends, Doing}
 use Rattle.cp_tree.specs.declared.declaration.SystemKind.TheVariants as system_kind
 use Rattle.cp_tree.specs.Syntax.{Expressions, Designator, Start, Statement, assign, invoke, block, if_then, if_else, case_of, while_do, repeat_until, for_do, cycle, Arms, no_arms, more_arms, arm, Program, Statements}
 use Rattle.cp_meaning.specs.Scopes.{Meaning, constant_meaning, type_meaning, local_variable, permanent_variable, routine_meaning, standard_meaning, delay_procedure, continue_procedure, display_procedure, Scope, find}
 use Rattle.cp_meaning.specs.State.{Holder, in_call, in_component, Place, Environment, Component, component_at, no_component, CallKind, initial_statement, local_routine, entry_routine, Call, callers, is_entry_kind, has_entry, Item, statement_item, function_call, start_item, until, successor, return, init_end, end}
 use Rattle.cp_meaning.specs.Places.{View, Target, target_named, value_at, stored, this_call, this_component, plain_place, component_there, with_environment, with_call_environment, with_environment_of}
 use Rattle.cp_meaning.specs.Expressions.{value, target_value, first_value, meaning_here, routine_called, name_of}
-use Rattle.cp_meaning.specs.Move.{Move, enters, stays, delays, starts, ends, Doing}
 use Rattle.cp_meaning.specs.Calls.{bound, opened, is_initialised, is_uninitialised, entered_as, with_move, with_items, entered, called_as, called, initial, initialised_in, started_as, started}
 use Rattle.cp_meaning.specs.LocalRules.{scope_here, becomes, assigned, arm_for, has_label, is_beyond, goes_on_with, queue_free, delayed_in, after_return, continued_from, in_place_of, argument_of, invoked, does, outer, with_result, leaving_move, return_move, returned, finished, takes}
 use Rattle.cp_meaning.proofs.Frames.{at_set, Frame, frames, Descends, ItemsFit as FramesFit}

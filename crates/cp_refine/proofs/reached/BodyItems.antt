@@ -1,9 +1,8 @@
 -- The items of a statement that stands in a body stand in it too.
-use Rattle.std.proofs.Common.{ℕ, inl, inr, Bool, true, false, List, [], ◌∷◌, ◌++◌, refl, subst, append_assoc}
+use Rattle.cp_refine.proofs.Words.{ℕ, inl, inr, Bool, true, false, List, [], ◌∷◌, ◌++◌, refl, subst, append_assoc, Scope, Item, statement_item, function_call, start_item}
+use Rattle.cp_refine.proofs.Words.{until, calls_before, IsAmong, IsWithin, listed, IsAmongItems, IsAmongStarts, OwnStands, ItemStands, AllStand}
 use Rattle.cp_tree.specs.Syntax.{Expression, alone, related, Sum, sum, Terms, no_terms, more_terms, Term, term, Factors, no_factors, more_factors, Factor, named, group, negated, set_of, Expressions, no_expressions, more_expressions, Designator, designator, Selectors, no_selectors, more_selectors, Selector, field, index, Start, Statement, empty, assign, invoke, block, if_then, if_else, case_of, while_do, repeat_until, for_do, cycle, init, Statements, no_statements, more_statements}
-use Rattle.cp_refine.proofs.Words.{Scope, Item, statement_item, function_call, start_item, until, calls_before}
 use Rattle.cp_meaning.specs.Lifting.{own_call, is_call, expression_calls, sum_calls, terms_calls, term_calls, factors_calls, factor_calls, expressions_calls, designator_calls, selectors_calls, selector_calls, start_items, items_of, items_of_all, until_items}
-use Rattle.cp_refine.specs.Bodies.{IsAmong, IsWithin, listed, IsAmongItems, IsAmongStarts, OwnStands, ItemStands, AllStand}
 
 -- ---- what is lifted are function calls
 

@@ -1,12 +1,11 @@
 -- In each reached state the next step of a ready process is one by the rules.
-use Rattle.std.proofs.Common.{◌≡◌, ◌∙◌, ℕ, ◌<◌, List, [], ◌∷◌, ◌++◌, Option, Some, None, ap, sym, refl, subst, arith, length}
-use Rattle.cp_refine.proofs.Words.{IsRead, plain, laid, Tables, Entry, Rest, Successor, Return, InitEnd, MachineFits, Machine, thread_at, Reaches, IsAccepted}
-use Rattle.cp_refine.proofs.Words.{name_of, temporary, View, is_ready, ready, Item, statement_item, function_call, start_item, Gates, State, view_of}
-use Rattle.cp_refine.proofs.Words.{IsReached, at_first, by_step, by_admission, by_forgetting, Layouts, Here, here, AreTablesOf, Ground, InvokedBy, layouts_of}
-use Rattle.cp_refine.proofs.Words.{slots, AllKnown, GoInStep, InvokeKnown, StatementKnown, ItemKnown, ground_of, Simulates, Prepared, StackIs, StateKnown}
-use Rattle.cp_tree.specs.Syntax.{Tree, Program, Expressions, no_expressions, more_expressions, Designator, Statement, invoke, init}
+use Rattle.cp_refine.proofs.Words.{◌≡◌, ◌∙◌, ℕ, ◌<◌, List, [], ◌∷◌, ◌++◌, Option, Some, None, ap, sym, refl, subst, arith, length, IsRead, plain, laid, Tables, Entry}
+use Rattle.cp_refine.proofs.Words.{Rest, Successor, Return, InitEnd, MachineFits, Machine, thread_at, Reaches, IsAccepted, name_of, temporary, View, is_ready, ready}
+use Rattle.cp_refine.proofs.Words.{Item, statement_item, function_call, start_item, Gates, State, view_of, IsReached, at_first, by_step, by_admission, by_forgetting}
+use Rattle.cp_refine.proofs.Words.{Layouts, Here, here, AreTablesOf, Ground, InvokedBy, layouts_of, slots, AllKnown, GoInStep, InvokeKnown, StatementKnown, ItemKnown}
+use Rattle.cp_refine.proofs.Words.{ground_of, Simulates, Prepared, StackIs, StateKnown, Tree, Program, Expressions, no_expressions, more_expressions, Designator}
+use Rattle.cp_refine.proofs.Words.{Statement, invoke, init, Meaning, standard_meaning, Standard, delay_procedure, continue_procedure, display_procedure, find}
 use Rattle.cp_refine.specs.Followed.{IsInvoked, StatementFollows, ItemsFollow, StepFollows}
-use Rattle.cp_meaning.specs.Scopes.{Meaning, standard_meaning, Standard, delay_procedure, continue_procedure, display_procedure, find}
 use Rattle.cp_meaning.specs.State as named
 use Rattle.cp_refine.specs.Following.{FollowingLaw}
 use Rattle.cp_refine.specs.Named.{named as on_names, gates_of, is_some, in_line_of}

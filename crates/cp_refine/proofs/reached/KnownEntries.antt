@@ -1,7 +1,6 @@
 -- Of every tree that was read and breaks no rule: an entry is called of a class or monitor alone, and its tables number the routines of the program.
 use Rattle.cp_refine.proofs.Words.{◌≡◌, ◌∙◌, ◌⊎◌, inl, inr, length, Some, ap, sym, invoke, Program, Tree, IsRead, Tables, IsAccepted, RoutineMeaning, Scope}
-use Rattle.cp_refine.proofs.Words.{function_call, a_component, designator_form, tokens_of, Layouts, layouts_of, placed_law, IsWithin, ItemStands, scope_of}
-use Rattle.cp_refine.proofs.Words.{body_of}
+use Rattle.cp_refine.proofs.Words.{function_call, a_component, designator_form, tokens_of, Layouts, layouts_of, placed_law, IsWithin, ItemStands, scope_of, body_of}
 use Rattle.cp_layout.specs.Laid.{PlainTables, plain, laid}
 use Rattle.cp_resolved.specs.LayoutsKnow.{IsPlaced}
 use Rattle.cp_resolved.specs.Openings.{openings_of, numbering_of}

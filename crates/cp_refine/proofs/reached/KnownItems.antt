@@ -3,17 +3,15 @@ use Rattle.std.proofs.Common.{◌≡◌, ◌∙◌, ◌⊎◌, inl, inr, ℕ, �
 use Rattle.cp_tree.specs.declared.declaration.SystemKind.TheVariants as system_kind
 use Rattle.cp_tree.specs.Syntax.{Expression, Expressions, no_expressions, more_expressions, Designator, Start, Statement, assign, invoke, block, if_then, if_else, case_of, while_do, repeat_until, for_do, cycle, init, Statements, no_statements, more_statements, Arms, no_arms, more_arms, arm, Program, Tree}
 use Rattle.cp_slots.specs.Code as code
-use Rattle.cp_refine.proofs.Words.{Tables, Machine, thread_at, IsAccepted, Name, Ty, Base, result_type, Parameter, RoutineMeaning, name_of, routine_called}
-use Rattle.cp_refine.proofs.Words.{variable_in, declared, program_system, own_meaning, system_of, is_ready, a_component, designator_form, tokens_of, Layouts}
-use Rattle.cp_refine.proofs.Words.{Here, here, IsRead, initial_meaning, Each, is_free, is_standing, IsFreeResult, Ground, ground_of, Simulates, CallIs}
-use Rattle.cp_refine.proofs.Words.{CallsHold, own_memory, Traits, scope_of, body_of, RoutinesKnown, ItemsFit}
+use Rattle.cp_refine.proofs.Words.{Tables, Machine, thread_at, IsAccepted, Name, Ty, Base, result_type, Parameter, RoutineMeaning, name_of, routine_called, variable_in}
+use Rattle.cp_refine.proofs.Words.{declared, program_system, own_meaning, system_of, is_ready, a_component, designator_form, tokens_of, Layouts, Here, here, IsRead}
+use Rattle.cp_refine.proofs.Words.{initial_meaning, Each, is_free, is_standing, IsFreeResult, Ground, ground_of, Simulates, CallIs, CallsHold, own_memory, Traits}
+use Rattle.cp_refine.proofs.Words.{scope_of, body_of, RoutinesKnown, ItemsFit, Meaning, standard_meaning, delay_procedure, continue_procedure, display_procedure, Scope}
+use Rattle.cp_refine.proofs.Words.{find, HasQueue, Opening, openings_of, meaning_in, IsAmong, IsAmongArms, IsPartOf, IsWithin, listed, inside, IsAmongStarts, ItemStands}
 use Rattle.cp_meaning.specs.Types as named
-use Rattle.cp_meaning.specs.Scopes.{Meaning, standard_meaning, delay_procedure, continue_procedure, display_procedure, Scope, find}
 use Rattle.cp_meaning.specs.State as state
 use Rattle.cp_meaning.specs.State.{current, Item, statement_item, function_call, start_item, until, successor, return, init_end, end, Gates, State}
 use Rattle.cp_resolved.specs.Enumerations.{constants_before}
-use Rattle.cp_resolved.specs.Formed.{HasQueue}
-use Rattle.cp_resolved.specs.Openings.{Opening, openings_of, meaning_in}
 use Rattle.cp_resolved.specs.TreeLayouts.{owner_in, layouts_of}
 use Rattle.cp_resolved.proofs.statements.EachStatement.{EachIn, EachOf, EachArm, the_statement}
 use Rattle.cp_resolved.proofs.statements.KnownOfTrees.{here_in, KnownAmong, all_among, known_law, number_below, few_constants}
@@ -22,7 +20,6 @@ use Rattle.cp_resolved.proofs.statements.KnownStatements.{IsMovable, IsListed, W
 use Rattle.cp_resolved.proofs.statements.NamedArguments.{IsVariable, AreVariables}
 use Rattle.cp_resolved.proofs.statements.OwnersKnown.{IsProcedure}
 use Rattle.cp_resolved.proofs.agreeing.ScopeMeasures.{Measure, measure}
-use Rattle.cp_refine.specs.Bodies.{IsAmong, IsAmongArms, IsPartOf, IsWithin, listed, inside, IsAmongStarts, ItemStands}
 use Rattle.cp_refine.specs.ItemsKnown.{VariablesGiven, CallIsKnown, HasFewConstants, QueueKnown, InvokeKnown, StatementKnown, ItemKnown}
 use Rattle.cp_refine.specs.StatesKnown.{NextKnown}
 use Rattle.cp_refine.proofs.control.Control.{top_frame}

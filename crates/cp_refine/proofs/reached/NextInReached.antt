@@ -1,9 +1,8 @@
 -- What a process does next in a reached state: it stands in the body of a routine, `continue` in that of an entry procedure.
 use Rattle.std.proofs.Common.{◌≡◌, ◌∙◌, ℕ, ◌<◌, true, false, List, [], ◌∷◌, length, Some, None, ap, sym, refl, subst}
 use Rattle.cp_refine.proofs.Words.{Designator, Expressions, invoke, Program, Tree, name_of, standard_meaning, continue_procedure, find, IsReached, IsAccepted}
-use Rattle.cp_refine.proofs.Words.{well_formed, frames, FramesFit, reached, Layouts}
+use Rattle.cp_refine.proofs.Words.{well_formed, frames, FramesFit, reached, Layouts, Traits, scope_of, RoutinesKnown, KindFits, CallsFit, ItemsFit}
 use Rattle.cp_meaning.specs.State.{CallKind, local_routine, entry_routine, Call, current, Item, statement_item, function_call, start_item, until, successor, return, init_end, end, unstarted, ready, delayed, process_at, Gates, State, has_entry, Status}
-use Rattle.cp_refine.specs.RoutinesKnown.{Traits, scope_of, RoutinesKnown, KindFits, CallsFit, ItemsFit}
 use Rattle.cp_refine.proofs.reached.BodiesInReached.{WaitsInside, AllStand, reached_in_bodies}
 use Rattle.cp_refine.proofs.HoldsInReached.{HoldsInReached, reached_stands}
 

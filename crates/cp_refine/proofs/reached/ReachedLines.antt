@@ -1,8 +1,7 @@
 -- Who waits in a line of a reached state: each waits at the gate, with an open entry call of the monitor.
 use Rattle.std.proofs.Common.{◌≡◌, ◌∙◌, ◌⊎◌, inl, inr, ℕ, zero, suc, ◌<◌, ◌==◌, true, false, List, [], ◌∷◌, sym, subst, eqb-true, arith, length}
 use Rattle.cp_tree.specs.declared.declaration.SystemKind.TheVariants as system_kind
-use Rattle.cp_refine.proofs.Words.{Component, at_gate, process_at, State, has_entry, is_member, line_of, OrderlyState}
-use Rattle.cp_meaning.proofs.Frames.{entry-frames}
+use Rattle.cp_refine.proofs.Words.{Component, at_gate, process_at, State, has_entry, is_member, line_of, OrderlyState, entry-frames}
 use Rattle.cp_meaning.proofs.Good.{IsMonitor, or_cases}
 use Rattle.cp_meaning.proofs.Orderly.{LineFits}
 

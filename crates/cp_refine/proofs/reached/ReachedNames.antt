@@ -1,8 +1,7 @@
 -- What a component names in a reached state, but for processes, is of an earlier type.
 use Rattle.std.proofs.Common.{◌≡◌, ◌∙◌, ℕ, zero, suc, ◌<◌, ◌≤◌, ◌==◌, Bool, true, false, if◌then◌else◌, List, [], ◌∷◌, ◌++◌, Option, Some, ap, sym, refl, subst, eqb-true, arith, length}
 use Rattle.cp_tree.specs.declared.declaration.SystemKind.TheVariants as system_kind
-use Rattle.cp_refine.proofs.Words.{Program, first_components, IsReached, IsWellFormed, Gates, reached}
-use Rattle.cp_meaning.specs.Components.{PathStep, Path, step_down, same_path}
+use Rattle.cp_refine.proofs.Words.{Program, first_components, IsReached, IsWellFormed, Gates, reached, PathStep, Path, step_down, same_path}
 use Rattle.cp_meaning.specs.State.{Component, component_at, Content, knows, Holder, in_call, in_component, Place, Call, current, State}
 use Rattle.cp_meaning.specs.Places.{View, content_of, component_with, element_chosen, around_of, component_known, component_by, component_there}
 use Rattle.cp_meaning.proofs.Frames.{system_at}

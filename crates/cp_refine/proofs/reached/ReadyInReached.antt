@@ -1,8 +1,7 @@
 -- What the steps on slots ask of a reached state, in terms of the tables.
 use Rattle.std.proofs.Common.{◌≡◌, ◌≢◌, ◌∙◌, ℕ, ◌<◌, true, false, List, [], ◌∷◌, Some, ap, sym, refl, subst, arith, length}
-use Rattle.cp_refine.proofs.Words.{SystemKind, Program, Tree, IsTyped, ComponentKind, Phase, Machine, is_uninitialised, phase_at, line_of, process_of}
-use Rattle.cp_refine.proofs.Words.{component_there, view_of, is_member, IsAccepted, Layouts, Stands, Ground, SameKind, KindsAgree, ground_of, Simulates}
-use Rattle.cp_refine.proofs.Words.{PhaseIs, HasBegun}
+use Rattle.cp_refine.proofs.Words.{SystemKind, Program, Tree, IsTyped, ComponentKind, Phase, Machine, is_uninitialised, phase_at, line_of, process_of, component_there}
+use Rattle.cp_refine.proofs.Words.{view_of, is_member, IsAccepted, Layouts, Stands, Ground, SameKind, KindsAgree, ground_of, Simulates, PhaseIs, HasBegun}
 use Rattle.cp_tree.specs.declared.declaration.SystemKind.TheVariants as system_kind
 use Rattle.cp_slots.specs.Tables.{Tables, component_at, process_at}
 use Rattle.cp_slots.specs.declared.tables.ComponentKind.TheVariants as kind

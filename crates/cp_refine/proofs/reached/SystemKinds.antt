@@ -1,11 +1,9 @@
 -- The kind of a component is that of its system type, also in each state that is reached.
-use Rattle.std.proofs.Common.{◌≡◌, ◌∙◌, ℕ, zero, suc, ◌<◌, List, [], ◌∷◌, ap, sym, refl, subst, arith, length}
-use Rattle.cp_refine.proofs.Words.{map, SystemKind, Tree, Program, Tables, component_at, Machine, State, system_of, Layouts, SameKind, ground_of, Prepared}
+use Rattle.cp_refine.proofs.Words.{◌≡◌, ◌∙◌, ℕ, zero, suc, ◌<◌, List, [], ◌∷◌, ap, sym, refl, subst, arith, length, map, SystemKind, Tree, Program, Tables, component_at}
+use Rattle.cp_refine.proofs.Words.{Machine, State, system_of, Layouts, SameKind, ground_of, Prepared, Listed, components_of, first_component}
 use Rattle.cp_tree.specs.declared.declaration.SystemKind.TheVariants as system_kind
 use Rattle.cp_slots.specs.declared.tables.ComponentKind.TheVariants as kind
-use Rattle.cp_meaning.specs.Components.{Listed, components_of}
 use Rattle.cp_meaning.specs.State as named
-use Rattle.cp_meaning.specs.Steps.{first_component}
 use Rattle.cp_refine.proofs.HoldsInReached.{HoldsInReached}
 use Rattle.cp_refine.proofs.reached.ReadyInReached.{ReadyInReached}
 

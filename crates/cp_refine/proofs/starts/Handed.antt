@@ -1,12 +1,10 @@
 -- The components after the parameters of one are bound: that one has them, and all others are as they were.
 use Rattle.std.proofs.Common.{◌≡◌, ◌≢◌, ◌∙◌, ℕ, zero, suc, ◌+◌, ◌<◌, ◌≤◌, ◌⊎◌, inl, inr, List, [], ◌++◌, Option, Some, None, ap, sym, refl, subst, arith, length, length-set}
-use Rattle.cp_refine.proofs.Words.{pos, slice_index_or, slice_set, Program, Argument, IsTyped, component_at, system_at, Bound, Permanent, Memory, Machine}
-use Rattle.cp_refine.proofs.Words.{phase_at, Name, Ty, queue_type, Value, Choice, part_at, Parameter, View, content_of, value_held, environment_of, value_at}
-use Rattle.cp_refine.proofs.Words.{parameter_variables, chosen_at, Ground, AreHanded, AreDifferent, content_second}
+use Rattle.cp_refine.proofs.Words.{pos, slice_index_or, slice_set, Program, Argument, IsTyped, component_at, system_at, Bound, Permanent, Memory, Machine, phase_at, Name}
+use Rattle.cp_refine.proofs.Words.{Ty, queue_type, Value, Choice, part_at, Parameter, View, content_of, value_held, environment_of, value_at, parameter_variables}
+use Rattle.cp_refine.proofs.Words.{chosen_at, Ground, AreHanded, AreDifferent, content_second, cells_of, Layouts, SystemLayout, look, SystemParametersAre}
 use Rattle.cp_meaning.specs.State as named
 use Rattle.cp_meaning.specs.State.{Holder, in_call, in_component, Place, Content, knows, Environment, Component, no_component, ComponentStatus, State}
-use Rattle.cp_resolved.specs.Layouts.{cells_of, Layouts, SystemLayout, look}
-use Rattle.cp_resolved.specs.Resolved.{SystemParametersAre}
 use Rattle.cp_refine.specs.Represents.{LiesAt, BeginsAt, PlaceAt, PhaseIs, HasBegun, ComponentIs, all_permanents, Represents}
 use Rattle.cp_refine.proofs.starts.Handing.{CanHand, Hands, handed_memory, handed_bindings, hands_all, variables_handed, parts_handed, others_handed, not_found}
 use Rattle.cp_refine.proofs.control.Moving.{set_here, set_there, same_or_other}

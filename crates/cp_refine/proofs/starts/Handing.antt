@@ -1,11 +1,10 @@
 -- The parameters of a component are bound: those with values lie in its permanent cells, and those that are components have their numbers.
 use Rattle.std.proofs.Common.{◌≡◌, ◌≢◌, ◌∙◌, ℕ, ◌+◌, ◌^◌, ◌<◌, ◌≤◌, ◌⊎◌, inl, inr, Bool, true, false, if◌then◌else◌, List, [], ◌∷◌, ◌++◌, Option, Some, None, ap, sym, refl, subst, arith, length, length-set}
-use Rattle.cp_refine.proofs.Words.{pos, slice_index_or, bytes_eq-Decides, Argument, Bound, Permanent, Local, Memory, onward, Name, same_name, Ty}
-use Rattle.cp_refine.proofs.Words.{component_of, Value, Parameter, Content, holds, refers, knows, Environment, content_of, value_held, parameter_variables}
-use Rattle.cp_refine.proofs.Words.{HasType, Few, IsOther, AreDifferent, LiesAt, content_second, onward_is}
+use Rattle.cp_refine.proofs.Words.{pos, slice_index_or, bytes_eq-Decides, Argument, Bound, Permanent, Local, Memory, onward, Name, same_name, Ty, component_of, Value}
+use Rattle.cp_refine.proofs.Words.{Parameter, Content, holds, refers, knows, Environment, content_of, value_held, parameter_variables, HasType, Few, IsOther}
+use Rattle.cp_refine.proofs.Words.{AreDifferent, LiesAt, content_second, onward_is, cells_of, SystemLayout, look}
 use Rattle.cp_store.specs.declared.argument.Bound.TheVariants.{Copy, Reference, Component}
 use Rattle.cp_store.specs.Arguments.{put_value, bound_in_component, put_binding, bindings_after}
-use Rattle.cp_resolved.specs.Layouts.{cells_of, SystemLayout, look}
 use Rattle.cp_resolved.specs.Resolved.{AreApart, SystemParameterIs, SystemParametersAre}
 use Rattle.cp_refine.specs.Given.{IsValue, Keeps, IsApartFrom, IsOutside, IsHanded, AreHanded}
 use Rattle.cp_refine.proofs.control.Moving.{set_here, set_there}

@@ -1,15 +1,13 @@
 -- The step with which the initial statement of a class or monitor ends: the caller goes on, and the component is initialised.
-use Rattle.std.proofs.Common.{◌≡◌, ◌∙◌, ℕ, ◌^◌, ◌<◌, ◌==◌, true, false, List, ◌∷◌, None, ap, sym, refl, subst, length}
-use Rattle.cp_refine.proofs.Words.{◌&&◌, ◌||◌, not, slice_set, Program, ComponentKind, component_at, Frame, Entry, InitEnd, Phase, StackFits, ThreadFits}
-use Rattle.cp_refine.proofs.Words.{Machine, Thread, is_uninitialised, phase_at, thread_at, with_thread, take_top, step_at, view_of, step_of, settled, Layouts}
-use Rattle.cp_refine.proofs.Words.{RoutineIs, Ground}
+use Rattle.cp_refine.proofs.Words.{◌≡◌, ◌∙◌, ℕ, ◌^◌, ◌<◌, ◌==◌, true, false, List, ◌∷◌, None, ap, sym, refl, subst, length, ◌&&◌, ◌||◌, not, slice_set, Program}
+use Rattle.cp_refine.proofs.Words.{ComponentKind, component_at, Frame, Entry, InitEnd, Phase, StackFits, ThreadFits, Machine, Thread, is_uninitialised, phase_at}
+use Rattle.cp_refine.proofs.Words.{thread_at, with_thread, take_top, step_at, view_of, step_of, settled, Layouts, RoutineIs, Ground, takes, finished}
 use Rattle.cp_slots.specs.declared.tables.ComponentKind.TheVariants as kind
 use Rattle.cp_machine.specs.declared.process.Status.TheVariants as status
 use Rattle.cp_machine.specs.declared.state.Phase.TheVariants as phase
 use Rattle.cp_machine.specs.Calls as calls
 use Rattle.cp_meaning.specs.State as named
 use Rattle.cp_meaning.specs.State.{ready, ComponentStatus, uninitialised, initialised, CallKind, Call, callers, Item, init_end, Process, State, has_entry, is_entry_kind, waits_at}
-use Rattle.cp_meaning.specs.LocalRules.{takes, finished}
 use Rattle.cp_refine.specs.Represents.{StackIs, StatusIs, ProcessIs, PhaseIs, HasBegun, Runs, CallsHold, MonitorIs, frames_of, own_memory, Represents}
 use Rattle.cp_refine.proofs.control.Control.{StepIs}
 use Rattle.cp_refine.proofs.calls.GivenUp.{closed_calls}

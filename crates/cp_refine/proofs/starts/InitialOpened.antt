@@ -1,14 +1,12 @@
 -- The initial statement of a class or monitor begins: its frame stands above those of its callers, and its end is that of an initial statement.
-use Rattle.std.proofs.Common.{◌≡◌, ◌∙◌, ℕ, ◌+◌, ◌<◌, ◌≤◌, List, [], ◌∷◌, ◌++◌, None, ap, sym, refl, subst, arith, length}
-use Rattle.cp_refine.proofs.Words.{pos, slice_index_or, slice_set, get_or_append_left, length-append, Program, Argument, component_at, routine_at, Bound}
-use Rattle.cp_refine.proofs.Words.{Permanent, Local, Frame, Memory, Entry, InitEnd, frame_behind, size_of, Machine, Thread, thread_at, with_thread, rest_of}
-use Rattle.cp_refine.proofs.Words.{Name, Ty, Value, Parameter, RoutineMeaning, system_of, items_of_all, Layouts, here, cell_named, first_values}
-use Rattle.cp_refine.proofs.Words.{initial_meaning, Ground, IsValue, Keeps, GivesValue, IsHanded, AreHanded, AreBound, ItemsAre}
+use Rattle.cp_refine.proofs.Words.{◌≡◌, ◌∙◌, ℕ, ◌+◌, ◌<◌, ◌≤◌, List, [], ◌∷◌, ◌++◌, None, ap, sym, refl, subst, arith, length, pos, slice_index_or, slice_set}
+use Rattle.cp_refine.proofs.Words.{get_or_append_left, length-append, Program, Argument, component_at, routine_at, Bound, Permanent, Local, Frame, Memory, Entry, InitEnd}
+use Rattle.cp_refine.proofs.Words.{frame_behind, size_of, Machine, Thread, thread_at, with_thread, rest_of, Name, Ty, Value, Parameter, RoutineMeaning, system_of}
+use Rattle.cp_refine.proofs.Words.{items_of_all, Layouts, here, cell_named, first_values, initial_meaning, Ground, IsValue, Keeps, GivesValue, IsHanded, AreHanded}
+use Rattle.cp_refine.proofs.Words.{AreBound, ItemsAre, memory_at, frame_opened, StackIs, StatusIs, ProcessIs, CallIs, CallsHold, frames_of, own_memory, Represents}
 use Rattle.cp_store.specs.declared.argument.Bound.TheVariants.{Copy, Reference, Component}
-use Rattle.cp_machine.specs.Memory.{memory_at, frame_opened}
 use Rattle.cp_meaning.specs.State as named
 use Rattle.cp_meaning.specs.State.{Content, holds, knows, Environment, ready, initial_statement, Call, Item, init_end, Process, State}
-use Rattle.cp_refine.specs.Represents.{StackIs, StatusIs, ProcessIs, CallIs, CallsHold, frames_of, own_memory, Represents}
 use Rattle.cp_refine.proofs.calls.Calling.{CanCall}
 use Rattle.cp_refine.proofs.control.Control.{Goes}
 use Rattle.cp_refine.proofs.calls.FramesBelow.{lie_lower, frames_lie, calls_below}

@@ -1,11 +1,11 @@
 -- The whole step that starts a class or monitor: its parameters are bound, and its initial statement is executed.
-use Rattle.std.proofs.Common.{◌≡◌, ◌∙◌, ℕ, ◌<◌, Bool, true, false, if◌then◌else◌, List, ◌++◌, Option, ap, sym, refl, subst, arith, length}
-use Rattle.cp_refine.proofs.Words.{ℤ, Result, Ok, Err, map, replicate, slice_index, slice_set, SystemKind, Program, Start, Argument, ComponentPlace}
-use Rattle.cp_refine.proofs.Words.{ComponentKind, component_at, item_at, routine_at, system_at, Bound, bound_in_component, bindings_after, Memory, nowhere}
-use Rattle.cp_refine.proofs.Words.{Entry, InitEnd, Phase, frame_behind, rest_of, step_at, Parameter, system_of, View, Target, component_there, Stepped}
-use Rattle.cp_refine.proofs.Words.{target_value, at_designator, view_of, step_of, settled, Layouts, initial_meaning, Ground, AreHanded, BoundsAgree}
-use Rattle.cp_refine.proofs.Words.{ComponentAgrees, SameKind, KindsAgree, PhaseIs, HasBegun, MonitorIs, frames_of, Represents}
-use Rattle.std.proofs.lemmas.List.{length-append, length-replicate}
+use Rattle.cp_refine.proofs.Words.{◌≡◌, ◌∙◌, ℕ, ◌<◌, Bool, true, false, if◌then◌else◌, List, ◌++◌, Option, ap, sym, refl, subst, arith, length, ℤ, Result, Ok, Err, map}
+use Rattle.cp_refine.proofs.Words.{replicate, slice_index, slice_set, SystemKind, Program, Start, Argument, ComponentPlace, ComponentKind, component_at, item_at}
+use Rattle.cp_refine.proofs.Words.{routine_at, system_at, Bound, bound_in_component, bindings_after, Memory, nowhere, Entry, InitEnd, Phase, frame_behind, rest_of}
+use Rattle.cp_refine.proofs.Words.{step_at, Parameter, system_of, View, Target, component_there, Stepped, target_value, at_designator, view_of, step_of, settled, Layouts}
+use Rattle.cp_refine.proofs.Words.{initial_meaning, Ground, AreHanded, BoundsAgree, ComponentAgrees, SameKind, KindsAgree, PhaseIs, HasBegun, MonitorIs, frames_of}
+use Rattle.cp_refine.proofs.Words.{Represents, length-append, length-replicate, Machine, Thread, no_thread, thread_at, phase_at, with_phase, with_bindings, with_thread}
+use Rattle.cp_refine.proofs.Words.{Outcome, ◌>>=◌, init_twice, Environment, ComponentStatus, uninitialised, initialising, initialised, Item, start_item, Process, State}
 use Rattle.cp_tree.specs.declared.declaration.SystemKind.TheVariants as system_kind
 use Rattle.cp_slots.specs.declared.item.Action.TheVariants as action
 use Rattle.cp_slots.specs.declared.tables.ComponentKind.TheVariants as kind
@@ -15,12 +15,9 @@ use Rattle.cp_store.specs.declared.error.ErrorName.TheVariants as error
 use Rattle.cp_machine.specs.declared.state.Phase.TheVariants as phase
 use Rattle.cp_machine.specs.Calls as calls
 use Rattle.cp_machine.specs.Machine as slot_machine
-use Rattle.cp_machine.specs.Machine.{Machine, Thread, no_thread, thread_at, phase_at, with_phase, with_bindings, with_thread}
 use Rattle.cp_machine.specs.Memory.{memory_at, component_of, arguments_of, with_memory, parameters_bound}
 use Rattle.cp_machine.specs.Statements as statements
-use Rattle.cp_meaning.specs.Outcome.{Outcome, ◌>>=◌, init_twice}
 use Rattle.cp_meaning.specs.State as named
-use Rattle.cp_meaning.specs.State.{Environment, ComponentStatus, uninitialised, initialising, initialised, Item, start_item, Process, State}
 use Rattle.cp_meaning.specs.Calls.{bound, initial, is_uninitialised, initialised_in, started_as, started_at}
 use Rattle.cp_refine.proofs.assignments.Assigning.{set_set}
 use Rattle.cp_refine.proofs.calls.Calling.{CanCall}

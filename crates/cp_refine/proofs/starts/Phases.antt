@@ -1,14 +1,12 @@
 -- A class or monitor goes on to another phase: its initial statement begins or has ended.
 use Rattle.std.proofs.Common.{◌≡◌, ◌≢◌, ◌∙◌, ℕ, ◌+◌, ◌<◌, ◌⊎◌, inl, inr, List, ap, sym, refl, subst, arith, length, length-set}
-use Rattle.cp_refine.proofs.Words.{Program, ComponentKind, component_at, Permanent, Phase, View, content_of, value_held, environment_of, value_at, part_at}
-use Rattle.cp_refine.proofs.Words.{Layouts, Ground}
+use Rattle.cp_refine.proofs.Words.{Program, ComponentKind, component_at, Permanent, Phase, View, content_of, value_held, environment_of, value_at, part_at, Layouts}
+use Rattle.cp_refine.proofs.Words.{Ground, Machine, phase_at, with_phase, LiesAt, PhaseIs, HasBegun, ComponentIs, MonitorIs, all_permanents, Represents}
 use Rattle.cp_slots.specs.declared.tables.ComponentKind.TheVariants as kind
 use Rattle.cp_machine.specs.declared.state.Phase.TheVariants as phase
-use Rattle.cp_machine.specs.Machine.{Machine, phase_at, with_phase}
 use Rattle.cp_meaning.specs.State as named
 use Rattle.cp_meaning.specs.State.{Holder, in_call, in_component, Place, Environment, Component, no_component, ComponentStatus, uninitialised, State}
 use Rattle.cp_meaning.specs.Calls.{with_status}
-use Rattle.cp_refine.specs.Represents.{LiesAt, PhaseIs, HasBegun, ComponentIs, MonitorIs, all_permanents, Represents}
 use Rattle.cp_refine.proofs.control.Moving.{set_here, set_there, same_or_other}
 
 module _ (g : Ground) (p : Program) (l : Layouts) (s : State) (m : Machine) (rep : Represents g p l s m) (n : ℕ) (there : n < length s.components) (phases : n < length m.phases) (u : ComponentStatus) (f : Phase)

@@ -1,9 +1,10 @@
 -- The whole step that starts a process: the component's place first, then the arguments, and last whether it was started before.
 use Rattle.std.proofs.Common.{◌≡◌, ◌≢◌, ◌∙◌, ℕ, zero, suc, ◌<◌, ◌==◌, ◌⊎◌, inl, inr, if◌then◌else◌, List, [], ◌∷◌, ◌++◌, Option, Some, None, ap, sym, refl, subst, arith, length, length-set}
-use Rattle.cp_refine.proofs.Words.{ℤ, Result, Ok, Err, map, slice_index, slice_set, Global, Vec, SystemKind, Program, Start, Action, Argument, ComponentPlace}
-use Rattle.cp_refine.proofs.Words.{Bound, Address, bound_in_component, bindings_after, Memory, Entry, rest_of, step_at, Parameter, system_of, View, Target}
-use Rattle.cp_refine.proofs.Words.{component_there, Doing, starts, Stepped, after, process_of, target_value, at_designator, view_of, step_of, settled}
-use Rattle.cp_refine.proofs.Words.{Layouts, Ground, AreHanded, BoundsAgree, ComponentAgrees, SameKind, KindsAgree, StatusIs, Represents}
+use Rattle.cp_refine.proofs.Words.{ℤ, Result, Ok, Err, map, slice_index, slice_set, Global, Vec, SystemKind, Program, Start, Action, Argument, ComponentPlace, Bound}
+use Rattle.cp_refine.proofs.Words.{Address, bound_in_component, bindings_after, Memory, Entry, rest_of, step_at, Parameter, system_of, View, Target, component_there}
+use Rattle.cp_refine.proofs.Words.{Doing, starts, Stepped, after, process_of, target_value, at_designator, view_of, step_of, settled, Layouts, Ground, AreHanded}
+use Rattle.cp_refine.proofs.Words.{BoundsAgree, ComponentAgrees, SameKind, KindsAgree, StatusIs, Represents, Outcome, ◌>>=◌, init_twice, Environment, Item, start_item}
+use Rattle.cp_refine.proofs.Words.{unstarted, ready, at_gate, delayed, ended, Status, Process, State, bound, with_items, with_move, started_as, started_at}
 use Rattle.cp_tree.specs.declared.declaration.SystemKind.TheVariants as system_kind
 use Rattle.cp_slots.specs.declared.item.Action.TheVariants as action
 use Rattle.cp_slots.specs.declared.tables.ComponentKind.TheVariants as kind
@@ -19,11 +20,8 @@ use Rattle.cp_machine.specs.Calls as calls
 use Rattle.cp_machine.specs.Machine.{Machine, Thread, no_thread, thread_at, is_unstarted, with_stack, with_status, with_bindings}
 use Rattle.cp_machine.specs.Memory.{memory_at, component_of, arguments_of, with_memory, parameters_bound}
 use Rattle.cp_machine.specs.Statements as statements
-use Rattle.cp_meaning.specs.Outcome.{Outcome, ◌>>=◌, init_twice}
 use Rattle.cp_meaning.specs.State as named
-use Rattle.cp_meaning.specs.State.{Environment, Item, start_item, unstarted, ready, at_gate, delayed, ended, Status, Process, State}
 use Rattle.cp_meaning.specs.Kernel as meaning
-use Rattle.cp_meaning.specs.Calls.{bound, with_items, with_move, started_as, started_at}
 use Rattle.cp_refine.proofs.assignments.Assigning.{set_set}
 use Rattle.cp_refine.proofs.starts.Begun.{CanBegin}
 use Rattle.cp_refine.proofs.starts.BegunProcess.{state_begun, process_begun}

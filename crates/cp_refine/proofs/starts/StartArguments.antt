@@ -1,23 +1,20 @@
 -- What the arguments of a start give: values, and components.
 use Rattle.std.proofs.Common.{◌≡◌, ◌∙◌, ℕ, Bool, true, false, if◌then◌else◌, List, [], ◌∷◌, Some, ap, sym, refl, subst, length}
-use Rattle.cp_refine.proofs.Words.{map, Result, Ok, Err, ℤ, Expression, Expressions, no_expressions, more_expressions, Designator, Tables, Argument}
-use Rattle.cp_refine.proofs.Words.{ArgumentValue, Bound, Frame, Memory, then_with, ranged, Name, Outcome, ◌>>=◌, Parameter, Content, holds, refers, knows}
-use Rattle.cp_refine.proofs.Words.{Environment, View, Target, component_there, value_at, target_value, variable_in, value, expression_calls}
-use Rattle.cp_refine.proofs.Words.{expressions_calls, Layouts, Here, cells_of, Sees, TargetAgrees, Address, SetValue, Value, checked, plain_value, plain_set}
-use Rattle.cp_refine.proofs.Words.{plain_address, PlaceAt, BoundsAgree, ComponentAgrees, IsOutside, IsHanded, AreHanded, error_of, AreKept}
+use Rattle.cp_refine.proofs.Words.{map, Result, Ok, Err, ℤ, Expression, Expressions, no_expressions, more_expressions, Designator, Tables, Argument, ArgumentValue, Bound}
+use Rattle.cp_refine.proofs.Words.{Frame, Memory, then_with, ranged, Name, Outcome, ◌>>=◌, Parameter, Content, holds, refers, knows, Environment, View, Target}
+use Rattle.cp_refine.proofs.Words.{component_there, value_at, target_value, variable_in, value, expression_calls, expressions_calls, Layouts, Here, cells_of, Sees}
+use Rattle.cp_refine.proofs.Words.{TargetAgrees, Address, SetValue, Value, checked, plain_value, plain_set, plain_address, PlaceAt, BoundsAgree, ComponentAgrees}
+use Rattle.cp_refine.proofs.Words.{IsOutside, IsHanded, AreHanded, error_of, AreKept, bound_at, bounds_at, Ty, ordinal, set_over, array_over, record_with, component_of}
+use Rattle.cp_refine.proofs.Words.{natural_of, Form, as_ordinal, as_set, as_place, as_component, Formed, expression_form, ValueGiven, GivenBy, IsGiven, AreGiven}
 use Rattle.std.proofs.lemmas.Bool.{eq-eqb}
 use Rattle.cp_slots.specs.Code as code
 use Rattle.cp_slots.specs.declared.place.ArgumentValue.TheVariants as value_of
 use Rattle.cp_store.specs.declared.argument.Bound.TheVariants.{Component, Scalar, Set, Copy, Reference}
 use Rattle.cp_store.specs.declared.error.ErrorName as slots
-use Rattle.cp_store.specs.Arguments.{bound_at, bounds_at}
 use Rattle.cp_store.specs.Components.{component_at}
 use Rattle.cp_store.specs.Sets as sets
-use Rattle.cp_meaning.specs.Types.{Ty, ordinal, set_over, array_over, record_with, component_of, natural_of}
 use Rattle.cp_meaning.specs.State as named
 use Rattle.cp_meaning.specs.Calls.{of_system, knows_of, refers_to, bound_variable, bound_value, bound_argument, bound}
-use Rattle.cp_resolved.specs.Compiled.{Form, as_ordinal, as_set, as_place, as_component, Formed, expression_form}
-use Rattle.cp_resolved.specs.Stands.{ValueGiven, GivenBy, IsGiven, AreGiven}
 use Rattle.cp_refine.proofs.assignments.AnyAssignments.{RangeKnown}
 use Rattle.cp_refine.proofs.expressions.Arguments.{ValueAgrees, value_given, first_bound, scalar_bound, set_bound, copy_bound, copy_given, held}
 use Rattle.cp_refine.proofs.expressions.ComponentPlaces.{ComponentsKnown, component_agrees}

@@ -1,17 +1,15 @@
 -- The arguments of a start, one by one: an argument for a component is a name, of a component of the parameter's type.
-use Rattle.std.proofs.Common.{◌≡◌, ◌∙◌, ℕ, Bool, true, false, List, [], ◌∷◌, Some, ap, sym, refl, subst}
-use Rattle.cp_refine.proofs.Words.{map, Result, Ok, Err, Expression, Expressions, more_expressions, Designator, Tables, Argument, ArgumentValue}
-use Rattle.cp_refine.proofs.Words.{ComponentPlace, Copy, Address, Frame, Memory, Name, Outcome, Parameter, View, Target, component_there, target_value}
-use Rattle.cp_refine.proofs.Words.{variable_in, expression_calls, expressions_calls, Layouts, Here, cells_of, Each, ValueGiven, GivenBy, AreGiven, Sees}
-use Rattle.cp_refine.proofs.Words.{ComponentAgrees, IsOutside, AreKept, PlaceAt}
+use Rattle.cp_refine.proofs.Words.{◌≡◌, ◌∙◌, ℕ, Bool, true, false, List, [], ◌∷◌, Some, ap, sym, refl, subst, map, Result, Ok, Err, Expression, Expressions}
+use Rattle.cp_refine.proofs.Words.{more_expressions, Designator, Tables, Argument, ArgumentValue, ComponentPlace, Copy, Address, Frame, Memory, Name, Outcome, Parameter}
+use Rattle.cp_refine.proofs.Words.{View, Target, component_there, target_value, variable_in, expression_calls, expressions_calls, Layouts, Here, cells_of, Each}
+use Rattle.cp_refine.proofs.Words.{ValueGiven, GivenBy, AreGiven, Sees, ComponentAgrees, IsOutside, AreKept, PlaceAt, Ty, ordinal, queue_type, set_over, array_over}
+use Rattle.cp_refine.proofs.Words.{record_with, component_of, Form, as_ordinal, as_set, as_place, as_component, Formed, expression_form}
 use Rattle.cp_slots.specs.Code as code
 use Rattle.cp_slots.specs.Systems.{is_component, HandsOne, Hands, Names}
 use Rattle.cp_slots.specs.declared.place.ArgumentValue.TheVariants as value_of
 use Rattle.cp_store.specs.declared.error.ErrorName as slots
 use Rattle.cp_store.specs.Components.{component_at}
-use Rattle.cp_meaning.specs.Types.{Ty, ordinal, queue_type, set_over, array_over, record_with, component_of}
 use Rattle.cp_meaning.specs.State as named
-use Rattle.cp_resolved.specs.Compiled.{Form, as_ordinal, as_set, as_place, as_component, Formed, expression_form}
 use Rattle.cp_resolved.specs.Headed.{HandedBy, AreHanded}
 use Rattle.cp_resolved.specs.Used.{IsUsed, AreUsed}
 use Rattle.cp_refine.specs.StatesKnown.{IsHandedSo, AreHandedSo}

@@ -1,7 +1,6 @@
 -- A component that is started can be handed its parameters: they lie in its own cells, apart from all others.
-use Rattle.cp_refine.proofs.Words.{◌≡◌, ◌∙◌, ℕ, ◌<◌, true, false, List, ◌∷◌, sym, refl, arith, length, Tree, Expressions, more_expressions, Tables}
-use Rattle.cp_refine.proofs.Words.{component_at, Frame, MachineFits, Machine, memory_at, Parameter, View, State, system_of, queue_type, Layouts, free_part}
-use Rattle.cp_refine.proofs.Words.{ground_of, Prepared, AreHandedSo}
+use Rattle.cp_refine.proofs.Words.{◌≡◌, ◌∙◌, ℕ, ◌<◌, true, false, List, ◌∷◌, sym, refl, arith, length, Tree, Expressions, more_expressions, Tables, component_at, Frame}
+use Rattle.cp_refine.proofs.Words.{MachineFits, Machine, memory_at, Parameter, View, State, system_of, queue_type, Layouts, free_part, ground_of, Prepared, AreHandedSo}
 use Rattle.cp_refine.specs.Parameters.{HaveTypes}
 use Rattle.cp_refine.proofs.expressions.DesignatedTypes.{range_known}
 use Rattle.cp_refine.proofs.steps.Executed.{systems_stand, few_permanents, few_cells, few_references}

@@ -1,23 +1,20 @@
 -- What a process starts next in a reached state: its arguments for components are of the parameters' types, and what is copied lies outside the cells of the
 -- component that is started.
-use Rattle.std.proofs.Common.{◌≡◌, ◌∙◌, ℕ, ◌<◌, ◌≤◌, List, [], ◌∷◌, ◌++◌, length, Option, Some, ap, sym, refl, subst}
+use Rattle.cp_refine.proofs.Words.{◌≡◌, ◌∙◌, ℕ, ◌<◌, ◌≤◌, List, [], ◌∷◌, ◌++◌, length, Option, Some, ap, sym, refl, subst, IsRead, Designator, designator, init, Program}
+use Rattle.cp_refine.proofs.Words.{Start, Statement, Tree, plain, laid, Argument, ComponentPlace, ActionFits, CallFits, Tables, component_at, item_at, routine_at}
+use Rattle.cp_refine.proofs.Words.{system_at, Frame, Entry, Rest, Successor, Return, InitEnd, Machine, thread_at, IsAccepted, well_formed, RoutineMeaning, target_value}
+use Rattle.cp_refine.proofs.Words.{designator_calls, expressions_calls, Name, View, Target, component_there, is_ready, Scope, local_variable, find, Gates, Item}
+use Rattle.cp_refine.proofs.Words.{start_item, return, init_end, end, ready, State, current, view_of, program_system, system_of, Ty, a_component, designator_form}
+use Rattle.cp_refine.proofs.Words.{tokens_of, Here, here, Layouts, SystemIs, Ground, layouts_of, placed_law, ItemStands, ground_of, Simulates, Prepared, StackIs}
+use Rattle.cp_refine.proofs.Words.{frames_of, Traits, scope_of, body_of, RoutinesKnown, ItemsFit, ActionNames, Hands, IsOf, Names, StartNames, meaning_at}
 use Rattle.std.specs.Global.{Global}
 use Rattle.std.specs.Prelude.{map, Ok, Vec}
-use Rattle.cp_refine.proofs.Words.{IsRead, Designator, designator, init, Program, Start, Statement, Tree, plain, laid, Argument, ComponentPlace, ActionFits}
-use Rattle.cp_refine.proofs.Words.{CallFits, Tables, component_at, item_at, routine_at, system_at, Frame, Entry, Rest, Successor, Return, InitEnd, Machine}
-use Rattle.cp_refine.proofs.Words.{thread_at, IsAccepted, well_formed, RoutineMeaning, target_value, designator_calls, expressions_calls, Name, View, Target}
-use Rattle.cp_refine.proofs.Words.{component_there, is_ready, Scope, local_variable, find, Gates, Item, start_item, return, init_end, end, ready, State}
-use Rattle.cp_refine.proofs.Words.{current, view_of, program_system, system_of, Ty, a_component, designator_form, tokens_of, Here, here, Layouts, SystemIs}
-use Rattle.cp_refine.proofs.Words.{Ground, layouts_of, placed_law, ItemStands, ground_of, Simulates, Prepared, StackIs, frames_of, Traits, scope_of, body_of}
-use Rattle.cp_refine.proofs.Words.{RoutinesKnown, ItemsFit}
 use Rattle.cp_slots.specs.Code as code
 use Rattle.cp_slots.specs.declared.item.Action.TheVariants as action
-use Rattle.cp_slots.specs.Systems.{ActionNames, Hands, IsOf, Names, StartNames}
 use Rattle.cp_machine.specs.Memory.{memory_at, component_of}
 use Rattle.cp_meaning.specs.State as named
 use Rattle.cp_resolved.specs.FormedStatements.{StartFormed, StatementFormed}
 use Rattle.cp_resolved.specs.Headed.{EntranceFits}
-use Rattle.cp_resolved.specs.Openings.{meaning_at}
 use Rattle.cp_resolved.proofs.declarations.FramedOfTrees.{accepted_framed}
 use Rattle.cp_resolved.proofs.systems.HandedOfTrees.{entrance_fits}
 use Rattle.cp_resolved.proofs.statements.InitialsKnown.{formed_somewhere, no_local}

@@ -1,13 +1,12 @@
 -- A start leads to a component of an earlier system type than the one that is executed, and nothing that a name designates lies in its cells.
 use Rattle.std.proofs.Common.{◌≡◌, ◌≢◌, ◌∙◌, ℕ, ◌+◌, ◌<◌, ◌≤◌, ◌⊎◌, inl, inr, Bool, true, false, if◌then◌else◌, List, [], ◌∷◌, ◌++◌, length, Option, Some, None, Ok, ap, sym, refl, subst, arith}
 use Rattle.std.proofs.lemmas.Bool.{eq-eqb}
-use Rattle.cp_refine.proofs.Words.{Identifier, Tree, Program, Designator, designator, Selectors, Tables, component_at, system_at, Copy, Address, Permanent}
-use Rattle.cp_refine.proofs.Words.{Frame, MachineFits, Machine, thread_at, Reaches, Name, same_name, Parameter, target_value, Meaning, local_variable}
-use Rattle.cp_refine.proofs.Words.{permanent_variable, find, Holder, in_call, in_component, Place, State, current, parameter_variables, view_of, system_of}
-use Rattle.cp_refine.proofs.Words.{Ty, array_over, component_of, Choice, a_component, designator_form, chosen_at, cells_of, Here, here, is_parameter, Layouts}
-use Rattle.cp_refine.proofs.Words.{look, SystemIs, NamesKnown, IsOutside, ground_of, Prepared}
+use Rattle.cp_refine.proofs.Words.{Identifier, Tree, Program, Designator, designator, Selectors, Tables, component_at, system_at, Copy, Address, Permanent, Frame}
+use Rattle.cp_refine.proofs.Words.{MachineFits, Machine, thread_at, Reaches, Name, same_name, Parameter, target_value, Meaning, local_variable, permanent_variable, find}
+use Rattle.cp_refine.proofs.Words.{Holder, in_call, in_component, Place, State, current, parameter_variables, view_of, system_of, Ty, array_over, component_of, Choice}
+use Rattle.cp_refine.proofs.Words.{a_component, designator_form, chosen_at, cells_of, Here, here, is_parameter, Layouts, look, SystemIs, NamesKnown, IsOutside, ground_of}
+use Rattle.cp_refine.proofs.Words.{Prepared, PathStep, Path, step_down}
 use Rattle.cp_slots.specs.Code as code
-use Rattle.cp_meaning.specs.Components.{PathStep, Path, step_down}
 use Rattle.cp_meaning.specs.Places.{View, Target, target_meant, content_of, this_component, component_with, element_chosen, around_of, component_known, component_by, component_there}
 use Rattle.cp_meaning.specs.State as named
 use Rattle.cp_meaning.specs.WellFormed.{HasEarlier, IsWellFormed}

@@ -1,8 +1,8 @@
 -- The opening states are related, and what is read of related states is the same.
 use Rattle.std.proofs.Common.{◌≡◌, ◌∙◌, ℕ, ◌+◌, ◌<◌, List, [], Option, Some, None, ap, sym, refl, subst, arith, length}
-use Rattle.cp_refine.proofs.Words.{slice_index_or, SystemKind, Tree, Program, ComponentKind, Tables, component_at, Machine, slots, System, Parameter, Name}
-use Rattle.cp_refine.proofs.Words.{first_gates, Gates, State, opening, first_components, parameter_variables, at_first, Ty, Layouts, look, Ground, CanGo}
-use Rattle.cp_refine.proofs.Words.{LooksAlike, ground_of, Simulates, Prepared, PendingIs}
+use Rattle.cp_refine.proofs.Words.{slice_index_or, SystemKind, Tree, Program, ComponentKind, Tables, component_at, Machine, slots, System, Parameter, Name, first_gates}
+use Rattle.cp_refine.proofs.Words.{Gates, State, opening, first_components, parameter_variables, at_first, Ty, Layouts, look, Ground, CanGo, LooksAlike, ground_of}
+use Rattle.cp_refine.proofs.Words.{Simulates, Prepared, PendingIs, monitors_of, monitors_from}
 use Rattle.cp_tree.specs.declared.declaration.SystemKind.TheVariants as system_kind
 use Rattle.cp_slots.specs.declared.tables.ComponentKind.TheVariants as kind
 use Rattle.cp_slots.specs.Fits.{KindFits}
@@ -12,7 +12,6 @@ use Rattle.cp_machine.proofs.rooms.OpeningFits.{still_fits, restatused}
 use Rattle.cp_machine.proofs.lines.OpeningLines.{opening_lines}
 use Rattle.cp_machine.proofs.frames.ReachingKept.{opening_reaches}
 use Rattle.cp_meaning.specs.Readings as readings
-use Rattle.cp_meaning.specs.Readings.{monitors_of, monitors_from}
 use Rattle.cp_meaning.specs.State as named
 use Rattle.cp_meaning.specs.Systems.{SystemMeaning, declared, own_meaning, or_own, system_of, program_system}
 use Rattle.cp_resolved.specs.Resolved as resolved

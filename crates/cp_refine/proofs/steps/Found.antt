@@ -1,12 +1,10 @@
 -- The component that the place of an item leads to is one of the system type that the item wants.
-use Rattle.cp_refine.proofs.Words.{◌≡◌, ℕ, ◌<◌, List, ◌∷◌, ap, subst, length, Ok, ComponentPlace, Names, IsOf, ActionNames, Tables, item_at, routine_at}
-use Rattle.cp_refine.proofs.Words.{Entry, Rest, Reaches}
+use Rattle.cp_refine.proofs.Words.{◌≡◌, ℕ, ◌<◌, List, ◌∷◌, ap, subst, length, Ok, ComponentPlace, Names, IsOf, ActionNames, Tables, item_at, routine_at, Entry, Rest}
+use Rattle.cp_refine.proofs.Words.{Reaches, IsSound, ActionFits, Machine, thread_at, is_ready_status}
 use Rattle.cp_slots.specs.Code as code
 use Rattle.cp_slots.specs.declared.place.ComponentPlace.TheVariants.{Own, Contained, Element, Parameter}
-use Rattle.cp_slots.specs.Fits.{IsSound, ActionFits}
 use Rattle.cp_machine.specs.declared.process.Status.TheVariants as status
 use Rattle.cp_machine.specs.Fits.{EntryFits, StackFits, MachineFits}
-use Rattle.cp_machine.specs.Machine.{Machine, thread_at, is_ready_status}
 use Rattle.cp_machine.specs.Memory.{component_of}
 use Rattle.cp_machine.proofs.parameters.ExecutingAct.{process_finds}
 use Rattle.cp_machine.proofs.rooms.KeepingAct.{action_fits}

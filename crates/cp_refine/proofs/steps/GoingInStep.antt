@@ -1,8 +1,7 @@
 -- The meaning of a program and the slot machine of its tables go in step.
 use Rattle.std.proofs.Common.{◌≡◌, ◌∙◌, ℕ, ◌<◌, true, false, Option, Some, None, ap, sym, refl, arith, length}
-use Rattle.cp_refine.proofs.Words.{Tree, Program, Tables, IsAccepted, slots, System, line_of, Gates, State, is_member, Layouts, Stands, CanGo, CanEnter}
-use Rattle.cp_refine.proofs.Words.{GoInStep, ground_of, Simulates, Prepared, AllKnown}
-use Rattle.cp_slots.specs.Fits.{IsSound}
+use Rattle.cp_refine.proofs.Words.{Tree, Program, Tables, IsAccepted, slots, System, line_of, Gates, State, is_member, Layouts, Stands, CanGo, CanEnter, GoInStep}
+use Rattle.cp_refine.proofs.Words.{ground_of, Simulates, Prepared, AllKnown, IsSound, step_of, line_at, by_step, by_admission, admitted, admitted_to}
 use Rattle.cp_machine.specs.declared.event.Event.TheVariants.{Local}
 use Rattle.cp_machine.specs.Machine.{Machine, is_ready, in_line}
 use Rattle.cp_machine.specs.Machine as slot_machine
@@ -12,9 +11,8 @@ use Rattle.cp_machine.proofs.rooms.KeepingAct.{step_fits}
 use Rattle.cp_machine.proofs.rooms.KernelFits.{admitted_fits}
 use Rattle.cp_machine.proofs.lines.KernelLines.{admitted_lines}
 use Rattle.cp_machine.proofs.LocalReady.{local_ready}
-use Rattle.cp_machine.proofs.frames.ReachingKept.{step_reaches, admitted_reaches}
-use Rattle.cp_machine.proofs.lines.StepLines.{step_lines}
-use Rattle.cp_meaning.specs.Steps.{step_of, line_at, by_step, by_admission, admitted, admitted_to}
+use Rattle.cp_machine.proofs.ReachingKept.{step_reaches, admitted_reaches}
+use Rattle.cp_machine.proofs.StepLines.{step_lines}
 use Rattle.cp_refine.specs.Named as own
 use Rattle.cp_refine.specs.Named.{gates_of, is_some, in_line_of}
 use Rattle.cp_refine.proofs.gates.Admitting.{admits}

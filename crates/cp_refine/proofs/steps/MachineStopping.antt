@@ -1,10 +1,9 @@
 -- After a run error or a full output the machine is as it was.
 use Rattle.std.proofs.Common.{◌≡◌, ℕ, Bool, true, false, if◌then◌else◌, ◌==◌, List, ◌∷◌, Option, Some, None, length, refl}
-use Rattle.cp_refine.proofs.Words.{Result, Ok, Err, ℤ, pos, slice_index_or, int_eq, Tables, item_at, component_at, Action, Argument, ComponentKind, Bound}
-use Rattle.cp_refine.proofs.Words.{Address, Frame, Entry, Rest, Successor, Return}
+use Rattle.cp_refine.proofs.Words.{Result, Ok, Err, ℤ, pos, slice_index_or, int_eq, Tables, item_at, component_at, Action, Argument, ComponentKind, Bound, Address, Frame}
+use Rattle.cp_refine.proofs.Words.{Entry, Rest, Successor, Return, PlaceOrigin, MOST_SHOWN, rest_of, from_end}
 use Rattle.cp_slots.specs.declared.item.Action.TheVariants.{Assign, AssignSet, Copy, If, Case, While, Until, For, Call, Start, Delay, Continue, Display}
 use Rattle.cp_slots.specs.declared.item.Item.{Item}
-use Rattle.cp_slots.specs.declared.place.PlaceOrigin.{PlaceOrigin}
 use Rattle.cp_slots.specs.declared.tables.ComponentKind.TheVariants as kind
 use Rattle.cp_store.specs.declared.error.ErrorName.{ErrorName}
 use Rattle.cp_store.specs.declared.error.ErrorName.TheVariants as error
@@ -12,11 +11,9 @@ use Rattle.cp_store.specs.declared.memory.Address.TheVariants as address
 use Rattle.cp_store.specs.Sets as sets
 use Rattle.cp_store.specs.Values.{is_true, ranged}
 use Rattle.cp_machine.specs.declared.shown.Shown.{Shown}
-use Rattle.cp_machine.specs.declared.state.TheConstants.{MOST_SHOWN}
 use Rattle.cp_machine.specs.Calls as calls
 use Rattle.cp_machine.specs.Machine.{Machine, thread_at, phase_at, is_initialised, is_uninitialised, is_unstarted, with_stack}
 use Rattle.cp_machine.specs.Memory.{value_of, set_of, address_of, component_of, arguments_of}
-use Rattle.cp_machine.specs.Stack.{rest_of, from_end}
 use Rattle.cp_machine.specs.Statements as statements
 use Rattle.cp_machine.specs.Statements.{Stepped, local, fault, with_value}
 use Rattle.cp_machine.specs.Step.{act, take_top, succeeds}

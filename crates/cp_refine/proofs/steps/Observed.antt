@@ -2,12 +2,11 @@
 use Rattle.std.proofs.Common.{◌≡◌, ◌∙◌, ℕ, suc, ◌<◌, ◌==◌, List, [], ◌∷◌, Option, Some, None, ap, sym, refl, subst, arith, length}
 use Rattle.std.specs.Prelude.{◌||◌, eqb, map}
 use Rattle.std.specs.List.{list_any}
-use Rattle.cp_refine.proofs.Words.{Program, component_at, unstarted, ready, at_gate, delayed, ended, Status, Process, State, is_member, line_of, Layouts}
-use Rattle.cp_refine.proofs.Words.{Ground, StatusIs, MonitorIs, PendingIs, Represents}
+use Rattle.cp_refine.proofs.Words.{Program, component_at, unstarted, ready, at_gate, delayed, ended, Status, Process, State, is_member, line_of, Layouts, Ground}
+use Rattle.cp_refine.proofs.Words.{StatusIs, MonitorIs, PendingIs, Represents, LinesFit}
 use Rattle.cp_slots.specs.declared.tables.ComponentKind.TheVariants as kind
 use Rattle.cp_machine.specs.declared.process.Status as slot_status
 use Rattle.cp_machine.specs.declared.process.Status.TheVariants as status
-use Rattle.cp_machine.specs.Fits.{LinesFit}
 use Rattle.cp_machine.specs.Machine as slot_machine
 use Rattle.cp_machine.specs.Machine.{Machine, Thread, thread_at, monitor_at, is_ready_status, is_at_gate, in_line_of}
 use Rattle.cp_meaning.specs.State as named

@@ -1,9 +1,8 @@
 -- The state in which a run begins on names is what the machine begins with.
-use Rattle.std.proofs.Common.{◌≡◌, ◌∙◌, ℕ, zero, suc, ◌+◌, ◌<◌, ◌≤◌, List, [], ◌∷◌, Some, None, ap, sym, refl, subst, arith, length, length-set}
-use Rattle.cp_refine.proofs.Words.{map, replicate, slice_index_or, slice_set, SystemKind, Program, Tree, ComponentKind, IsItself, IsTyped, Permanent, Machine}
-use Rattle.cp_refine.proofs.Words.{Monitor, Thread, no_thread, thread_at, no_monitor, phase_at, unstarted_thread, Name, Ty, Value, queue_value, part_at}
-use Rattle.cp_refine.proofs.Words.{system_of, program_system, View, content_of, value_held, environment_of, value_at, after, begun, first_inside, least_of}
-use Rattle.cp_refine.proofs.Words.{Layouts, look, encode, HasType, Ground, gates_of}
+use Rattle.cp_refine.proofs.Words.{◌≡◌, ◌∙◌, ℕ, zero, suc, ◌+◌, ◌<◌, ◌≤◌, List, [], ◌∷◌, Some, None, ap, sym, refl, subst, arith, length, length-set, map, replicate}
+use Rattle.cp_refine.proofs.Words.{slice_index_or, slice_set, SystemKind, Program, Tree, ComponentKind, IsItself, IsTyped, Permanent, Machine, Monitor, Thread, no_thread}
+use Rattle.cp_refine.proofs.Words.{thread_at, no_monitor, phase_at, unstarted_thread, Name, Ty, Value, queue_value, part_at, system_of, program_system, View, content_of}
+use Rattle.cp_refine.proofs.Words.{value_held, environment_of, value_at, after, begun, first_inside, least_of, Layouts, look, encode, HasType, Ground, gates_of}
 use Rattle.std.proofs.lemmas.List.{get_or-map, length-map}
 use Rattle.cp_tree.specs.declared.declaration.SystemKind.TheVariants as system_kind
 use Rattle.cp_slots.specs.declared.tables.ComponentKind.TheVariants as kind

@@ -6,22 +6,19 @@ use Rattle.cp_tree.specs.Syntax.{Tree, Program, Expressions, no_expressions, mor
 use Rattle.cp_tree.specs.declared.declaration.SystemKind.TheVariants as system_kind
 use Rattle.cp_slots.specs.Code as code
 use Rattle.cp_slots.specs.declared.item.Action.TheVariants as action
-use Rattle.cp_refine.proofs.Words.{Argument, ComponentPlace, Tables, item_at, component_at, routine_at, Entry, MachineFits, Machine, thread_at, Reaches}
-use Rattle.cp_refine.proofs.Words.{step_at, Name, temporary, View, Target, component_there, Parameter, RoutineMeaning, name_of, routine_called, target_value}
-use Rattle.cp_refine.proofs.Words.{designator_calls, expressions_calls, Meaning, routine_meaning, find, Place, Item, statement_item, function_call, State}
-use Rattle.cp_refine.proofs.Words.{has_entry, view_of, step_of, system_of, Ty, a_component, designator_form, Layouts, Here, here, cell_named, Ground}
-use Rattle.cp_refine.proofs.Words.{AreGiven, CallItem, CalleeIs, result_cell, is_free, ComponentAgrees, ground_of, Prepared, AreKept}
+use Rattle.cp_refine.proofs.Words.{Argument, ComponentPlace, Tables, item_at, component_at, routine_at, Entry, MachineFits, Machine, thread_at, Reaches, step_at, Name}
+use Rattle.cp_refine.proofs.Words.{temporary, View, Target, component_there, Parameter, RoutineMeaning, name_of, routine_called, target_value, designator_calls}
+use Rattle.cp_refine.proofs.Words.{expressions_calls, Meaning, routine_meaning, find, Place, Item, statement_item, function_call, State, has_entry, view_of, step_of}
+use Rattle.cp_refine.proofs.Words.{system_of, Ty, a_component, designator_form, Layouts, Here, here, cell_named, Ground, AreGiven, CallItem, CalleeIs, result_cell}
+use Rattle.cp_refine.proofs.Words.{is_free, ComponentAgrees, ground_of, Prepared, AreKept, Outcome, ErrorName, VariablesGiven, CallIsKnown, HaveValues}
 use Rattle.cp_slots.specs.Fits.{ActionFits, CallFits as RoomFits}
 use Rattle.cp_slots.specs.Systems.{ActionNames, CallNames, IsOf}
 use Rattle.cp_slots.specs.declared.tables.ComponentKind.TheVariants as kind
 use Rattle.cp_machine.specs.Memory.{component_of}
 use Rattle.cp_store.specs.declared.error.ErrorName as slots
-use Rattle.cp_meaning.specs.Outcome.{Outcome, ErrorName}
 use Rattle.cp_refine.specs.Followed.{AreArguments, HasEntries, IsCallable, IsCall}
 use Rattle.cp_meaning.specs.State as named
 use Rattle.cp_meaning.specs.Types as types
-use Rattle.cp_refine.specs.ItemsKnown.{VariablesGiven, CallIsKnown}
-use Rattle.cp_refine.specs.Parameters.{HaveValues}
 use Rattle.cp_refine.proofs.calls.CallArguments.{call_component}
 use Rattle.cp_refine.proofs.expressions.Arguments.{ArgumentsKnown, IsNoComponent}
 use Rattle.cp_refine.proofs.calls.CallFitting.{can_call}

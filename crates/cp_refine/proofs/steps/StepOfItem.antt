@@ -1,10 +1,9 @@
 -- The step of a process whose control stack begins with an item, of whatever kind the item is.
-use Rattle.cp_refine.proofs.Words.{◌≡◌, ◌∙◌, ℕ, List, ◌++◌, Option, Some, None, ap, sym, refl, slice_index, Tables, Entry, MachineFits, Machine, thread_at}
-use Rattle.cp_refine.proofs.Words.{Reaches, step_at, name_of, this_component, Item, statement_item, function_call, start_item, until, State, Layouts, Here}
-use Rattle.cp_refine.proofs.Words.{here, Ground, InvokedBy, InvokeKnown, StatementKnown, ItemKnown, ground_of, Prepared, StateKnown}
+use Rattle.cp_refine.proofs.Words.{◌≡◌, ◌∙◌, ℕ, List, ◌++◌, Option, Some, None, ap, sym, refl, slice_index, Tables, Entry, MachineFits, Machine, thread_at, Reaches}
+use Rattle.cp_refine.proofs.Words.{step_at, name_of, this_component, Item, statement_item, function_call, start_item, until, State, Layouts, Here, here, Ground}
+use Rattle.cp_refine.proofs.Words.{InvokedBy, InvokeKnown, StatementKnown, ItemKnown, ground_of, Prepared, StateKnown, view_of, step_of, at_item}
 use Rattle.cp_tree.specs.Syntax.{Tree, Program, Expressions, more_expressions, Designator, Statement, empty, assign, invoke, block, if_then, if_else, case_of, while_do, repeat_until, for_do, cycle, init}
 use Rattle.cp_meaning.specs.Scopes.{Meaning, constant_meaning, type_meaning, local_variable, permanent_variable, routine_meaning, standard_meaning, Standard, delay_procedure, continue_procedure, display_procedure, find}
-use Rattle.cp_meaning.specs.Steps.{view_of, step_of, at_item}
 use Rattle.cp_refine.proofs.control.Control.{Taken, StepIs, empty_step, block_step, scope_is}
 use Rattle.cp_refine.proofs.steps.Going.{Going}
 use Rattle.cp_refine.proofs.HoldsInReached.{HoldsInReached}

@@ -1,7 +1,6 @@
 -- The step of a ready process goes on slots as on names: what it does next is said by its control stack.
-use Rattle.cp_refine.proofs.Words.{◌≡◌, ℕ, List, [], ◌∷◌, ◌++◌, ap, sym, refl, subst, slice_index, Tree, Program, Tables, Entry, Rest, Successor, Return}
-use Rattle.cp_refine.proofs.Words.{InitEnd, MachineFits, Machine, thread_at, Reaches, step_at, Item, State, Layouts, Ground, ground_of, Prepared, StackIs}
-use Rattle.cp_refine.proofs.Words.{StateKnown}
+use Rattle.cp_refine.proofs.Words.{◌≡◌, ℕ, List, [], ◌∷◌, ◌++◌, ap, sym, refl, subst, slice_index, Tree, Program, Tables, Entry, Rest, Successor, Return, InitEnd}
+use Rattle.cp_refine.proofs.Words.{MachineFits, Machine, thread_at, Reaches, step_at, Item, State, Layouts, Ground, ground_of, Prepared, StackIs, StateKnown}
 use Rattle.cp_meaning.specs.State as named
 use Rattle.cp_meaning.specs.Steps.{step_of, at_item, at_items, line_at}
 use Rattle.cp_refine.proofs.control.Control.{StepIs}

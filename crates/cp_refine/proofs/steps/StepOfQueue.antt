@@ -1,21 +1,18 @@
 -- The steps of `delay` and `continue`: they go on slots as on names.
 use Rattle.std.proofs.Common.{◌≡◌, ◌∙◌, ℕ, ◌+◌, ◌<◌, true, List, [], ◌∷◌, ◌++◌, Option, Some, None, ap, sym, refl, subst, length, eq-eqb}
-use Rattle.cp_refine.proofs.Words.{Result, Ok, Err, slice_index, SystemKind, ComponentKind, Tables, component_at, Entry, MachineFits, Machine, thread_at}
-use Rattle.cp_refine.proofs.Words.{Reaches, step_at, Address, Permanent, Name, name_of, target_value, expression_calls, expressions_calls, designator_calls}
-use Rattle.cp_refine.proofs.Words.{Outcome, Target, this_component, value_at, Meaning, standard_meaning, delay_procedure, continue_procedure, find, view_of}
-use Rattle.cp_refine.proofs.Words.{step_of, system_of, Ty, queue_type, Value, queue_value, waiting_in, Layouts, Here, here, as_place, expression_form, Ground}
-use Rattle.cp_refine.proofs.Words.{InvokedBy, QueueItem, result_cell, ResultGoes, memory_at, TargetAgrees, SameKind, ground_of, plain_address, Prepared}
-use Rattle.cp_refine.proofs.Words.{PlaceAt, frames_of}
+use Rattle.cp_refine.proofs.Words.{Result, Ok, Err, slice_index, SystemKind, ComponentKind, Tables, component_at, Entry, MachineFits, Machine, thread_at, Reaches}
+use Rattle.cp_refine.proofs.Words.{step_at, Address, Permanent, Name, name_of, target_value, expression_calls, expressions_calls, designator_calls, Outcome, Target}
+use Rattle.cp_refine.proofs.Words.{this_component, value_at, Meaning, standard_meaning, delay_procedure, continue_procedure, find, view_of, step_of, system_of, Ty}
+use Rattle.cp_refine.proofs.Words.{queue_type, Value, queue_value, waiting_in, Layouts, Here, here, as_place, expression_form, Ground, InvokedBy, QueueItem, result_cell}
+use Rattle.cp_refine.proofs.Words.{ResultGoes, memory_at, TargetAgrees, SameKind, ground_of, plain_address, Prepared, PlaceAt, frames_of, is_delayed_in, QueueKnown}
 use Rattle.cp_tree.specs.declared.declaration.SystemKind.TheVariants as system_kind
 use Rattle.cp_tree.specs.Syntax.{Tree, Program, Expression, Expressions, more_expressions, Designator, invoke}
 use Rattle.cp_slots.specs.declared.tables.ComponentKind.TheVariants as kind
 use Rattle.cp_store.specs.declared.error.ErrorName as slots
 use Rattle.cp_refine.specs.Followed.{IsQueueNamed, WaitsThere}
-use Rattle.cp_meaning.specs.Kernel.{is_delayed_in}
 use Rattle.cp_meaning.specs.State as named
 use Rattle.cp_meaning.specs.State.{Place, in_component, delayed, entry_routine, Call, current, Item, statement_item, State, has_entry}
 use Rattle.cp_slots.specs.Code as code
-use Rattle.cp_refine.specs.ItemsKnown.{QueueKnown}
 use Rattle.cp_refine.proofs.expressions.ComponentsNow.{executed_there, executed_system, current_component}
 use Rattle.cp_refine.proofs.queues.Continuing.{MayContinue}
 use Rattle.cp_refine.proofs.queues.ContinueSteps.{Ends, own_continue, continue_step}

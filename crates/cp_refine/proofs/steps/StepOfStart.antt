@@ -2,23 +2,21 @@
 use Rattle.std.proofs.Common.{◌≡◌, ◌∙◌, ℕ, ◌<◌, true, false, List, [], ◌∷◌, ◌++◌, Option, Some, ap, sym, refl, subst, arith, length}
 use Rattle.std.specs.Global.{Global}
 use Rattle.std.specs.Prelude.{Result, Ok, Err, Vec, map, slice_index}
-use Rattle.cp_refine.proofs.Words.{SystemKind, Tree, Program, Expressions, no_expressions, more_expressions, Start, Argument, ComponentPlace, ComponentKind}
-use Rattle.cp_refine.proofs.Words.{ActionFits, CallFits, Bound, Frame, Entry, MachineFits, Machine, thread_at, Reaches, step_at, bound, Parameter}
-use Rattle.cp_refine.proofs.Words.{target_value, process_of, Name, Outcome, View, Target, component_there, Environment, Item, start_item, State, view_of}
-use Rattle.cp_refine.proofs.Words.{step_of, at_designator, system_of, Layouts, Here, here, SystemIs, initial_meaning, Ground, AreGiven, BoundsAgree}
-use Rattle.cp_refine.proofs.Words.{ComponentAgrees, SameKind, ground_of, Prepared, frames_of, AreHandedSo, StateKnown}
+use Rattle.cp_refine.proofs.Words.{SystemKind, Tree, Program, Expressions, no_expressions, more_expressions, Start, Argument, ComponentPlace, ComponentKind, ActionFits}
+use Rattle.cp_refine.proofs.Words.{CallFits, Bound, Frame, Entry, MachineFits, Machine, thread_at, Reaches, step_at, bound, Parameter, target_value, process_of, Name}
+use Rattle.cp_refine.proofs.Words.{Outcome, View, Target, component_there, Environment, Item, start_item, State, view_of, step_of, at_designator, system_of, Layouts}
+use Rattle.cp_refine.proofs.Words.{Here, here, SystemIs, initial_meaning, Ground, AreGiven, BoundsAgree, ComponentAgrees, SameKind, ground_of, Prepared, frames_of}
+use Rattle.cp_refine.proofs.Words.{AreHandedSo, StateKnown, ActionNames, StartNames, IsOf, HaveTypes}
 use Rattle.cp_tree.specs.declared.declaration.SystemKind.TheVariants as system_kind
 use Rattle.cp_slots.specs.Code as code
 use Rattle.cp_slots.specs.declared.item.Action.TheVariants as action
 use Rattle.cp_slots.specs.declared.tables.ComponentKind.TheVariants as kind
-use Rattle.cp_slots.specs.Systems.{ActionNames, StartNames, IsOf}
 use Rattle.cp_slots.specs.Tables.{Tables, item_at, component_at, process_at, routine_at, system_at}
 use Rattle.cp_store.specs.declared.error.ErrorName as slots
 use Rattle.cp_machine.specs.Memory.{component_of, arguments_of}
 use Rattle.cp_refine.specs.Followed.{AreArguments, IsStartable}
 use Rattle.cp_meaning.specs.State as named
 use Rattle.cp_refine.specs.ItemsKnown.{StartKnown}
-use Rattle.cp_refine.specs.Parameters.{HaveTypes}
 use Rattle.cp_refine.proofs.starts.Begun.{CanBegin}
 use Rattle.cp_refine.proofs.calls.CallFitting.{can_call}
 use Rattle.cp_refine.proofs.expressions.ComponentPlaces.{ComponentsKnown}

@@ -1,11 +1,9 @@
 -- The step of each statement that is no call: it goes on slots as on names.
-use Rattle.cp_refine.proofs.Words.{◌≡◌, ℕ, ◌<◌, List, ◌∷◌, Option, Some, subst, length, slice_index, Identifier, Direction, Tables, Entry, Rest, StackFits}
-use Rattle.cp_refine.proofs.Words.{MachineFits, Machine, thread_at, memory_at, step_at, Base, enumerated, ordinal, standard_meaning, display_procedure, find}
-use Rattle.cp_refine.proofs.Words.{name_of, Item, statement_item, until, State, Layouts, Here, here, as_ordinal, Ground, ground_of, Prepared}
+use Rattle.cp_refine.proofs.Words.{◌≡◌, ℕ, ◌<◌, List, ◌∷◌, Option, Some, subst, length, slice_index, Identifier, Direction, Tables, Entry, Rest, StackFits, MachineFits}
+use Rattle.cp_refine.proofs.Words.{Machine, thread_at, memory_at, step_at, Base, enumerated, ordinal, standard_meaning, display_procedure, find, name_of, Item}
+use Rattle.cp_refine.proofs.Words.{statement_item, until, State, Layouts, Here, here, as_ordinal, Ground, ground_of, Prepared, Bool, view_of, step_of, at_expression}
 use Rattle.cp_tree.specs.Syntax.{Tree, Program, Expression, Expressions, more_expressions, Designator, Statement, assign, invoke, if_then, if_else, case_of, while_do, for_do, Statements, Arms}
-use Rattle.std.specs.Prelude.{Bool}
 use Rattle.cp_slots.specs.Code as code
-use Rattle.cp_meaning.specs.Steps.{view_of, step_of, at_expression}
 use Rattle.cp_refine.specs.ItemsKnown.{AssignKnown, DisplayKnown, HasFewConstants}
 use Rattle.cp_refine.proofs.assignments.AnyAssignments.{assignment_runs}
 use Rattle.cp_refine.proofs.control.Cases.{case_step}

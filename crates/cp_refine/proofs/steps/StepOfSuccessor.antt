@@ -1,7 +1,6 @@
 -- The step of the successor of a value in a `for`, and what a process sees whose next item is none of a list.
-use Rattle.cp_refine.proofs.Words.{◌≡◌, ℕ, List, [], ◌∷◌, ◌++◌, subst, ℤ, slice_index, Tree, Program, Frame, Entry, Successor, StackFits, MachineFits}
-use Rattle.cp_refine.proofs.Words.{Machine, thread_at, memory_at, step_at, Call, Item, State, view_of, step_of, ordinal, Layouts, here, Ground, Tables, Sees}
-use Rattle.cp_refine.proofs.Words.{ground_of, Prepared}
+use Rattle.cp_refine.proofs.Words.{◌≡◌, ℕ, List, [], ◌∷◌, ◌++◌, subst, ℤ, slice_index, Tree, Program, Frame, Entry, Successor, StackFits, MachineFits, Machine, thread_at}
+use Rattle.cp_refine.proofs.Words.{memory_at, step_at, Call, Item, State, view_of, step_of, ordinal, Layouts, here, Ground, Tables, Sees, ground_of, Prepared}
 use Rattle.cp_meaning.specs.State as named
 use Rattle.cp_slots.specs.Code as code
 use Rattle.cp_refine.specs.Represents.{StackIs, CallsHold, own_memory, frames_of, TurnIs}

@@ -1,8 +1,7 @@
 -- After a run error or a full output the state is as it was.
-use Rattle.cp_refine.proofs.Words.{◌≡◌, ℕ, Bool, true, false, ◌==◌, Option, Some, None, length, refl, Ok, Err, Program, Outcome, Environment, Status}
-use Rattle.cp_refine.proofs.Words.{unstarted, ready, process_at, Shown, State, takes, view_of, settled}
+use Rattle.cp_refine.proofs.Words.{◌≡◌, ℕ, Bool, true, false, ◌==◌, Option, Some, None, length, refl, Ok, Err, Program, Outcome, Environment, Status, unstarted, ready}
+use Rattle.cp_refine.proofs.Words.{process_at, Shown, State, takes, view_of, settled, Move, starts, shows, Doing}
 use Rattle.cp_meaning.specs.Kernel.{output_room, kernel_step, starting_as, starting, displaying, process_of}
-use Rattle.cp_meaning.specs.Move.{Move, starts, shows, Doing}
 use Rattle.cp_meaning.specs.Kernel as kernel
 use Rattle.cp_refine.specs.Stopped.{is_stop, StateAsBeforeLaw}
 

@@ -1,6 +1,5 @@
 -- In tables that stand for a tree, components are of its system types, and their names stand for the same in a routine as in its system type.
-use Rattle.std.specs.Prelude.{◌<◌, ◌≤◌, ℕ, length}
-use Rattle.cp_refine.proofs.Words.{Tree, Tables, component_at, program_system, IsFramed, Stands, layouts_of, NamesKnown, ground_of}
+use Rattle.cp_refine.proofs.Words.{◌<◌, ◌≤◌, ℕ, length, Tree, Tables, component_at, program_system, IsFramed, Stands, layouts_of, NamesKnown, ground_of}
 use Rattle.cp_resolved.specs.LayoutsKnow.{IsPlaced}
 use Rattle.cp_resolved.proofs.components.ListedSystems.{systems_within}
 use Rattle.cp_resolved.proofs.components.VisibleComponents.{names_scope, names_parameter, names_variable, names_array}

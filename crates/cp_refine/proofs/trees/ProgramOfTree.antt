@@ -1,13 +1,10 @@
 -- What steps ask of a program, of the layouts of its tree: from what its declarations are.
-use Rattle.cp_refine.proofs.Words.{◌≡◌, false, List, [], ◌∷◌, ◌++◌, IsRead, Tree, plain, laid, Tables, IsAccepted, Variable, Parameter, parameter_variables}
-use Rattle.cp_refine.proofs.Words.{system_of, IsFramed, Each, layouts_of, placed_law}
-use Rattle.cp_resolved.specs.Standing.{IsStandingVariable}
+use Rattle.cp_refine.proofs.Words.{◌≡◌, false, List, [], ◌∷◌, ◌++◌, IsRead, Tree, plain, laid, Tables, IsAccepted, Variable, Parameter, parameter_variables, system_of}
+use Rattle.cp_refine.proofs.Words.{IsFramed, Each, layouts_of, placed_law, IsStandingVariable, resolving_law, HaveTypes}
 use Rattle.cp_resolved.proofs.declarations.FramedOfTrees.{accepted_framed}
 use Rattle.cp_resolved.proofs.systems.PartCells.{accepted_parts, accepted_parts_apart}
-use Rattle.cp_resolved.proofs.Resolving.{resolving_law}
 use Rattle.cp_resolved.proofs.agreeing.ScopesOfTrees.{scopes_law}
 use Rattle.cp_resolved.proofs.declarations.SystemParameters.{accepted_values, accepted_free}
-use Rattle.cp_refine.specs.Parameters.{HaveTypes}
 use Rattle.cp_refine.specs.Prepared.{ProgramKnown, Prepared}
 use Rattle.cp_refine.proofs.trees.NamesOfTree.{components_below, names_known}
 use Rattle.cp_refine.proofs.trees.RoutinesOfTree.{fit_so, result_free, result_simple, parameters_have_values, names_of_parameters, references_closed}

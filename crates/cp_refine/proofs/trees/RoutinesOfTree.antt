@@ -1,8 +1,8 @@
 -- The layouts of the routines of a tree: names, results and parameters have the types that the rules of the language give them.
 use Rattle.std.proofs.Common.{◌≡◌, ℕ, zero, suc, Bool, true, false, if◌then◌else◌, List, [], ◌∷◌, ◌++◌, Option, Some, None, inl, inr, refl, subst}
 use Rattle.std.specs.Prelude.{slice_get}
-use Rattle.cp_refine.proofs.Words.{Tree, Program, Variable, Parameter, Name, parameter_variables, declared, own_meaning, program_system, Range, Ty, ordinal}
-use Rattle.cp_refine.proofs.Words.{look, initial_meaning, Each}
+use Rattle.cp_refine.proofs.Words.{Tree, Program, Variable, Parameter, Name, parameter_variables, declared, own_meaning, program_system, Range, Ty, ordinal, look}
+use Rattle.cp_refine.proofs.Words.{initial_meaning, Each, AreDifferent, HaveValues}
 use Rattle.cp_meaning.specs.Scopes.{predeclared, find}
 use Rattle.cp_resolved.specs.Framed as framed
 use Rattle.cp_resolved.specs.Framed.{IsFramed, IsOrdinalResult}
@@ -12,7 +12,6 @@ use Rattle.cp_resolved.specs.Standing.{IsFit, IsFreeVariable, IsFreeResult}
 use Rattle.cp_resolved.specs.TreeLayouts.{parameters_by, layouts_of}
 use Rattle.cp_resolved.specs.Typed.{Tokens}
 use Rattle.cp_resolved.proofs.agreeing.ScopeVariables.{Among, look_among, among_look}
-use Rattle.cp_refine.specs.Parameters.{AreDifferent, HaveValues}
 use Rattle.cp_refine.proofs.trees.SystemsOfTree.{different_left, parameters_different}
 
 -- ---- names

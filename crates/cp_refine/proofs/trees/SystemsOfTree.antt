@@ -1,11 +1,9 @@
 -- The layouts of the system types of a tree: what has cells stands, is no parameter that is a component, and all that has neither has no content at first.
 use Rattle.std.proofs.Common.{◌≡◌, ◌∙◌, ℕ, Bool, true, false, if◌then◌else◌, List, [], ◌∷◌, ◌++◌, Some, None, inl, inr, ap, sym, refl, subst}
-use Rattle.cp_refine.proofs.Words.{Tree, Program, least_of, Variable, Parameter, Name, same_name, content_of, Environment, system_of, Ty, has_components}
-use Rattle.cp_refine.proofs.Words.{look, Each, AreDifferent}
-use Rattle.cp_meaning.specs.Steps.{parameter_variables, first_environment}
+use Rattle.cp_refine.proofs.Words.{Tree, Program, least_of, Variable, Parameter, Name, same_name, content_of, Environment, system_of, Ty, has_components, look, Each}
+use Rattle.cp_refine.proofs.Words.{AreDifferent, parameter_variables, first_environment, is_standing, IsStandingVariable}
 use Rattle.cp_resolved.specs.Framed as framed
 use Rattle.cp_resolved.specs.Framed.{system_variables, IsFramed}
-use Rattle.cp_resolved.specs.Standing.{is_standing, IsStandingVariable}
 use Rattle.cp_resolved.specs.TreeLayouts.{components_among, layouts_of}
 use Rattle.cp_resolved.proofs.frames.FrameCells.{same_is}
 use Rattle.cp_resolved.proofs.agreeing.ScopeVariables.{Among, among_left, look_among, among_look, components_append, among_all}

@@ -1,10 +1,9 @@
 -- Bodies of routines that break no rule, and the routines of a system type one after the other.
 use Rattle.std.proofs.Common.{◌≡◌, ℕ, Bool, true, false, List, [], ◌∷◌, ◌++◌, Option, Some, None, Ok, Err, is_some, refl, sym, ap, subst, ◌∙◌}
-use Rattle.cp_resolved.proofs.Words.{bytes_eq, SystemKind, Program, Routine, ValueType, Meaning, Use, no_use, Judged, faults, Context, Step, reserve_name}
-use Rattle.cp_resolved.proofs.Words.{part_steps, last_is, Loud, Heard, statements_loud, Name, find, routine_meaning, routine_in, with_routines, each_in}
-use Rattle.cp_resolved.proofs.Words.{in_routine, routine_place, routine_places, IsOwn, IsAgreed, AreAgreed, Place, Opening, with_routine, routine_openings}
-use Rattle.cp_resolved.proofs.Words.{AreLimited, Each, IsSmallRoutine, IsFit, IsFreeVariable, IsFreeParameter, all_tokens, part_tokens, routine_tokens}
-use Rattle.cp_resolved.proofs.Words.{Tokens, HeadingIs, IsMarked, ScopesAgree, none_before}
+use Rattle.cp_resolved.proofs.Words.{bytes_eq, SystemKind, Program, Routine, ValueType, Meaning, Use, no_use, Judged, faults, Context, Step, reserve_name, part_steps}
+use Rattle.cp_resolved.proofs.Words.{last_is, Loud, Heard, statements_loud, Name, find, routine_meaning, routine_in, with_routines, each_in, in_routine, routine_place}
+use Rattle.cp_resolved.proofs.Words.{routine_places, IsOwn, IsAgreed, AreAgreed, Place, Opening, with_routine, routine_openings, AreLimited, Each, IsSmallRoutine, IsFit}
+use Rattle.cp_resolved.proofs.Words.{IsFreeVariable, IsFreeParameter, all_tokens, part_tokens, routine_tokens, Tokens, HeadingIs, IsMarked, ScopesAgree, none_before}
 use Rattle.cp_scope.specs.declared.types.Meaning.TheVariants as meaning
 use Rattle.cp_scope.specs.Scopes.{Scope, Scopes, Shapes, Shape, body_shape, shape_in, or_else, look_outer, heading_at, look, with_shape, with_name, sealed, add, enter, Around, last_of, leave, keep, settle, census}
 use Rattle.cp_scope.specs.Scopes as checker

@@ -1,8 +1,7 @@
 -- What the checker counts of the cells of a type that breaks no rule is what the type takes.
 use Rattle.std.proofs.Common.{◌≡◌, ◌+◌, ◌*◌, ◌<◌, ◌≤◌, ℕ, zero, suc, ℤ, pos, negsuc, Bool, true, false, refl, ap, subst, ◌∙◌, arith}
-use Rattle.std.specs.Prelude.{min, nat_le, nat_lt, ◌+ℤ◌, ◌-ℤ◌, int_le, unsigned_abs}
-use Rattle.cp_resolved.proofs.Words.{leb-true, leb-false, ltb-false, Range, ValueType, ArrayShape, Census, Ty, FieldTypes, natural_of, length_of_range}
-use Rattle.cp_resolved.proofs.Words.{cells_of, cells_in, is_indexed, is_free, are_free}
+use Rattle.cp_resolved.proofs.Words.{min, nat_le, nat_lt, ◌+ℤ◌, ◌-ℤ◌, int_le, unsigned_abs, leb-true, leb-false, ltb-false, Range, ValueType, ArrayShape, Census, Ty}
+use Rattle.cp_resolved.proofs.Words.{FieldTypes, natural_of, length_of_range, cells_of, cells_in, is_indexed, is_free, are_free}
 use Rattle.cp_scope.specs.Counts.{times}
 use Rattle.cp_scope.specs.Scopes as checker
 use Rattle.cp_scope.specs.Scopes.{Names, shape_in, shape_cells, count_of, both_census, element_census, array_census, variable_census, census_from, census, no_census}

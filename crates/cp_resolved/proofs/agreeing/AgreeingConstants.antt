@@ -3,8 +3,8 @@ use Rattle.std.proofs.Common.{◌≡◌, ℕ, zero, ◌-◌, ◌≤◌, ℤ, pos
 use Rattle.std.specs.Prelude.{FitsSigned}
 use Rattle.std.specs.Int.{int_wrapping_neg, w64}
 use Rattle.std.proofs.lemmas.Int.{wrapping_neg_is, int_wrap_fits}
-use Rattle.cp_resolved.proofs.Words.{Decides-eqb, Sign, Constant, ConstantKind, C5, Meaning, same_base, ◌>>=◌, ConstantNumber, Name, is_within, all_integers}
-use Rattle.cp_resolved.proofs.Words.{find, range_of_base, is_integer_base, IsSmallConstant, IsFit, Tokens, BaseIs, ConstantIs}
+use Rattle.cp_resolved.proofs.Words.{Decides-eqb, Sign, Constant, ConstantKind, C5, Meaning, same_base, ◌>>=◌, ConstantNumber, Name, is_within, all_integers, find}
+use Rattle.cp_resolved.proofs.Words.{range_of_base, is_integer_base, IsSmallConstant, IsFit, Tokens, BaseIs, ConstantIs, IsSmall}
 use Rattle.cp_tree.specs.declared.constant.Sign.TheVariants as sign
 use Rattle.cp_tree.specs.declared.constant.ConstantKind.TheVariants as kinds
 use Rattle.cp_scope.specs.declared.fault.CheckFault.TheVariants as check_fault
@@ -17,7 +17,6 @@ use Rattle.cp_check.specs.Constants as constants
 use Rattle.cp_meaning.specs.Types as named
 use Rattle.cp_meaning.specs.Scopes as scopes
 use Rattle.cp_meaning.specs.Declarations as meant
-use Rattle.cp_resolved.specs.InStep.{IsSmall}
 use Rattle.cp_resolved.proofs.forms.Typing.{integer_base}
 use Rattle.cp_resolved.proofs.agreeing.Agreeing.{Good, good_then, good_if}
 use Rattle.cp_resolved.proofs.agreeing.AgreeingNames.{IsKnown}

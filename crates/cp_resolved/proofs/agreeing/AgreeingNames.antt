@@ -1,8 +1,7 @@
 -- What agrees stays so where more is written, and where one more name is declared.
 use Rattle.std.proofs.Common.{◌≡◌, ℕ, Bool, true, false, if◌then◌else◌, List, [], ◌∷◌, ◌++◌, Option, Some, None, is_some, refl, sym, ap, subst, ◌∙◌}
-use Rattle.cp_resolved.proofs.Words.{nat_eq, bytes_eq, Decides-eqb, ValueType, Meaning, ArrayShape, Program, Name, Ty, FieldTypes, find, since, is_seen}
-use Rattle.cp_resolved.proofs.Words.{seen_inside, Parameter, RoutineMeaning, routine_in, type_named, system_of, routine_of_type, cells_in, Each, IsFit}
-use Rattle.cp_resolved.proofs.Words.{is_standing, itself}
+use Rattle.cp_resolved.proofs.Words.{nat_eq, bytes_eq, Decides-eqb, ValueType, Meaning, ArrayShape, Program, Name, Ty, FieldTypes, find, since, is_seen, seen_inside}
+use Rattle.cp_resolved.proofs.Words.{Parameter, RoutineMeaning, routine_in, type_named, system_of, routine_of_type, cells_in, Each, IsFit, is_standing, itself}
 use Rattle.cp_scope.specs.declared.types.Meaning.TheVariants as meaning
 use Rattle.cp_scope.specs.declared.types.Parameter as check_parameter
 use Rattle.cp_scope.specs.Types.{is_open}

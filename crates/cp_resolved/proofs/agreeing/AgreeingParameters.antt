@@ -1,9 +1,8 @@
 -- The parameters that the checker reads off the names of a scope, and those of a heading.
 use Rattle.std.proofs.Common.{◌≡◌, Bool, true, false, List, [], ◌∷◌, ◌++◌, Option, Some, None, refl, sym, ap, subst, ◌∙◌, append_assoc}
 use Rattle.std.proofs.lemmas.List.{append-nil}
-use Rattle.cp_resolved.proofs.Words.{Identifier, Meaning, add_names, Ty, Parameter, is_free}
+use Rattle.cp_resolved.proofs.Words.{Identifier, Meaning, add_names, Ty, Parameter, is_free, parameter_of}
 use Rattle.cp_scope.specs.declared.types.Parameter as check_parameter
-use Rattle.cp_scope.specs.Types.{parameter_of}
 use Rattle.cp_scope.specs.Scopes.{Names, Scope, Scopes, parameter_in, parameters_in, with_some, add}
 use Rattle.cp_meaning.specs.Types as named
 use Rattle.cp_meaning.specs.Declarations as meant

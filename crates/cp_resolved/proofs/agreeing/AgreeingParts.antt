@@ -1,9 +1,9 @@
 -- Declarations that break no rule: what they leave agrees with the scope that they leave.
 use Rattle.std.proofs.Common.{◌≡◌, ℕ, Bool, true, false, ◌&&◌, List, [], ◌∷◌, ◌++◌, Option, Some, None, Ok, is_some, refl, sym, ap, subst, ◌∙◌}
-use Rattle.cp_resolved.proofs.Words.{Identifier, SystemKind, Program, ConstantDefinition, TypeDefinition, VariableGroup, Part, ValueType, Meaning, Judged}
-use Rattle.cp_resolved.proofs.Words.{◌>>=◌, faults, ConstantNumber, Spot, Typed, typed, Name, Ty, FieldTypes, is_seen, Block, in_type, in_part, each_in, Each}
-use Rattle.cp_resolved.proofs.Words.{IsSmallConstant, IsSmallType, IsSmallPart, cells_in, are_few, is_indexed, is_free, are_free, is_standing, all_tokens}
-use Rattle.cp_resolved.proofs.Words.{type_tokens, part_tokens, none_first}
+use Rattle.cp_resolved.proofs.Words.{Identifier, SystemKind, Program, ConstantDefinition, TypeDefinition, VariableGroup, Part, ValueType, Meaning, Judged, ◌>>=◌, faults}
+use Rattle.cp_resolved.proofs.Words.{ConstantNumber, Spot, Typed, typed, Name, Ty, FieldTypes, is_seen, Block, in_type, in_part, each_in, Each, IsSmallConstant}
+use Rattle.cp_resolved.proofs.Words.{IsSmallType, IsSmallPart, cells_in, are_few, is_indexed, is_free, are_free, is_standing, all_tokens, type_tokens, part_tokens}
+use Rattle.cp_resolved.proofs.Words.{none_first, Tokens, TypeIs, is_plain, are_plain, MayStand}
 use Rattle.cp_tree.specs.Syntax as syntax
 use Rattle.cp_scope.specs.declared.types.Meaning.TheVariants as meaning
 use Rattle.cp_scope.specs.Types.{is_open}
@@ -16,7 +16,6 @@ use Rattle.cp_check.specs.Declarations.{as_declared, reserve_name, reserve_names
 use Rattle.cp_meaning.specs.Types as named
 use Rattle.cp_meaning.specs.Scopes as scopes
 use Rattle.cp_meaning.specs.Declarations as meant
-use Rattle.cp_resolved.specs.Typed.{Tokens, TypeIs, is_plain, are_plain, MayStand}
 use Rattle.cp_resolved.proofs.agreeing.Agreeing.{Appends, appends_none, appends_same, appends_then, Sound, good_sound, none_left, none_right, More, more_same, more_trans}
 use Rattle.cp_resolved.proofs.agreeing.AgreeingNames.{W, New, Agree, sees, agree_same, agree_settled, agree_added}
 use Rattle.cp_resolved.proofs.agreeing.AgreeingConstants.{NumberIs, constant_number_of}

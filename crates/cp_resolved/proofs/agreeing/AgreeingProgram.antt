@@ -1,9 +1,10 @@
 -- Programs that break no rule: their scopes agree at the statements of each routine and of each initial statement.
 use Rattle.std.proofs.Common.{◌≡◌, ◌≤◌, ℕ, pos, Bool, true, false, if◌then◌else◌, List, [], ◌∷◌, ◌++◌, length, Option, Some, None, Ok, Err, is_some, refl, sym, ap, subst, ◌∙◌, arith}
-use Rattle.cp_resolved.proofs.Words.{bytes_eq, Identifier, Range, ValueType, whole, Meaning, Use, no_use, Judged, ◌>>=◌, faults, Step, Typed, typed}
-use Rattle.cp_resolved.proofs.Words.{routine_steps, Heard, Name, find, predeclared, seen_inside, in_routine, in_definition, in_program_part, each_in}
-use Rattle.cp_resolved.proofs.Words.{enumerations_of, nothing_declared, Each, IsSmallDefinition, IsSmallProgramPart, IsSmallProgram, IsFit}
-use Rattle.cp_resolved.proofs.Words.{IsStandingVariable, IsStandingParameter, none_first, none_before}
+use Rattle.cp_resolved.proofs.Words.{bytes_eq, Identifier, Range, ValueType, whole, Meaning, Use, no_use, Judged, ◌>>=◌, faults, Step, Typed, typed, routine_steps, Heard}
+use Rattle.cp_resolved.proofs.Words.{Name, find, predeclared, seen_inside, in_routine, in_definition, in_program_part, each_in, enumerations_of, nothing_declared, Each}
+use Rattle.cp_resolved.proofs.Words.{IsSmallDefinition, IsSmallProgramPart, IsSmallProgram, IsFit, IsStandingVariable, IsStandingParameter, none_first, none_before}
+use Rattle.cp_resolved.proofs.Words.{as_declared, to_kind, reserve_name, add_one, constant_steps, variable_steps, definition_step, definition_steps, program_part_step}
+use Rattle.cp_resolved.proofs.Words.{program_part_steps, Place, definition_places, definitions_places, part_places, parts_places, routine_places, places_of, AreAgreed}
 use Rattle.cp_tree.specs.Syntax.{Program, Definition, type_definition, system_definition, SystemDefinition, ProgramPart, program_constants, program_types, program_variables, Tree}
 use Rattle.cp_scope.specs.declared.types.Base.TheVariants as base
 use Rattle.cp_scope.specs.declared.types.ValueType.TheVariants as types
@@ -11,16 +12,13 @@ use Rattle.cp_scope.specs.declared.types.Meaning.TheVariants as meaning
 use Rattle.cp_scope.specs.Scopes.{Names, Scopes, shape_in, look_outer, add, settle, enter, start}
 use Rattle.cp_scope.specs.Scopes as checker
 use Rattle.cp_check.specs.declared.types.Spot.TheVariants as spot
-use Rattle.cp_check.specs.Declarations.{as_declared, to_kind, reserve_name, add_one, constant_steps, variable_steps}
 use Rattle.cp_check.specs.Statements.{statements}
 use Rattle.cp_check.specs.Systems as systems_of
-use Rattle.cp_check.specs.Systems.{definition_step, definition_steps, program_part_step, program_part_steps}
 use Rattle.cp_check.specs.Faults.{declarations, program_context, opened, limit_faults, faults_of}
 use Rattle.cp_meaning.specs.Types as named
 use Rattle.cp_meaning.specs.Scopes as scopes
 use Rattle.cp_meaning.specs.Declarations as meant
 use Rattle.cp_meaning.specs.Systems.{SystemMeaning, system_in, Declared, definition_in, definitions_in, program_part_in, program_parts_in, declared, program_system, own_meaning, with_routines}
-use Rattle.cp_resolved.specs.Judging.{Place, definition_places, definitions_places, part_places, parts_places, routine_places, places_of, AreAgreed}
 use Rattle.cp_resolved.specs.Openings.{Opening, definition_openings, definitions_openings, part_openings, parts_openings, routine_openings, initial_opening, openings_of}
 use Rattle.cp_resolved.specs.Tokens.{AreDifferent, all_tokens, routine_tokens, definition_tokens, program_part_tokens, program_tokens}
 use Rattle.cp_resolved.specs.Typed.{Tokens, SystemThere, IsSystemParameter, RangeIs, TypeIs, predeclared_of, MeaningIs, IsMarked}

@@ -1,15 +1,13 @@
 -- Routines that break no rule: where their statements stand, the checker's scopes agree with the scope of the routine, and so they do after it.
 use Rattle.std.proofs.Common.{◌≡◌, ℕ, Bool, true, false, if◌then◌else◌, List, [], ◌∷◌, ◌++◌, Option, Some, None, Ok, is_some, refl, sym, ap, subst, ◌∙◌}
-use Rattle.std.specs.Prelude.{◌-◌}
-use Rattle.cp_resolved.proofs.Words.{bytes_eq, Identifier, SystemKind, CheckFault, ValueType, Meaning, Judged, ◌>>=◌, faults, Holding, Step, C5, fault}
-use Rattle.cp_resolved.proofs.Words.{unless, as_declared, reserve_name, reserve_names, add_names, add_all, last_is, Name, Ty, find, since, routine_meaning}
-use Rattle.cp_resolved.proofs.Words.{routine_in, with_routine, Each, is_free, IsFit, IsFreeParameter, itself, none_first, none_before}
+use Rattle.cp_resolved.proofs.Words.{◌-◌, bytes_eq, Identifier, SystemKind, CheckFault, ValueType, Meaning, Judged, ◌>>=◌, faults, Holding, Step, C5, fault, unless}
+use Rattle.cp_resolved.proofs.Words.{as_declared, reserve_name, reserve_names, add_names, add_all, last_is, Name, Ty, find, since, routine_meaning, routine_in}
+use Rattle.cp_resolved.proofs.Words.{with_routine, Each, is_free, IsFit, IsFreeParameter, itself, none_first, none_before, is_ordinal, parameter_of}
 use Rattle.cp_tree.specs.declared.declaration.SystemKind.TheVariants as system_kind
 use Rattle.cp_tree.specs.Syntax.{Program, Group, ParameterGroup, RoutineKind, procedure, function, Routine}
 use Rattle.cp_scope.specs.declared.types.ValueType.TheVariants as types
 use Rattle.cp_scope.specs.declared.types.Meaning.TheVariants as meaning
 use Rattle.cp_scope.specs.declared.types.Parameter as check_parameter
-use Rattle.cp_scope.specs.Types.{is_ordinal, parameter_of}
 use Rattle.cp_scope.specs.Scopes.{Names, parameters_in, Scope, Scopes, Shapes, Shape, heading_shape, shape_in, look_in, or_else, look_outer, look, with_name, sealed, enter, Around, last_of, add_around, keep, settle}
 use Rattle.cp_scope.specs.Scopes as checker
 use Rattle.cp_check.specs.declared.types.Holding.TheVariants as holds

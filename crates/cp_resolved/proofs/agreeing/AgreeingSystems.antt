@@ -1,10 +1,10 @@
 -- System types that break no rule: where their statements stand the scopes agree, and they stand for components whose routines are those of their scope.
 use Rattle.std.proofs.Common.{◌≡◌, ℕ, Bool, true, false, if◌then◌else◌, List, [], ◌∷◌, ◌++◌, Option, Some, None, Ok, refl, sym, ap, subst, ◌∙◌}
-use Rattle.cp_resolved.proofs.Words.{nat_eq, Decides-eqb, SystemKind, ValueType, Census, Use, no_use, Judged, ◌>>=◌, faults, Holding, Step, Typed}
-use Rattle.cp_resolved.proofs.Words.{as_declared, reserve_names, add_names, add_all, part_steps, after_faults, last_is, statements_loud, Name, Ty, find}
-use Rattle.cp_resolved.proofs.Words.{seen_inside, Block, SystemMeaning, with_routines, system_in, system_of, routine_of_system, routine_of_type, each_in}
-use Rattle.cp_resolved.proofs.Words.{in_part, in_routine, in_system, AreLimited, Each, IsSmallSystem, is_element, is_standing, IsStandingVariable}
-use Rattle.cp_resolved.proofs.Words.{IsStandingParameter, none_first, none_before}
+use Rattle.cp_resolved.proofs.Words.{nat_eq, Decides-eqb, SystemKind, ValueType, Census, Use, no_use, Judged, ◌>>=◌, faults, Holding, Step, Typed, as_declared}
+use Rattle.cp_resolved.proofs.Words.{reserve_names, add_names, add_all, part_steps, after_faults, last_is, statements_loud, Name, Ty, find, seen_inside, Block}
+use Rattle.cp_resolved.proofs.Words.{SystemMeaning, with_routines, system_in, system_of, routine_of_system, routine_of_type, each_in, in_part, in_routine, in_system}
+use Rattle.cp_resolved.proofs.Words.{AreLimited, Each, IsSmallSystem, is_element, is_standing, IsStandingVariable, IsStandingParameter, none_first, none_before, Opening}
+use Rattle.cp_resolved.proofs.Words.{parts_scope, routine_openings, initial_opening, system_openings, all_tokens, routine_tokens, system_tokens}
 use Rattle.cp_tree.specs.declared.declaration.SystemKind.TheVariants as system_kind
 use Rattle.cp_tree.specs.Syntax.{Program, Group, System}
 use Rattle.cp_scope.specs.declared.types.ValueType.TheVariants as types
@@ -23,8 +23,6 @@ use Rattle.cp_meaning.specs.Types as named
 use Rattle.cp_meaning.specs.Scopes as scopes
 use Rattle.cp_meaning.specs.Declarations as meant
 use Rattle.cp_resolved.specs.Judging.{Place, parts_scopes, initial_place, routine_places, system_places, AreAgreed}
-use Rattle.cp_resolved.specs.Openings.{Opening, parts_scope, routine_openings, initial_opening, system_openings}
-use Rattle.cp_resolved.specs.Tokens.{all_tokens, routine_tokens, system_tokens}
 use Rattle.cp_resolved.specs.Typed.{Tokens, SystemThere, IsValueParameter, IsSystemParameter, Written, TypeIs, IsHanded, AreParameters, HeadingIs, RoutineIs}
 use Rattle.cp_resolved.proofs.agreeing.Agreeing.{Good, good_then, good_sound, none_left, none_right, look_entered, inner_look, More, more_same, more_trans, with_more, with_there, with_other, free_others, appends_none}
 use Rattle.cp_resolved.proofs.agreeing.AgreeingNames.{W, HeadingThere, heading_kept, heading_more, heading_is_more, parameters_more, AreStarts, New, Known, IsKnown, is_known_moved, IsStacked, AreEntries, Agree, sees, sees_of, fit_of, agree_returned}

@@ -1,8 +1,8 @@
 -- Types that break no rule: the checker and the scope give them the same type, and their enumerations the same names.
 use Rattle.std.proofs.Common.{◌≡◌, ℕ, ◌≤◌, ℤ, Bool, true, false, ◌&&◌, if◌then◌else◌, List, [], ◌∷◌, length, Option, Some, None, Ok, Err, refl, sym, ap, subst, ◌∙◌, arith}
-use Rattle.cp_resolved.proofs.Words.{bytes_eq, int_lt, int_le, Constant, SystemKind, Program, Range, ValueType, Meaning, same_base, Judged, both, ◌>>=◌}
-use Rattle.cp_resolved.proofs.Words.{ConstantNumber, Spot, Holding, Name, same_name, Ty, is_within, range_of, find, range_of_base, Enumerated, IsSmallSimple}
-use Rattle.cp_resolved.proofs.Words.{is_bounded, is_indexed, is_free, is_element, is_standing, IsFit}
+use Rattle.cp_resolved.proofs.Words.{bytes_eq, int_lt, int_le, Constant, SystemKind, Program, Range, ValueType, Meaning, same_base, Judged, both, ◌>>=◌, ConstantNumber}
+use Rattle.cp_resolved.proofs.Words.{Spot, Holding, Name, same_name, Ty, is_within, range_of, find, range_of_base, Enumerated, IsSmallSimple, is_bounded, is_indexed}
+use Rattle.cp_resolved.proofs.Words.{is_free, is_element, is_standing, IsFit, Tokens, Written, RangeIs, TypeIs, KindIs}
 use Rattle.cp_tree.specs.Syntax as syntax
 use Rattle.cp_scope.specs.declared.fault.Rule.TheVariants.{C5, C11, C13, C18}
 use Rattle.cp_scope.specs.declared.fault.CheckFault.TheVariants as check_fault
@@ -17,7 +17,6 @@ use Rattle.cp_check.specs.Types as typing
 use Rattle.cp_meaning.specs.Types as named
 use Rattle.cp_meaning.specs.Scopes as scopes
 use Rattle.cp_meaning.specs.Declarations as meant
-use Rattle.cp_resolved.specs.Typed.{Tokens, Written, RangeIs, TypeIs, KindIs}
 use Rattle.cp_resolved.proofs.agreeing.Agreeing.{Good, good_then, good_both, good_if, is_itself, look_is, inner_look}
 use Rattle.cp_resolved.proofs.agreeing.AgreeingNames.{W, IsKnown, IsStacked, IsTypeKnown, Agree, sees}
 use Rattle.cp_resolved.proofs.agreeing.AgreeingConstants.{NumberIs, base_same, constant_number_of}

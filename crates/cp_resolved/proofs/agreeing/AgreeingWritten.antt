@@ -1,13 +1,11 @@
 -- Written types that break no rule: what they leave agrees, and they are the types that they mean.
 use Rattle.std.proofs.Common.{◌≡◌, ℕ, suc, ◌+◌, ◌-◌, ◌*◌, ◌<◌, ◌≤◌, pos, Bool, true, false, ◌&&◌, ◌||◌, if◌then◌else◌, List, [], ◌∷◌, ◌++◌, length, Option, Some, None, Ok, Err, is_some, refl, sym, ap, subst, ◌∙◌, arith, append_assoc}
-use Rattle.std.specs.Prelude.{ℤ, ◌-ℤ◌, int_lt, int_le, nat_lt}
-use Rattle.cp_resolved.proofs.Words.{bytes_eq, le-leb, ltb-false, Identifier, Program, CheckFault, Range, ValueType, Meaning, ArrayShape, whole, Judged, both}
-use Rattle.cp_resolved.proofs.Words.{◌>>=◌, faults, Spot, Step, nothing, Typed, typed, Name, all_characters, Ty, FieldTypes, is_within, range_of}
-use Rattle.cp_resolved.proofs.Words.{length_of_range, range_of_base, in_simple, in_type, in_groups, Each, IsSmallSimple, IsSmallType, AreSmallGroups}
-use Rattle.cp_resolved.proofs.Words.{cells_of, cells_in, type_tokens, groups_tokens, none_first, or_left, or_right}
+use Rattle.cp_resolved.proofs.Words.{ℤ, ◌-ℤ◌, int_lt, int_le, nat_lt, bytes_eq, le-leb, ltb-false, Identifier, Program, CheckFault, Range, ValueType, Meaning, ArrayShape}
+use Rattle.cp_resolved.proofs.Words.{whole, Judged, both, ◌>>=◌, faults, Spot, Step, nothing, Typed, typed, Name, all_characters, Ty, FieldTypes, is_within, range_of}
+use Rattle.cp_resolved.proofs.Words.{length_of_range, range_of_base, in_simple, in_type, in_groups, Each, IsSmallSimple, IsSmallType, AreSmallGroups, cells_of, cells_in}
+use Rattle.cp_resolved.proofs.Words.{type_tokens, groups_tokens, none_first, or_left, or_right, C2, C20}
 use Rattle.std.proofs.lemmas.List.{length-map, append-nil}
 use Rattle.cp_tree.specs.Syntax as syntax
-use Rattle.cp_scope.specs.declared.fault.Rule.TheVariants.{C2, C20}
 use Rattle.cp_scope.specs.declared.fault.CheckFault.TheVariants as check_fault
 use Rattle.cp_scope.specs.declared.types.Base as check_base
 use Rattle.cp_scope.specs.declared.types.Base.TheVariants as base

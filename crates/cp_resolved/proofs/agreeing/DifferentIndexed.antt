@@ -1,7 +1,5 @@
 -- In a program that spells tokens the checker keeps what is written at different tokens.
-use Rattle.std.proofs.Common.{◌≡◌, ℕ, ◌+◌, ◌<◌, ◌≤◌, List, [], ◌∷◌, length, inl, inr, arith}
-use Rattle.std.specs.Prelude.{◌⊎◌}
-use Rattle.cp_text.specs.declared.token.Kind.{Kind}
+use Rattle.cp_resolved.proofs.Words.{◌≡◌, ℕ, ◌+◌, ◌<◌, ◌≤◌, List, [], ◌∷◌, length, inl, inr, arith, ◌⊎◌, Kind}
 use Rattle.cp_text.specs.declared.token.Kind.TheVariants as kind
 use Rattle.cp_text.specs.declared.token.Mark.TheVariants as mark
 use Rattle.cp_tree.specs.Syntax.{simple, array_of, set_type, record_of, no_fields, more_fields, fields, constants, types, variables, type_definition, system_definition, SystemDefinition, TypeDefinition, VariableGroup, program_constants, program_types, program_variables, Program}

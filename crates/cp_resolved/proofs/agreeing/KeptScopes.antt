@@ -1,7 +1,6 @@
 -- Whatever holds of a scope, and stays so with a name more that is no routine, stays so with all that is declared beside routines.
-use Rattle.std.proofs.Common.{ℕ, suc, pos, false, List, [], ◌∷◌, ◌++◌}
+use Rattle.cp_resolved.proofs.Words.{ℕ, suc, pos, false, List, [], ◌∷◌, ◌++◌, Name}
 use Rattle.cp_tree.specs.Syntax as syntax
-use Rattle.cp_meaning.specs.Names.{Name}
 use Rattle.cp_meaning.specs.Types.{Base, enumerated, Ty}
 use Rattle.cp_meaning.specs.Scopes.{Meaning, constant_meaning, type_meaning, local_variable, routine_meaning, Scope}
 use Rattle.cp_meaning.specs.Declarations.{Block, Heading, names_of, named_variables, with_constants, simple_in, type_in, fields_in, constant_of, constants_in, types_in, with_names, variables_in, part_in, parts_in, type_named, with_group, with_groups, with_parameter_groups, heading_of}

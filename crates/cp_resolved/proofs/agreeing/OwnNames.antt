@@ -1,9 +1,9 @@
 -- Under which names a routine is seen, while declarations are laid out and checked side by side.
 use Rattle.std.proofs.Common.{◌≡◌, ℕ, ◌+◌, Bool, true, false, if◌then◌else◌, List, [], ◌∷◌, ◌++◌, Option, Some, None, Ok, Err, is_some, pos, refl, sym, subst, ◌∙◌}
-use Rattle.cp_resolved.proofs.Words.{bytes_eq, bytes_eq-Decides, Identifier, SystemKind, C2, ArrayShape, Judged, Spot, Step, nothing, typed, CellBase}
-use Rattle.cp_resolved.proofs.Words.{CellType, Contained, LayoutMeaning, as_integer}
+use Rattle.cp_resolved.proofs.Words.{bytes_eq, bytes_eq-Decides, Identifier, SystemKind, C2, ArrayShape, Judged, Spot, Step, nothing, typed, CellBase, CellType}
+use Rattle.cp_resolved.proofs.Words.{Contained, LayoutMeaning, as_integer, ConstantDefinition, TypeDefinition, VariableGroup, Part, Group, ParameterGroup, RoutineKind}
+use Rattle.cp_resolved.proofs.Words.{Fields, no_fields, with_constant, enumerated, simple_type, written_type, field_groups, field_group, named_type}
 use Rattle.cp_tree.specs.Syntax as syntax
-use Rattle.cp_tree.specs.Syntax.{ConstantDefinition, TypeDefinition, VariableGroup, Part, Group, ParameterGroup, RoutineKind}
 use Rattle.cp_scope.specs.declared.fault.CheckFault.TheVariants as check_fault
 use Rattle.cp_scope.specs.declared.types.Base as checked_base
 use Rattle.cp_scope.specs.declared.types.Meaning as checked
@@ -15,12 +15,10 @@ use Rattle.cp_check.specs.Types as typing
 use Rattle.cp_check.specs.Declarations.{reserve_name, reserve_names, add_names, add_all, add_one, constant_step, constant_steps, type_step, type_steps, variable_step, variable_steps, part_step, part_steps}
 use Rattle.cp_check.specs.Headings as headings
 use Rattle.cp_check.specs.Systems as systems
-use Rattle.cp_symbols.specs.declared.kinds.CellType.TheVariants as types
-use Rattle.cp_symbols.specs.declared.names.LayoutMeaning.TheVariants as meaning
-use Rattle.cp_layout.specs.Kinds.{Fields, no_fields}
+use Rattle.cp_layout.specs.declared.kinds.CellType.TheVariants as types
+use Rattle.cp_layout.specs.declared.names.LayoutMeaning.TheVariants as meaning
 use Rattle.cp_layout.specs.Layers as layers
 use Rattle.cp_layout.specs.Layers.{Layer, find}
-use Rattle.cp_layout.specs.LaidTypes.{with_constant, enumerated, simple_type, written_type, field_groups, field_group, named_type}
 use Rattle.cp_layout.specs.LaidDeclarations.{constant, constants, type_definition, type_definitions, components_of, variable_with, variable, variables_of, variables, local, locals_of, local_variables, permanent_part, permanent_parts, local_part, local_parts, Parameters, constant_parameter, constant_parameters_of, constant_groups, var_parameter, var_parameters_of, parameter_group, parameter_groups, heading, system_parameter, system_parameters_of, system_groups}
 use Rattle.cp_lawful.proofs.Classes as classes
 

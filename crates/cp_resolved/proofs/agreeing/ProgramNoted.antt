@@ -1,13 +1,11 @@
 -- The routines and initial statements of a program that breaks no rule, by their numbers.
-use Rattle.std.proofs.Common.{◌≡◌, ℕ, true, List, [], ◌∷◌, ◌++◌, length, None, Ok, inr, refl, sym, subst}
+use Rattle.cp_resolved.proofs.Words.{◌≡◌, ℕ, true, List, [], ◌∷◌, ◌++◌, length, None, Ok, inr, refl, sym, subst, Use, no_use, Judged, ◌>>=◌, faults, Scopes}
+use Rattle.cp_resolved.proofs.Words.{parameters_in, enter, start, Step, Typed, to_kind, reserve_name, routine_steps, IsAccepted, predeclared, seen_inside, in_routine}
+use Rattle.cp_resolved.proofs.Words.{in_definition, in_program_part, each_in, enumerations_of, nothing_declared, IsRead, Each, IsSmallDefinition, IsSmallProgramPart}
+use Rattle.cp_resolved.proofs.Words.{IsSmallProgram, Tokens, none_first, none_before, definition_step, definition_steps, program_part_step, program_part_steps}
 use Rattle.cp_tree.specs.Syntax.{Program, System, Definition, type_definition, system_definition, SystemDefinition, ProgramPart, program_constants, program_types, program_variables, Tree}
-use Rattle.cp_resolved.proofs.Words.{Use, no_use, Judged, ◌>>=◌, faults, Scopes, parameters_in, enter, start, Step, Typed, to_kind, reserve_name}
-use Rattle.cp_resolved.proofs.Words.{routine_steps, IsAccepted, predeclared, seen_inside, in_routine, in_definition, in_program_part, each_in}
-use Rattle.cp_resolved.proofs.Words.{enumerations_of, nothing_declared, IsRead, Each, IsSmallDefinition, IsSmallProgramPart, IsSmallProgram, Tokens}
-use Rattle.cp_resolved.proofs.Words.{none_first, none_before}
 use Rattle.cp_check.specs.Statements.{statements}
 use Rattle.cp_check.specs.Systems as systems_of
-use Rattle.cp_check.specs.Systems.{definition_step, definition_steps, program_part_step, program_part_steps}
 use Rattle.cp_check.specs.Faults.{declarations, program_context, opened, faults_of}
 use Rattle.cp_meaning.specs.Scopes as scopes
 use Rattle.cp_meaning.specs.Systems.{SystemMeaning, system_in, Declared, definition_in, definitions_in, program_part_in, program_parts_in, declared, program_system, own_meaning, system_of}

@@ -1,7 +1,6 @@
 -- Which routines are visible in the body of a routine: those around it, since what it declares itself are no routines.
-use Rattle.std.proofs.Common.{◌≡◌, ℕ, suc, Bool, true, false, if◌then◌else◌, List, [], ◌∷◌, ◌++◌, Some, refl, subst}
+use Rattle.cp_resolved.proofs.Words.{◌≡◌, ℕ, suc, Bool, true, false, if◌then◌else◌, List, [], ◌∷◌, ◌++◌, Some, refl, subst, Name, same_name, with_routine, is_entry_in}
 use Rattle.cp_tree.specs.Syntax as syntax
-use Rattle.cp_resolved.proofs.Words.{Name, same_name, with_routine, is_entry_in}
 use Rattle.cp_meaning.specs.Types.{Base, enumerated, Ty}
 use Rattle.cp_meaning.specs.Scopes.{Meaning, Scope, local_variable, routine_meaning, find, since}
 use Rattle.cp_meaning.specs.Declarations.{with_constants, simple_in, type_in, fields_in, names_of, constants_in, types_in, with_names, Block, named_variables, variables_in, part_in, parts_in, Heading, type_named, with_group, with_groups, with_parameter_groups, heading_of, routine_in}

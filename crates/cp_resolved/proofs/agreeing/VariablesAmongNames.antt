@@ -1,9 +1,8 @@
 -- Variables that are declared without a fault stand among the checker's names in their order, each with its type; and so what is counted of a system type is counted of its variables.
 use Rattle.std.proofs.Common.{◌≡◌, ◌+◌, ◌<◌, ◌≤◌, ℕ, Bool, true, false, List, [], ◌∷◌, ◌++◌, length, Option, Some, None, refl, sym, ap, subst, ◌∙◌, append_assoc, arith, length-append}
-use Rattle.std.specs.Prelude.{nat_lt}
-use Rattle.cp_resolved.proofs.Words.{ltb-true, ltb-false, Identifier, ValueType, Meaning, Use, Judged, ◌>>=◌, faults, Spot, Typed, typed, Name, Ty, Variable}
-use Rattle.cp_resolved.proofs.Words.{Block, SystemMeaning, system_in, system_of, in_type, in_part, each_in, Each, IsSmallType, IsSmallPart, all_tokens}
-use Rattle.cp_resolved.proofs.Words.{type_tokens, part_tokens, Tokens, SystemThere, none_first}
+use Rattle.cp_resolved.proofs.Words.{nat_lt, ltb-true, ltb-false, Identifier, ValueType, Meaning, Use, Judged, ◌>>=◌, faults, Spot, Typed, typed, Name, Ty, Variable}
+use Rattle.cp_resolved.proofs.Words.{Block, SystemMeaning, system_in, system_of, in_type, in_part, each_in, Each, IsSmallType, IsSmallPart, all_tokens, type_tokens}
+use Rattle.cp_resolved.proofs.Words.{part_tokens, Tokens, SystemThere, none_first}
 use Rattle.cp_tree.specs.Syntax as syntax
 use Rattle.cp_tree.specs.Syntax.{Program, VariableGroup, Part, System}
 use Rattle.cp_scope.specs.declared.types.Meaning.TheVariants as meaning

@@ -1,9 +1,9 @@
 -- The permanent cells of each component begin with the first values of its system type.
 use Rattle.std.proofs.Common.{◌≡◌, ℕ, ◌+◌, ℤ, pos, Bool, true, false, ◌&&◌, if◌then◌else◌, List, [], ◌∷◌, ◌++◌, length, Some, refl, sym, ap, subst, ◌∙◌, inl, inr, ◌⊎◌, append_assoc, arith, length-append}
-use Rattle.cp_resolved.proofs.Words.{min, none-some, same_Some, bytes_eq-Decides, Content, LayoutMeaning, Compounds, most, plus, Layer, Owned, contents_least}
-use Rattle.cp_resolved.proofs.Words.{Name, same_name, Ty, FieldTypes, has_components, find, permanent_variable, Variable, SystemMeaning, holds, content_of}
-use Rattle.cp_resolved.proofs.Words.{value_held, least_of, parameter_variables, encode, Numbering, CellsAre, PartsAre, BoundIs, cells_in, look, StandsAt}
-use Rattle.cp_resolved.proofs.Words.{first_permanent, Each, slot_in, components_among}
+use Rattle.cp_resolved.proofs.Words.{min, none-some, same_Some, bytes_eq-Decides, Content, LayoutMeaning, Compounds, most, plus, Layer, Owned, contents_least, Name}
+use Rattle.cp_resolved.proofs.Words.{same_name, Ty, FieldTypes, has_components, find, permanent_variable, Variable, SystemMeaning, holds, content_of, value_held}
+use Rattle.cp_resolved.proofs.Words.{least_of, parameter_variables, encode, Numbering, CellsAre, PartsAre, BoundIs, cells_in, look, StandsAt, first_permanent, Each}
+use Rattle.cp_resolved.proofs.Words.{slot_in, components_among, are_few, is_indexed, is_free, are_free, is_standing, IsStandingVariable}
 use Rattle.cp_layout.specs.declared.layer.Content.TheVariants as content
 use Rattle.cp_symbols.specs.Kinds as symbol_kinds
 use Rattle.cp_layout.specs.Kinds as kinds
@@ -11,7 +11,6 @@ use Rattle.cp_layout.specs.Layers as layers
 use Rattle.cp_meaning.specs.Types as named
 use Rattle.cp_meaning.specs.Values as values
 use Rattle.cp_resolved.specs.Declared.{own_variables, IsVisible}
-use Rattle.cp_resolved.specs.Standing.{are_few, is_indexed, is_free, are_free, is_standing, IsStandingVariable}
 use Rattle.cp_resolved.proofs.frames.EncodedCells.{HoldEarlier, IsValued, AreValued, least_encoded, least_counted}
 use Rattle.cp_resolved.proofs.systems.OwnedParts.{cells_after, SlotIs, ContentIs}
 use Rattle.cp_resolved.proofs.systems.SystemsLaid.{PermanentIs, OwnIs}

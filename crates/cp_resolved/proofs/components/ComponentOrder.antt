@@ -1,10 +1,9 @@
 -- The components of the tables are those of the program, in the same order.
 use Rattle.std.proofs.Common.{◌≡◌, ℕ, zero, suc, ◌<◌, ◌==◌, ℤ, Bool, true, false, if◌then◌else◌, List, [], ◌∷◌, ◌++◌, length, Option, Some, None, slice_get, refl, sym, ap, subst, ◌∙◌, arith}
-use Rattle.cp_resolved.proofs.Words.{eqb-true, eqb-false, Program, Contained, Compounds, Owned, System, Name, Ty, array_over, component_of, length_of_range}
-use Rattle.cp_resolved.proofs.Words.{Variable, system_of, initial_or}
+use Rattle.cp_resolved.proofs.Words.{eqb-true, eqb-false, Program, Contained, Compounds, Owned, System, Name, Ty, array_over, component_of, length_of_range, Variable}
+use Rattle.cp_resolved.proofs.Words.{system_of, initial_or, Path, Listed, step_down, listed_elements, listed_variable, listed_variables, listed}
 use Rattle.cp_tree.specs.declared.declaration.SystemKind.TheVariants as system_kind
 use Rattle.cp_layout.specs.LaidComponents.{Listing, nothing_listed, contents_least, next_kind, with_component, again_and_again, contained_by, system_by, listed_below, program_listed}
-use Rattle.cp_meaning.specs.Components.{Path, Listed, step_down, listed_elements, listed_variable, listed_variables, listed}
 use Rattle.cp_resolved.proofs.names.Entries.{there, past_there}
 use Rattle.cp_resolved.proofs.systems.OwnedParts.{contained_of, all_contained, AreLow}
 use Rattle.cp_resolved.proofs.components.Subtrees.{low_left, low_right}

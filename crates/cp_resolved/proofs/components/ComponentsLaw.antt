@@ -1,21 +1,17 @@
 -- The law of components: those of the tables of a tree stand for those of the program, and its processes for its processes.
 use Rattle.std.proofs.Common.{◌≡◌, ◌≤◌, ◌<◌, ◌+◌, ℕ, ℤ, Bool, true, false, ◌||◌, if◌then◌else◌, List, [], ◌∷◌, ◌++◌, length, Option, Some, None, slice_get, refl, sym, ap, subst, ◌∙◌, ◌⊎◌, inl, inr, append_assoc, arith, length-append}
-use Rattle.std.specs.Prelude.{◌-◌}
-use Rattle.cp_resolved.proofs.Words.{length-map, none-some, bytes_eq-Decides, Program, Tree, LayoutMeaning, Component, Process, Compounds, most, plain, laid}
-use Rattle.cp_resolved.proofs.Words.{PlainTables, Listing, nothing_listed, contents_least, System, Name, same_name, Ty, array_over, component_of}
-use Rattle.cp_resolved.proofs.Words.{has_components, find, permanent_variable, Parameter, SystemMeaning, program_system, system_of, component_with}
-use Rattle.cp_resolved.proofs.Words.{parameter_variables, first_component, first_components, encode, CellsAre, PartsAre, BoundIs, look, is_parameter, Each}
-use Rattle.cp_resolved.proofs.Words.{Ground, numbering_of}
-use Rattle.cp_symbols.specs.declared.names.LayoutMeaning.TheVariants as meaning
+use Rattle.cp_resolved.proofs.Words.{◌-◌, length-map, none-some, bytes_eq-Decides, Program, Tree, LayoutMeaning, Component, Process, Compounds, most, plain, laid}
+use Rattle.cp_resolved.proofs.Words.{PlainTables, Listing, nothing_listed, contents_least, System, Name, same_name, Ty, array_over, component_of, has_components, find}
+use Rattle.cp_resolved.proofs.Words.{permanent_variable, Parameter, SystemMeaning, program_system, system_of, component_with, parameter_variables, first_component}
+use Rattle.cp_resolved.proofs.Words.{first_components, encode, CellsAre, PartsAre, BoundIs, look, is_parameter, Each, Ground, numbering_of, IsVisible, AreFew, StandsAt}
+use Rattle.cp_resolved.proofs.Words.{first_permanent, ContainedAt, slot_in, first_in, components_among, initial_or, parts_at, layouts_of, whole_laid}
+use Rattle.cp_layout.specs.declared.names.LayoutMeaning.TheVariants as meaning
 use Rattle.cp_layout.specs.Layers as layers
 use Rattle.cp_slots.specs.Tables.{Tables, component_at, process_at, no_component, no_process}
 use Rattle.cp_meaning.specs.Values as values
 use Rattle.cp_meaning.specs.Components.{Listed, step_down, components_of}
 use Rattle.cp_meaning.specs.State as named
 use Rattle.cp_resolved.specs.ComponentsAre.{HasComponents, ComponentsAre, ComponentsLaw}
-use Rattle.cp_resolved.specs.Declared.{IsVisible, AreFew}
-use Rattle.cp_resolved.specs.Resolved.{StandsAt, first_permanent, ContainedAt}
-use Rattle.cp_resolved.specs.TreeLayouts.{slot_in, first_in, components_among, initial_or, parts_at, layouts_of, whole_laid}
 use Rattle.cp_resolved.proofs.components.ComponentImages.{stands_between, first_is, block_of}
 use Rattle.cp_resolved.proofs.components.ComponentOrder.{image_at}
 use Rattle.cp_resolved.proofs.components.ComponentsOfTree.{Own, own_of, earlier, count_same, program_kind, low, counted, tables_listed}

@@ -1,7 +1,6 @@
 -- The tables of a tree list its components and processes.
 use Rattle.std.proofs.Common.{◌≡◌, ℕ, suc, ◌<◌, ◌≤◌, List, [], ◌∷◌, length, Option, Some, None, slice_get, refl, sym, ap, subst, ◌∙◌, arith}
-use Rattle.std.specs.Prelude.{◌-◌}
-use Rattle.cp_resolved.proofs.Words.{slice_get_within, Program, Tree, Contained, plain, laid, program_parts, Listing, nothing_listed, Layer, Owned, System}
+use Rattle.cp_resolved.proofs.Words.{◌-◌, slice_get_within, Program, Tree, Contained, plain, laid, program_parts, Listing, nothing_listed, Layer, Owned, System}
 use Rattle.cp_resolved.proofs.Words.{nothing_laid, Tables, Numbering, IsPlain, numbering_of, program_parts_parts, layer_or, parts_at, whole_laid}
 use Rattle.cp_tree.specs.declared.declaration.SystemKind.TheVariants as system_kind
 use Rattle.cp_meaning.specs.Components.{listed, components_of}

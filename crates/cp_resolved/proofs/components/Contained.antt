@@ -1,8 +1,7 @@
 -- Where the components of a variable, or the elements of an array of them, stand in the list of all components.
 use Rattle.std.proofs.Common.{◌≡◌, ℕ, zero, suc, ◌+◌, ◌*◌, ◌<◌, ◌≤◌, ◌&&◌, Bool, true, false, if◌then◌else◌, List, [], ◌∷◌, ◌++◌, map, length, Option, Some, None, slice_get, refl, sym, ap, ap₂, subst, ◌∙◌, append_assoc, arith, length-append}
-use Rattle.cp_resolved.proofs.Words.{min, eqb-true, eq-eqb, length-map, none-some, same_Some, slice_get_within, bytes_eq-Decides, Program, Contained, most}
-use Rattle.cp_resolved.proofs.Words.{System, count_in, Name, same_name, Variable, program_system, component_with, first_component, first_components}
-use Rattle.cp_resolved.proofs.Words.{system_of}
+use Rattle.cp_resolved.proofs.Words.{min, eqb-true, eq-eqb, length-map, none-some, same_Some, slice_get_within, bytes_eq-Decides, Program, Contained, most, System}
+use Rattle.cp_resolved.proofs.Words.{count_in, Name, same_name, Variable, program_system, component_with, first_component, first_components, system_of}
 use Rattle.cp_meaning.specs.Types.{Range, array_over, component_of, length_of_range}
 use Rattle.cp_meaning.specs.Components.{PathStep, Path, Listed, step_down, same_element, same_path, listed_elements, listed_variable, listed_variables, listed, components_of}
 use Rattle.cp_meaning.specs.State.{Component, component_at, no_component}

@@ -1,8 +1,7 @@
 -- How many components there are of each system type, and that what the checker counts is no less, as long as it is few.
 use Rattle.std.proofs.Common.{◌≡◌, ◌+◌, ◌*◌, ◌<◌, ◌≤◌, ℕ, zero, suc, ℤ, pos, negsuc, List, [], ◌∷◌, ◌++◌, Some, None, refl, sym, ap, ◌∙◌, arith}
-use Rattle.std.specs.Prelude.{min, ◌+ℤ◌, ◌-ℤ◌, unsigned_abs}
-use Rattle.cp_resolved.proofs.Words.{mul-le, SystemKind, Program, Range, ValueType, Census, Spot, Contained, Name, Ty, natural_of, length_of_range, Variable}
-use Rattle.cp_resolved.proofs.Words.{system_of, Each, Tokens, RangeIs, TypeIs, SystemThere}
+use Rattle.cp_resolved.proofs.Words.{min, ◌+ℤ◌, ◌-ℤ◌, unsigned_abs, mul-le, SystemKind, Program, Range, ValueType, Census, Spot, Contained, Name, Ty, natural_of}
+use Rattle.cp_resolved.proofs.Words.{length_of_range, Variable, system_of, Each, Tokens, RangeIs, TypeIs, SystemThere}
 use Rattle.std.proofs.Math.IntN.{+ℤ_one}
 use Rattle.std.proofs.Math.Nat.{le-mul_of_pos_right, suc-mul, one-mul}
 use Rattle.cp_tree.specs.declared.declaration.SystemKind.TheVariants as system_kind

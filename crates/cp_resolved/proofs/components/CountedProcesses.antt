@@ -1,8 +1,7 @@
 -- How many of the components are processes, and that what the checker counts is no less, as long as it is few: only the program has process variables.
 use Rattle.std.proofs.Common.{◌≡◌, ◌+◌, ◌*◌, ◌<◌, ◌≤◌, ℕ, zero, suc, true, false, List, [], ◌∷◌, length, Some, None, refl, ap, ◌∙◌, arith, length-append}
-use Rattle.cp_resolved.proofs.Words.{min, mul-le, SystemKind, Program, ValueType, Census, Contained, Compounds, Listing, process_at, next_kind}
-use Rattle.cp_resolved.proofs.Words.{with_component, Owned, System, Ty, length_of_range, Variable, system_of, Listed, Each, Tokens, TypeIs, SystemThere}
-use Rattle.std.proofs.Math.Nat.{one-mul}
+use Rattle.cp_resolved.proofs.Words.{min, mul-le, SystemKind, Program, ValueType, Census, Contained, Compounds, Listing, process_at, next_kind, with_component, Owned}
+use Rattle.cp_resolved.proofs.Words.{System, Ty, length_of_range, Variable, system_of, Listed, Each, Tokens, TypeIs, SystemThere, one-mul}
 use Rattle.cp_tree.specs.declared.declaration.SystemKind.TheVariants as system_kind
 use Rattle.cp_scope.specs.Scopes.{Names, Scope, Heading, Shapes, system_shape, count_of, component_census, element_census, array_census, variable_census, census, no_census}
 use Rattle.cp_check.specs.declared.types.Spot.TheVariants as spot

@@ -1,8 +1,7 @@
 -- Where a component stands in the list of all, those that it contains follow it; and how many these are.
 use Rattle.std.proofs.Common.{◌≡◌, ℕ, zero, suc, ◌+◌, ◌*◌, ◌<◌, ◌≤◌, List, [], ◌∷◌, ◌++◌, length, Some, None, slice_get, refl, sym, ap, subst, ◌∙◌, ◌⊎◌, inl, inr, append_assoc, append-nil, arith, length-append}
 use Rattle.cp_resolved.proofs.Words.{min, none-some, same_Some, Program, Contained, most, plus, times, System, count_in, Name, Ty, array_over, component_of}
-use Rattle.cp_resolved.proofs.Words.{length_of_range, Variable, system_of}
-use Rattle.cp_meaning.specs.Components.{Path, Listed, step_down, listed_elements, listed_variable, listed_variables, listed}
+use Rattle.cp_resolved.proofs.Words.{length_of_range, Variable, system_of, Path, Listed, step_down, listed_elements, listed_variable, listed_variables, listed}
 use Rattle.cp_resolved.proofs.names.Entries.{there}
 use Rattle.cp_resolved.proofs.frames.EncodedCells.{times_stopped}
 use Rattle.cp_resolved.proofs.systems.OwnedParts.{contained_of, all_contained, AreLow, count_after}

@@ -1,10 +1,9 @@
 -- What is visible of the variables of a system type in its routines, and which of its layout are the names of components.
 use Rattle.std.proofs.Common.{◌≡◌, ◌<◌, ◌≤◌, ◌||◌, ℕ, Bool, true, false, List, [], ◌∷◌, ◌++◌, length, Option, Some, None, slice_get, refl, sym, ap, subst, ◌∙◌, ◌⊎◌, inl, inr, append_assoc, arith}
-use Rattle.cp_resolved.proofs.Words.{same_Some, slice_get_within, Program, Tree, Layer, Tables, Name, same_name, permanent_variable, predeclared, find}
-use Rattle.cp_resolved.proofs.Words.{Variable, Parameter, RoutineMeaning, parameter_variables, SystemMeaning, declared, program_system, own_meaning}
-use Rattle.cp_resolved.proofs.Words.{system_of, all_begun, ground_of, AreDeclared, routine_variables, system_variables, IsFramed, SystemLayout, is_parameter}
-use Rattle.cp_resolved.proofs.Words.{look, IsPlaced, SystemParameterIs, SystemParametersAre, initial_meaning, Stands, components_among, owner_in, layouts_of}
-use Rattle.cp_resolved.proofs.Words.{whole_laid}
+use Rattle.cp_resolved.proofs.Words.{same_Some, slice_get_within, Program, Tree, Layer, Tables, Name, same_name, permanent_variable, predeclared, find, Variable}
+use Rattle.cp_resolved.proofs.Words.{Parameter, RoutineMeaning, parameter_variables, SystemMeaning, declared, program_system, own_meaning, system_of, all_begun}
+use Rattle.cp_resolved.proofs.Words.{ground_of, AreDeclared, routine_variables, system_variables, IsFramed, SystemLayout, is_parameter, look, IsPlaced, SystemParameterIs}
+use Rattle.cp_resolved.proofs.Words.{SystemParametersAre, initial_meaning, Stands, components_among, owner_in, layouts_of, whole_laid}
 use Rattle.cp_meaning.specs.Types.{Ty, Range, array_over, component_of, has_components}
 use Rattle.cp_resolved.specs.Openings.{Opening, routine_openings, initial_opening, parts_openings, openings_of, meaning_in, meaning_at, numbering_of}
 use Rattle.cp_resolved.proofs.names.Entries.{there, last_entry}

@@ -1,11 +1,9 @@
 -- In the tables of an accepted program routines, system types and processes have few cells.
 use Rattle.std.proofs.Common.{◌≡◌, ℕ, zero, suc, ◌+◌, ◌*◌, ◌<◌, ◌≤◌, List, [], ◌∷◌, ◌++◌, ◌∙◌, length, Some, slice_get, slice_index_or, ap, sym, subst, refl, arith, le_trans}
-use Rattle.cp_resolved.proofs.Words.{spell, Program, Tree, Compounds, contents_least, Layer, Owned, System, RoutineView, no_routine, SystemView, no_system}
-use Rattle.cp_resolved.proofs.Words.{IsAccepted, all_begun, Numbering, InStep, Place, places_of, AreAgreed, tokens_of, Opening, openings_of, numbering_of}
-use Rattle.cp_resolved.proofs.Words.{IsRead, Each, Tokens}
-use Rattle.cp_layout.specs.Laid.{PlainTables, laid, tables_laid, no_room, room_from, system_type, types_of, system_types}
+use Rattle.cp_resolved.proofs.Words.{spell, Program, Tree, Compounds, contents_least, Layer, Owned, System, RoutineView, no_routine, SystemView, no_system, IsAccepted}
+use Rattle.cp_resolved.proofs.Words.{all_begun, Numbering, InStep, Place, places_of, AreAgreed, tokens_of, Opening, openings_of, numbering_of, IsRead, Each, Tokens}
+use Rattle.cp_resolved.proofs.Words.{PlainTables, laid, tables_laid, no_room, room_from, system_type, types_of, system_types, AreInStep}
 use Rattle.cp_resolved.specs.Held.{FewCellsLaw}
-use Rattle.cp_resolved.specs.Names.{AreInStep}
 use Rattle.cp_resolved.proofs.names.BegunWithin.{all_within}
 use Rattle.cp_resolved.proofs.laid.Extends.{Longer}
 use Rattle.cp_resolved.proofs.counts.FewContents.{Holds, program_holds}

@@ -1,13 +1,11 @@
 -- The tables of an accepted program have few processes, monitors, components and permanent cells.
 use Rattle.std.proofs.Common.{◌≡◌, ℕ, suc, ◌+◌, ◌*◌, ◌<◌, ◌≤◌, ℤ, Bool, true, false, ◌||◌, if◌then◌else◌, List, [], ◌∷◌, ◌++◌, length, None, refl, sym, ap, subst, ◌∙◌, arith, length-append}
-use Rattle.std.specs.Prelude.{nat_lt, ◌-◌, Ok}
-use Rattle.cp_resolved.proofs.Words.{ltb-false, length-map, SystemKind, Program, Tree, CheckFault, Use, Census, no_use, Judged, faults, Scopes, census, start}
-use Rattle.cp_resolved.proofs.Words.{Step, after_faults, Component, Process, most, plain, laid, Layer, System, Tables, statements_loud, IsAccepted}
-use Rattle.cp_resolved.proofs.Words.{SystemMeaning, declared, program_system, system_of, first_component, first_components, AreFew, enumerations_of}
-use Rattle.cp_resolved.proofs.Words.{tokens_of, IsPlain, IsRead, token_of_type}
+use Rattle.cp_resolved.proofs.Words.{nat_lt, ◌-◌, Ok, ltb-false, length-map, SystemKind, Program, Tree, CheckFault, Use, Census, no_use, Judged, faults, Scopes, census}
+use Rattle.cp_resolved.proofs.Words.{start, Step, after_faults, Component, Process, most, plain, laid, Layer, System, Tables, statements_loud, IsAccepted, SystemMeaning}
+use Rattle.cp_resolved.proofs.Words.{declared, program_system, system_of, first_component, first_components, AreFew, enumerations_of, tokens_of, IsPlain, IsRead}
+use Rattle.cp_resolved.proofs.Words.{token_of_type, C20}
 use Rattle.cp_tree.specs.declared.declaration.SystemKind.TheVariants as system_kind
 use Rattle.cp_scope.specs.declared.fault.CheckFault.TheVariants as check_fault
-use Rattle.cp_scope.specs.declared.fault.Rule.TheVariants.{C20}
 use Rattle.cp_check.specs.declared.types.Spot.TheVariants as spot
 use Rattle.cp_check.specs.Statements.{statements}
 use Rattle.cp_check.specs.Routines.{need_of}

@@ -1,7 +1,6 @@
 -- In the tables of a program that was read open calls have at most 20,000 references.
 use Rattle.std.proofs.Common.{◌≡◌, ℕ, zero, suc, ◌+◌, ◌<◌, ◌≤◌, List, [], ◌∷◌, ◌∙◌, length, slice_index_or, ap, sym, subst, refl, arith}
-use Rattle.cp_resolved.proofs.Words.{spell, Tree, PlainTables, laid, tables_laid, no_room, room_from, program, Layer, nothing_laid, RoutineView, no_routine}
-use Rattle.cp_resolved.proofs.Words.{Each}
+use Rattle.cp_resolved.proofs.Words.{spell, Tree, PlainTables, laid, tables_laid, no_room, room_from, program, Layer, nothing_laid, RoutineView, no_routine, Each}
 use Rattle.cp_resolved.specs.Held.{FewReferencesLaw}
 use Rattle.cp_resolved.proofs.counts.FewReferences.{each_weaker, program_level, rooms_few}
 use Rattle.cp_resolved.proofs.declarations.SmallTexts.{read_few}

@@ -1,6 +1,5 @@
 -- The tables of an accepted program that was read are modest: the program is inside its limits, and no count of it has stopped.
-use Rattle.cp_resolved.proofs.Words.{◌≡◌, arith, Tree, plain, laid, Tables, IsAccepted, IsRead}
-use Rattle.cp_resolved.specs.Soundness.{IsModest}
+use Rattle.cp_resolved.proofs.Words.{◌≡◌, arith, Tree, plain, laid, Tables, IsAccepted, IsRead, IsModest}
 use Rattle.cp_resolved.proofs.counts.FewCellsOfTables.{few_cells_law}
 use Rattle.cp_resolved.proofs.counts.FewComponents.{components_few, cells_few, accepted_few}
 use Rattle.cp_resolved.proofs.counts.FewItemsOfTables.{few_items_law}

@@ -1,10 +1,9 @@
 -- How many routines and system types a tree has.
 use Rattle.std.proofs.Common.{length-append, ◌≡◌, ◌+◌, suc, List, [], ◌∷◌, ◌++◌, length, None, refl, ap, ◌∙◌, arith}
 use Rattle.cp_tree.specs.Syntax as syntax
-use Rattle.cp_resolved.proofs.Words.{Layer, System, nothing_laid, Declared, declared, program_system, own_meaning, Enumerated, each_in, in_routine}
-use Rattle.cp_resolved.proofs.Words.{in_program_part, enumerations_of, AreFitParts, nothing_declared, Numbering, IsSmallProgram, AreNumbered, whole_laid}
-use Rattle.cp_layout.specs.LaidDeclarations.{routines, program_parts, program, heading_with, with_heading, with_new_frame}
-use Rattle.cp_resolved.specs.Openings.{Opening, routine_openings, initial_opening, parts_openings, openings_of, AreOpened}
+use Rattle.cp_resolved.proofs.Words.{Layer, System, nothing_laid, Declared, declared, program_system, own_meaning, Enumerated, each_in, in_routine, in_program_part}
+use Rattle.cp_resolved.proofs.Words.{enumerations_of, AreFitParts, nothing_declared, Numbering, IsSmallProgram, AreNumbered, whole_laid, routines, program_parts, program}
+use Rattle.cp_resolved.proofs.Words.{heading_with, with_heading, with_new_frame, Opening, routine_openings, initial_opening, parts_openings, openings_of, AreOpened}
 use Rattle.cp_resolved.proofs.names.Steps.{outermost_in}
 use Rattle.cp_resolved.proofs.names.StepsOfProgram.{Stood, parts_stood, all_outer}
 use Rattle.cp_resolved.proofs.names.StepsOfRoutines.{body_count, body_systems, routines_systems, routines_count, openings_count, opened_left}

@@ -1,11 +1,10 @@
 -- In a tree that was read and breaks no rule each function has an ordinal result (C5), and so has each function call.
 use Rattle.std.proofs.Common.{◌≡◌, ℕ, zero, suc, Bool, true, false, if◌then◌else◌, List, [], ◌∷◌, ◌++◌, length, Option, Some, None, slice_get, refl, subst}
-use Rattle.cp_resolved.proofs.Words.{none-some, same_Some, IsAccepted, Name, same_name, Ty, array_over, component_of, RoutineMeaning, with_groups, heading_of}
-use Rattle.cp_resolved.proofs.Words.{routine_in, last_field, result_type, all_calls_laid, nothing_declared, Place, AreAgreed, places_of, tokens_of, IsRead}
-use Rattle.cp_resolved.proofs.Words.{initial_meaning, Each, call_variables, Tokens}
+use Rattle.cp_resolved.proofs.Words.{none-some, same_Some, IsAccepted, Name, same_name, Ty, array_over, component_of, RoutineMeaning, with_groups, heading_of, routine_in}
+use Rattle.cp_resolved.proofs.Words.{last_field, result_type, all_calls_laid, nothing_declared, Place, AreAgreed, places_of, tokens_of, IsRead, initial_meaning, Each}
+use Rattle.cp_resolved.proofs.Words.{call_variables, Tokens, routine_of_system, routine_of_type, routine_meant, routine_called, result_called}
 use Rattle.cp_tree.specs.Syntax.{Routine, Designator, designator, Definition, type_definition, system_definition, SystemDefinition, ProgramPart, program_constants, program_types, program_variables, Program, Tree}
 use Rattle.cp_meaning.specs.Scopes.{Meaning, local_variable, permanent_variable, routine_meaning, Scope, find, since, is_seen, seen_inside}
-use Rattle.cp_meaning.specs.Expressions.{routine_of_system, routine_of_type, routine_meant, routine_called, result_called}
 use Rattle.cp_meaning.specs.State.{Item, statement_item, function_call, start_item, until, successor, return, init_end, end}
 use Rattle.cp_meaning.specs.Systems.{SystemMeaning, with_routines, system_in, Declared, definition_in, definitions_in, program_part_in, program_parts_in, declared, program_system, own_meaning, or_own, system_of}
 use Rattle.cp_resolved.specs.Framed.{IsOrdinal, IsOrdinalResult}

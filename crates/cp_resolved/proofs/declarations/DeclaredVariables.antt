@@ -1,7 +1,6 @@
 -- Variables that are declared without breaking a rule have different names, each of them visible after the declarations (C2).
 use Rattle.std.proofs.Common.{◌≡◌, Bool, true, false, ◌||◌, if◌then◌else◌, List, [], ◌∷◌, ◌++◌, Option, Some, None, is_some, refl, sym, ap, subst, ◌∙◌, inr, append_assoc}
-use Rattle.cp_resolved.proofs.Words.{Identifier, C2, ◌>>=◌, faults, Spot, Step, nothing, Typed, typed, Name, same_name, Ty, IsOther, AreDeclared, look, Each}
-use Rattle.cp_resolved.proofs.Words.{none_first}
+use Rattle.cp_resolved.proofs.Words.{Identifier, C2, ◌>>=◌, faults, Spot, Step, nothing, Typed, typed, Name, same_name, Ty, IsOther, AreDeclared, look, Each, none_first}
 use Rattle.cp_tree.specs.Syntax as syntax
 use Rattle.cp_scope.specs.declared.fault.CheckFault.TheVariants as check_fault
 use Rattle.cp_scope.specs.declared.types.Meaning as check_meaning

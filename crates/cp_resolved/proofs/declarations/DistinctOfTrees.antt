@@ -1,9 +1,9 @@
 -- In a tree that was read and breaks no rule, parameters have names of their own, and no parameter of a routine is a component.
-use Rattle.std.proofs.Common.{◌≡◌, ℕ, zero, suc, false, true, List, [], ◌∷◌, ◌++◌, Option, Some, None, Ok, Err, slice_get, refl, inr}
-use Rattle.cp_resolved.proofs.Words.{Identifier, SystemKind, ValueType, Meaning, Judged, faults, Scopes, add, settle, enter, add_around, keep, start, Spot}
-use Rattle.cp_resolved.proofs.Words.{reserve_name, reserve_names, add_names, add_all, part_steps, declarations, routine_step, routine_steps, Name, same_name}
-use Rattle.cp_resolved.proofs.Words.{Ty, component_of, names_of, Parameter, declared, own_meaning, Place, places_of, AreAgreed, tokens_of, Opening}
-use Rattle.cp_resolved.proofs.Words.{openings_of, meaning_in, initial_meaning, Each, is_free, IsFreeParameter, Tokens}
+use Rattle.cp_resolved.proofs.Words.{◌≡◌, ℕ, zero, suc, false, true, List, [], ◌∷◌, ◌++◌, Option, Some, None, Ok, Err, slice_get, refl, inr, Identifier, SystemKind}
+use Rattle.cp_resolved.proofs.Words.{ValueType, Meaning, Judged, faults, Scopes, add, settle, enter, add_around, keep, start, Spot, reserve_name, reserve_names}
+use Rattle.cp_resolved.proofs.Words.{add_names, add_all, part_steps, declarations, routine_step, routine_steps, Name, same_name, Ty, component_of, names_of, Parameter}
+use Rattle.cp_resolved.proofs.Words.{declared, own_meaning, Place, places_of, AreAgreed, tokens_of, Opening, openings_of, meaning_in, initial_meaning, Each, is_free}
+use Rattle.cp_resolved.proofs.Words.{IsFreeParameter, Tokens, no_left, no_right, no_first, none_before, inside_sound, defined_sound, declarations_sound, parts_sound}
 use Rattle.cp_tree.specs.Syntax.{Group, ParameterGroup, RoutineKind, procedure, function, Routine, System, Definition, type_definition, system_definition, SystemDefinition, Part, ProgramPart, program_types, Program}
 use Rattle.cp_check.specs.declared.types.Spot.TheVariants as spot
 use Rattle.cp_check.specs.Headings as headings
@@ -11,7 +11,6 @@ use Rattle.cp_check.specs.Headings.{Headed, after_faults, written, ruled, headin
 use Rattle.cp_check.specs.Routines as routines
 use Rattle.cp_check.specs.Systems as systems
 use Rattle.cp_lawful.proofs.Kept.{Keeps, same, after, names_reserved, names_added, all_added}
-use Rattle.cp_lawful.proofs.Once.{no_left, no_right, no_first, none_before, inside_sound, defined_sound, declarations_sound, parts_sound}
 use Rattle.cp_lawful.proofs.Told.{none_after}
 use Rattle.cp_resolved.specs.BodiesFormed.{DistinctLaw}
 use Rattle.cp_resolved.specs.Distinct.{IsOther, AreDistinct, all_names, part_names, kind_names, parameter_names, AreApart, IsDistinctRoutine, IsDistinctSystem, IsDistinctDefinition, IsDistinctPart, IsNoComponent, AreValues}

@@ -1,8 +1,6 @@
 -- The word `entry` stands in classes and monitors alone.
 use Rattle.std.proofs.Common.{◌≡◌, Bool, true, false, ◌&&◌, if◌then◌else◌, [], Option, Ok, refl, sym, ap, ◌∙◌}
-use Rattle.std.specs.Prelude.{ℕ, ◌-◌, not}
-use Rattle.cp_resolved.proofs.Words.{SystemKind, Routine, ValueType, Judged, enter, Step, fault}
-use Rattle.cp_scope.specs.declared.fault.Rule.TheVariants.{C9}
+use Rattle.cp_resolved.proofs.Words.{ℕ, ◌-◌, not, SystemKind, Routine, ValueType, Judged, enter, Step, fault, C9}
 use Rattle.cp_check.specs.Headings.{after_faults, written, result_faults, may_enter, entry_faults, heading_faults, ruled, heading}
 use Rattle.cp_resolved.proofs.agreeing.Agreeing.{none_right}
 use Rattle.cp_resolved.proofs.statements.CallsJudged.{unless_ok}

@@ -1,6 +1,5 @@
 -- The enumerations of a program that was read stand at different tokens, and have at least one constant and few.
-use Rattle.std.proofs.Common.{◌≡◌, ℕ, ◌+◌, ◌<◌, ◌≤◌, List, [], ◌∷◌, ◌++◌, length, sym, ap, ◌∙◌, arith}
-use Rattle.cp_resolved.proofs.Words.{Kind, Identifier, IsRead, Each}
+use Rattle.cp_resolved.proofs.Words.{◌≡◌, ℕ, ◌+◌, ◌<◌, ◌≤◌, List, [], ◌∷◌, ◌++◌, length, sym, ap, ◌∙◌, arith, Kind, Identifier, IsRead, Each}
 use Rattle.cp_text.specs.declared.token.Kind.TheVariants as kind
 use Rattle.cp_text.specs.declared.token.Mark.TheVariants as mark
 use Rattle.cp_tree.specs.Syntax.{enumeration, simple, array_of, set_type, record_of, no_fields, more_fields, fields, TypeDefinition, VariableGroup, constants, types, variables, type_definition, system_definition, SystemDefinition, program_constants, program_types, program_variables, Program}

@@ -1,7 +1,7 @@
 -- Declarations that break no rule hide no name of the innermost scope: each name that they declare is another one (C2).
 use Rattle.std.proofs.Common.{◌≡◌, ℕ, suc, ◌+◌, pos, Bool, true, false, if◌then◌else◌, List, [], ◌∷◌, Option, Some, Ok, Err, is_some, refl, sym, ap, subst, ◌∙◌}
-use Rattle.cp_resolved.proofs.Words.{Identifier, C2, ArrayShape, Judged, both, ◌>>=◌, faults, Spot, Step, nothing, Typed, typed, reserved_names, reserved_new}
-use Rattle.cp_resolved.proofs.Words.{Name, same_name}
+use Rattle.cp_resolved.proofs.Words.{Identifier, C2, ArrayShape, Judged, both, ◌>>=◌, faults, Spot, Step, nothing, Typed, typed, reserved_names, reserved_new, Name}
+use Rattle.cp_resolved.proofs.Words.{same_name, names_of, with_constants, simple_in, type_in, fields_in, group_in, constant_of, constants_in, types_in}
 use Rattle.cp_tree.specs.Syntax as syntax
 use Rattle.cp_scope.specs.declared.fault.CheckFault.TheVariants as check_fault
 use Rattle.cp_scope.specs.declared.types.Base as check_base
@@ -18,7 +18,6 @@ use Rattle.cp_lawful.proofs.Kept.{added, one_added}
 use Rattle.cp_meaning.specs.Types.{Base, enumerated}
 use Rattle.cp_meaning.specs.Scopes.{Meaning, constant_meaning, type_meaning, find}
 use Rattle.cp_meaning.specs.Scopes as scopes
-use Rattle.cp_meaning.specs.Declarations.{names_of, with_constants, simple_in, type_in, fields_in, group_in, constant_of, constants_in, types_in}
 use Rattle.cp_resolved.proofs.agreeing.Agreeing.{none_left, none_right, none_of_both}
 use Rattle.cp_resolved.proofs.declarations.OnceRoutines.{IsKnown, still_known, known_other}
 use Rattle.cp_lawful.proofs.Once.{no_first as none_first, or_left as or_first}

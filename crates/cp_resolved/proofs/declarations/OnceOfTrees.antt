@@ -1,8 +1,8 @@
 -- A tree that breaks no rule declares routines, variables and parameters once.
 use Rattle.std.proofs.Common.{◌≡◌, ℕ, zero, suc, Bool, true, false, ◌||◌, List, [], ◌∷◌, ◌++◌, Option, Some, is_some, slice_get, refl, sym, ap, subst, ◌∙◌, inr}
-use Rattle.cp_resolved.proofs.Words.{bytes_eq-Decides, Identifier, SystemKind, faults, Spot, faults_of, reserved_names, reserved_new, no_left, no_right}
-use Rattle.cp_resolved.proofs.Words.{inside_sound, defined_sound, parts_sound, Name, same_name, Ty, seen_inside, nothing_declared, is_parameter}
-use Rattle.cp_resolved.proofs.Words.{IsOnceDefinition, IsOncePart, AreOthers, IsOnce, Each}
+use Rattle.cp_resolved.proofs.Words.{bytes_eq-Decides, Identifier, SystemKind, faults, Spot, faults_of, reserved_names, reserved_new, no_left, no_right, inside_sound}
+use Rattle.cp_resolved.proofs.Words.{defined_sound, parts_sound, Name, same_name, Ty, seen_inside, nothing_declared, is_parameter, IsOnceDefinition, IsOncePart}
+use Rattle.cp_resolved.proofs.Words.{AreOthers, IsOnce, Each, Keeps, names_added, variable_kept, constants_kept, types_kept, system_group_kept}
 use Rattle.cp_tree.specs.Syntax as syntax
 use Rattle.cp_tree.specs.Syntax.{System, Definition, type_definition, system_definition, SystemDefinition, ProgramPart, program_types, Tree}
 use Rattle.cp_scope.specs.declared.types.Meaning as checker
@@ -10,7 +10,6 @@ use Rattle.cp_scope.specs.Scopes.{Names, Scopes, find, add, settle, enter, start
 use Rattle.cp_check.specs.declared.types.Spot.TheVariants as spot
 use Rattle.cp_check.specs.Declarations.{reserve_name, reserve_names, add_names, add_all, variable_step, variable_steps, part_step, part_steps}
 use Rattle.cp_check.specs.Systems as systems
-use Rattle.cp_lawful.proofs.Kept.{Keeps, names_added, variable_kept, constants_kept, types_kept, system_group_kept}
 use Rattle.cp_meaning.specs.Scopes as scopes
 use Rattle.cp_meaning.specs.Declarations.{Variable, Parameter, Block, Heading, names_of, named_variables, parameters_named, type_in, with_names, variables_in, part_in, parts_in, with_group, with_groups, type_named}
 use Rattle.cp_meaning.specs.Systems.{SystemMeaning, system_in, Declared, definition_in, definitions_in, program_part_in, program_parts_in, declared, own_meaning, or_own}

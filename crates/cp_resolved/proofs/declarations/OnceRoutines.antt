@@ -1,8 +1,7 @@
 -- No two routines of a system type that breaks no rule have one name.
 use Rattle.std.proofs.Common.{◌≡◌, Bool, true, false, if◌then◌else◌, List, [], ◌∷◌, ◌++◌, Option, Some, None, Ok, Err, is_some, refl, sym, ap, ◌∙◌, inl, inr}
-use Rattle.std.specs.Prelude.{◌⊎◌}
-use Rattle.cp_resolved.proofs.Words.{bytes_eq, bytes_eq-Decides, SystemKind, Routine, Meaning, ValueType, Use, Judged, faults, reserve_name, part_steps}
-use Rattle.cp_resolved.proofs.Words.{routine_step, routine_steps, Name, same_name}
+use Rattle.cp_resolved.proofs.Words.{◌⊎◌, bytes_eq, bytes_eq-Decides, SystemKind, Routine, Meaning, ValueType, Use, Judged, faults, reserve_name, part_steps}
+use Rattle.cp_resolved.proofs.Words.{routine_step, routine_steps, Name, same_name, IsNoneOf, AreOnce}
 use Rattle.cp_scope.specs.declared.types.Meaning.TheVariants as meaning
 use Rattle.cp_scope.specs.Scopes.{Names, Scope, Scopes, find, with_name, without_meaning, sealed, settle, enter, Around, last_of, leave, add_around, keep}
 use Rattle.cp_check.specs.declared.types.Spot.TheVariants as spot
@@ -11,7 +10,6 @@ use Rattle.cp_check.specs.Routines as routines
 use Rattle.cp_lawful.proofs.Classes.{reserved_names, reserved_new, last_found}
 use Rattle.cp_lawful.proofs.Kept.{find_before, last_is, written_kept, parts_kept}
 use Rattle.cp_lawful.proofs.Once.{no_left, no_right, no_first, none_before, some_is}
-use Rattle.cp_resolved.specs.Once.{IsNoneOf, AreOnce}
 
 -- ---- names that are declared
 

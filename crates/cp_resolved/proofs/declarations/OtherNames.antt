@@ -1,8 +1,7 @@
 -- What is declared without a fault has none of the names that are known before it, and names that are declared together are different.
 use Rattle.std.proofs.Common.{◌≡◌, ℕ, ◌+◌, Bool, true, false, ◌||◌, if◌then◌else◌, List, [], ◌∷◌, ◌++◌, Some, is_some, pos, refl, sym, ap, ◌∙◌, inl, inr}
-use Rattle.std.specs.Prelude.{◌⊎◌}
-use Rattle.cp_resolved.proofs.Words.{bytes_eq, bytes_eq-Decides, Identifier, CheckFault, C2, ValueType, Judged, both, ◌>>=◌, faults, Spot, no_left, no_right}
-use Rattle.cp_resolved.proofs.Words.{no_first, Name, same_name, names_of}
+use Rattle.cp_resolved.proofs.Words.{◌⊎◌, bytes_eq, bytes_eq-Decides, Identifier, CheckFault, C2, ValueType, Judged, both, ◌>>=◌, faults, Spot, no_left, no_right}
+use Rattle.cp_resolved.proofs.Words.{no_first, Name, same_name, names_of, IsOther, AreDistinct, all_names, simple_names, type_names, groups_names, part_names}
 use Rattle.cp_tree.specs.Syntax.{Simple, enumeration, TypeTerm, simple, array_of, set_type, record_of, FieldGroups, no_fields, more_fields, fields, ConstantDefinition, TypeDefinition, VariableGroup, Part, constants, types, variables}
 use Rattle.cp_scope.specs.declared.fault.CheckFault.TheVariants as check_fault
 use Rattle.cp_scope.specs.declared.types.Base.{Base}
@@ -13,7 +12,6 @@ use Rattle.cp_check.specs.Records.{Fields, sound_of, sound, reserve_fields}
 use Rattle.cp_check.specs.Types.{Step, nothing, member, members, unless_type, base_of, simple_typed, arrayed, to_array, set_of, simple_at, shaped, recorded, to_record, typed, groups_typed, group_typed}
 use Rattle.cp_check.specs.Declarations.{reserve_name, reserve_names, to_kind, to_variable, constant_step, constant_steps, type_step, type_steps, variable_step, variable_steps, part_step, part_steps}
 use Rattle.cp_lawful.proofs.Kept.{Keeps, added, name_reserved, names_reserved, constants_kept, type_kept, types_kept, variable_kept, part_kept}
-use Rattle.cp_resolved.specs.Distinct.{IsOther, AreDistinct, all_names, simple_names, type_names, groups_names, part_names}
 use Rattle.cp_resolved.proofs.agreeing.Agreeing.{none_of_both}
 use Rattle.cp_resolved.proofs.declarations.OnceRoutines.{IsKnown, still_known}
 use Rattle.cp_resolved.proofs.names.PermanentNames.{left_true as or_first}

@@ -1,8 +1,7 @@
 -- The parameters and variables of each system type that breaks no rule have different names, and each is visible where its initial statement stands.
 use Rattle.std.proofs.Common.{◌≡◌, ℕ, zero, suc, Bool, true, false, if◌then◌else◌, List, [], ◌∷◌, ◌++◌, Some, None, is_some, slice_get, refl, sym, ap, subst, ◌∙◌, append_assoc, append-nil}
-use Rattle.cp_resolved.proofs.Words.{Identifier, SystemKind, C2, faults, Spot, faults_of, declarations, routine_steps, Step, nothing, Typed, typed, Name}
-use Rattle.cp_resolved.proofs.Words.{same_name, Ty, parameter_variables, IsOther, AreDistinct, nothing_declared, AreDifferent, AreDeclared, system_variables}
-use Rattle.cp_resolved.proofs.Words.{look, Each}
+use Rattle.cp_resolved.proofs.Words.{Identifier, SystemKind, C2, faults, Spot, faults_of, declarations, routine_steps, Step, nothing, Typed, typed, Name, same_name, Ty}
+use Rattle.cp_resolved.proofs.Words.{parameter_variables, IsOther, AreDistinct, nothing_declared, AreDifferent, AreDeclared, system_variables, look, Each}
 use Rattle.cp_tree.specs.Syntax as syntax
 use Rattle.cp_scope.specs.declared.fault.CheckFault.TheVariants as check_fault
 use Rattle.cp_scope.specs.Scopes as checked

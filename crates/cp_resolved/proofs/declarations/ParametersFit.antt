@@ -1,9 +1,9 @@
 -- In a program that breaks no rule no parameter of a system type is an array of components.
 use Rattle.std.proofs.Common.{◌≡◌, ℕ, suc, ◌+◌, ◌≤◌, ◌∙◌, Bool, true, false, if◌then◌else◌, List, [], ◌∷◌, ◌++◌, length, Option, Some, None, Ok, Err, is_some, pos, refl, sym, ap, subst, arith, inl, inr}
-use Rattle.std.specs.Prelude.{◌⊎◌}
-use Rattle.cp_resolved.proofs.Words.{bytes_eq, bytes_eq-Decides, Identifier, SystemKind, grows_simple, grows_system_definition, grows_program_part, Meaning}
-use Rattle.cp_resolved.proofs.Words.{ValueType, ArrayShape, Judged, broken, both, ◌>>=◌, faults, Spot, Holding, Step, nothing, Typed, typed, faults_of, Name}
-use Rattle.cp_resolved.proofs.Words.{same_name, Declared, definition_in, definitions_in, program_part_in, Loud, IsParameter, AreParameters}
+use Rattle.cp_resolved.proofs.Words.{◌⊎◌, bytes_eq, bytes_eq-Decides, Identifier, SystemKind, grows_simple, grows_system_definition, grows_program_part, Meaning}
+use Rattle.cp_resolved.proofs.Words.{ValueType, ArrayShape, Judged, broken, both, ◌>>=◌, faults, Spot, Holding, Step, nothing, Typed, typed, faults_of, Name, same_name}
+use Rattle.cp_resolved.proofs.Words.{Declared, definition_in, definitions_in, program_part_in, Loud, IsParameter, AreParameters, Rule, C2, C11, C13, constant_meaning}
+use Rattle.cp_resolved.proofs.Words.{type_meaning, permanent_variable, is_seen, seen_inside, IsFitDefinition, AreFitDefinitions, IsFitPart, AreFitParts, nothing_declared}
 use Rattle.cp_text.specs.declared.token.Kind.{Kind as Token}
 use Rattle.cp_text.specs.declared.token.Kind.TheVariants as token
 use Rattle.cp_text.specs.declared.token.Mark.TheVariants as mark
@@ -11,8 +11,6 @@ use Rattle.cp_tree.specs.Syntax.{Simple, type_name, enumeration, TypeTerm, simpl
 use Rattle.cp_tree.specs.Spelling.{put_all, put_type, put_definition, put_system_definition, put_program_part, put_routine, put_body, spell}
 use Rattle.cp_tree.specs.SpellingIndexed.{AreAllIndexed, AreSomeIndexed, IsIndexedType, IsIndexedDefinition, IsIndexedSystemDefinition, IsIndexedProgramPart, IsIndexed}
 use Rattle.cp_scope.specs.declared.fault.CheckFault.TheVariants as check_fault
-use Rattle.cp_scope.specs.declared.fault.Rule.{Rule}
-use Rattle.cp_scope.specs.declared.fault.Rule.TheVariants.{C2, C11, C13}
 use Rattle.cp_scope.specs.declared.types.Base as checked_base
 use Rattle.cp_scope.specs.declared.types.Meaning.TheVariants as meaning
 use Rattle.cp_scope.specs.declared.types.Meaning.TheVariants.{Kind}
@@ -28,13 +26,11 @@ use Rattle.cp_check.specs.Declarations.{as_declared, to_kind, reserve_name, rese
 use Rattle.cp_check.specs.Systems as systems
 use Rattle.cp_meaning.specs.Types.{Base, Range, Ty, ordinal, queue_type, set_over, array_over, record_with, component_of, has_components, range_of, all_integers}
 use Rattle.cp_meaning.specs.Scopes as meant
-use Rattle.cp_meaning.specs.Scopes.{constant_meaning, type_meaning, permanent_variable, is_seen, seen_inside}
 use Rattle.cp_meaning.specs.Declarations.{type_named, names_of, with_constants, simple_in, type_in, fields_in, group_in, constants_in, with_names, Block, variables_in, Heading, with_group}
 use Rattle.cp_lawful.proofs.Classes as classes
 use Rattle.cp_lawful.proofs.Kept.{Keeps, definition_kept, program_part_kept, name_reserved, simple_kept as simple_keeps}
 use Rattle.cp_lawful.proofs.Once.{no_left, no_right, no_first, inside_sound, defined_sound, parts_sound, or_right}
 use Rattle.cp_lawful.proofs.Told.{Told, heard, add_told, enter_told, names_reserved_told, system_parameter_loud, type_told, name_reserved_told, definition_told, program_part_told, start_told}
-use Rattle.cp_resolved.specs.Fit.{IsFitDefinition, AreFitDefinitions, IsFitPart, AreFitParts, nothing_declared}
 use Rattle.cp_resolved.proofs.agreeing.ShapesWritten as shapes
 use Rattle.cp_resolved.proofs.agreeing.ShapesWritten.{Writes}
 use Rattle.cp_resolved.proofs.agreeing.AgreeingWritten.{other_than as other_name}

@@ -1,9 +1,8 @@
 -- A tree that was read and breaks no rule has what the laws on layouts and on bodies want of it.
-use Rattle.cp_resolved.proofs.Words.{◌≤◌, ℕ, zero, suc, List, [], ◌∷◌, ◌++◌, Option, Some, slice_get, arith, Program, most, declared, own_meaning}
-use Rattle.cp_resolved.proofs.Words.{program_system, nothing_declared, Place, places_of, AreAgreed, tokens_of, ScopesAre, cells_of, IsSizedMeaning, AreSized}
-use Rattle.cp_resolved.proofs.Words.{initial_meaning, Each, IsFit, Tokens}
+use Rattle.cp_resolved.proofs.Words.{◌≤◌, ℕ, zero, suc, List, [], ◌∷◌, ◌++◌, Option, Some, slice_get, arith, Program, most, declared, own_meaning, program_system}
+use Rattle.cp_resolved.proofs.Words.{nothing_declared, Place, places_of, AreAgreed, tokens_of, ScopesAre, cells_of, IsSizedMeaning, AreSized, initial_meaning, Each}
+use Rattle.cp_resolved.proofs.Words.{IsFit, Tokens, Opening, routine_openings, initial_opening, parts_openings, openings_of, meaning_in, meaning_at}
 use Rattle.cp_meaning.specs.Scopes.{Meaning, local_variable, permanent_variable, find}
-use Rattle.cp_resolved.specs.Openings.{Opening, routine_openings, initial_opening, parts_openings, openings_of, meaning_in, meaning_at}
 use Rattle.cp_resolved.specs.Placed.{PlacedLaw}
 use Rattle.cp_resolved.proofs.declarations.CallsOfTrees.{indexed_apart}
 use Rattle.cp_resolved.proofs.counts.FewCells.{few_free, few_standing, full_free, full_standing}

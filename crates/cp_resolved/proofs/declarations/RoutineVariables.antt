@@ -1,10 +1,9 @@
 -- The parameters and variables of each routine of a tree that breaks no rule have different names, and each is visible where its statements stand (C2);
 -- and where the tree was read, none of them has queues or components.
 use Rattle.std.proofs.Common.{◌≡◌, ℕ, zero, suc, Bool, true, false, List, [], ◌∷◌, ◌++◌, length, Option, Some, None, Ok, slice_get, sym, ap, subst, ◌∙◌, append-nil}
-use Rattle.cp_resolved.proofs.Words.{SystemKind, ValueType, no_use, ◌>>=◌, faults, Scopes, enter, start, Step, as_declared, reserve_name, reserve_names}
-use Rattle.cp_resolved.proofs.Words.{part_steps, faults_of, declarations, IsAccepted, Name, Ty, local_variable, seen_inside, parameter_variables}
-use Rattle.cp_resolved.proofs.Words.{nothing_declared, AreDeclared, routine_variables, Place, AreAgreed, places_of, tokens_of, IsRead, initial_meaning, Each}
-use Rattle.cp_resolved.proofs.Words.{IsFreeVariable, IsFreeParameter, Tokens}
+use Rattle.cp_resolved.proofs.Words.{SystemKind, ValueType, no_use, ◌>>=◌, faults, Scopes, enter, start, Step, as_declared, reserve_name, reserve_names, part_steps}
+use Rattle.cp_resolved.proofs.Words.{faults_of, declarations, IsAccepted, Name, Ty, local_variable, seen_inside, parameter_variables, nothing_declared, AreDeclared}
+use Rattle.cp_resolved.proofs.Words.{routine_variables, Place, AreAgreed, places_of, tokens_of, IsRead, initial_meaning, Each, IsFreeVariable, IsFreeParameter, Tokens}
 use Rattle.cp_tree.specs.Syntax.{Group, ParameterGroup, RoutineKind, procedure, function, Routine, Definition, type_definition, system_definition, SystemDefinition, ProgramPart, program_types, Program, Tree}
 use Rattle.cp_check.specs.declared.types.Spot.TheVariants as spot
 use Rattle.cp_check.specs.Headings as headings

@@ -1,11 +1,9 @@
 -- Where the tokens of a program are as a text has them, its numbers and characters are small.
-use Rattle.std.proofs.Common.{List, [], ◌∷◌}
-use Rattle.cp_text.specs.declared.token.Kind.{Kind}
+use Rattle.cp_resolved.proofs.Words.{List, [], ◌∷◌, Kind, Each, IsSmallPart, IsSmallRoutine, IsSmallSystem, IsSmallDefinition, IsSmallProgramPart, IsSmallProgram}
 use Rattle.cp_text.specs.declared.token.Kind.TheVariants as kind
 use Rattle.cp_text.specs.declared.token.Mark.TheVariants as mark
 use Rattle.cp_tree.specs.Syntax.{Group, ParameterGroup, RoutineKind, procedure, function, Body, Routine, System, Definition, type_definition, system_definition, SystemDefinition, ProgramPart, program_constants, program_types, program_variables, Program}
 use Rattle.cp_tree.specs.Spelling.{put_optional, put_behind, put_all, put_parameters, put_identifier, put_part, put_group, put_parameter_group, put_body, put_routine_kind, put_routine, put_system, put_definition, put_system_definition, put_program_part, spell}
-use Rattle.cp_resolved.specs.Small.{Each, IsSmallPart, IsSmallRoutine, IsSmallSystem, IsSmallDefinition, IsSmallProgramPart, IsSmallProgram}
 use Rattle.cp_resolved.proofs.declarations.SmallTokens.{AreScanned, names_small, optional_small, type_small, constants_small, variables_small, part_small}
 use Rattle.cp_resolved.proofs.declarations.SmallStatements.{statements_after}
 

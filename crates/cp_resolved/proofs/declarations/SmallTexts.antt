@@ -1,10 +1,9 @@
 -- The numbers and characters of a text's tokens are small and its names begin with letters, and so it is in a program that was read.
 use Rattle.std.proofs.Common.{◌≡◌, ℕ, zero, suc, ◌+◌, ◌≤◌, Bool, true, false, List, [], ◌∷◌, length, Option, Some, None, refl, ap, sym, subst, arith, ◌∙◌}
 use Rattle.std.specs.Prelude.{◌&&◌, nat_le, nat_lt, cond}
-use Rattle.cp_resolved.proofs.Words.{leb-true, Kind, spell, Program, enumerations_of, constants_before, IsWord, IsRead, IsSmallProgram, AreNumbered}
+use Rattle.cp_resolved.proofs.Words.{leb-true, Kind, spell, Program, enumerations_of, constants_before, IsWord, IsRead, IsSmallProgram, AreNumbered, Mark}
 use Rattle.cp_text.specs.declared.piece.Shape.{Shape}
 use Rattle.cp_text.specs.declared.piece.Shape.TheVariants as shape
-use Rattle.cp_text.specs.declared.token.Mark.{Mark}
 use Rattle.cp_text.specs.declared.token.Token.{Token}
 use Rattle.cp_text.specs.Bytes.{is_letter, line_feeds}
 use Rattle.cp_text.specs.Kinds.{kinds}

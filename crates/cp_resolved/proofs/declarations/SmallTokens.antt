@@ -1,7 +1,6 @@
 -- Where all tokens are as a text has them, the numbers and characters of the constants, types and parts that they spell are small.
-use Rattle.cp_resolved.proofs.Words.{◌≤◌, Bool, true, false, List, [], ◌∷◌, Some, None, Kind, Identifier, ConstantKind, IsWord}
+use Rattle.cp_resolved.proofs.Words.{◌≤◌, Bool, true, false, List, [], ◌∷◌, Some, None, Kind, Identifier, ConstantKind, IsWord, Mark}
 use Rattle.cp_text.specs.declared.token.Kind.TheVariants as kind
-use Rattle.cp_text.specs.declared.token.Mark.{Mark}
 use Rattle.cp_text.specs.declared.token.Mark.TheVariants as mark
 use Rattle.cp_tree.specs.declared.constant.ConstantKind.TheVariants as constant_kind
 use Rattle.cp_tree.specs.Syntax.{Simple, type_name, enumeration, subrange, TypeTerm, simple, array_of, set_type, record_of, FieldGroups, no_fields, more_fields, FieldGroup, fields, ConstantDefinition, TypeDefinition, VariableGroup, Part, constants, types, variables}

@@ -1,15 +1,14 @@
 -- What is declared without a fault has a name that is new, so each name that was declared before it in the same scope stands for what it did.
 use Rattle.std.proofs.Common.{◌≡◌, ℕ, suc, ◌+◌, Bool, true, false, if◌then◌else◌, List, [], ◌∷◌, ◌++◌, Option, Some, Ok, Err, is_some, pos, refl, ap, ◌∙◌, inl}
-use Rattle.cp_resolved.proofs.Words.{Identifier, SystemKind, CheckFault, C2, ValueType, Judged, both, faults, ◌>>=◌, Scopes, is_among, is_declared, add}
-use Rattle.cp_resolved.proofs.Words.{new_scope, Spot, routine_step, routine_steps, Step, nothing, Typed, typed, reserved_new, no_left, no_right, no_first}
-use Rattle.cp_resolved.proofs.Words.{or_left, Name, with_routines, Declared, definition_in, definitions_in}
+use Rattle.cp_resolved.proofs.Words.{Identifier, SystemKind, CheckFault, C2, ValueType, Judged, both, faults, ◌>>=◌, Scopes, is_among, is_declared, add, new_scope, Spot}
+use Rattle.cp_resolved.proofs.Words.{routine_step, routine_steps, Step, nothing, Typed, typed, reserved_new, no_left, no_right, no_first, or_left, Name, with_routines}
+use Rattle.cp_resolved.proofs.Words.{Declared, definition_in, definitions_in, to_kind, reserve_name, constant_step, constant_steps, type_step, type_steps}
 use Rattle.cp_tree.specs.Syntax as syntax
 use Rattle.cp_scope.specs.declared.fault.CheckFault.TheVariants as check_fault
 use Rattle.cp_scope.specs.declared.types.Base as checked_base
 use Rattle.cp_scope.specs.declared.types.Meaning.TheVariants as checked_meaning
 use Rattle.cp_scope.specs.Scopes as checked
 use Rattle.cp_check.specs.declared.types.Spot.TheVariants as spot
-use Rattle.cp_check.specs.Declarations.{to_kind, reserve_name, constant_step, constant_steps, type_step, type_steps}
 use Rattle.cp_check.specs.Records.{Fields, sound_of, reserve_fields}
 use Rattle.cp_check.specs.Systems as systems
 use Rattle.cp_check.specs.Types as typing

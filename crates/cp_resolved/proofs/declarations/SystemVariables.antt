@@ -1,8 +1,6 @@
 -- What is wanted of the variables and parameters of the system types of an accepted tree that was read, so that its components stand.
-use Rattle.std.specs.Prelude.{ℕ, List, [], ◌∷◌}
-use Rattle.cp_resolved.proofs.Words.{Tree, IsAccepted, Parameter, permanent_variable, parameter_variables, system_of, AreDeclared, system_variables}
-use Rattle.cp_resolved.proofs.Words.{ScopesAre, IsRead, Each, IsStandingVariable, IsStandingParameter}
-use Rattle.cp_lawful.proofs.Accepting.{well_formed}
+use Rattle.cp_resolved.proofs.Words.{ℕ, List, [], ◌∷◌, Tree, IsAccepted, Parameter, permanent_variable, parameter_variables, system_of, AreDeclared, system_variables}
+use Rattle.cp_resolved.proofs.Words.{ScopesAre, IsRead, Each, IsStandingVariable, IsStandingParameter, well_formed}
 use Rattle.cp_resolved.specs.ComponentsAre.{HasComponents}
 use Rattle.cp_resolved.specs.Declared.{AreOwn}
 use Rattle.cp_resolved.proofs.frames.FrameCells.{each_both}

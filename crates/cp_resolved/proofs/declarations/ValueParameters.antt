@@ -1,8 +1,7 @@
 -- No parameter of a system type is a `var` parameter.
-use Rattle.cp_resolved.proofs.Words.{◌≡◌, ℕ, zero, suc, false, List, [], ◌∷◌, slice_get, refl, Name, Ty, Scope, permanent_variable, predeclared, seen_inside}
-use Rattle.cp_resolved.proofs.Words.{Each, IsValueParameter}
+use Rattle.cp_resolved.proofs.Words.{◌≡◌, ℕ, zero, suc, false, List, [], ◌∷◌, slice_get, refl, Name, Ty, Scope, permanent_variable, predeclared, seen_inside, Each}
+use Rattle.cp_resolved.proofs.Words.{IsValueParameter, Parameter, Heading, names_of, parameters_named, type_named, with_group, with_groups}
 use Rattle.cp_tree.specs.Syntax.{Group, System, Definition, type_definition, system_definition, SystemDefinition, ProgramPart, program_types, Program}
-use Rattle.cp_meaning.specs.Declarations.{Parameter, Heading, names_of, parameters_named, type_named, with_group, with_groups}
 use Rattle.cp_meaning.specs.Systems.{SystemMeaning, system_in, Declared, definition_in, definitions_in, program_part_in, program_parts_in, declared, own_meaning, or_own, system_of}
 use Rattle.cp_resolved.proofs.frames.FrameCells.{each_both}
 

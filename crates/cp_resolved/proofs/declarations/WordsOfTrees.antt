@@ -3,7 +3,7 @@ use Rattle.std.proofs.Common.{ℕ, zero, suc, pos, Bool, true, false, if◌then�
 use Rattle.cp_resolved.proofs.Words.{Kind, Identifier, Name, nothing_declared, IsWord, AreWords, IsRead, initial_meaning, Each, IsSmallPart}
 use Rattle.cp_text.specs.declared.token.Kind.TheVariants as kind
 use Rattle.cp_text.specs.declared.token.Mark.TheVariants as mark
-use Rattle.cp_tree.specs.Syntax.{Simple, type_name, enumeration, TypeTerm, simple, array_of, set_type, record_of, FieldGroups, no_fields, more_fields, fields, ConstantDefinition, TypeDefinition, VariableGroup, Part, constants, types, variables, Group, ParameterGroup, RoutineKind, procedure, function, Routine, System, Definition, type_definition, system_definition, SystemDefinition, ProgramPart, program_constants, program_types, program_variables, Program}
+use Rattle.cp_tree.specs.Syntax.{Simple, enumeration, TypeTerm, simple, array_of, set_type, record_of, FieldGroups, no_fields, more_fields, fields, ConstantDefinition, TypeDefinition, VariableGroup, Part, constants, types, variables, Group, ParameterGroup, RoutineKind, procedure, function, Routine, System, Definition, type_definition, system_definition, SystemDefinition, ProgramPart, program_constants, program_types, program_variables, Program}
 use Rattle.cp_tree.specs.Spelling.{put_identifier, put_optional, put_behind, put_all, put_names, put_simple, put_type, put_field_groups, put_more_field_groups, put_constant_definition, put_type_definition, put_variable_group, put_part, put_group, put_parameter_group, put_parameters, put_body, put_routine_kind, put_routine, put_system, put_definition, put_system_definition, put_program_part, spell}
 use Rattle.cp_meaning.specs.Types.{Base, Ty, enumerated}
 use Rattle.cp_meaning.specs.Scopes.{Meaning, constant_meaning, type_meaning, local_variable, permanent_variable, Scope, is_seen, seen_inside}

@@ -1,7 +1,7 @@
 -- Where an expression that breaks no rule is a variable that may be assigned to, its form is the value of that variable.
-use Rattle.std.proofs.Common.{◌≡◌, ℕ, Bool, true, false, ◌&&◌, if◌then◌else◌, List, [], ◌∷◌, Option, Some, None, Ok, Err, refl, sym, ap, subst, ◌∙◌}
-use Rattle.cp_resolved.proofs.Words.{Identifier, ValueType, Use, values_of, Judged, both, ◌>>=◌, Scopes, Context, Operand, Named, value, is_assignable, Name}
-use Rattle.cp_resolved.proofs.Words.{Ty, find, last_field, is_call_meant, Here}
+use Rattle.cp_resolved.proofs.Words.{◌≡◌, ℕ, Bool, true, false, ◌&&◌, if◌then◌else◌, List, [], ◌∷◌, Option, Some, None, Ok, Err, refl, sym, ap, subst, ◌∙◌, Identifier}
+use Rattle.cp_resolved.proofs.Words.{ValueType, Use, values_of, Judged, both, ◌>>=◌, Scopes, Context, Operand, Named, value, is_assignable, Name, Ty, find, last_field}
+use Rattle.cp_resolved.proofs.Words.{is_call_meant, Here, Tokens, Written, TypeIs, is_plain, ScopesAgree, IsSmallExpression, IsSmallSum, IsSmallTerm, IsSmallFactor}
 use Rattle.cp_tree.specs.Syntax.{Expression, alone, related, Sum, sum, no_terms, more_terms as terms_more, Term, term, no_factors, more_factors as factors_more, Factor, named as factor_named, group, negated, set_of, designator as name_with, Selectors}
 use Rattle.cp_scope.specs.declared.types.ValueType.TheVariants as types
 use Rattle.cp_check.specs.declared.operand.OperandUse.TheVariants as place
@@ -15,7 +15,6 @@ use Rattle.cp_slots.specs.Code as code
 use Rattle.cp_meaning.specs.Types as named
 use Rattle.cp_meaning.specs.Scopes as scopes
 use Rattle.cp_resolved.specs.Compiled.{Formed, Designated, a_variable, some_components, a_component, then_form, loaded_form, valued_form, signed_form, named_form, expression_form, sum_form, term_form, factor_form, designator_form}
-use Rattle.cp_resolved.specs.Typed.{Tokens, Written, TypeIs, is_plain, ScopesAgree, IsSmallExpression, IsSmallSum, IsSmallTerm, IsSmallFactor}
 use Rattle.cp_resolved.proofs.forms.MadeValues.{IsMade, agreed_made, sum_made, product_made, signed_made, related_made, negated_made, group_made, constructed_made, applied_made, alone_made, call_made, terms_made, factors_made}
 use Rattle.cp_resolved.proofs.forms.Typing.{formed}
 use Rattle.cp_resolved.proofs.forms.TypingNames.{Holds, written, NamedIs, HasDesignated}

@@ -1,6 +1,5 @@
 -- A tree that was read and breaks no rule has what the laws on headings and on bodies want of it.
-use Rattle.cp_resolved.proofs.Words.{◌≡◌, ℕ, Some, slice_get, slice_get_within, Tree, Layer, IsAccepted, all_begun, IsPlaced, openings_of, numbering_of}
-use Rattle.cp_resolved.proofs.Words.{IsRead}
+use Rattle.cp_resolved.proofs.Words.{◌≡◌, ℕ, Some, slice_get, slice_get_within, Tree, Layer, IsAccepted, all_begun, IsPlaced, openings_of, numbering_of, IsRead}
 use Rattle.cp_resolved.specs.BodiesFormed.{BodiesFormedLaw}
 use Rattle.cp_resolved.specs.FormedBodies.{IsFormedAt}
 use Rattle.cp_resolved.specs.HeadingsKnow.{HeadingsKnown}

@@ -1,11 +1,10 @@
 -- All statements of a tree that was read and breaks no rule have the forms that their items want.
 use Rattle.std.proofs.Common.{◌≡◌, ◌<◌, ℕ, zero, suc, List, [], ◌∷◌, length, Option, Some, None, Ok, slice_get, refl, sym, ap, subst, ◌∙◌, arith}
-use Rattle.cp_resolved.proofs.Words.{Use, no_use, Judged, heading_at, Heard, statements_loud, Program, Tree, Name, Ty, RoutineMeaning, declared, own_meaning}
-use Rattle.cp_resolved.proofs.Words.{Place, IsOwn, IsAgreed, AreAgreed, places_of, tokens_of, Here, is_named, place_of, Opening, openings_of, meaning_in}
-use Rattle.cp_resolved.proofs.Words.{meaning_at, initial_meaning, Each, AreSmallStatements, Tokens, HeadingIs, ScopesAgree, HasResult}
+use Rattle.cp_resolved.proofs.Words.{Use, no_use, Judged, heading_at, Heard, statements_loud, Program, Tree, Name, Ty, RoutineMeaning, declared, own_meaning, Place}
+use Rattle.cp_resolved.proofs.Words.{IsOwn, IsAgreed, AreAgreed, places_of, tokens_of, Here, is_named, place_of, Opening, openings_of, meaning_in, meaning_at}
+use Rattle.cp_resolved.proofs.Words.{initial_meaning, Each, AreSmallStatements, Tokens, HeadingIs, ScopesAgree, HasResult, name_with, name_in, layouts_of}
 use Rattle.cp_check.specs.Statements.{statements}
 use Rattle.cp_resolved.specs.FormedBodies.{IsFormedAt, FormedLaw}
-use Rattle.cp_resolved.specs.TreeLayouts.{name_with, name_in, layouts_of}
 use Rattle.cp_resolved.proofs.forms.FormedStatements.{Right, right_of}
 use Rattle.cp_resolved.proofs.forms.FormedTargets.{OwnRoutine}
 use Rattle.cp_resolved.proofs.forms.FormsOfTrees.{all_heard}

@@ -1,8 +1,8 @@
 -- Statements that break no rule have the forms that they want.
 use Rattle.std.proofs.Common.{◌≡◌, ℕ, Bool, true, false, ◌&&◌, if◌then◌else◌, List, [], ◌∷◌, Option, Some, None, Ok, Err, refl, sym, ap, subst, ◌∙◌}
-use Rattle.cp_resolved.proofs.Words.{Decides-eqb, Identifier, SystemKind, CheckFault, Range, ValueType, Predeclared, Use, no_use, both_uses, agree, is_of}
-use Rattle.cp_resolved.proofs.Words.{is_ordinal, Judged, both, ◌>>=◌, faults, Context, Operand, OperandUse, Named, Label, is_queue_in, is_assignable}
-use Rattle.cp_resolved.proofs.Words.{expression, designator, arguments, Name, Ty, find, since, routine_in, last_field, Here, Each, none_first}
+use Rattle.cp_resolved.proofs.Words.{Decides-eqb, Identifier, SystemKind, CheckFault, Range, ValueType, Predeclared, Use, no_use, both_uses, agree, is_of, is_ordinal}
+use Rattle.cp_resolved.proofs.Words.{Judged, both, ◌>>=◌, faults, Context, Operand, OperandUse, Named, Label, is_queue_in, is_assignable, expression, designator}
+use Rattle.cp_resolved.proofs.Words.{arguments, Name, Ty, find, since, routine_in, last_field, Here, Each, none_first, Target}
 use Rattle.cp_tree.specs.Syntax.{Expression, Expressions, no_expressions, more_expressions, Designator, designator as name_with, Selectors, Start, Statement, empty, assign, invoke, block, if_then, if_else, case_of, while_do, repeat_until, for_do, cycle, init, Statements, no_statements, more_statements, Arms, no_arms, more_arms, Arm, arm}
 use Rattle.cp_scope.specs.declared.types.Base.TheVariants as base
 use Rattle.cp_scope.specs.declared.types.ValueType.TheVariants as types
@@ -14,7 +14,6 @@ use Rattle.cp_check.specs.Expressions as expressions
 use Rattle.cp_scope.specs.declared.fault.Rule.TheVariants.{C5, C21}
 use Rattle.cp_check.specs.declared.operand.DesignatedName as check_designated
 use Rattle.cp_check.specs.declared.operand.Named.TheVariants as name
-use Rattle.cp_check.specs.declared.statement.Target.{Target}
 use Rattle.cp_check.specs.declared.statement.Target.TheVariants as target
 use Rattle.cp_check.specs.Names as names
 use Rattle.cp_check.specs.Calls as calls

@@ -1,10 +1,9 @@
 -- Arguments that break no rule can be handed over to the parameters of what is called or started.
 use Rattle.std.proofs.Common.{◌≡◌, ℕ, suc, ◌+◌, Bool, true, false, ◌&&◌, if◌then◌else◌, List, [], ◌∷◌, ◌++◌, length, Option, Some, None, Ok, slice_get, refl, sym, ap, subst, ◌∙◌, arith}
-use Rattle.cp_resolved.proofs.Words.{nat_eq, not, Decides-eqb, Expression, Expressions, no_expressions, more_expressions, Designator, CheckFault, Use}
-use Rattle.cp_resolved.proofs.Words.{both_uses, Judged, both, ◌>>=◌, Scopes, heading_at, body_at, Context, Operand, OperandUse, is_assignable, is_function}
-use Rattle.cp_resolved.proofs.Words.{expression, arguments, is_var_at, Ty, natural_of, Parameter, RoutineMeaning, routine_called, Here, cells_of, is_free}
-use Rattle.cp_resolved.proofs.Words.{ValueGiven, PlaceGiven, GivenBy}
-use Rattle.cp_scope.specs.declared.fault.Rule.TheVariants.{C5, C6, C7}
+use Rattle.cp_resolved.proofs.Words.{nat_eq, not, Decides-eqb, Expression, Expressions, no_expressions, more_expressions, Designator, CheckFault, Use, both_uses, Judged}
+use Rattle.cp_resolved.proofs.Words.{both, ◌>>=◌, Scopes, heading_at, body_at, Context, Operand, OperandUse, is_assignable, is_function, expression, arguments, is_var_at}
+use Rattle.cp_resolved.proofs.Words.{Ty, natural_of, Parameter, RoutineMeaning, routine_called, Here, cells_of, is_free, ValueGiven, PlaceGiven, GivenBy, C5, C6, C7}
+use Rattle.cp_resolved.proofs.Words.{as_ordinal, as_set, as_place, as_component, Formed, place_form, loaded_form, expression_form, CanGive, CanGiveAll, CallFormed}
 use Rattle.cp_scope.specs.declared.types.Parameter as check_parameter
 use Rattle.cp_scope.specs.Types.{agree, same}
 use Rattle.cp_check.specs.declared.operand.OperandUse.TheVariants as place
@@ -13,8 +12,6 @@ use Rattle.cp_check.specs.Calls.{fits, all_fit, fit_faults, fault, variable_faul
 use Rattle.cp_check.specs.Expressions as expressions
 use Rattle.cp_slots.specs.Code as code
 use Rattle.cp_meaning.specs.Types as named
-use Rattle.cp_resolved.specs.Compiled.{as_ordinal, as_set, as_place, as_component, Formed, place_form, loaded_form, expression_form}
-use Rattle.cp_resolved.specs.FormedParts.{CanGive, CanGiveAll, CallFormed}
 use Rattle.cp_resolved.specs.Typed.{Tokens, Written, IsHanded, ParameterIs, AreParameters, HeadingIs, ScopesAgree, Expressed, HasForm, IsSmallExpression, AreSmallExpressions}
 use Rattle.cp_resolved.proofs.agreeing.Agreeing.{none_left, none_right}
 use Rattle.cp_resolved.proofs.agreeing.AgreeingParts.{free_plain}

@@ -1,7 +1,7 @@
 -- What is laid out as an argument, or as an assignment, is what its form wants.
 use Rattle.std.proofs.Common.{◌≡◌, ◌≤◌, ℕ, ℤ, pos, negsuc, Bool, true, false, ◌&&◌, if◌then◌else◌, nat_le, Option, Some, None, refl, sym, ap, ◌∙◌, arith}
-use Rattle.cp_resolved.proofs.Words.{le-leb, CellType, Layer, assigned_as, Ty, natural_of, Form, as_ordinal, as_set, as_place, as_component, Formed}
-use Rattle.cp_resolved.proofs.Words.{place_form, cells_of, ValueGiven, PlaceGiven, GivenBy, AssignedBy, FormIs, ValueIs}
+use Rattle.cp_resolved.proofs.Words.{le-leb, CellType, Layer, assigned_as, Ty, natural_of, Form, as_ordinal, as_set, as_place, as_component, Formed, place_form, cells_of}
+use Rattle.cp_resolved.proofs.Words.{ValueGiven, PlaceGiven, GivenBy, AssignedBy, FormIs, ValueIs, IsByte, IsMoved, PassedBy}
 use Rattle.cp_layout.specs.declared.layer.Passing.{Passing}
 use Rattle.cp_layout.specs.declared.layer.Passing.TheVariants as passing
 use Rattle.cp_slots.specs.Code as code
@@ -9,7 +9,6 @@ use Rattle.cp_symbols.specs.Kinds as kinds
 use Rattle.cp_layout.specs.Values.{Value, load_place, set_place, place_of, ordinal_of, set_of}
 use Rattle.cp_layout.specs.LaidExpressions.{byte_or, component_in, passed}
 use Rattle.cp_meaning.specs.Types as named
-use Rattle.cp_resolved.specs.FormedParts.{IsByte, IsMoved, PassedBy}
 use Rattle.cp_resolved.specs.InStep.{Numbering, TypeIs}
 use Rattle.cp_resolved.proofs.names.Alike.{same_inside}
 use Rattle.cp_resolved.proofs.frames.Cells.{cells_same}

@@ -1,7 +1,6 @@
 -- What is assigned or handed over has few cells, and sets have members of a byte.
-use Rattle.cp_resolved.proofs.Words.{◌≡◌, ℤ, pos, negsuc, true, arith, ValueType, Ty, is_within, all_characters, Written, TypeIs}
+use Rattle.cp_resolved.proofs.Words.{◌≡◌, ℤ, pos, negsuc, true, arith, ValueType, Ty, is_within, all_characters, Written, TypeIs, IsByte, IsMoved}
 use Rattle.cp_meaning.specs.Types as named
-use Rattle.cp_resolved.specs.FormedParts.{IsByte, IsMoved}
 
 character_byte : (z : ℤ) → is_within all_characters z ≡ true → IsByte z
 character_byte (pos n) h = search (arith, h)

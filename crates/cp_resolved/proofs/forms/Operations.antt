@@ -1,7 +1,6 @@
 -- Where an operation on forms gives a form, the operation on values gives the value of this form.
-use Rattle.cp_resolved.proofs.Words.{◌≡◌, Bool, true, Option, Some, None, refl, sym, ap, subst, ◌∙◌, Sign, Relation, Addition, Multiplication, Compounds}
-use Rattle.cp_resolved.proofs.Words.{signed, Numbering, base_of, FormIs, ValueIs}
-use Rattle.std.specs.Prelude.{◌&&◌}
+use Rattle.cp_resolved.proofs.Words.{◌≡◌, Bool, true, Option, Some, None, refl, sym, ap, subst, ◌∙◌, Sign, Relation, Addition, Multiplication, Compounds, signed}
+use Rattle.cp_resolved.proofs.Words.{Numbering, base_of, FormIs, ValueIs, ◌&&◌, Value, ordinal_value, set_value, ordinal_of}
 use Rattle.cp_tree.specs.declared.constant.Sign.TheVariants as sign
 use Rattle.cp_tree.specs.declared.expression.Relation.TheVariants as relation
 use Rattle.cp_tree.specs.declared.expression.Addition.TheVariants as addition
@@ -10,7 +9,6 @@ use Rattle.cp_symbols.specs.declared.kinds.CellBase as code_base
 use Rattle.cp_symbols.specs.declared.kinds.CellBase.TheVariants as base
 use Rattle.cp_slots.specs.Code as code
 use Rattle.cp_layout.specs.Values as values
-use Rattle.cp_layout.specs.Values.{Value, ordinal_value, set_value, ordinal_of}
 use Rattle.cp_meaning.specs.Types as named
 use Rattle.cp_meaning.specs.Types.{Base, integers, Ty, all_integers, all_booleans}
 use Rattle.cp_resolved.specs.Compiled.{Form, as_ordinal, as_set, as_place, Formed, integer_form, truth_form, set_form, is_integer_base, is_integer, is_boolean, compared_forms, added_ordinals, added_forms, multiplied_ordinals, multiplied_forms, signed_ordinal, signed_form, not_form_of, not_form, with_member_form}

@@ -1,9 +1,11 @@
 -- Statements that break no rule have the forms that their items want, and the arguments of their function calls fit the parameters.
 use Rattle.std.proofs.Common.{◌≡◌, ℕ, Bool, true, false, ◌&&◌, if◌then◌else◌, List, [], ◌∷◌, ◌++◌, length, Option, Some, None, Ok, Err, refl, sym, ap, subst, ◌∙◌}
-use Rattle.cp_resolved.proofs.Words.{nat_eq, not, Identifier, SystemKind, CheckFault, C6, ValueType, Predeclared, Use, no_use, both_uses, agree, is_of}
-use Rattle.cp_resolved.proofs.Words.{is_ordinal, Judged, both, ◌>>=◌, faults, Scopes, heading_at, Context, Operand, Named, Label, OperandUse, is_function}
-use Rattle.cp_resolved.proofs.Words.{is_assignable, variable_faults, all_variable_faults, Heard, PlaceOrigin, Name, Ty, find, routine_called, system_of}
-use Rattle.cp_resolved.proofs.Words.{CallsFormed, CanGiveAll, CallFormed, Here, Each, IsBare, IsOne, IsUsed, AreUsed, SelectorsUsed}
+use Rattle.cp_resolved.proofs.Words.{nat_eq, not, Identifier, SystemKind, CheckFault, C6, ValueType, Predeclared, Use, no_use, both_uses, agree, is_of, is_ordinal}
+use Rattle.cp_resolved.proofs.Words.{Judged, both, ◌>>=◌, faults, Scopes, heading_at, Context, Operand, Named, Label, OperandUse, is_function, is_assignable}
+use Rattle.cp_resolved.proofs.Words.{variable_faults, all_variable_faults, Heard, PlaceOrigin, Name, Ty, find, routine_called, system_of, CallsFormed, CanGiveAll}
+use Rattle.cp_resolved.proofs.Words.{CallFormed, Here, Each, IsBare, IsOne, IsUsed, AreUsed, SelectorsUsed, Target, starts_calls, calls_laid, all_calls_laid}
+use Rattle.cp_resolved.proofs.Words.{arms_calls_laid, arm_calls_laid, Designated, a_variable, a_component, begun_form, designator_form, expression_form, HasOrdinal}
+use Rattle.cp_resolved.proofs.Words.{IsPerformed, IsSmallStart, IsSmallStatement, AreSmallStatements, AreSmallArms, IsSmallArm, first_of}
 use Rattle.cp_tree.specs.Syntax.{Expression, Expressions, no_expressions, more_expressions, Designator, designator as name_with, Selectors, no_selectors, Start, Statement, empty, assign, invoke, block, if_then, if_else, case_of, while_do, repeat_until, for_do, cycle, init, Statements, no_statements, more_statements, Arms, no_arms, more_arms, Arm, arm}
 use Rattle.cp_scope.specs.declared.types.Base.TheVariants as base
 use Rattle.cp_scope.specs.declared.types.ValueType.TheVariants as types
@@ -11,7 +13,6 @@ use Rattle.cp_scope.specs.declared.types.Parameter as check_parameter
 use Rattle.cp_scope.specs.Scopes as checker
 use Rattle.cp_check.specs.declared.operand.DesignatedName as check_designated
 use Rattle.cp_check.specs.declared.operand.Named.TheVariants as name
-use Rattle.cp_check.specs.declared.statement.Target.{Target}
 use Rattle.cp_check.specs.declared.statement.Target.TheVariants as target
 use Rattle.cp_check.specs.declared.operand.OperandUse.TheVariants as place
 use Rattle.cp_check.specs.Names as names
@@ -25,12 +26,7 @@ use Rattle.cp_meaning.specs.Types as named
 use Rattle.cp_meaning.specs.Scopes as scopes
 use Rattle.cp_meaning.specs.Lifting.{last_field, is_call_meant, expression_calls, expressions_calls, designator_calls, selectors_calls}
 use Rattle.cp_meaning.specs.Declarations as meant
-use Rattle.cp_resolved.specs.Calls.{starts_calls, calls_laid, all_calls_laid, arms_calls_laid, arm_calls_laid}
-use Rattle.cp_resolved.specs.Compiled.{Designated, a_variable, a_component, begun_form, designator_form, expression_form}
-use Rattle.cp_resolved.specs.Formed.{HasOrdinal, IsPerformed}
 use Rattle.cp_resolved.specs.FormedStatements.{TestFormed, OrdinalFormed, AssignFormed, PerformFormed, InvokeFormed, IsTarget, IsNotRoutine, ForFormed, StartFormed, StatementFormed, AllFormed, ArmsFormed, ArmFormed}
-use Rattle.cp_resolved.specs.SmallStatements.{IsSmallStart, IsSmallStatement, AreSmallStatements, AreSmallArms, IsSmallArm}
-use Rattle.cp_resolved.specs.Stands.{first_of}
 use Rattle.cp_resolved.specs.Typed.{Tokens, TypeIs, IsValueParameter, AreParameters, HeadingIs, RoutineIs, StandardIs, ScopesAgree, Expressed, HasForm, IsSmallExpression, AreSmallExpressions, AreSmallSelectors}
 use Rattle.cp_resolved.proofs.agreeing.Agreeing.{none_left, none_right}
 use Rattle.cp_resolved.proofs.forms.FormedStatements.{ordinal_formed, performed_formed, selector_ordinal, ordinal_is, agree_ordinal}

@@ -1,12 +1,11 @@
 -- What the type of an operand says of its form.
-use Rattle.cp_resolved.proofs.Words.{◌≡◌, Bool, true, Option, Some, None, refl, sym, ap, subst, Range, same_base, values_of, whole, Ty, all_characters}
-use Rattle.std.specs.Prelude.{◌&&◌, ◌-◌, pos, length}
+use Rattle.cp_resolved.proofs.Words.{◌≡◌, Bool, true, Option, Some, None, refl, sym, ap, subst, Range, same_base, values_of, whole, Ty, all_characters, ◌&&◌, ◌-◌, pos}
+use Rattle.cp_resolved.proofs.Words.{length, Form, as_ordinal, as_set, as_place, Formed, then_form, integer_form, truth_form, set_form, is_integer_base, is_boolean_base}
 use Rattle.cp_scope.specs.declared.types.Base as check_base
 use Rattle.cp_scope.specs.declared.types.Base.TheVariants as base
 use Rattle.cp_scope.specs.declared.types.ValueType.TheVariants as types
 use Rattle.cp_slots.specs.Code as code
 use Rattle.cp_meaning.specs.Types as named
-use Rattle.cp_resolved.specs.Compiled.{Form, as_ordinal, as_set, as_place, Formed, then_form, integer_form, truth_form, set_form, is_integer_base, is_boolean_base}
 use Rattle.cp_resolved.specs.Typed.{Tokens, Written, BaseIs, RangeIs, FormIs, Expressed}
 
 abbrev pub formed : Ty → Form → Formed

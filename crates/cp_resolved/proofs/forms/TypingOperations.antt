@@ -1,13 +1,11 @@
 -- Operands that break no rule have forms, and so has what an operation makes of them.
 use Rattle.std.proofs.Common.{◌≡◌, ℕ, Bool, true, false, if◌then◌else◌, Option, Some, None, Ok, Err, refl, sym, subst, ◌∙◌}
-use Rattle.std.specs.Prelude.{◌&&◌}
-use Rattle.cp_resolved.proofs.Words.{option_or, Sign, Relation, Addition, Multiplication, Range, ValueType, Use, both_uses, agree, is_of, values_of, Judged}
-use Rattle.cp_resolved.proofs.Words.{broken, both, ◌>>=◌, Operand, value, Ty, Written, Expressed, HasForm}
+use Rattle.cp_resolved.proofs.Words.{◌&&◌, option_or, Sign, Relation, Addition, Multiplication, Range, ValueType, Use, both_uses, agree, is_of, values_of, Judged, broken}
+use Rattle.cp_resolved.proofs.Words.{both, ◌>>=◌, Operand, value, Ty, Written, Expressed, HasForm, Rule}
 use Rattle.cp_tree.specs.declared.constant.Sign.TheVariants as sign
 use Rattle.cp_tree.specs.declared.expression.Relation.TheVariants as relation
 use Rattle.cp_tree.specs.declared.expression.Addition.TheVariants as addition
 use Rattle.cp_tree.specs.declared.expression.Multiplication.TheVariants as multiplication
-use Rattle.cp_scope.specs.declared.fault.Rule.{Rule}
 use Rattle.cp_scope.specs.declared.types.Base.TheVariants as base
 use Rattle.cp_scope.specs.declared.types.ValueType.TheVariants as types
 use Rattle.cp_check.specs.Operations as operations

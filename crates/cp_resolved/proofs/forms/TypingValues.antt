@@ -1,9 +1,8 @@
 -- Names that break no rule where they are values have forms: constants, variables, standard functions and calls.
 use Rattle.std.proofs.Common.{◌≡◌, ◌≤◌, ℕ, ℤ, pos, Bool, true, false, if◌then◌else◌, List, [], ◌∷◌, Option, Some, None, Ok, Err, refl, sym, ap, subst, arith}
-use Rattle.std.specs.Prelude.{◌-◌, length}
-use Rattle.cp_resolved.proofs.Words.{Identifier, C5, ValueType, Predeclared, Use, is_of, values_of, whole, Judged, broken, both, ◌>>=◌, Scopes, heading_at}
-use Rattle.cp_resolved.proofs.Words.{Context, OperandUse, Operand, Named, value, is_queue_in, Name, Ty, is_within, all_integers, Standard, find}
-use Rattle.cp_resolved.proofs.Words.{RoutineMeaning, range_of_base, last_field, is_call_meant, routine_meant, result_called, result_type, Here}
+use Rattle.cp_resolved.proofs.Words.{◌-◌, length, Identifier, C5, ValueType, Predeclared, Use, is_of, values_of, whole, Judged, broken, both, ◌>>=◌, Scopes, heading_at}
+use Rattle.cp_resolved.proofs.Words.{Context, OperandUse, Operand, Named, value, is_queue_in, Name, Ty, is_within, all_integers, Standard, find, RoutineMeaning}
+use Rattle.cp_resolved.proofs.Words.{range_of_base, last_field, is_call_meant, routine_meant, result_called, result_type, Here}
 use Rattle.cp_scope.specs.declared.types.Base as check_base
 use Rattle.cp_scope.specs.declared.types.Base.TheVariants as base
 use Rattle.cp_scope.specs.declared.types.ValueType.TheVariants as types

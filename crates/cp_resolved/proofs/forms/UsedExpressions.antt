@@ -86,6 +86,71 @@ applied_one at p os u r is = go (operations.is_function p) is
     go true i = inner os i
     go false i = absurd (cc)
 
+-- ---- names and terms that stand alone
+
+pub agreed_some : (at : ℕ) (j : Judged (Option Operand)) (p : Operand) → (j >>= operations.agreed at) ≡ Ok p → j ≡ Ok (Some p)
+agreed_some at (Ok (Some o)) p e = ap (λ (z : Operand). Ok (Some z)) (ok_same o p e)
+agreed_some at x p e = absurd (cc)
+
+no_more : (v b : Bool) → b ≡ false → (v && b) ≡ true → ⊥
+no_more v b e i = (let bad : false ≡ true = sym e ∙ second_true v b i in cc)
+
+first_of : (v b : Bool) → (v && b) ≡ true → v ≡ true
+first_of true b i = refl
+first_of false b i = absurd (cc)
+
+some_same : (a b : Operand) → (let j : Judged (Option Operand) = Ok (Some a) in j) ≡ Ok (Some b) → a ≡ b
+some_same a b e = cc
+
+pub name_only : (v : Bool) (es : Expressions) (p : Operand) → (v ≡ true → is_function p.place ≡ false) → (v && has_none es) ≡ true → (es ≡ no_expressions) × (is_function p.place ≡ false)
+name_only v no_expressions p only i = (refl, only (first_of v true i))
+name_only v (more_expressions e es) p only i = absurd (no_more v false refl i)
+
+pub never : (p : Operand) → false ≡ true → is_function p.place ≡ false
+never p i = absurd (cc)
+
+module _ (s : Scopes) (w : Context) where
+  -- a name alone or with its arguments
+  pub record NameParts (d : Designator) (es : Expressions) (at : ℕ) (p : Operand) : Type 0 where
+    pub value : check_designated.DesignatedName
+    pub is : designator s w d ≡ Ok value
+    pub operands : List Operand
+    pub arguments : arguments s w [] 0 es ≡ Ok operands
+    pub rest : calls.value_named s w at value operands value.named ≡ Ok p
+
+  pub name_parts : (b : Bool) (d : Designator) (es : Expressions) (at : ℕ) (p : Operand) → (b ≡ true → (es ≡ no_expressions) × (is_function p.place ≡ false)) → expressions.named_value s w b at (designator s w d) (arguments s w [] 0 es) ≡ Ok p → NameParts d es at p
+  unfolding calls.value_of expression
+  name_parts false d es at p only is =
+      let t : Then (both (designator s w d) (arguments s w [] 0 es)) (calls.value_of s w at) p = then_of (both (designator s w d) (arguments s w [] 0 es)) (calls.value_of s w at) p is in
+      let q = both_of (designator s w d) (arguments s w [] 0 es) t.value t.is in
+      record { value = t.value.0; is = q.first; operands = t.value.1; arguments = q.second; rest = t.rest }
+  name_parts true d es at p only is =
+      let t : Then (designator s w d) (calls.variable_of s w at) p = then_of (designator s w d) (calls.variable_of s w at) p is in
+      let k : (es ≡ no_expressions) × (is_function p.place ≡ false) = only refl in
+      record { value = t.value; is = t.is; operands = []; arguments = subst (λ (fs : Expressions). arguments s w [] 0 fs ≡ Ok []) (sym k.0) none; rest = go t.value (calls.is_other_function s w t.value.named) k.1 t.rest }
+    where
+      none : arguments s w [] 0 no_expressions ≡ Ok []
+      none = refl
+
+      go : (c : check_designated.DesignatedName) (b : Bool) → is_function p.place ≡ false → (if b then Ok (calls.placed at types.Queue place.Function c.uses) else calls.value_of s w at (c, [])) ≡ Ok p → calls.value_named s w at c [] c.named ≡ Ok p
+      go c true k z = absurd (let one : calls.placed at types.Queue place.Function c.uses ≡ p = ok_same (calls.placed at types.Queue place.Function c.uses) p z in let bad : true ≡ false = ap (λ (x : Operand). is_function x.place) one ∙ k in cc)
+      go c false k z = z
+
+  -- a term alone is the whole sum
+  pub sum_only : (at : ℕ) (v : Bool) (o : Option Sign) (ts : Terms) (q : Judged Operand) (a p : Operand) → q ≡ Ok a → (v ≡ true → is_function p.place ≡ false) → more_terms s w at (q >>= expressions.signed at o) ts ≡ Ok (Some p) → (v && (is_unsigned o && has_no_terms ts)) ≡ true → is_function a.place ≡ false
+  unfolding expression
+  sum_only at v None no_terms q a p x only is i =
+      let one : a ≡ p = some_same a p (sym (ap (λ (z : Judged Operand). z >>= expressions.signed at None) x) ∙ is) in
+      ap (λ (z : Operand). is_function z.place) one ∙ only (first_of v true i)
+  sum_only at v _ _ q a p x only is i = absurd (no_more v false refl i)
+
+  pub term_only : (at : ℕ) (v : Bool) (fs : Factors) (q : Judged Operand) (a p : Operand) → q ≡ Ok a → (v ≡ true → is_function p.place ≡ false) → more_factors s w at (q >>= expressions.some_operand) fs ≡ Ok (Some p) → (v && has_no_factors fs) ≡ true → is_function a.place ≡ false
+  unfolding expression
+  term_only at v no_factors q a p x only is i =
+      let one : a ≡ p = some_same a p (sym (ap (λ (z : Judged Operand). z >>= expressions.some_operand) x) ∙ is) in
+      ap (λ (z : Operand). is_function z.place) one ∙ only (first_of v true i)
+  term_only at v (factors_more m f fs) q a p x only is i = absurd (no_more v false refl i)
+
 module _ (tokens : Tokens) (s : Scopes) (h : Here) (w : Context) (agrees : ScopesAgree tokens s h) where
   -- ---- calls of functions
 
@@ -177,32 +242,6 @@ module _ (tokens : Tokens) (s : Scopes) (h : Here) (w : Context) (agrees : Scope
       (function_called at d.name_at false n os d.uses (name_with i ss) es p k.heading less a g)
   value_used at i ss es d x os o p same k small less is a g = absurd (cc)
 
-  -- a name alone or with its arguments
-  record NameParts (d : Designator) (es : Expressions) (at : ℕ) (p : Operand) : Type 0 where
-    pub value : check_designated.DesignatedName
-    pub is : designator s w d ≡ Ok value
-    pub operands : List Operand
-    pub arguments : arguments s w [] 0 es ≡ Ok operands
-    pub rest : calls.value_named s w at value operands value.named ≡ Ok p
-
-  name_parts : (b : Bool) (d : Designator) (es : Expressions) (at : ℕ) (p : Operand) → (b ≡ true → (es ≡ no_expressions) × (is_function p.place ≡ false)) → expressions.named_value s w b at (designator s w d) (arguments s w [] 0 es) ≡ Ok p → NameParts d es at p
-  unfolding calls.value_of expression
-  name_parts false d es at p only is =
-      let t : Then (both (designator s w d) (arguments s w [] 0 es)) (calls.value_of s w at) p = then_of (both (designator s w d) (arguments s w [] 0 es)) (calls.value_of s w at) p is in
-      let q = both_of (designator s w d) (arguments s w [] 0 es) t.value t.is in
-      record { value = t.value.0; is = q.first; operands = t.value.1; arguments = q.second; rest = t.rest }
-  name_parts true d es at p only is =
-      let t : Then (designator s w d) (calls.variable_of s w at) p = then_of (designator s w d) (calls.variable_of s w at) p is in
-      let k : (es ≡ no_expressions) × (is_function p.place ≡ false) = only refl in
-      record { value = t.value; is = t.is; operands = []; arguments = subst (λ (fs : Expressions). arguments s w [] 0 fs ≡ Ok []) (sym k.0) none; rest = go t.value (calls.is_other_function s w t.value.named) k.1 t.rest }
-    where
-      none : arguments s w [] 0 no_expressions ≡ Ok []
-      none = refl
-
-      go : (c : check_designated.DesignatedName) (b : Bool) → is_function p.place ≡ false → (if b then Ok (calls.placed at types.Queue place.Function c.uses) else calls.value_of s w at (c, [])) ≡ Ok p → calls.value_named s w at c [] c.named ≡ Ok p
-      go c true k z = absurd (let one : calls.placed at types.Queue place.Function c.uses ≡ p = ok_same (calls.placed at types.Queue place.Function c.uses) p z in let bad : true ≡ false = ap (λ (x : Operand). is_function x.place) one ∙ k in cc)
-      go c false k z = z
-
   -- ---- expressions
 
   -- the first part of a sum or a term, and those after it
@@ -210,42 +249,6 @@ module _ (tokens : Tokens) (s : Scopes) (h : Here) (w : Context) (agrees : Scope
     pub value : Option Operand
     pub is : j ≡ Ok value
     pub rest : U
-
-  agreed_some : (at : ℕ) (j : Judged (Option Operand)) (p : Operand) → (j >>= operations.agreed at) ≡ Ok p → j ≡ Ok (Some p)
-  agreed_some at (Ok (Some o)) p e = ap (λ (z : Operand). Ok (Some z)) (ok_same o p e)
-  agreed_some at x p e = absurd (cc)
-
-  no_more : (v b : Bool) → b ≡ false → (v && b) ≡ true → ⊥
-  no_more v b e i = (let bad : false ≡ true = sym e ∙ second_true v b i in cc)
-
-  first_of : (v b : Bool) → (v && b) ≡ true → v ≡ true
-  first_of true b i = refl
-  first_of false b i = absurd (cc)
-
-  some_same : (a b : Operand) → (let j : Judged (Option Operand) = Ok (Some a) in j) ≡ Ok (Some b) → a ≡ b
-  some_same a b e = cc
-
-  -- a term alone is the whole sum
-  sum_only : (at : ℕ) (v : Bool) (o : Option Sign) (ts : Terms) (q : Judged Operand) (a p : Operand) → q ≡ Ok a → (v ≡ true → is_function p.place ≡ false) → more_terms s w at (q >>= expressions.signed at o) ts ≡ Ok (Some p) → (v && (is_unsigned o && has_no_terms ts)) ≡ true → is_function a.place ≡ false
-  unfolding expression
-  sum_only at v None no_terms q a p x only is i =
-      let one : a ≡ p = some_same a p (sym (ap (λ (z : Judged Operand). z >>= expressions.signed at None) x) ∙ is) in
-      ap (λ (z : Operand). is_function z.place) one ∙ only (first_of v true i)
-  sum_only at v _ _ q a p x only is i = absurd (no_more v false refl i)
-
-  term_only : (at : ℕ) (v : Bool) (fs : Factors) (q : Judged Operand) (a p : Operand) → q ≡ Ok a → (v ≡ true → is_function p.place ≡ false) → more_factors s w at (q >>= expressions.some_operand) fs ≡ Ok (Some p) → (v && has_no_factors fs) ≡ true → is_function a.place ≡ false
-  unfolding expression
-  term_only at v no_factors q a p x only is i =
-      let one : a ≡ p = some_same a p (sym (ap (λ (z : Judged Operand). z >>= expressions.some_operand) x) ∙ is) in
-      ap (λ (z : Operand). is_function z.place) one ∙ only (first_of v true i)
-  term_only at v (factors_more m f fs) q a p x only is i = absurd (no_more v false refl i)
-
-  name_only : (v : Bool) (es : Expressions) (p : Operand) → (v ≡ true → is_function p.place ≡ false) → (v && has_none es) ≡ true → (es ≡ no_expressions) × (is_function p.place ≡ false)
-  name_only v no_expressions p only i = (refl, only (first_of v true i))
-  name_only v (more_expressions e es) p only i = absurd (no_more v false refl i)
-
-  never : (p : Operand) → false ≡ true → is_function p.place ≡ false
-  never p i = absurd (cc)
 
   -- what selectors begin with is judged without a fault
   record Begun (j : Judged check_designated.DesignatedName) : Type 0 where
@@ -292,7 +295,7 @@ module _ (tokens : Tokens) (s : Scopes) (h : Here) (w : Context) (agrees : Scope
         let all : more_terms s w at (term_value s w b t >>= expressions.signed at o) ts ≡ Ok (Some p) = agreed_some at (more_terms s w at (term_value s w b t >>= expressions.signed at o) ts) p is in
         let rest = terms_used at ts m.1 (term_value s w b t >>= expressions.signed at o) (Some p) all in
         let one : Then (term_value s w b t) (expressions.signed at o) rest.value = then_of (term_value s w b t) (expressions.signed at o) rest.value rest.is in
-        let x = term_used b t m.0 one.value (sum_only at v o ts (term_value s w b t) one.value p one.is only all) one.is in
+        let x = term_used b t m.0 one.value (sum_only s w at v o ts (term_value s w b t) one.value p one.is only all) one.is in
         ((x.0, rest.rest.0), calls_both h (term_calls h.scope t) (terms_calls h.scope ts) x.1 rest.rest.1)
 
     terms_used : (at : ℕ) (ts : Terms) → AreSmallTerms ts → (j : Judged (Option Operand)) (r : Option Operand) → more_terms s w at j ts ≡ Ok r → Walked j (TermsUsed h ts × CallsFormed h (terms_calls h.scope ts))
@@ -310,7 +313,7 @@ module _ (tokens : Tokens) (s : Scopes) (h : Here) (w : Context) (agrees : Scope
         let all : more_factors s w at (factor s w b f >>= expressions.some_operand) fs ≡ Ok (Some p) = agreed_some at (more_factors s w at (factor s w b f >>= expressions.some_operand) fs) p is in
         let rest = factors_used at fs m.1 (factor s w b f >>= expressions.some_operand) (Some p) all in
         let one : Then (factor s w b f) expressions.some_operand rest.value = then_of (factor s w b f) expressions.some_operand rest.value rest.is in
-        let x = factor_used b f m.0 one.value (term_only at v fs (factor s w b f) one.value p one.is only all) one.is in
+        let x = factor_used b f m.0 one.value (term_only s w at v fs (factor s w b f) one.value p one.is only all) one.is in
         ((x.0, rest.rest.0), calls_both h (factor_calls h.scope f) (factors_calls h.scope fs) x.1 rest.rest.1)
 
     factors_used : (at : ℕ) (fs : Factors) → AreSmallFactors fs → (j : Judged (Option Operand)) (r : Option Operand) → more_factors s w at j fs ≡ Ok r → Walked j (FactorsUsed h fs × CallsFormed h (factors_calls h.scope fs))
@@ -325,7 +328,7 @@ module _ (tokens : Tokens) (s : Scopes) (h : Here) (w : Context) (agrees : Scope
     factor_used : (v : Bool) (f : Factor) → IsSmallFactor f → (p : Operand) → (v ≡ true → is_function p.place ≡ false) → factor s w v f ≡ Ok p → FactorUsed h f × CallsFormed h (factor_calls h.scope f)
     factor_used v (factor_named at (name_with i ss) es) m p only is =
         let d : Designator = name_with i ss in
-        let k : NameParts d es at p = name_parts (v && has_none es) d es at p (name_only v es p only) is in
+        let k : NameParts s w d es at p = name_parts s w (v && has_none es) d es at p (name_only v es p only) is in
         let t : Then (selectors s w (names.begun s i) ss) (names.known i.at) k.value = then_of (selectors s w (names.begun s i) ss) (names.known i.at) k.value k.is in
         let x = selectors_used ss m.0 (names.begun s i) t.value t.is in
         let y = arguments_used 0 es m.1 k.operands k.arguments in

@@ -1,8 +1,7 @@
 -- How names are used where they break no rule: what is no variable stands bare, and an entry stands after indices.
 use Rattle.std.proofs.Common.{◌≡◌, ℕ, Bool, true, false, if◌then◌else◌, List, [], Option, Some, None, Ok, Err, refl, sym, ap, subst, ◌∙◌}
-use Rattle.cp_resolved.proofs.Words.{Identifier, SystemKind, CheckFault, ValueType, Meaning, ArrayShape, no_use, both_uses, agree, Judged, both, ◌>>=◌}
-use Rattle.cp_resolved.proofs.Words.{Context, Operand, Named, Name, find, last_field, is_call_meant, Here, Tokens, TypeIs, ScopesAgree, HasForm}
-use Rattle.cp_resolved.proofs.Words.{AreSmallSelectors, AreEntry, IsBare}
+use Rattle.cp_resolved.proofs.Words.{Identifier, SystemKind, CheckFault, ValueType, Meaning, ArrayShape, no_use, both_uses, agree, Judged, both, ◌>>=◌, Context, Operand}
+use Rattle.cp_resolved.proofs.Words.{Named, Name, find, last_field, is_call_meant, Here, Tokens, TypeIs, ScopesAgree, HasForm, AreSmallSelectors, AreEntry, IsBare}
 use Rattle.cp_tree.specs.Syntax.{Expression, designator as name_with, Selectors, no_selectors, more_selectors, Selector, field, index}
 use Rattle.cp_scope.specs.declared.types.ValueType.TheVariants as types
 use Rattle.cp_scope.specs.declared.types.Meaning.TheVariants as meaning

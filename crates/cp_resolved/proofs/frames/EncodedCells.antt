@@ -1,14 +1,12 @@
 -- The cells with which a variable begins are those of the least value of its type, and as many as are counted for it.
 use Rattle.std.proofs.Common.{◌≡◌, ℕ, zero, suc, ◌+◌, ◌*◌, ◌<◌, ◌==◌, ℤ, Bool, true, false, if◌then◌else◌, List, [], ◌∷◌, ◌++◌, length, Some, slice_get, refl, sym, ap, subst, ◌∙◌, arith, append_assoc, append-nil, length-append}
-use Rattle.cp_resolved.proofs.Words.{min, eqb-true, eqb-false, slice_get_within, CellType, Ty, FieldTypes, length_of_range}
-use Rattle.cp_symbols.specs.declared.kinds.CellType.TheVariants as types
-use Rattle.cp_symbols.specs.Kinds as symbol_kinds
+use Rattle.cp_resolved.proofs.Words.{min, eqb-true, eqb-false, slice_get_within, CellType, Ty, FieldTypes, length_of_range, least_fields}
+use Rattle.cp_layout.specs.declared.kinds.CellType.TheVariants as types
 use Rattle.cp_layout.specs.Kinds as kinds
 use Rattle.cp_symbols.specs.Kinds.{Field, Compound, array, record_with, Compounds, compound_cells, count_of, most, plus, times}
 use Rattle.cp_layout.specs.Kinds.{array_type, least_by, fields_least, compound_least, compound_below}
 use Rattle.cp_meaning.specs.Types as named
 use Rattle.cp_meaning.specs.Values as values
-use Rattle.cp_meaning.specs.Values.{least_fields}
 use Rattle.cp_resolved.specs.InStep.{Numbering, range_on, TypeIs, FieldsAre}
 use Rattle.cp_resolved.specs.Encoded.{encode, encode_all, encode_fields}
 use Rattle.cp_resolved.proofs.frames.Cells.{count_same}

@@ -1,7 +1,6 @@
 -- Variables one after the other: their cells, where each of them begins, and that they are apart.
 use Rattle.std.proofs.Common.{◌≡◌, ◌+◌, ◌<◌, ◌≤◌, ℕ, zero, suc, ℤ, pos, Bool, true, false, if◌then◌else◌, List, [], ◌∷◌, ◌++◌, length, Option, Some, None, slice_index_or, refl, sym, ap, subst, ◌∙◌, ◌⊎◌, inl, inr, arith, length-append, append_assoc}
-use Rattle.cp_resolved.proofs.Words.{none-some, same_Some, bytes_eq-Decides, Name, same_name, Ty, Variable, encode, cells_of, look, StandsAt, Each}
-use Rattle.cp_resolved.proofs.Words.{IsFreeVariable}
+use Rattle.cp_resolved.proofs.Words.{none-some, same_Some, bytes_eq-Decides, Name, same_name, Ty, Variable, encode, cells_of, look, StandsAt, Each, IsFreeVariable}
 use Rattle.cp_meaning.specs.Values.{least}
 use Rattle.cp_resolved.proofs.frames.LeastCells.{least_length}
 

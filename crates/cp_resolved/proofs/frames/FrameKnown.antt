@@ -1,9 +1,8 @@
 -- In the frame of a routine each variable has its cells, with its first value, and no two have any in common.
 use Rattle.std.proofs.Common.{◌≡◌, ◌+◌, ◌<◌, ◌==◌, ◌⊎◌, inl, inr, ℕ, zero, suc, ℤ, pos, Bool, true, false, if◌then◌else◌, List, [], ◌∷◌, ◌++◌, length, Option, Some, None, slice_index_or, refl, sym, subst, ◌∙◌, arith}
-use Rattle.std.proofs.Math.Dec.{eqb_refl}
-use Rattle.cp_resolved.proofs.Words.{eqb-true, none-some, same_Some, Name, same_name, temporary, Ty, Scope, local_variable, find, Variable, Parameter, Item}
-use Rattle.cp_resolved.proofs.Words.{function_call, result_called, routine_called, parameter_variables, calls_before, IsAmong, AreDifferent, IsOrdinal, look}
-use Rattle.cp_resolved.proofs.Words.{IsWord, AreWords, StandsAt, Each, call_variables, parameters_by}
+use Rattle.cp_resolved.proofs.Words.{eqb_refl, eqb-true, none-some, same_Some, Name, same_name, temporary, Ty, Scope, local_variable, find, Variable, Parameter, Item}
+use Rattle.cp_resolved.proofs.Words.{function_call, result_called, routine_called, parameter_variables, calls_before, IsAmong, AreDifferent, IsOrdinal, look, IsWord}
+use Rattle.cp_resolved.proofs.Words.{AreWords, StandsAt, Each, call_variables, parameters_by}
 use Rattle.cp_tree.specs.Syntax as syntax
 use Rattle.cp_meaning.specs.Scopes as scopes
 use Rattle.cp_resolved.specs.Calls as calls

@@ -1,14 +1,13 @@
 -- The frame of a routine in the tables is the one that its layout says: what its statements leave of the cells with which they begin.
 use Rattle.std.proofs.Common.{◌≡◌, ◌+◌, ◌<◌, ◌≤◌, ◌⊎◌, inl, inr, ℕ, suc, ℤ, pos, true, false, if◌then◌else◌, List, [], ◌∷◌, ◌++◌, length, Option, Some, None, slice_get, slice_index_or, refl, sym, ap, subst, ◌∙◌, arith, length-append}
-use Rattle.cp_resolved.proofs.Words.{none-some, FunctionResult, Compounds, RoutineView, Name, same_name, temporary, result_name, Ty, Scope, local_variable}
-use Rattle.cp_resolved.proofs.Words.{Variable, RoutineMeaning, parameter_variables, all_calls_laid, calls_before, encode, AreDeclared, routine_variables}
-use Rattle.cp_resolved.proofs.Words.{IsOrdinal, Numbering, InStep, cells_of, look, FrameLayout, cell_named, slot_of, AreWords, Each, call_variables}
-use Rattle.cp_resolved.proofs.Words.{result_variables, parameters_by, frame_layout}
+use Rattle.cp_resolved.proofs.Words.{none-some, FunctionResult, Compounds, RoutineView, Name, same_name, temporary, result_name, Ty, Scope, local_variable, Variable}
+use Rattle.cp_resolved.proofs.Words.{RoutineMeaning, parameter_variables, all_calls_laid, calls_before, encode, AreDeclared, routine_variables, IsOrdinal, Numbering}
+use Rattle.cp_resolved.proofs.Words.{InStep, cells_of, look, FrameLayout, cell_named, slot_of, AreWords, Each, call_variables, result_variables, parameters_by}
+use Rattle.cp_resolved.proofs.Words.{frame_layout, Item, statement_item, function_call, start_item, until, successor, return, init_end, end}
 use Rattle.cp_tree.specs.Syntax as syntax
 use Rattle.cp_slots.specs.declared.place.PlaceOrigin.TheVariants as origin
 use Rattle.cp_layout.specs.Layers.{Layer, Heading, result_in, result_slot, own_result}
 use Rattle.cp_meaning.specs.Values.{number_value, least}
-use Rattle.cp_meaning.specs.State.{Item, statement_item, function_call, start_item, until, successor, return, init_end, end}
 use Rattle.cp_resolved.specs.Calls as calls
 use Rattle.cp_resolved.specs.Resolved.{StandsAt, first_value, ResultIs, FrameIs}
 use Rattle.cp_resolved.proofs.names.Entries.{last_entry}

@@ -1,9 +1,9 @@
 -- The frame of a routine has what its layout says: cells, first values, and the numbers of `var` parameters.
 use Rattle.std.proofs.Common.{◌≡◌, ◌+◌, ◌≤◌, ◌⊎◌, inl, inr, ℕ, zero, suc, pos, Bool, true, false, if◌then◌else◌, List, ◌++◌, length, Option, Some, None, refl, sym, ap, subst, ◌∙◌, arith}
-use Rattle.cp_resolved.proofs.Words.{none-some, PlaceOrigin, LayoutMeaning, Layer, own_result, Name, same_name, temporary, result_name, Ty, number_value}
-use Rattle.cp_resolved.proofs.Words.{Scope, local_variable, find, Variable, RoutineMeaning, Item, parameter_variables, all_calls_laid, calls_before, HasType}
-use Rattle.cp_resolved.proofs.Words.{AreDeclared, routine_variables, IsOrdinal, Numbering, IsInFrame, InStep, FoundIs, cells_of, look, FrameLayout}
-use Rattle.cp_resolved.proofs.Words.{cell_named, slot_of, IsWord, AreWords, Each}
+use Rattle.cp_resolved.proofs.Words.{none-some, PlaceOrigin, LayoutMeaning, Layer, own_result, Name, same_name, temporary, result_name, Ty, number_value, Scope}
+use Rattle.cp_resolved.proofs.Words.{local_variable, find, Variable, RoutineMeaning, Item, parameter_variables, all_calls_laid, calls_before, HasType, AreDeclared}
+use Rattle.cp_resolved.proofs.Words.{routine_variables, IsOrdinal, Numbering, IsInFrame, InStep, FoundIs, cells_of, look, FrameLayout, cell_named, slot_of, IsWord}
+use Rattle.cp_resolved.proofs.Words.{AreWords, Each, call_variables, result_variables, parameters_by, frame_layout, hidden_origin, origin_in}
 use Rattle.cp_tree.specs.Syntax as syntax
 use Rattle.cp_slots.specs.declared.place.PlaceOrigin.TheVariants as origin
 use Rattle.cp_symbols.specs.declared.names.LayoutMeaning.TheVariants as meaning
@@ -12,7 +12,6 @@ use Rattle.cp_meaning.specs.Types as named
 use Rattle.cp_meaning.specs.Scopes as scopes
 use Rattle.cp_resolved.specs.Calls as calls
 use Rattle.cp_resolved.specs.Resolved.{AreApart}
-use Rattle.cp_resolved.specs.TreeLayouts.{call_variables, result_variables, parameters_by, frame_layout, hidden_origin, origin_in}
 use Rattle.cp_resolved.proofs.frames.FrameCells.{itself, same_is, look_left, look_right, look_either, look_each, none_left, none_both, total, cells_before, images_length, before_inside, before_apart, number_among}
 use Rattle.cp_resolved.proofs.frames.FrameSteps.{Lies, Frames}
 use Rattle.cp_resolved.proofs.frames.FramesBegun.{no_parameter}

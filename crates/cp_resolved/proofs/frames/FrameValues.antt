@@ -1,9 +1,9 @@
 -- The frame of a routine in the tables: first values, `var` parameters, and what is declared.
 use Rattle.std.proofs.Common.{◌≡◌, ◌+◌, ◌<◌, ◌⊎◌, inl, inr, ℕ, ℤ, pos, Bool, true, false, if◌then◌else◌, List, [], ◌∷◌, ◌++◌, length, Option, Some, None, refl, sym, ap, subst, ◌∙◌}
-use Rattle.cp_resolved.proofs.Words.{none-some, same_Some, Layer, own_result, Name, same_name, temporary, result_name, Ty, has_components, local_variable}
-use Rattle.cp_resolved.proofs.Words.{find, Variable, Parameter, RoutineMeaning, content_of, value_held, result_called, routine_called, parameter_variables}
-use Rattle.cp_resolved.proofs.Words.{all_calls_laid, encode, HasType, AreDeclared, routine_variables, IsOrdinal, Numbering, InStep, look, FrameLayout, IsWord}
-use Rattle.cp_resolved.proofs.Words.{AreWords, Each, is_free, is_indexed, IsFreeVariable}
+use Rattle.cp_resolved.proofs.Words.{none-some, same_Some, Layer, own_result, Name, same_name, temporary, result_name, Ty, has_components, local_variable, find, Variable}
+use Rattle.cp_resolved.proofs.Words.{Parameter, RoutineMeaning, content_of, value_held, result_called, routine_called, parameter_variables, all_calls_laid, encode}
+use Rattle.cp_resolved.proofs.Words.{HasType, AreDeclared, routine_variables, IsOrdinal, Numbering, InStep, look, FrameLayout, IsWord, AreWords, Each, is_free}
+use Rattle.cp_resolved.proofs.Words.{is_indexed, IsFreeVariable, call_variables, result_variables, parameters_by, frame_layout, components_among}
 use Rattle.cp_tree.specs.Syntax as syntax
 use Rattle.cp_meaning.specs.Types as named
 use Rattle.cp_meaning.specs.Values.{number_value, least}
@@ -12,7 +12,6 @@ use Rattle.cp_meaning.specs.Calls.{least_of, least_result}
 use Rattle.cp_resolved.proofs.frames.FrameStands.{zero_has, is_result, all, refs, case_of}
 use Rattle.cp_resolved.specs.Calls as calls
 use Rattle.cp_resolved.specs.Resolved.{StandsAt, first_value, ParameterIs, ParametersAre}
-use Rattle.cp_resolved.specs.TreeLayouts.{call_variables, result_variables, parameters_by, frame_layout, components_among}
 use Rattle.cp_resolved.proofs.frames.FrameCells.{same_is, look_right, look_either, look_each, none_right, cells_before, stands_after}
 use Rattle.cp_resolved.proofs.frames.FrameSteps.{Frames}
 use Rattle.cp_resolved.proofs.frames.FramesBegun.{no_parameter}

@@ -1,11 +1,10 @@
 -- The routines and initial statements of the tables of a tree stand for those of the tree.
 use Rattle.std.proofs.Common.{◌≡◌, ◌+◌, ◌<◌, ◌≤◌, ℕ, true, false, List, ◌++◌, length, Option, Some, None, slice_get, refl, sym, ap, subst, ◌∙◌, arith, length-append}
 use Rattle.cp_tree.specs.Syntax as syntax
-use Rattle.cp_resolved.proofs.Words.{LayoutMeaning, most, PlainTables, plain, laid, Layer, System, nothing_laid, own_result, routine_of, statements, Tables}
-use Rattle.cp_resolved.proofs.Words.{RoutineView, routine_at, no_routine, Name, result_name, Ty, has_components, permanent_variable, find, Variable}
-use Rattle.cp_resolved.proofs.Words.{RoutineMeaning, routine_in, result_type, program_system, system_of, all_begun, ground_of, BodyFormed, all_calls_laid}
-use Rattle.cp_resolved.proofs.Words.{routine_variables, system_variables, IsFramed, Numbering, InStep, FoundIs, look, is_named, IsPlaced, place_of}
-use Rattle.cp_resolved.proofs.Words.{openings_of, meaning_in, meaning_at, numbering_of}
+use Rattle.cp_resolved.proofs.Words.{LayoutMeaning, most, PlainTables, plain, laid, Layer, System, nothing_laid, own_result, routine_of, statements, Tables, RoutineView}
+use Rattle.cp_resolved.proofs.Words.{routine_at, no_routine, Name, result_name, Ty, has_components, permanent_variable, find, Variable, RoutineMeaning, routine_in}
+use Rattle.cp_resolved.proofs.Words.{result_type, program_system, system_of, all_begun, ground_of, BodyFormed, all_calls_laid, routine_variables, system_variables}
+use Rattle.cp_resolved.proofs.Words.{IsFramed, Numbering, InStep, FoundIs, look, is_named, IsPlaced, place_of, openings_of, meaning_in, meaning_at, numbering_of}
 use Rattle.cp_layout.specs.Layers as layers
 use Rattle.cp_meaning.specs.Scopes as scopes
 use Rattle.cp_resolved.specs.ItemsStand.{AreLaid}

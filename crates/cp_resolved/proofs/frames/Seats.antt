@@ -2,12 +2,11 @@
 -- For each system type: its initial statement and its cells.
 use Rattle.std.proofs.Common.{◌≡◌, ◌+◌, ◌-◌, inl, inr, ℕ, suc, true, false, List, [], ◌∷◌, ◌++◌, length, Option, Some, None, slice_get, slice_index_or, refl, sym, ap, subst, ◌∙◌, arith, append-nil}
 use Rattle.cp_tree.specs.Syntax as syntax
-use Rattle.cp_resolved.proofs.Words.{PlaceOrigin, CellType, LayoutMeaning, Compounds, system_types, Layer, System, Parameters, heading_with, routine}
-use Rattle.cp_resolved.proofs.Words.{routines, no_system, Name, Scope, permanent_variable, local_variable, Variable, Parameter, Heading, routine_in}
-use Rattle.cp_resolved.proofs.Words.{with_group, with_groups, parameter_variables, SystemMeaning, system_in, with_routines, system_of, routine_begun}
-use Rattle.cp_resolved.proofs.Words.{routines_begun, initial_begun, each_in, in_routine, routine_variables, system_variables, Numbering, InStep, FoundIs}
-use Rattle.cp_resolved.proofs.Words.{initial_meaning, Each, IsSmallRoutine, AreNumbered, IsParameter, AreParameters, initial_or, components_among}
-use Rattle.cp_resolved.proofs.Words.{parameters_by}
+use Rattle.cp_resolved.proofs.Words.{PlaceOrigin, CellType, LayoutMeaning, Compounds, system_types, Layer, System, Parameters, heading_with, routine, routines, no_system}
+use Rattle.cp_resolved.proofs.Words.{Name, Scope, permanent_variable, local_variable, Variable, Parameter, Heading, routine_in, with_group, with_groups}
+use Rattle.cp_resolved.proofs.Words.{parameter_variables, SystemMeaning, system_in, with_routines, system_of, routine_begun, routines_begun, initial_begun, each_in}
+use Rattle.cp_resolved.proofs.Words.{in_routine, routine_variables, system_variables, Numbering, InStep, FoundIs, initial_meaning, Each, IsSmallRoutine, AreNumbered}
+use Rattle.cp_resolved.proofs.Words.{IsParameter, AreParameters, initial_or, components_among, parameters_by}
 use Rattle.cp_slots.specs.declared.place.PlaceOrigin.TheVariants as origin
 use Rattle.cp_symbols.specs.declared.names.LayoutMeaning.TheVariants as meaning
 use Rattle.cp_layout.specs.Layers as layers

@@ -1,15 +1,14 @@
 -- The seats of all routines, initial statements and system types of a tree.
 use Rattle.std.proofs.Common.{◌≡◌, ◌+◌, ◌-◌, ℕ, suc, false, List, [], ◌∷◌, ◌++◌, length, None, slice_get, slice_index_or, refl, sym, ap, subst, ◌∙◌, arith, append-nil}
 use Rattle.cp_tree.specs.Syntax as syntax
-use Rattle.cp_symbols.specs.declared.names.LayoutMeaning.TheVariants as meaning
-use Rattle.cp_resolved.proofs.Words.{system_type, types_of, system_types, Layer, System, nothing_laid, written_type, SystemView, no_system}
-use Rattle.cp_resolved.proofs.Words.{permanent_variable, predeclared, Variable, Parameter, parameter_variables, Enumerated, each_in, in_routine}
-use Rattle.cp_resolved.proofs.Words.{in_program_part, enumerations_of, IsFitPart, AreFitParts, nothing_declared, system_variables, Numbering, InStep}
-use Rattle.cp_resolved.proofs.Words.{initial_meaning, Each, IsSmallProgramPart, IsSmallProgram, AreNumbered, IsParameter}
+use Rattle.cp_layout.specs.declared.names.LayoutMeaning.TheVariants as meaning
+use Rattle.cp_resolved.proofs.Words.{system_type, types_of, system_types, Layer, System, nothing_laid, written_type, SystemView, no_system, permanent_variable}
+use Rattle.cp_resolved.proofs.Words.{predeclared, Variable, Parameter, parameter_variables, Enumerated, each_in, in_routine, in_program_part, enumerations_of, IsFitPart}
+use Rattle.cp_resolved.proofs.Words.{AreFitParts, nothing_declared, system_variables, Numbering, InStep, initial_meaning, Each, IsSmallProgramPart, IsSmallProgram}
+use Rattle.cp_resolved.proofs.Words.{AreNumbered, IsParameter, routines_begun, initial_begun, part_begun, program_parts_begun, all_begun}
 use Rattle.cp_layout.specs.Layers as layers
 use Rattle.cp_layout.specs.LaidDeclarations.{routines, system, system_definition, system_definitions, definition, type_named, program_part, program_parts, program, heading_with, with_heading, with_new_frame}
 use Rattle.cp_meaning.specs.Systems.{SystemMeaning, Declared, definition_in, definitions_in, program_part_in, program_parts_in, declared, program_system, own_meaning, or_own, system_of}
-use Rattle.cp_resolved.specs.Begun.{routines_begun, initial_begun, part_begun, program_parts_begun, all_begun}
 use Rattle.cp_resolved.specs.Openings.{Opening, routine_openings, initial_opening, part_openings, parts_openings, openings_of, AreOpened}
 use Rattle.cp_resolved.specs.TreeLayouts.{part_parts, program_parts_parts, all_parts, whole_laid, initial_or, components_among}
 use Rattle.cp_resolved.proofs.names.Entries.{entry_at, last_entry, past_there}

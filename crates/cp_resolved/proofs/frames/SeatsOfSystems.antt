@@ -1,17 +1,15 @@
 -- The seats of system types and of the whole program.
-use Rattle.std.proofs.Common.{◌≡◌, ◌+◌, ◌-◌, ℕ, zero, suc, false, List, [], ◌∷◌, ◌++◌, length, Some, slice_get, sym, ap, subst, ◌∙◌, arith, append-nil}
+use Rattle.cp_resolved.proofs.Words.{◌≡◌, ◌+◌, ◌-◌, ℕ, zero, suc, false, List, [], ◌∷◌, ◌++◌, length, Some, slice_get, sym, ap, subst, ◌∙◌, arith, append-nil}
+use Rattle.cp_resolved.proofs.Words.{system_type, types_of, system_types, Layer, System, SystemView, no_system, Scope, permanent_variable, seen_inside, Parameter}
+use Rattle.cp_resolved.proofs.Words.{Heading, with_groups, parameter_variables, Enumerated, each_in, in_part, in_routine, in_definition, IsFitDefinition}
+use Rattle.cp_resolved.proofs.Words.{AreFitDefinitions, system_variables, Numbering, InStep, initial_meaning, Each, IsSmallSystem, IsSmallDefinition, AreNumbered}
+use Rattle.cp_resolved.proofs.Words.{IsParameter, definition_parts, definitions_parts, initial_or, components_among, none-some, same_Some, Parameters, entered}
+use Rattle.cp_resolved.proofs.Words.{system_groups, system, initial_statement, system_definition, system_definitions, definition, SystemMeaning, system_in, Declared}
+use Rattle.cp_resolved.proofs.Words.{definition_in, definitions_in, system_of, routines_begun, initial_begun, parameters_of, parts_begun, system_begun, definition_begun}
+use Rattle.cp_resolved.proofs.Words.{definitions_begun, Opening, routine_openings, parts_scope, initial_opening, definition_openings, definitions_openings, AreOpened}
 use Rattle.cp_tree.specs.Syntax as syntax
-use Rattle.cp_resolved.proofs.Words.{system_type, types_of, system_types, Layer, System, SystemView, no_system, Scope, permanent_variable, seen_inside}
-use Rattle.cp_resolved.proofs.Words.{Parameter, Heading, with_groups, parameter_variables, Enumerated, each_in, in_part, in_routine, in_definition}
-use Rattle.cp_resolved.proofs.Words.{IsFitDefinition, AreFitDefinitions, system_variables, Numbering, InStep, initial_meaning, Each, IsSmallSystem}
-use Rattle.cp_resolved.proofs.Words.{IsSmallDefinition, AreNumbered, IsParameter, definition_parts, definitions_parts, initial_or, components_among}
-use Rattle.cp_resolved.proofs.Words.{none-some, same_Some}
 use Rattle.cp_layout.specs.Layers as layers
 use Rattle.cp_layout.specs.LaidDeclarations as laid
-use Rattle.cp_layout.specs.LaidDeclarations.{Parameters, routines, entered, system_groups, system, initial_statement, system_definition, system_definitions, definition}
-use Rattle.cp_meaning.specs.Systems.{SystemMeaning, system_in, Declared, definition_in, definitions_in, system_of}
-use Rattle.cp_resolved.specs.Begun.{routines_begun, initial_begun, parameters_of, parts_begun, system_begun, definition_begun, definitions_begun}
-use Rattle.cp_resolved.specs.Openings.{Opening, routine_openings, parts_scope, initial_opening, definition_openings, definitions_openings, AreOpened}
 use Rattle.cp_resolved.proofs.names.Entries.{entry_at, last_entry, still_there}
 use Rattle.cp_resolved.proofs.laid.Extends.{Longer, longer_trans, system_definitions_extend, initial_extends}
 use Rattle.cp_resolved.proofs.names.KnowingSystems.{begun_many, IsFirst, first_before, first_is, definitions_longer}

@@ -1,8 +1,6 @@
 -- Tables that stand for an accepted tree have what the law on items inside wants of them.
-use Rattle.std.specs.Prelude.{◌≡◌, ℕ, Some, slice_get}
-use Rattle.cp_resolved.proofs.Words.{Tree, plain, laid, Layer, Tables, IsAccepted, all_begun, ground_of, BodyFormed, IsFramed, IsPlaced, Stands, layouts_of}
-use Rattle.cp_lawful.proofs.Accepting.{well_formed}
-use Rattle.cp_resolved.specs.ItemsInside.{CanHold}
+use Rattle.cp_resolved.proofs.Words.{◌≡◌, ℕ, Some, slice_get, Tree, plain, laid, Layer, Tables, IsAccepted, all_begun, ground_of, BodyFormed, IsFramed, IsPlaced, Stands}
+use Rattle.cp_resolved.proofs.Words.{layouts_of, well_formed, CanHold}
 use Rattle.cp_resolved.proofs.systems.HandedOfTrees.{entrance_fits}
 use Rattle.cp_resolved.proofs.names.HeadingsFit.{heading_fits}
 use Rattle.cp_resolved.proofs.names.LeadingNames.{components_lead}

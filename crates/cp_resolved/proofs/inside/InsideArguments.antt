@@ -3,11 +3,10 @@ use Rattle.std.proofs.Common.{◌≡◌, ℕ, ℤ, ◌+◌, ◌≤◌, ◌==◌,
 use Rattle.cp_tree.specs.Syntax as syntax
 use Rattle.cp_slots.specs.Code as code
 use Rattle.cp_slots.specs.Inside.{has, is_within, binds_on}
-use Rattle.cp_resolved.proofs.Words.{Tables, RoutineView, Name, Ty, Parameter, expression_calls, expressions_calls, Form, as_ordinal, as_set, as_place}
-use Rattle.cp_resolved.proofs.Words.{as_component, Formed, place_form, cells_of, Here, AreHeld, Each}
+use Rattle.cp_resolved.proofs.Words.{Tables, RoutineView, Name, Ty, Parameter, expression_calls, expressions_calls, Form, as_ordinal, as_set, as_place, as_component}
+use Rattle.cp_resolved.proofs.Words.{Formed, place_form, cells_of, Here, AreHeld, Each, ValueGiven, PlaceGiven, GivenBy, IsGiven, AreGiven}
 use Rattle.cp_meaning.specs.Types as named
 use Rattle.cp_resolved.specs.Headed.{IsNoComponent, NumberedBy, AreNumbered, HandedBy, AreHanded}
-use Rattle.cp_resolved.specs.Stands.{ValueGiven, PlaceGiven, GivenBy, IsGiven, AreGiven}
 use Rattle.cp_resolved.proofs.inside.InsideExpressions.{VariablesFit, held_first, held_rest, expression_fits}
 use Rattle.cp_resolved.proofs.inside.InsideForms.{FormFits}
 use Rattle.cp_resolved.proofs.inside.InsidePlaces.{PlaceFits, has_place}

@@ -1,7 +1,6 @@
 -- Operations on forms that are inside give forms that are inside.
 use Rattle.std.proofs.Common.{◌≡◌, ℕ, ℤ, Bool, true, false, ◌&&◌, if◌then◌else◌, Option, Some, None, refl, ap, subst, ◌∙◌, arith}
-use Rattle.cp_resolved.proofs.Words.{Sign, Relation, Addition, Multiplication, RoutineView, Ty, is_within, all_integers, Standard, range_of_base, cells_of}
-use Rattle.cp_resolved.proofs.Words.{Here}
+use Rattle.cp_resolved.proofs.Words.{Sign, Relation, Addition, Multiplication, RoutineView, Ty, is_within, all_integers, Standard, range_of_base, cells_of, Here}
 use Rattle.cp_tree.specs.declared.constant.Sign.TheVariants as sign
 use Rattle.cp_tree.specs.declared.expression.Relation.TheVariants as relation
 use Rattle.cp_tree.specs.declared.expression.Addition.TheVariants as addition

@@ -1,8 +1,8 @@
 -- What an item means is inside what it names, and the components that it names are of the types that it wants.
 use Rattle.std.proofs.Common.{◌≡◌, ℕ, ◌+◌, ◌<◌, ◌≤◌, nat_lt, Bool, true, false, ◌&&◌, List, length, Option, Some, None, refl, sym, ap, subst, ◌∙◌, arith, rules}
 use Rattle.cp_tree.specs.Syntax as syntax
-use Rattle.cp_resolved.proofs.Words.{PlaceOrigin, Tables, RoutineView, routine_at, Name, Ty, Parameter, RoutineMeaning, name_of, system_of, cells_of, Here}
-use Rattle.cp_resolved.proofs.Words.{frame_here, cell_named, look, Each}
+use Rattle.cp_resolved.proofs.Words.{PlaceOrigin, Tables, RoutineView, routine_at, Name, Ty, Parameter, RoutineMeaning, name_of, system_of, cells_of, Here, frame_here}
+use Rattle.cp_resolved.proofs.Words.{cell_named, look, Each, AssignedBy, CalleeIs, IsCalled, AreGiven, ResultGoes, result_cell}
 use Rattle.cp_slots.specs.Code as code
 use Rattle.cp_slots.specs.Inside.{has, room_from, result_inside}
 use Rattle.cp_meaning.specs.Types as named
@@ -10,7 +10,6 @@ use Rattle.cp_meaning.specs.Scopes as scopes
 use Rattle.cp_resolved.specs.Compiled.{Form, as_ordinal, as_set, as_place, a_variable, a_component, designator_form}
 use Rattle.cp_resolved.specs.Headed.{IsNoComponent, AreNumbered, AreHanded}
 use Rattle.cp_resolved.specs.Meant.{IsCell, IsQueue, IsCounter, Assigns, Calls, Starts, Means}
-use Rattle.cp_resolved.specs.Stands.{AssignedBy, CalleeIs, IsCalled, AreGiven, ResultGoes, result_cell}
 use Rattle.cp_resolved.proofs.inside.InsideArguments.{ParametersFit, Leads, given_inside, given_binds, given_plain, given_handed}
 use Rattle.cp_resolved.proofs.inside.InsideExpressions.{VariablesFit, begun_fits, expression_fits, designated_fits}
 use Rattle.cp_resolved.proofs.inside.InsideForms.{FormFits}

@@ -1,13 +1,12 @@
 -- Each item of tables that stand for a tree is inside what it names, and the components that it names are of the types that it wants.
 use Rattle.std.proofs.Common.{◌≡◌, ◌+◌, ◌-◌, ◌<◌, ◌≤◌, ◌-ℤ◌, unsigned_abs, ℕ, zero, suc, nat_lt, Bool, true, false, if◌then◌else◌, List, [], ◌∷◌, ◌++◌, length, Option, Some, None, slice_get, slice_index_or, refl, sym, ap, subst, ◌∙◌, ◌⊎◌, inl, inr, arith, rules}
-use Rattle.cp_resolved.proofs.Words.{same_Some, slice_get_within, Tree, PlaceOrigin, most, plain, system_types, laid, Layer, statements, ActionNames, Name}
-use Rattle.cp_resolved.proofs.Words.{result_name, Ty, length_of_range, has_components, Parameter, RoutineMeaning, result_type, system_of, program_system}
-use Rattle.cp_resolved.proofs.Words.{all_begun, ground_of, component_begun, place_of, Means, IsSizedMeaning, Opening, openings_of, meaning_in, meaning_at}
-use Rattle.cp_resolved.proofs.Words.{numbering_of, Each, layouts_of, IsFull}
+use Rattle.cp_resolved.proofs.Words.{same_Some, slice_get_within, Tree, PlaceOrigin, most, plain, system_types, laid, Layer, statements, ActionNames, Name, result_name}
+use Rattle.cp_resolved.proofs.Words.{Ty, length_of_range, has_components, Parameter, RoutineMeaning, result_type, system_of, program_system, all_begun, ground_of}
+use Rattle.cp_resolved.proofs.Words.{component_begun, place_of, Means, IsSizedMeaning, Opening, openings_of, meaning_in, meaning_at, numbering_of, Each, layouts_of}
+use Rattle.cp_resolved.proofs.Words.{IsFull, Tables, RoutineView, SystemView, item_at, routine_at, system_at, no_system}
 use Rattle.cp_slots.specs.declared.place.PlaceOrigin.TheVariants as origin
 use Rattle.cp_slots.specs.Code as code
 use Rattle.cp_slots.specs.Inside.{extent_at, room_from}
-use Rattle.cp_slots.specs.Tables.{Tables, RoutineView, SystemView, item_at, routine_at, system_at, no_system}
 use Rattle.cp_meaning.specs.Types as named
 use Rattle.cp_meaning.specs.Scopes as scopes
 use Rattle.cp_resolved.specs.Headed.{IsOrdinalResult, AreNumbered, HeadingFits, EntranceFits}

@@ -1,7 +1,6 @@
 -- A part of a variable is inside the cells of the variable, whatever its indices are.
 use Rattle.std.proofs.Common.{◌≡◌, ℕ, zero, suc, ◌+◌, ◌*◌, ◌≤◌, ℤ, pos, negsuc, ◌-ℤ◌, unsigned_abs, Bool, true, false, if◌then◌else◌, Option, Some, None, refl, sym, ap, subst, ◌∙◌, arith, rules}
-use Rattle.cp_resolved.proofs.Words.{◌+ℤ◌, PlaceOrigin, RoutineView, Name, same_name, Chosen, field_chosen, further_chosen, cells_of, cells_in, IsFull}
-use Rattle.cp_resolved.proofs.Words.{AreFull}
+use Rattle.cp_resolved.proofs.Words.{◌+ℤ◌, PlaceOrigin, RoutineView, Name, same_name, Chosen, field_chosen, further_chosen, cells_of, cells_in, IsFull, AreFull}
 use Rattle.cp_slots.specs.Code as code
 use Rattle.cp_slots.specs.Inside.{has, room_from}
 use Rattle.cp_meaning.specs.Types as named

@@ -1,9 +1,8 @@
 -- What plain items read is inside what they name, if the cells before a place, those of its indices and its own are no more than the variable has.
 use Rattle.std.proofs.Common.{◌≡◌, ℕ, ◌+◌, ◌-◌, ◌*◌, ◌≤◌, nat_le, Bool, true, false, ◌&&◌, if◌then◌else◌, ◌-ℤ◌, unsigned_abs, Option, Some, None, refl, arith, rules}
-use Rattle.cp_slots.specs.declared.place.PlaceOrigin.{PlaceOrigin}
+use Rattle.cp_resolved.proofs.Words.{PlaceOrigin, RoutineView}
 use Rattle.cp_slots.specs.Code.{Place, place, Indices, no_indices, more_indices, Index, index, OrdinalExpression, number, load, negate, absolute, opposite, successor, predecessor, character, arithmetic, logic, compare, same_set, member, is_empty, SetExpression, load_set, empty_set, with_element, combine}
 use Rattle.cp_slots.specs.Inside.{behind, then_some, has, SET_CELLS, room_from}
-use Rattle.cp_slots.specs.Tables.{RoutineView}
 
 abbrev mutual
   pub expression_in : RoutineView → OrdinalExpression → Bool

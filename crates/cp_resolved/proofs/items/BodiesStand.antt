@@ -1,15 +1,14 @@
 -- The items of each routine and of each initial statement of a tree stand for its statements.
 use Rattle.std.proofs.Common.{◌≡◌, ◌+◌, ◌==◌, ℕ, zero, suc, Bool, true, false, if◌then◌else◌, List, [], ◌∷◌, ◌++◌, length, map, Option, Some, None, slice_get, refl, sym, ap, subst, ◌∙◌, inl, inr, arith}
-use Rattle.cp_resolved.proofs.Words.{none-some, same_Some, slice_get_within, bytes_eq-Decides, Tables, RoutineView, item_at, no_item, routine_at, no_routine}
-use Rattle.cp_resolved.proofs.Words.{Layer, nothing_laid, routine_of, PlainTables, laid, tables_laid, statements, routines, program_parts, program, same_name}
-use Rattle.cp_resolved.proofs.Words.{temporary, Ty, Scope, Variable, RoutineMeaning, Item, function_call, statement_item, result_called, routine_called}
-use Rattle.cp_resolved.proofs.Words.{all_begun, AreReady, Here, frame_here, look, IsPlaced, place_of, KnowsAt, Opening, openings_of, meaning_in, meaning_at}
-use Rattle.cp_resolved.proofs.Words.{numbering_of, OwnAll, call_variables, result_variables, parameters_by, whole_laid, AreNext}
+use Rattle.cp_resolved.proofs.Words.{none-some, same_Some, slice_get_within, bytes_eq-Decides, Tables, RoutineView, item_at, no_item, routine_at, no_routine, Layer}
+use Rattle.cp_resolved.proofs.Words.{nothing_laid, routine_of, PlainTables, laid, tables_laid, statements, routines, program_parts, program, same_name, temporary, Ty}
+use Rattle.cp_resolved.proofs.Words.{Scope, Variable, RoutineMeaning, Item, function_call, statement_item, result_called, routine_called, all_begun, AreReady, Here}
+use Rattle.cp_resolved.proofs.Words.{frame_here, look, IsPlaced, place_of, KnowsAt, Opening, openings_of, meaning_in, meaning_at, numbering_of, OwnAll, call_variables}
+use Rattle.cp_resolved.proofs.Words.{result_variables, parameters_by, whole_laid, AreNext, all_calls_laid, IsAmong, IsApart, AreApart}
 use Rattle.cp_tree.specs.Syntax as syntax
 use Rattle.cp_slots.specs.declared.item.Item as code_item
 use Rattle.cp_slots.specs.Code as code
 use Rattle.cp_resolved.specs.BodiesStand.{ground_of, CallsFormed, BodyFormed, BodiesLaw}
-use Rattle.cp_resolved.specs.Calls.{all_calls_laid, IsAmong, IsApart, AreApart}
 use Rattle.cp_resolved.specs.ItemsStand.{AreItems, Surroundings, CanStand, AreLaid}
 use Rattle.cp_resolved.proofs.items.Ended.{Ends, AreEnded, all_end}
 use Rattle.cp_resolved.proofs.names.Entries.{still_there, entry_at}

@@ -1,9 +1,8 @@
 -- Where an expression has a form, the value that is laid out is of this form, and each of its calls takes the next cell of the frame.
 use Rattle.std.proofs.Common.{◌≡◌, ◌+◌, ℕ, suc, nat_le, ℤ, pos, Bool, true, false, if◌then◌else◌, List, [], ◌∷◌, ◌++◌, length, Option, Some, None, slice_get, refl, sym, ap, subst, ◌∙◌, arith}
-use Rattle.cp_resolved.proofs.Words.{Identifier, LayoutMeaning, FunctionResult, RoutineView, Layer, result_of, Name, temporary, Base, Ty, has_components}
-use Rattle.cp_resolved.proofs.Words.{is_within, Item, function_call, range_of_base, RoutineMeaning, routine_in, result_type, system_of, routine_called}
-use Rattle.cp_resolved.proofs.Words.{routine_meant, routine_of_type, result_called, Here, frame_here, is_parameter, Chosen, field_chosen, FormIs, ValueIs}
-use Rattle.cp_resolved.proofs.Words.{DesignatedIs, Knows}
+use Rattle.cp_resolved.proofs.Words.{Identifier, LayoutMeaning, FunctionResult, RoutineView, Layer, result_of, Name, temporary, Base, Ty, has_components, is_within, Item}
+use Rattle.cp_resolved.proofs.Words.{function_call, range_of_base, RoutineMeaning, routine_in, result_type, system_of, routine_called, routine_meant, routine_of_type}
+use Rattle.cp_resolved.proofs.Words.{result_called, Here, frame_here, is_parameter, Chosen, field_chosen, FormIs, ValueIs, DesignatedIs, Knows}
 use Rattle.cp_tree.specs.Syntax as syntax
 use Rattle.cp_slots.specs.declared.place.PlaceOrigin.TheVariants as origin
 use Rattle.cp_symbols.specs.declared.kinds.CellBase.TheVariants as base

@@ -1,9 +1,8 @@
 -- Through an expression: its function calls take the next cells of the frame, and what is laid out of each is an item that stands for the call.
 use Rattle.std.proofs.Common.{◌≡◌, ◌+◌, ℕ, suc, Bool, true, false, List, [], ◌∷◌, ◌++◌, length, Option, Some, None, slice_get, slice_index, refl, sym, ap, subst, ◌∙◌, arith, append_assoc, append-nil, length-append}
-use Rattle.std.specs.Prelude.{pos}
-use Rattle.cp_resolved.proofs.Words.{same_Some, Identifier, LayoutMeaning, FunctionResult, RoutineView, Name, temporary, Ty, Item, function_call, Parameter}
-use Rattle.cp_resolved.proofs.Words.{RoutineMeaning, routine_in, result_type, name_of, routine_called, routine_meant, result_called, Here, frame_here}
-use Rattle.cp_resolved.proofs.Words.{cell_named, slot_of, look, Numbering, base_of, FoundIs, predeclared_as, Knows, AreHeld, ValueIs, DesignatedIs}
+use Rattle.cp_resolved.proofs.Words.{pos, same_Some, Identifier, LayoutMeaning, FunctionResult, RoutineView, Name, temporary, Ty, Item, function_call, Parameter}
+use Rattle.cp_resolved.proofs.Words.{RoutineMeaning, routine_in, result_type, name_of, routine_called, routine_meant, result_called, Here, frame_here, cell_named}
+use Rattle.cp_resolved.proofs.Words.{slot_of, look, Numbering, base_of, FoundIs, predeclared_as, Knows, AreHeld, ValueIs, DesignatedIs}
 use Rattle.cp_tree.specs.Syntax as syntax
 use Rattle.cp_symbols.specs.declared.names.LayoutMeaning.TheVariants as meaning
 use Rattle.cp_layout.specs.declared.layer.ParameterLayout as code_parameter

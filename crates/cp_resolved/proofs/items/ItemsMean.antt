@@ -1,8 +1,7 @@
 -- The items that are laid out of a statement mean something: the calls in it, and its own item.
 use Rattle.std.proofs.Common.{◌≡◌, ℕ, List, [], ◌∷◌, ◌++◌, length, Option, Some, refl, sym, ap, subst, ◌∙◌, append-nil, append_assoc}
 use Rattle.cp_slots.specs.Code as code
-use Rattle.cp_resolved.proofs.Words.{Layer, Pending, added, without_pending, settled_all, temporary, Item, function_call, Here, Ground}
-use Rattle.cp_resolved.specs.Meant.{Calls, Means}
+use Rattle.cp_resolved.proofs.Words.{Layer, Pending, added, without_pending, settled_all, temporary, Item, function_call, Here, Ground, Calls, Means}
 use Rattle.cp_resolved.proofs.items.Going.{CallPending, PendingAre, Goes}
 use Rattle.cp_resolved.proofs.laid.Kept.{Kept}
 use Rattle.cp_resolved.proofs.laid.SettledItems.{made, ended}

@@ -1,8 +1,9 @@
 -- The items that are laid out of statements stand for these statements.
 use Rattle.std.proofs.Common.{◌≡◌, ◌+◌, ◌<◌, ◌≤◌, min, max, ℕ, Bool, true, false, List, [], ◌∷◌, ◌++◌, length, Option, Some, None, slice_get, refl, sym, ap, subst, ◌∙◌, arith, append-nil}
-use Rattle.cp_resolved.proofs.Words.{none-some, same_Some, Constant, Identifier, Direction, LayoutMeaning, PredeclaredRoutine, most, Name, result_name, Ty}
-use Rattle.cp_resolved.proofs.Words.{Item, system_of, result_type, name_of, routine_of_type, routine_meant, routine_called, Here, frame_here, is_own}
-use Rattle.cp_resolved.proofs.Words.{cell_named, Each, IsSmallConstant, ValueIs, PlaceIs, DesignatedIs}
+use Rattle.cp_resolved.proofs.Words.{none-some, same_Some, Constant, Identifier, Direction, LayoutMeaning, PredeclaredRoutine, most, Name, result_name, Ty, Item}
+use Rattle.cp_resolved.proofs.Words.{system_of, result_type, name_of, routine_of_type, routine_meant, routine_called, Here, frame_here, is_own, cell_named, Each}
+use Rattle.cp_resolved.proofs.Words.{IsSmallConstant, ValueIs, PlaceIs, DesignatedIs, Layer, added, again, settled, need_inside, pending_need, without_pending}
+use Rattle.cp_resolved.proofs.Words.{starts_calls, calls_laid, all_calls_laid, arms_calls_laid, arm_calls_laid, AreHeld, IsCell, Assigns, Means}
 use Rattle.cp_tree.specs.declared.statement.Direction.TheVariants as direction
 use Rattle.cp_tree.specs.Syntax as syntax
 use Rattle.cp_slots.specs.declared.place.PlaceOrigin.TheVariants as origin
@@ -14,7 +15,6 @@ use Rattle.cp_slots.specs.Code as code
 use Rattle.cp_layout.specs.Values as values
 use Rattle.cp_layout.specs.Values.{place_at, place_of, ordinal_of}
 use Rattle.cp_layout.specs.Layers as layers
-use Rattle.cp_layout.specs.Layers.{Layer, added, again, settled, need_inside, pending_need, without_pending}
 use Rattle.cp_layout.specs.LaidTypes as laid_types
 use Rattle.cp_layout.specs.LaidExpressions.{begun_as, begun, entry_found, counted, arguments_from, arguments, expression, designator, selectors, first_value}
 use Rattle.cp_layout.specs.LaidStatements as laid
@@ -24,13 +24,11 @@ use Rattle.cp_meaning.specs.Scopes as scopes
 use Rattle.cp_meaning.specs.Declarations as meant
 use Rattle.cp_meaning.specs.Lifting.{last_field, designator_calls, expression_calls, expressions_calls, selectors_calls}
 use Rattle.cp_meaning.specs.Steps.{at_expression}
-use Rattle.cp_resolved.specs.Calls.{starts_calls, calls_laid, all_calls_laid, arms_calls_laid, arm_calls_laid}
 use Rattle.cp_resolved.specs.Compiled.{Form, as_ordinal, as_set, as_place, Formed, then_form, Designated, a_variable, some_components, a_component, result_begun, permanent_begun, begun_form, ordinal_form, with_index_form, with_element_form, expression_form, designator_form, selected_form}
 use Rattle.cp_resolved.specs.FormedParts.{CanGiveAll, CallFormed, AreReady, parameters_in, HeadingIs}
 use Rattle.cp_resolved.specs.FormedStatements.{IsTarget, PerformFormed, StartFormed, StartIs, EntryFormed, InvokeFormed, TestFormed, OrdinalFormed, AssignFormed, OwnResult, ForFormed, IsNotRoutine, StatementFormed, AllFormed, ArmsFormed, ArmFormed}
 use Rattle.cp_resolved.specs.InStep.{Numbering, base_of, range_on, predeclared_as, FoundIs, TypeIs}
 use Rattle.cp_resolved.specs.ItemsStand.{Surroundings, CanStand, StatementsLaw}
-use Rattle.cp_resolved.specs.Meant.{AreHeld, IsCell, Assigns, Means}
 use Rattle.cp_resolved.specs.Stands.{AssignedBy, StartItem, StartsAre, Ground, ItemAt, CalleeIs, CallItem, CallsAre, kind_of, first_of, Performed, InvokedBy, IsOrdinal, labels_of, is_down, OwnAll, OwnArms, OwnArm, StatementIs}
 use Rattle.cp_resolved.specs.Used.{HasResult, IsUsed, AreUsed, SelectorsUsed, system_type}
 use Rattle.cp_resolved.proofs.names.Alike.{same_inside}

@@ -1,11 +1,9 @@
 -- Statements that break no rule call no routine that is their own.
 use Rattle.std.proofs.Common.{◌≡◌, ℕ, ◌+◌, Bool, true, false, if◌then◌else◌, List, [], ◌∷◌, Option, Some, None, Ok, Err, is_some, refl, ap, subst, ◌∙◌}
-use Rattle.std.specs.Prelude.{nat_eq, ◌&&◌, not}
-use Rattle.cp_resolved.proofs.Words.{eq-eqb, Identifier, Use, CheckFault, ValueType, no_use, Judged, both, ◌>>=◌, faults, Context, Operand, Label, no_left}
-use Rattle.cp_resolved.proofs.Words.{no_right, no_first, Name}
+use Rattle.cp_resolved.proofs.Words.{nat_eq, ◌&&◌, not, eq-eqb, Identifier, Use, CheckFault, ValueType, no_use, Judged, both, ◌>>=◌, faults, Context, Operand, Label}
+use Rattle.cp_resolved.proofs.Words.{no_left, no_right, no_first, Name, C5, C10, Loud, Heard, arguments_loud}
 use Rattle.cp_tree.specs.Syntax.{Expression, alone, related, Sum, sum, Terms, no_terms, more_terms, Term, term, Factors, no_factors, more_factors, Factor, named, group, negated, set_of, Expressions, no_expressions, more_expressions, Designator, designator, Selectors, no_selectors, more_selectors, Selector, field, index, Start, Statement, empty, assign, invoke, block, if_then, if_else, case_of, while_do, repeat_until, for_do, cycle, init, Statements, no_statements, more_statements, Arms, no_arms, more_arms, Arm, arm}
 use Rattle.cp_scope.specs.declared.fault.CheckFault.TheVariants as check_fault
-use Rattle.cp_scope.specs.declared.fault.Rule.TheVariants.{C5, C10}
 use Rattle.cp_scope.specs.declared.types.Meaning.TheVariants as meaning
 use Rattle.cp_scope.specs.declared.types.Parameter.{Parameter}
 use Rattle.cp_scope.specs.declared.types.ValueType.TheVariants as types
@@ -18,7 +16,6 @@ use Rattle.cp_check.specs.Expressions as expressions
 use Rattle.cp_check.specs.Names as names
 use Rattle.cp_check.specs.Statements as statements
 use Rattle.cp_check.specs.Cases.{joined}
-use Rattle.cp_lawful.proofs.Loud.{Loud, Heard, arguments_loud}
 use Rattle.cp_resolved.proofs.agreeing.Agreeing.{none_of_both as both_none}
 
 -- ---- statements that call none of some names

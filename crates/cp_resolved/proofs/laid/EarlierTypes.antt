@@ -1,7 +1,6 @@
 -- The arrays and records of a program hold earlier ones alone.
 use Rattle.std.proofs.Common.{◌≡◌, ◌+◌, ◌≤◌, ◌⊎◌, inl, inr, ℕ, Bool, true, false, if◌then◌else◌, List, [], ◌∷◌, ◌++◌, length, Option, Some, None, slice_get, refl, sym, ap, subst, arith, length-append}
-use Rattle.cp_resolved.proofs.Words.{bytes_eq, none-some, Identifier, CellBase, CellType, Contained, LayoutMeaning, as_integer, routine_begun, system_begun}
-use Rattle.cp_resolved.proofs.Words.{Each}
+use Rattle.cp_resolved.proofs.Words.{bytes_eq, none-some, Identifier, CellBase, CellType, Contained, LayoutMeaning, as_integer, routine_begun, system_begun, Each}
 use Rattle.cp_tree.specs.Syntax as syntax
 use Rattle.cp_symbols.specs.declared.kinds.CellType.TheVariants as types
 use Rattle.cp_symbols.specs.declared.names.LayoutMeaning.TheVariants as meaning

@@ -1,13 +1,12 @@
 -- All statements: their items have what they need.
 use Rattle.std.proofs.Common.{◌≡◌, ℕ, ◌+◌, ◌*◌, ◌<◌, ◌≤◌, max, Bool, false, List, [], ◌∷◌, length, Option, Some, None, slice_index, refl, sym, ap, subst, arith}
-use Rattle.cp_resolved.proofs.Words.{Direction, CellType, PredeclaredRoutine}
+use Rattle.cp_resolved.proofs.Words.{Direction, CellType, PredeclaredRoutine, Layer, Pending, settled, added, again, need_of, need_inside, call_need, with_room}
 use Rattle.cp_tree.specs.Syntax as syntax
 use Rattle.cp_symbols.specs.declared.kinds.CellType.TheVariants as types
 use Rattle.cp_symbols.specs.declared.names.PredeclaredRoutine.TheVariants as predeclared
 use Rattle.cp_slots.specs.Code as code
 use Rattle.cp_slots.specs.Code.{Action, Arm, Argument, ComponentPlace, Place}
 use Rattle.cp_layout.specs.Values.{Value, Designated, a_component, a_routine, an_entry, ordinal_of}
-use Rattle.cp_layout.specs.Layers.{Layer, Pending, settled, added, again, need_of, need_inside, call_need, with_room}
 use Rattle.cp_layout.specs.LaidExpressions.{expression, designator, first_value, arguments, arguments_from, counted, name_at}
 use Rattle.cp_layout.specs.LaidStatements.{target_of, assignment, assigned_as, assigned, invoked, invoked_as, Callee, a_standard_procedure, a_procedure, no_callee, callee_of, performed, standard, procedure, chosen, selected, arms_need, while_item, until_item, for_item, blocked, cycled, repeated, Placed, placed_of, begun_component, started_as, started, starts, initial_of, statement, statements, arms, one_arm, token_of}
 use Rattle.cp_resolved.proofs.laid.Calling.{ActionFits, ArmsFit, IsNoLoop, Onward, onward_trans, onward_items, onward_routines, action_onward, Ran, ran_trans, then_ran, count_ran, call_step, Ground, ground_kept, designated_kept, expression_ran, first_ran, arguments_ran, designator_ran, designator_there}

@@ -1,10 +1,8 @@
 -- A list of items stays fit under more items.
-use Rattle.std.proofs.Common.{◌≡◌, ℕ, ◌<◌, ◌≤◌, List, ◌++◌, length, Option, Some, None, ap, sym, ◌∙◌, refl, arith, length-append}
-use Rattle.std.specs.Prelude.{slice_get}
+use Rattle.cp_resolved.proofs.Words.{◌≡◌, ℕ, ◌<◌, ◌≤◌, List, ◌++◌, length, Option, Some, None, ap, sym, ◌∙◌, refl, arith, length-append, slice_get, need_of, item_need}
 use Rattle.std.proofs.lemmas.List.{get_or_append_left}
 use Rattle.std.proofs.lemmas.Option.{slice_get-get_or, slice_get_within, get_or_from_slice_get}
 use Rattle.cp_slots.specs.Code.{Item}
-use Rattle.cp_layout.specs.Layers.{need_of, item_need}
 
 -- an item of the routine, whose list needs at most this much
 pub record Nests (is : List Item) (routine need at : ℕ) : Type 0 where

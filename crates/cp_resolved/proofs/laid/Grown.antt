@@ -1,13 +1,10 @@
 -- What a statement leaves of the state: it appends items, and keeps names, types, headings and routines.
 use Rattle.std.proofs.Common.{◌≡◌, ℕ, Bool, List, [], ◌∷◌, ◌++◌, length, Option, Some, None, ap, sym, ◌∙◌, refl, append_assoc}
-use Rattle.std.specs.Prelude.{max}
+use Rattle.cp_resolved.proofs.Words.{max, Direction, PredeclaredRoutine, Layer, Pending, with_item, settled_all, settled, without_pending, added, need_of}
 use Rattle.std.proofs.lemmas.List.{append-nil}
-use Rattle.cp_tree.specs.declared.statement.Direction.{Direction}
 use Rattle.cp_tree.specs.Syntax as syntax
-use Rattle.cp_symbols.specs.declared.names.PredeclaredRoutine.{PredeclaredRoutine}
 use Rattle.cp_slots.specs.Code as code
 use Rattle.cp_slots.specs.Code.{ComponentPlace, Arm, Item}
-use Rattle.cp_layout.specs.Layers.{Layer, Pending, with_item, settled_all, settled, without_pending, added, need_of}
 use Rattle.cp_layout.specs.LaidExpressions.{expression, designator, first_value, arguments, arguments_from, name_at}
 use Rattle.cp_layout.specs.LaidStatements.{assigned, invoked, invoked_as, Callee, a_standard_procedure, a_procedure, no_callee, callee_of, standard, procedure, chosen, selected, while_item, until_item, for_item, blocked, cycled, repeated, Placed, placed_of, begun_component, started_as, started, starts, initial_of, statement, statements, arms, one_arm, token_of}
 use Rattle.cp_resolved.proofs.laid.Kept.{Kept, kept_trans, expression_kept, designator_kept, first_kept, arguments_kept}

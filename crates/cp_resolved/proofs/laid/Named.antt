@@ -1,15 +1,14 @@
 -- What names, types and system types lead to is there: the numbers of system types and routines are below how many there are.
 use Rattle.std.proofs.Common.{◌≡◌, ℕ, suc, ◌+◌, ◌<◌, ◌≤◌, Bool, true, false, if◌then◌else◌, ◌&&◌, nat_le, nat_lt, List, [], ◌∷◌, drop, length, Option, Some, None, slice_get, refl, sym, subst, arith, rules}
-use Rattle.cp_resolved.proofs.Words.{bytes_eq, CellType, ArrayType, LayoutMeaning}
-use Rattle.cp_symbols.specs.declared.kinds.CellType.TheVariants as types
-use Rattle.cp_symbols.specs.declared.names.LayoutMeaning.TheVariants as meaning
+use Rattle.cp_resolved.proofs.Words.{bytes_eq, CellType, ArrayType, LayoutMeaning, initial_in, initial_of}
+use Rattle.cp_layout.specs.declared.kinds.CellType.TheVariants as types
+use Rattle.cp_layout.specs.declared.names.LayoutMeaning.TheVariants as meaning
 use Rattle.cp_slots.specs.Code.{ComponentPlace, OrdinalExpression, Place}
 use Rattle.cp_symbols.specs.Kinds.{Compound, array, record_with, Compounds, Field}
 use Rattle.cp_layout.specs.Kinds.{array_of, as_array, field_of}
 use Rattle.cp_layout.specs.Values.{Designated, a_variable, a_contained, a_component, a_routine, an_entry}
 use Rattle.cp_layout.specs.Layers.{Names, find, seen_inside, with_open, is_open, Layer, Heading, System}
 use Rattle.cp_layout.specs.LaidExpressions.{begun_as, begun, entry_among, entry_in, entry_of, entry_found, field_found, field_selected, element_found, component_of_array, component_found, element_selected}
-use Rattle.cp_layout.specs.LaidStatements.{initial_in, initial_of}
 use Rattle.cp_resolved.proofs.names.Entries.{there}
 
 -- ---- this many system types and routines

@@ -1,11 +1,9 @@
 -- Only permanent variables and the parameters of system types change the cells and components of what is laid out.
-use Rattle.std.proofs.Common.{◌≡◌, Bool, true, false, if◌then◌else◌, refl, ◌∙◌}
+use Rattle.cp_resolved.proofs.Words.{◌≡◌, refl, ◌∙◌, Fields, no_fields, Layer}
 use Rattle.cp_tree.specs.Syntax as syntax
-use Rattle.cp_layout.specs.Kinds.{Fields, no_fields}
-use Rattle.cp_layout.specs.Layers.{Layer}
-use Rattle.cp_layout.specs.LaidTypes.{named_type, simple_type, written_type, field_groups, field_group}
-use Rattle.cp_layout.specs.LaidDeclarations.{type_definition, Parameters, constant_group, var_group, system, definition}
-use Rattle.cp_resolved.proofs.components.Handed.{constant_parameters_owned, simple_owned, var_parameters_owned}
+use Rattle.cp_layout.specs.LaidTypes.{simple_type, written_type, field_groups, field_group}
+use Rattle.cp_layout.specs.LaidDeclarations.{system, definition}
+use Rattle.cp_resolved.proofs.components.Handed.{simple_owned}
 
 mutual
   unfolding written_type field_groups field_group

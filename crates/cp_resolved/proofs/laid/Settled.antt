@@ -2,8 +2,7 @@
 use Rattle.std.proofs.Common.{◌≡◌, ℕ, suc, ◌+◌, ◌*◌, ◌≤◌, min, max, List, [], ◌∷◌, ◌++◌, length, Option, Some, slice_get, refl, sym, ap, subst, ◌∙◌, ◌⊎◌, inl, inr, append_assoc, append-nil, arith, length-append}
 use Rattle.cp_slots.specs.Code as code
 use Rattle.cp_slots.specs.Code.{Action, Item}
-use Rattle.cp_symbols.specs.Kinds.{most}
-use Rattle.cp_layout.specs.Layers.{Layer, Pending, with_item, settled_all, need_of, item_need}
+use Rattle.cp_resolved.proofs.Words.{most, Layer, Pending, with_item, settled_all, need_of, item_need}
 use Rattle.cp_resolved.proofs.laid.Calling.{ActionFits, IsNoLoop, Onward, onward_items, onward_routines, action_onward, Ground}
 use Rattle.cp_resolved.proofs.names.Entries.{last_entry, last_or_before}
 use Rattle.cp_resolved.proofs.laid.Fitting.{Nests, ListFits, list_wider, list_longer}

@@ -1,10 +1,9 @@
 -- What each small step of laying out statements leaves true, whole statements leave true.
-use Rattle.cp_resolved.proofs.Words.{ℕ, ◌+◌, Bool, List, [], ◌∷◌, length, max, Option, Some, None, Direction, FunctionResult, SetExpression, ComponentPlace}
-use Rattle.cp_resolved.proofs.Words.{Argument, Arm, Action}
+use Rattle.cp_resolved.proofs.Words.{ℕ, ◌+◌, Bool, List, [], ◌∷◌, length, max, Option, Some, None, Direction, FunctionResult, SetExpression, ComponentPlace, Argument}
+use Rattle.cp_resolved.proofs.Words.{Arm, Action, Layer, again, with_cell, with_room, settled, added, call_need, result_of, need_inside, pending_need}
 use Rattle.cp_tree.specs.Syntax as syntax
 use Rattle.cp_slots.specs.Code as code
 use Rattle.cp_layout.specs.Values.{Value, Designated, a_routine, an_entry, a_standard, added as values_added, multiplied as values_multiplied, ordinal_of}
-use Rattle.cp_layout.specs.Layers.{Layer, again, with_cell, with_room, settled, added, call_need, result_of, need_inside, pending_need}
 use Rattle.cp_layout.specs.LaidExpressions.{begun, with_count, counted, function_as, named_as, signed, name_at, expression, sum, more_terms, term, more_factors, factor, elements, first_value, arguments_from, designator, selectors, selector, arguments}
 use Rattle.cp_layout.specs.LaidStatements.{Target, target_of, assignment, assigned, performed, procedure, standard, Callee, a_standard_procedure, a_procedure, no_callee, callee_of, invoked_as, invoked, blocked, cycled, chosen, while_item, until_item, token_of, repeated, arms_need, selected, origin_of, low_of, high_of, is_down, for_item, initial_of, begun_component, Placed, placed_of, started_as, started, starts, statements, statement, arms, one_arm}
 

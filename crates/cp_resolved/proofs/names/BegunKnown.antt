@@ -5,11 +5,10 @@ use Rattle.cp_symbols.specs.declared.names.LayoutMeaning.TheVariants as meaning
 use Rattle.cp_layout.specs.Layers.{find, Layer, System, nothing_laid}
 use Rattle.cp_layout.specs.LaidDeclarations.{heading_with, with_new_frame, with_heading, routine, routines, system_definition, system_definitions, program_part, program_parts, program}
 use Rattle.cp_resolved.proofs.Words.{Name, Scope, permanent_variable, seen_inside, Block, with_groups, Numbering, InStep, is_named, is_parameter, AreOthers}
-use Rattle.cp_resolved.proofs.Words.{IsOnceDefinition, IsOncePart, IsOnce, initial_meaning}
+use Rattle.cp_resolved.proofs.Words.{IsOnceDefinition, IsOncePart, IsOnce, initial_meaning, IsFitDefinition, AreFitDefinitions, IsFitPart, AreFitParts, nothing_declared}
 use Rattle.cp_meaning.specs.Systems.{SystemMeaning, system_in, Declared, definition_in, definitions_in, program_part_in, program_parts_in, declared, program_system, own_meaning, or_own, system_of}
 use Rattle.cp_resolved.specs.Begun.{routines_begun, initial_begun, parameters_of, parts_begun, system_begun, definition_begun, definitions_begun, part_begun, program_parts_begun, all_begun}
 use Rattle.cp_resolved.specs.Enumerations.{Enumerated, each_in, in_part, in_routine, in_definition, in_program_part, enumerations_of}
-use Rattle.cp_resolved.specs.Fit.{IsFitDefinition, AreFitDefinitions, IsFitPart, AreFitParts, nothing_declared}
 use Rattle.cp_resolved.specs.Openings.{Opening, with_routine, routine_openings, parts_scope, initial_opening, definition_openings, definitions_openings, part_openings, parts_openings, openings_of, AreOpened}
 use Rattle.cp_resolved.specs.Small.{Each, IsSmallRoutine, IsSmallSystem, IsSmallDefinition, IsSmallProgramPart, IsSmallProgram, AreNumbered}
 use Rattle.cp_resolved.specs.TreeLayouts.{definition_parts, definitions_parts, part_parts, program_parts_parts, all_parts, whole_laid}

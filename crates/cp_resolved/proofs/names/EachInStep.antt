@@ -1,6 +1,6 @@
 -- The names are in step where the statements of each routine and each initial statement begin.
-use Rattle.cp_resolved.proofs.Words.{ℕ, sym, subst, List, [], ◌∷◌, ◌++◌, length, refl, Layer, nothing_laid, routine, routines, system_definition}
-use Rattle.cp_resolved.proofs.Words.{program_part, program_parts, Scope, Numbering, InStep}
+use Rattle.cp_resolved.proofs.Words.{ℕ, sym, subst, List, [], ◌∷◌, ◌++◌, length, refl, Layer, nothing_laid, routine, routines, system_definition, program_part}
+use Rattle.cp_resolved.proofs.Words.{program_parts, Scope, Numbering, InStep, IsFitDefinition, AreFitDefinitions, IsFitPart, AreFitParts, nothing_declared, AreInStep}
 use Rattle.cp_tree.specs.Syntax as syntax
 use Rattle.cp_meaning.specs.Scopes as scopes
 use Rattle.cp_meaning.specs.Systems.{Declared, definition_in, program_part_in, declared, program_system, own_meaning, system_in}
@@ -8,8 +8,6 @@ use Rattle.cp_resolved.specs.Begun.{routines_begun, initial_begun, parameters_of
 use Rattle.cp_resolved.specs.Enumerations.{Enumerated, each_in, in_part, in_routine, in_definition, in_program_part, enumerations_of}
 use Rattle.cp_resolved.specs.Small.{Each, IsSmallRoutine, IsSmallDefinition, IsSmallProgramPart, IsSmallProgram, AreNumbered}
 use Rattle.cp_resolved.specs.Openings.{Opening, with_routine, routine_openings, parts_scope, initial_opening, definition_openings, definitions_openings, part_openings, parts_openings, openings_of, AreOpened}
-use Rattle.cp_resolved.specs.Fit.{IsFitDefinition, AreFitDefinitions, IsFitPart, AreFitParts, nothing_declared}
-use Rattle.cp_resolved.specs.Names.{AreInStep}
 use Rattle.cp_resolved.proofs.names.Steps.{outermost_in}
 use Rattle.cp_resolved.proofs.names.StepsOfTypes.{numbered_left, numbered_after}
 use Rattle.cp_resolved.proofs.names.StepsOfParts.{Reached}

@@ -1,16 +1,14 @@
 -- What is laid out of the headings of routines: each has its result, and each routine of a system type is found among its entries.
 use Rattle.std.proofs.Common.{◌≡◌, ◌+◌, ◌<◌, ◌≤◌, ℕ, suc, Bool, true, false, ◌&&◌, if◌then◌else◌, nat_le, nat_lt, List, [], ◌∷◌, ◌++◌, length, Option, Some, None, slice_get, refl, sym, ap, subst, ◌∙◌, inl, inr, arith, append_assoc}
-use Rattle.std.specs.Prelude.{◌⊎◌}
-use Rattle.cp_resolved.proofs.Words.{bytes_eq, none-some, bytes_eq-Decides, FunctionResult, Compounds, entry_among, heading, with_heading, opened, routine}
-use Rattle.cp_resolved.proofs.Words.{routines, constant_groups, Name, same_name, Ty, Scope, routine_meaning, find, since, routine_in, with_routines}
-use Rattle.cp_resolved.proofs.Words.{routine_begun, Numbering, InStep, with_routine, routine_openings, AreOpened, ResultsAre}
+use Rattle.cp_resolved.proofs.Words.{◌⊎◌, bytes_eq, none-some, bytes_eq-Decides, FunctionResult, Compounds, entry_among, heading, with_heading, opened, routine, routines}
+use Rattle.cp_resolved.proofs.Words.{constant_groups, Name, same_name, Ty, Scope, routine_meaning, find, since, routine_in, with_routines, routine_begun, Numbering}
+use Rattle.cp_resolved.proofs.Words.{InStep, with_routine, routine_openings, AreOpened, ResultsAre, IsNoneOf, AreOnce}
 use Rattle.std.proofs.lemmas.Bool.{le-leb, lt-leb, lt-ltb}
 use Rattle.std.proofs.lemmas.List.{append-nil}
 use Rattle.cp_tree.specs.Syntax as syntax
 use Rattle.cp_layout.specs.Layers.{Layer, Heading, System}
 use Rattle.cp_meaning.specs.Scopes as scopes
 use Rattle.cp_meaning.specs.Declarations as meant
-use Rattle.cp_resolved.specs.Once.{IsNoneOf, AreOnce}
 use Rattle.cp_resolved.proofs.laid.Declares.{heading_declares, local_parts_declare}
 use Rattle.cp_resolved.proofs.names.Entries.{last_or_before}
 use Rattle.cp_resolved.proofs.laid.Grown.{statements_grew}

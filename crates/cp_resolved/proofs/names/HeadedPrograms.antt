@@ -1,17 +1,16 @@
 -- The same of all routines and initial statements of a program; and the routines and the initial statement of each system type have the numbers between its own.
 use Rattle.std.proofs.Common.{◌≡◌, ◌+◌, ◌<◌, ◌≤◌, ℕ, zero, suc, Bool, true, false, nat_le, List, [], ◌∷◌, ◌++◌, length, Some, None, slice_get, refl, sym, ap, subst, ◌∙◌, arith, append_assoc, append-nil, length-append}
-use Rattle.cp_resolved.proofs.Words.{leb-true, leb-false, none-some, same_Some, written_type, Scope, seen_inside, ParametersAre, Numbering}
+use Rattle.cp_resolved.proofs.Words.{leb-true, leb-false, none-some, same_Some, written_type, Scope, seen_inside, ParametersAre, Numbering, IsDistinctDefinition}
+use Rattle.cp_resolved.proofs.Words.{IsDistinctPart, IsDistinctSystem, AreValues, IsDistinct, IsFitDefinition, AreFitDefinitions, IsFitPart, AreFitParts}
+use Rattle.cp_resolved.proofs.Words.{nothing_declared, Each, IsSmallSystem, IsSmallDefinition, IsSmallProgramPart, IsSmallProgram, AreNumbered}
 use Rattle.cp_tree.specs.Syntax as syntax
 use Rattle.cp_layout.specs.Layers.{Layer, Heading, System, nothing_laid}
 use Rattle.cp_layout.specs.LaidDeclarations as laid
 use Rattle.cp_layout.specs.LaidDeclarations.{Parameters, heading_with, with_new_frame, with_heading, routines, initial_statement, system, type_named, definition, system_definition, system_definitions, program_part, program_parts, constants, variables, program}
 use Rattle.cp_meaning.specs.Systems.{SystemMeaning, system_in, Declared, definition_in, definitions_in, program_part_in, program_parts_in, declared, program_system, own_meaning, or_own, system_of}
 use Rattle.cp_resolved.specs.Begun.{routines_begun, initial_begun, parameters_of, parts_begun, system_begun, definition_begun, definitions_begun, part_begun, program_parts_begun, all_begun}
-use Rattle.cp_resolved.specs.Distinct.{IsDistinctDefinition, IsDistinctPart, IsDistinctSystem, AreValues, IsDistinct}
 use Rattle.cp_resolved.specs.Enumerations.{Enumerated, each_in, in_part, in_routine, in_definition, in_program_part, enumerations_of}
-use Rattle.cp_resolved.specs.Fit.{IsFitDefinition, AreFitDefinitions, IsFitPart, AreFitParts, nothing_declared}
 use Rattle.cp_resolved.specs.Openings.{Opening, routine_openings, parts_scope, initial_opening, definition_openings, definitions_openings, part_openings, parts_openings, openings_of, AreOpened}
-use Rattle.cp_resolved.specs.Small.{Each, IsSmallSystem, IsSmallDefinition, IsSmallProgramPart, IsSmallProgram, AreNumbered}
 use Rattle.cp_resolved.specs.TreeLayouts.{definition_parts, definitions_parts, part_parts, program_parts_parts, all_parts, whole_laid}
 use Rattle.cp_resolved.proofs.names.BegunKnown.{definition_many, part_many, parts_many, further}
 use Rattle.cp_resolved.proofs.laid.Declares.{type_declares, constants_declare, variables_declare, Declares}

@@ -1,13 +1,12 @@
 -- The parameters of each routine of the tables: none is a component, the `var` parameters have their numbers in order, and a result is an ordinal.
 use Rattle.std.proofs.Common.{◌≡◌, ◌+◌, ◌<◌, ℕ, suc, Bool, true, false, if◌then◌else◌, List, [], ◌∷◌, ◌++◌, length, Option, Some, None, slice_get, refl, sym, ap, subst, ◌∙◌, append_assoc, append-nil, arith, length-append}
-use Rattle.cp_resolved.proofs.Words.{Program, Tree, PlainTables, plain, laid, Layer, nothing_laid, routine_of, statements, Tables, RoutineView, routine_at}
-use Rattle.cp_resolved.proofs.Words.{no_routine, Name, local_variable, Variable, Parameter, RoutineMeaning, parameter_variables, all_begun, AreDifferent}
-use Rattle.cp_resolved.proofs.Words.{AreDeclared, routine_variables, IsFramed, InStep, cell_named, slot_of, look, IsPlaced, Opening, openings_of, meaning_in}
-use Rattle.cp_resolved.proofs.Words.{meaning_at, numbering_of, Each, IsFreeVariable}
+use Rattle.cp_resolved.proofs.Words.{Program, Tree, PlainTables, plain, laid, Layer, nothing_laid, routine_of, statements, Tables, RoutineView, routine_at, no_routine}
+use Rattle.cp_resolved.proofs.Words.{Name, local_variable, Variable, Parameter, RoutineMeaning, parameter_variables, all_begun, AreDifferent, AreDeclared}
+use Rattle.cp_resolved.proofs.Words.{routine_variables, IsFramed, InStep, cell_named, slot_of, look, IsPlaced, Opening, openings_of, meaning_in, meaning_at, numbering_of}
+use Rattle.cp_resolved.proofs.Words.{Each, IsFreeVariable, layer_or, begun_at, parameters_by, frame_layout, layouts_of, whole_laid}
 use Rattle.cp_meaning.specs.Types.{Ty, ordinal, queue_type, set_over, array_over, record_with, component_of}
 use Rattle.cp_resolved.specs.Framed as framed_specs
 use Rattle.cp_resolved.specs.Headed.{IsNoComponent, IsOrdinalResult, NumberedBy, AreNumbered, HeadingFits}
-use Rattle.cp_resolved.specs.TreeLayouts.{layer_or, begun_at, parameters_by, frame_layout, layouts_of, whole_laid}
 use Rattle.cp_resolved.proofs.items.BodiesStand.{laid_routines, EndsAt, ends_at}
 use Rattle.cp_resolved.proofs.items.Ended.{all_end}
 use Rattle.cp_resolved.proofs.names.Entries.{there, entry_at}

@@ -1,8 +1,9 @@
 -- Where the statements of a routine begin, each of its parameters is visible, at the slot that its heading has.
-use Rattle.std.proofs.Common.{◌≡◌, ℕ, Bool, true, false, if◌then◌else◌, List, [], ◌∷◌, ◌++◌, length, Some, refl, sym, ap, subst, ◌∙◌, append_assoc}
+use Rattle.cp_resolved.proofs.Words.{◌≡◌, ℕ, Bool, true, false, if◌then◌else◌, List, [], ◌∷◌, ◌++◌, length, Some, refl, sym, ap, subst, ◌∙◌, append_assoc, Identifier}
+use Rattle.cp_resolved.proofs.Words.{PlaceOrigin, CellType, LayoutMeaning, Compounds, named_type, Name, same_name, Ty, Scope, local_variable, routine_begun, PassedBy}
+use Rattle.cp_resolved.proofs.Words.{slot_of, with_routine, Each, itself, Parameter, Heading, names_of, parameters_named, with_group, with_groups, with_parameter_groups}
+use Rattle.cp_resolved.proofs.Words.{type_named, routine_in, IsOther, AreDistinct, all_names, part_names, kind_names, IsDistinctRoutine, IsNoComponent, AreValues}
 use Rattle.std.proofs.lemmas.List.{append-nil}
-use Rattle.cp_resolved.proofs.Words.{Identifier, PlaceOrigin, CellType, LayoutMeaning, Compounds, named_type, Name, same_name, Ty, Scope, local_variable}
-use Rattle.cp_resolved.proofs.Words.{routine_begun, PassedBy, slot_of, with_routine, Each, itself}
 use Rattle.cp_tree.specs.Syntax as syntax
 use Rattle.cp_slots.specs.declared.place.PlaceOrigin.TheVariants as origin
 use Rattle.cp_layout.specs.declared.layer.Passing.{Passing}
@@ -14,8 +15,6 @@ use Rattle.cp_layout.specs.LaidDeclarations.{Parameters, value_parameter, consta
 use Rattle.cp_meaning.specs.Types as named
 use Rattle.cp_meaning.specs.Scopes as scopes
 use Rattle.cp_meaning.specs.Declarations as meant
-use Rattle.cp_meaning.specs.Declarations.{Parameter, Heading, names_of, parameters_named, with_group, with_groups, with_parameter_groups, type_named, routine_in}
-use Rattle.cp_resolved.specs.Distinct.{IsOther, AreDistinct, all_names, part_names, kind_names, IsDistinctRoutine, IsNoComponent, AreValues}
 use Rattle.cp_resolved.specs.InStep.{Numbering, TypeIs, InStep}
 use Rattle.cp_resolved.proofs.agreeing.AgreeingWritten.{each_left, each_right}
 use Rattle.cp_resolved.proofs.laid.Declares.{local_parts_declare}

@@ -1,21 +1,18 @@
 -- The layouts of a tree know the headings of routines and of initial statements where the statements of each begin.
 use Rattle.std.proofs.Common.{◌≡◌, ◌+◌, ◌<◌, ◌≤◌, ℕ, zero, suc, Bool, true, false, ◌&&◌, if◌then◌else◌, nat_le, nat_lt, List, [], ◌∷◌, ◌++◌, length, Option, Some, None, slice_get, refl, sym, ap, subst, ◌∙◌, inl, inr, arith}
-use Rattle.cp_resolved.proofs.Words.{bytes_eq, leb-true, ltb-true, none-some, same_Some, PlaceOrigin, Compounds, Parameters, entry_among, entry_in, entry_of}
-use Rattle.cp_resolved.proofs.Words.{Name, Ty, Parameter, RoutineMeaning, system_of, routine_of_type, all_begun, all_calls_laid, Chosen, field_chosen}
-use Rattle.cp_resolved.proofs.Words.{Numbering, Here, slot_of, is_parameter, is_own, IsPlaced, place_of, Opening, openings_of, meaning_in, meaning_at}
-use Rattle.cp_resolved.proofs.Words.{numbering_of}
+use Rattle.cp_resolved.proofs.Words.{bytes_eq, leb-true, ltb-true, none-some, same_Some, PlaceOrigin, Compounds, Parameters, entry_among, entry_in, entry_of, Name, Ty}
+use Rattle.cp_resolved.proofs.Words.{Parameter, RoutineMeaning, system_of, routine_of_type, all_begun, all_calls_laid, Chosen, field_chosen, Numbering, Here, slot_of}
+use Rattle.cp_resolved.proofs.Words.{is_parameter, is_own, IsPlaced, place_of, Opening, openings_of, meaning_in, meaning_at, numbering_of, initial_in, initial_of}
+use Rattle.cp_resolved.proofs.Words.{IsDistinct, StartIs, KnowsStarts}
 use Rattle.cp_tree.specs.Syntax as syntax
 use Rattle.cp_symbols.specs.declared.names.LayoutMeaning.TheVariants as meaning
 use Rattle.cp_slots.specs.Code as code
 use Rattle.cp_layout.specs.Layers as layers
 use Rattle.cp_layout.specs.Layers.{Names, Layer, Heading, System, nothing_laid}
-use Rattle.cp_layout.specs.LaidStatements.{initial_in, initial_of}
 use Rattle.cp_meaning.specs.Types as named
 use Rattle.cp_meaning.specs.Scopes as scopes
 use Rattle.cp_resolved.specs.Compiled.{Designated, a_variable, some_components, a_component, component_begun, result_begun, begun_form, with_field_form, field_of_form, part_of_form, element_of_form, with_element_form, ordinal_form, with_index_form, expression_form, selected_form, chosen_form}
-use Rattle.cp_resolved.specs.Distinct.{IsDistinct}
 use Rattle.cp_resolved.specs.FormedParts.{ParametersAre, parameters_in, HeadingIs, KnowsHeadings}
-use Rattle.cp_resolved.specs.FormedStatements.{StartIs, KnowsStarts}
 use Rattle.cp_resolved.specs.HeadingsKnow.{HeadingsLaw}
 use Rattle.cp_resolved.specs.TreeLayouts.{all_parts, layer_or, parts_at, begun_at, whole_laid, origin_in, hidden_origin, initial_or, owner_in}
 use Rattle.cp_resolved.specs.Used.{system_type}

@@ -1,8 +1,8 @@
 -- What is laid out so far knows the routines that are declared: the result of each, and each routine of a system type among its entries.
 use Rattle.std.proofs.Common.{◌≡◌, ◌+◌, ◌<◌, ◌≤◌, ℕ, suc, Bool, true, false, if◌then◌else◌, List, [], ◌∷◌, ◌++◌, length, Some, None, slice_get, refl, sym, ap, subst, ◌∙◌, arith, append-nil, length-append}
-use Rattle.cp_resolved.proofs.Words.{none-some, entry_among, entry_in, entry_of, Name, same_name, component_of, Scope, routine_meaning, permanent_variable}
-use Rattle.cp_resolved.proofs.Words.{find, seen_inside, is_seen, routine_of_system, routine_of_type, routine_begun, initial_begun, parts_begun, with_routine}
-use Rattle.cp_resolved.proofs.Words.{parts_scope, initial_meaning, ResultsAre}
+use Rattle.cp_resolved.proofs.Words.{none-some, entry_among, entry_in, entry_of, Name, same_name, component_of, Scope, routine_meaning, permanent_variable, find}
+use Rattle.cp_resolved.proofs.Words.{seen_inside, is_seen, routine_of_system, routine_of_type, routine_begun, initial_begun, parts_begun, with_routine, parts_scope}
+use Rattle.cp_resolved.proofs.Words.{initial_meaning, ResultsAre, Numbering, InStep, IsOuter, AreOuter}
 use Rattle.cp_tree.specs.Syntax as syntax
 use Rattle.cp_symbols.specs.declared.names.LayoutMeaning.TheVariants as meaning
 use Rattle.cp_layout.specs.Layers.{Layer, Heading, System}
@@ -11,7 +11,6 @@ use Rattle.cp_meaning.specs.Scopes as scopes
 use Rattle.cp_meaning.specs.Declarations as meant
 use Rattle.cp_meaning.specs.Declarations.{RoutineMeaning, routine_in, Block, names_of, with_names, types_in, type_in, part_in, parts_in, with_group, with_groups, type_named as named_type}
 use Rattle.cp_meaning.specs.Systems as systems
-use Rattle.cp_resolved.specs.InStep.{Numbering, InStep, IsOuter, AreOuter}
 use Rattle.cp_resolved.proofs.laid.Declared.{heading_declared, local_parts_declared, permanent_declared, system_groups_declared}
 use Rattle.cp_resolved.proofs.laid.Declares.{Declares, heading_declares, local_parts_declare, permanent_parts_declare, system_groups_declare}
 use Rattle.cp_resolved.proofs.names.Entries.{there, still_there}

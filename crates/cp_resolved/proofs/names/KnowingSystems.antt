@@ -1,17 +1,15 @@
 -- What is laid out knows the routines of each system type once that is whole, and so through all declarations of the program.
 use Rattle.std.proofs.Common.{◌≡◌, ◌+◌, ◌<◌, ℕ, suc, List, [], ◌∷◌, ◌++◌, length, Some, None, slice_get, refl, sym, ap, subst, ◌∙◌, inl, inr, arith, append_assoc, append-nil, length-append}
-use Rattle.std.specs.Prelude.{◌⊎◌}
-use Rattle.cp_resolved.proofs.Words.{none-some, same_Some, slice_get_within, LayoutMeaning, entry_among, entry_in, written_type, Name, component_of, Scope}
-use Rattle.cp_resolved.proofs.Words.{find, seen_inside, RoutineMeaning, routine_of_system, routine_of_type, initial_begun, parameters_of, parts_begun}
-use Rattle.cp_resolved.proofs.Words.{system_begun, IsFitDefinition, AreFitDefinitions, IsFitPart, AreFitParts, Numbering, InStep, AreOuter, AreOnce}
-use Rattle.cp_resolved.proofs.Words.{IsOnceDefinition, IsOncePart, initial_meaning}
+use Rattle.cp_resolved.proofs.Words.{◌⊎◌, none-some, same_Some, slice_get_within, LayoutMeaning, entry_among, entry_in, written_type, Name, component_of, Scope, find}
+use Rattle.cp_resolved.proofs.Words.{seen_inside, RoutineMeaning, routine_of_system, routine_of_type, initial_begun, parameters_of, parts_begun, system_begun}
+use Rattle.cp_resolved.proofs.Words.{IsFitDefinition, AreFitDefinitions, IsFitPart, AreFitParts, Numbering, InStep, AreOuter, AreOnce, IsOnceDefinition, IsOncePart}
+use Rattle.cp_resolved.proofs.Words.{initial_meaning, Enumerated, each_in, in_part, in_routine, in_system, in_definition, in_program_part}
 use Rattle.cp_tree.specs.Syntax as syntax
 use Rattle.cp_symbols.specs.declared.names.LayoutMeaning.TheVariants as meaning
 use Rattle.cp_layout.specs.Layers.{Layer, Heading, System, nothing_laid, with_name}
 use Rattle.cp_layout.specs.LaidDeclarations.{heading_with, routine, routines, initial_statement, system_of, system, type_named, system_definition, system_definitions, program_part, program_parts, constants, variables, definition}
 use Rattle.cp_meaning.specs.Systems as systems
 use Rattle.cp_meaning.specs.Systems.{SystemMeaning, system_in, with_routines, own_meaning, or_own, Declared, definition_in, definitions_in, program_part_in, program_parts_in}
-use Rattle.cp_resolved.specs.Enumerations.{Enumerated, each_in, in_part, in_routine, in_system, in_definition, in_program_part}
 use Rattle.cp_resolved.specs.Openings.{Opening, with_routine, routine_openings, parts_scope, initial_opening, definition_openings, definitions_openings, part_openings, parts_openings, AreOpened}
 use Rattle.cp_resolved.specs.Small.{Each, IsSmallRoutine, IsSmallSystem, IsSmallDefinition, IsSmallProgramPart, AreNumbered}
 use Rattle.cp_resolved.proofs.laid.Declared as declared_parts

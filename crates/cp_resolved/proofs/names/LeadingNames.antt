@@ -1,9 +1,8 @@
 -- The visible names of components lead, in each component of the system type, to one of theirs.
 use Rattle.std.proofs.Common.{◌≡◌, ◌+◌, ◌*◌, ◌<◌, ◌≤◌, ℕ, suc, true, false, List, [], ◌∷◌, ◌++◌, length, Some, None, slice_get, refl, sym, ap, ap₂, subst, ◌∙◌, ◌⊎◌, inl, inr, arith}
-use Rattle.cp_resolved.proofs.Words.{length-map, slice_get_within, Program, Tree, plain, laid, Tables, component_at, Name, permanent_variable, find, Variable}
-use Rattle.cp_resolved.proofs.Words.{Parameter, SystemMeaning, program_system, system_of, component_with, parameter_variables, first_component}
-use Rattle.cp_resolved.proofs.Words.{first_components, ground_of, system_variables, IsFramed, is_parameter, look, IsPlaced, place_of, meaning_at, Stands}
-use Rattle.cp_resolved.proofs.Words.{layouts_of}
+use Rattle.cp_resolved.proofs.Words.{length-map, slice_get_within, Program, Tree, plain, laid, Tables, component_at, Name, permanent_variable, find, Variable, Parameter}
+use Rattle.cp_resolved.proofs.Words.{SystemMeaning, program_system, system_of, component_with, parameter_variables, first_component, first_components, ground_of}
+use Rattle.cp_resolved.proofs.Words.{system_variables, IsFramed, is_parameter, look, IsPlaced, place_of, meaning_at, Stands, layouts_of}
 use Rattle.cp_slots.specs.declared.place.ComponentPlace.TheVariants as place_in
 use Rattle.cp_slots.specs.Systems.{IsOf, Names}
 use Rattle.cp_lawful.proofs.Earlier.{TyBelow, VariablesBelow, ParametersBelow, systems_below}

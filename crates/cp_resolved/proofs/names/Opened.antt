@@ -1,7 +1,6 @@
 -- The openings of a program have the numbers that the numbering gives them.
 use Rattle.std.proofs.Common.{◌≡◌, suc, List, [], ◌∷◌, ◌++◌, length, refl, sym, ap, subst, ◌∙◌, arith, append_assoc, length-append}
-use Rattle.std.specs.Prelude.{slice_get}
-use Rattle.cp_resolved.proofs.Words.{Program, RoutineMeaning, declared, own_meaning, initial_meaning, Opening, AreOpened, meaning_in, meaning_at, openings_of}
+use Rattle.cp_resolved.proofs.Words.{slice_get, Program, RoutineMeaning, declared, own_meaning, initial_meaning, Opening, AreOpened, meaning_in, meaning_at, openings_of}
 use Rattle.cp_resolved.proofs.components.ComponentsStand.{entry_there as slice_seam}
 
 opened_from : (m : RoutineMeaning) (all before os : List Opening) → all ≡ before ++ os → AreOpened (λ n. meaning_in m (slice_get all n)) (length before) os

@@ -1,10 +1,8 @@
 -- Inside a routine the variables and components of the system type that are visible are those that stand before its routines. What is handed over to
 -- a system type has the name of a parameter, and no component that it contains has one.
 use Rattle.std.proofs.Common.{◌≡◌, ℕ, Bool, true, false, ◌||◌, if◌then◌else◌, List, [], ◌∷◌, ◌++◌, length, Option, Some, None, refl, sym, ap, subst, ◌∙◌, inl, inr, append_assoc}
-use Rattle.std.specs.Prelude.{◌⊎◌}
-use Rattle.cp_resolved.proofs.Words.{bytes_eq, same_Some, bytes_eq-Decides, Identifier, PlaceOrigin, CellType, Contained, LayoutMeaning, named_type}
-use Rattle.cp_resolved.proofs.Words.{written_type, Ty, Scope, permanent_variable, Name, same_name, routine_begun, parts_begun, IsInFrame, is_parameter}
-use Rattle.cp_resolved.proofs.Words.{AreOthers, Each}
+use Rattle.cp_resolved.proofs.Words.{◌⊎◌, bytes_eq, same_Some, bytes_eq-Decides, Identifier, PlaceOrigin, CellType, Contained, LayoutMeaning, named_type, written_type}
+use Rattle.cp_resolved.proofs.Words.{Ty, Scope, permanent_variable, Name, same_name, routine_begun, parts_begun, IsInFrame, is_parameter, AreOthers, Each}
 use Rattle.std.proofs.lemmas.List.{append-nil}
 use Rattle.cp_tree.specs.Syntax as syntax
 use Rattle.cp_slots.specs.declared.place.PlaceOrigin.TheVariants as origin

@@ -1,7 +1,6 @@
 -- Names in step: what they find, what a system type sees of them, and that more types change nothing.
 use Rattle.std.proofs.Common.{◌≡◌, ℕ, Bool, true, false, if◌then◌else◌, List, [], ◌∷◌, ◌++◌, Option, Some, refl, sym, ap, ◌∙◌, arith, inl, inr}
-use Rattle.std.specs.Prelude.{◌⊎◌}
-use Rattle.cp_resolved.proofs.Words.{bytes_eq, bytes_eq-Decides, CellType, LayoutMeaning, is_open, Ty, Scope, is_seen}
+use Rattle.cp_resolved.proofs.Words.{◌⊎◌, bytes_eq, bytes_eq-Decides, CellType, LayoutMeaning, is_open, Ty, Scope, is_seen}
 use Rattle.std.specs.Bool.{Decides}
 use Rattle.std.proofs.lemmas.Bool.Decides.{same_from_decides}
 use Rattle.cp_symbols.specs.Kinds.{Compounds, Field, array, compound_cells, cells_of, plus, times, count_of}

@@ -1,14 +1,11 @@
 -- Names stay in step through the parts and the headings of routines and system types.
 use Rattle.std.proofs.Common.{◌≡◌, ℕ, Bool, true, false, if◌then◌else◌, List, [], ◌∷◌, ◌++◌, length, Option, Some, None, refl, sym, ap, subst, ◌∙◌, inl, inr}
-use Rattle.std.specs.Prelude.{◌⊎◌}
+use Rattle.cp_resolved.proofs.Words.{◌⊎◌, Identifier, CellType, Contained, Layer, written_type, Ty, has_components, Scope, Block, Heading, names_of, with_names}
+use Rattle.cp_resolved.proofs.Words.{Enumerated, in_type, each_in, in_part, names_among, Compounds, as_array, array_type}
 use Rattle.std.proofs.lemmas.List.{append-nil}
-use Rattle.cp_resolved.proofs.Words.{Identifier, CellType, Contained, Layer, written_type, Ty, has_components, Scope, Block, Heading, names_of, with_names}
-use Rattle.cp_resolved.proofs.Words.{Enumerated, in_type, each_in, in_part, names_among}
 use Rattle.cp_tree.specs.Syntax as syntax
 use Rattle.cp_slots.specs.declared.place.PlaceOrigin.TheVariants as origin
-use Rattle.cp_symbols.specs.declared.kinds.CellType.TheVariants as types
-use Rattle.cp_symbols.specs.Kinds.{Compounds}
-use Rattle.cp_layout.specs.Kinds.{as_array, array_type}
+use Rattle.cp_layout.specs.declared.kinds.CellType.TheVariants as types
 use Rattle.cp_layout.specs.LaidTypes as laid
 use Rattle.cp_layout.specs.LaidDeclarations as laid_parts
 use Rattle.cp_layout.specs.LaidDeclarations.{constant, constants, constant_meaning, type_definition, type_definitions, array_components, components_in, components_of, variable, variable_with, variables_of, variable_group, variables, local, locals_of, local_group, local_variables, permanent_part, permanent_parts, local_part, local_parts, Parameters, constant_parameter, constant_parameters_of, constant_group, constant_groups, var_parameter, var_parameters_of, var_group, parameter_group, parameter_groups, heading, system_parameter, system_parameters_of, system_group, system_groups}

@@ -1,18 +1,16 @@
 -- Names stay in step through the whole program, whose constants of enumerations are those of the tables.
-use Rattle.std.proofs.Common.{◌≡◌, ◌+◌, ℕ, suc, List, [], ◌∷◌, ◌++◌, length, refl, sym, ap, subst, ◌∙◌, arith, length-append, None}
+use Rattle.cp_resolved.proofs.Words.{◌≡◌, ◌+◌, ℕ, suc, List, [], ◌∷◌, ◌++◌, length, refl, sym, ap, subst, ◌∙◌, arith, length-append, None, Layer, nothing_laid}
+use Rattle.cp_resolved.proofs.Words.{written_type, laid, tables_laid, Scope, predeclared, Block, Numbering, InStep, AreOuter, system_begun, Each, IsSmallDefinition}
+use Rattle.cp_resolved.proofs.Words.{IsSmallProgramPart, IsSmallProgram, AreNumbered, IsFitDefinition, AreFitDefinitions, IsFitPart, AreFitParts, nothing_declared}
 use Rattle.std.proofs.lemmas.List.{append-nil}
 use Rattle.cp_tree.specs.Syntax as syntax
-use Rattle.cp_symbols.specs.declared.kinds.CellType.TheVariants as types
-use Rattle.cp_resolved.proofs.Words.{Layer, nothing_laid, written_type, laid, tables_laid, Scope, predeclared, Block, Numbering, InStep, AreOuter}
-use Rattle.cp_resolved.proofs.Words.{system_begun}
+use Rattle.cp_layout.specs.declared.kinds.CellType.TheVariants as types
 use Rattle.cp_layout.specs.LaidDeclarations.{heading_with, with_new_frame, with_heading, routines, initial_statement, entered, system_groups, permanent_parts, system, type_named, definition, system_definition, system_definitions, program_part, program_parts, constants, variables, program}
 use Rattle.cp_meaning.specs.Scopes as scopes
 use Rattle.cp_meaning.specs.Declarations as meant
 use Rattle.cp_meaning.specs.Systems.{Declared, definition_in, definitions_in, program_part_in, program_parts_in, declared, program_system, own_meaning, system_in}
 use Rattle.cp_resolved.specs.Enumerations.{Enumerated, each_in, in_type, in_routine, in_system, in_definition, in_program_part, enumerations_of, names_among, constant_names}
-use Rattle.cp_resolved.specs.Small.{Each, IsSmallDefinition, IsSmallProgramPart, IsSmallProgram, AreNumbered}
 use Rattle.cp_resolved.specs.Openings.{Opening, routine_openings, parts_scope, initial_opening, definition_openings, definitions_openings, part_openings, parts_openings, openings_of, AreOpened}
-use Rattle.cp_resolved.specs.Fit.{IsFitDefinition, AreFitDefinitions, IsFitPart, AreFitParts, nothing_declared}
 use Rattle.cp_resolved.proofs.laid.Declares.{Declares, type_declares, constants_declare, variables_declare}
 use Rattle.cp_resolved.proofs.names.Steps.{outermost_in}
 use Rattle.cp_resolved.proofs.names.StepsOfTypes.{Written, type_written, constants_trans, numbered_left, numbered_after}

@@ -4,9 +4,8 @@ use Rattle.std.proofs.lemmas.List.{append-nil}
 use Rattle.cp_tree.specs.Syntax as syntax
 use Rattle.cp_symbols.specs.declared.names.LayoutMeaning.TheVariants as meaning
 use Rattle.cp_layout.specs.Layers.{Names, Layer, Heading, routine_of}
-use Rattle.cp_resolved.proofs.Words.{statements, Scope, routine_in, with_routines, system_in, Enumerated, each_in, in_part, in_routine, in_system}
-use Rattle.cp_resolved.proofs.Words.{names_among, Numbering, InStep, AreOuter, Opening, with_routine, routine_openings, parts_scope, AreOpened, routine_begun}
-use Rattle.cp_resolved.proofs.Words.{parts_begun, system_begun}
+use Rattle.cp_resolved.proofs.Words.{statements, Scope, routine_in, with_routines, system_in, Enumerated, each_in, in_part, in_routine, in_system, names_among, Numbering}
+use Rattle.cp_resolved.proofs.Words.{InStep, AreOuter, Opening, with_routine, routine_openings, parts_scope, AreOpened, routine_begun, parts_begun, system_begun}
 use Rattle.cp_layout.specs.LaidDeclarations.{heading, heading_with, body, with_new_frame, with_heading, opened, routine, routines, entered, system_groups, permanent_parts, system}
 use Rattle.cp_meaning.specs.Scopes as scopes
 use Rattle.cp_meaning.specs.Declarations as meant

@@ -1,19 +1,16 @@
 -- Names stay in step as constants and types are declared, and a written type is laid out as the type that it stands for.
 use Rattle.std.proofs.Common.{◌≡◌, ◌+◌, ◌-◌, ◌<◌, ◌≤◌, ℕ, zero, suc, ℤ, pos, negsuc, neg_ℤ, Bool, true, false, if◌then◌else◌, List, [], ◌∷◌, ◌++◌, length, map, Option, Some, None, refl, sym, ap, subst, ◌∙◌, arith, append_assoc, length-append, inl, inr}
-use Rattle.std.specs.Prelude.{◌⊎◌, nat_le}
-use Rattle.cp_resolved.proofs.Words.{bytes_eq, le-leb, Identifier, Sign, Constant, ConstantKind, CellBase, CellType, LayoutMeaning, Names, Layer, as_integer}
-use Rattle.cp_resolved.proofs.Words.{Ty, Scope, Enumerated, in_simple, in_type, in_groups, names_among}
+use Rattle.cp_resolved.proofs.Words.{◌⊎◌, nat_le, bytes_eq, le-leb, Identifier, Sign, Constant, ConstantKind, CellBase, CellType, LayoutMeaning, Names, Layer, as_integer}
+use Rattle.cp_resolved.proofs.Words.{Ty, Scope, Enumerated, in_simple, in_type, in_groups, names_among, CellRange}
 use Rattle.std.proofs.lemmas.Bool.Decides.{leb_tells}
 use Rattle.std.proofs.lemmas.List.{append-nil, length-map}
 use Rattle.cp_tree.specs.declared.constant.Sign.TheVariants as sign
 use Rattle.cp_tree.specs.declared.constant.ConstantKind.TheVariants as constant_kind
 use Rattle.cp_tree.specs.Syntax as syntax
 use Rattle.cp_slots.specs.declared.place.PlaceOrigin.TheVariants as origin
-use Rattle.cp_symbols.specs.declared.kinds.CellBase.TheVariants as base
-use Rattle.cp_symbols.specs.declared.kinds.CellRange.{CellRange}
-use Rattle.cp_symbols.specs.declared.kinds.CellType.TheVariants as types
-use Rattle.cp_symbols.specs.declared.names.LayoutMeaning.TheVariants as meaning
-use Rattle.cp_symbols.specs.Kinds as symbol_kinds
+use Rattle.cp_layout.specs.declared.kinds.CellBase.TheVariants as base
+use Rattle.cp_layout.specs.declared.kinds.CellType.TheVariants as types
+use Rattle.cp_layout.specs.declared.names.LayoutMeaning.TheVariants as meaning
 use Rattle.cp_layout.specs.Kinds as kinds
 use Rattle.cp_symbols.specs.Kinds.{Compounds, Compound, Field, array, record_with, cells_of, plus, times, count_of}
 use Rattle.cp_layout.specs.Kinds.{Fields, array_type}

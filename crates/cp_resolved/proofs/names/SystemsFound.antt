@@ -1,8 +1,8 @@
 -- Where the routines of a system type begin, each of its parameters has the slot that the heading of its initial statement has.
-use Rattle.std.proofs.Common.{◌≡◌, ℕ, false, List, [], ◌∷◌, ◌++◌, Some, refl, sym, ap, subst, ◌∙◌, append_assoc}
+use Rattle.cp_resolved.proofs.Words.{◌≡◌, ℕ, false, List, [], ◌∷◌, ◌++◌, Some, refl, sym, ap, subst, ◌∙◌, append_assoc, Identifier, CellType, LayoutMeaning, Compounds}
+use Rattle.cp_resolved.proofs.Words.{named_type, Name, same_name, Ty, Scope, permanent_variable, seen_inside, system_in, parameters_of, parts_begun, PassedBy}
+use Rattle.cp_resolved.proofs.Words.{ParametersAre, Each, AreParameters, slot_in, Parameter, Heading, names_of, parameters_named, with_group, with_groups, type_named}
 use Rattle.std.proofs.lemmas.List.{append-nil}
-use Rattle.cp_resolved.proofs.Words.{Identifier, CellType, LayoutMeaning, Compounds, named_type, Name, same_name, Ty, Scope, permanent_variable, seen_inside}
-use Rattle.cp_resolved.proofs.Words.{system_in, parameters_of, parts_begun, PassedBy, ParametersAre, Each, AreParameters, slot_in}
 use Rattle.cp_tree.specs.Syntax as syntax
 use Rattle.cp_slots.specs.declared.place.PlaceOrigin.TheVariants as origin
 use Rattle.cp_symbols.specs.declared.kinds.CellType.TheVariants as types
@@ -11,7 +11,6 @@ use Rattle.cp_symbols.specs.declared.names.LayoutMeaning.TheVariants as meaning
 use Rattle.cp_layout.specs.Layers.{Names, Layer, find}
 use Rattle.cp_layout.specs.LaidDeclarations.{Parameters, value_parameter, cell_parameter, passed_component, system_parameter, system_parameters_of, system_group, system_groups, entered, permanent_parts}
 use Rattle.cp_meaning.specs.Types as named
-use Rattle.cp_meaning.specs.Declarations.{Parameter, Heading, names_of, parameters_named, with_group, with_groups, type_named}
 use Rattle.cp_resolved.specs.Distinct.{IsOther, AreDistinct, all_names, part_names, parameter_names, AreApart, IsNoComponent}
 use Rattle.cp_resolved.specs.InStep.{Numbering, range_on, TypeIs, InStep, AreOuter}
 use Rattle.cp_resolved.proofs.laid.Declares.{permanent_parts_declare}

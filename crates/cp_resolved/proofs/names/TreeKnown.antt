@@ -1,10 +1,8 @@
 -- The layouts of a tree know what stands where its statements begin.
 use Rattle.std.proofs.Common.{◌≡◌, ◌+◌, ◌<◌, ◌≤◌, ℕ, zero, suc, Bool, true, false, if◌then◌else◌, List, [], ◌∷◌, length, Option, Some, None, slice_get, refl, sym, ap, subst, ◌∙◌, inl, inr, arith}
-use Rattle.std.specs.Prelude.{◌⊎◌}
-use Rattle.cp_resolved.proofs.Words.{none-some, same_Some, bytes_eq-Decides, PlaceOrigin, ArrayType, CellType, LayoutMeaning, array, Name, same_name}
-use Rattle.cp_resolved.proofs.Words.{temporary, Ty, Scope, RoutineMeaning, Item, system_of, routine_of_type, all_begun, all_calls_laid, calls_before}
-use Rattle.cp_resolved.proofs.Words.{Numbering, CellsAre, PartsAre, BoundIs, InStep, FoundIs, Knows, Here, frame_here, is_parameter, Opening, openings_of}
-use Rattle.cp_resolved.proofs.Words.{meaning_in, meaning_at, numbering_of}
+use Rattle.cp_resolved.proofs.Words.{◌⊎◌, none-some, same_Some, bytes_eq-Decides, PlaceOrigin, ArrayType, CellType, LayoutMeaning, array, Name, same_name, temporary, Ty}
+use Rattle.cp_resolved.proofs.Words.{Scope, RoutineMeaning, Item, system_of, routine_of_type, all_begun, all_calls_laid, calls_before, Numbering, CellsAre, PartsAre}
+use Rattle.cp_resolved.proofs.Words.{BoundIs, InStep, FoundIs, Knows, Here, frame_here, is_parameter, Opening, openings_of, meaning_in, meaning_at, numbering_of}
 use Rattle.cp_tree.specs.Syntax as syntax
 use Rattle.cp_slots.specs.declared.place.PlaceOrigin.TheVariants as origin
 use Rattle.cp_symbols.specs.declared.kinds.CellType.TheVariants as types

@@ -1,7 +1,7 @@
 -- In a program that breaks no rule no routine calls itself.
 use Rattle.std.proofs.Common.{◌≡◌, ℕ, ◌+◌, ◌≤◌, ◌∙◌, Bool, true, false, if◌then◌else◌, List, [], ◌∷◌, ◌++◌, length, Option, Some, None, Ok, Err, is_some, refl, sym, ap, subst, arith}
-use Rattle.cp_resolved.proofs.Words.{bytes_eq, bytes_eq-Decides, SystemKind, Identifier, ValueType, Use, no_use, Judged, ◌>>=◌, faults, Context, Step}
-use Rattle.cp_resolved.proofs.Words.{as_declared, to_kind, reserve_name, part_steps, Loud, Heard, Each}
+use Rattle.cp_resolved.proofs.Words.{bytes_eq, bytes_eq-Decides, SystemKind, Identifier, ValueType, Use, no_use, Judged, ◌>>=◌, faults, Context, Step, as_declared}
+use Rattle.cp_resolved.proofs.Words.{to_kind, reserve_name, part_steps, Loud, Heard, Each, parts_kept, written_kept, last_is}
 use Rattle.cp_tree.specs.Syntax as syntax
 use Rattle.cp_tree.specs.Syntax.{Routine, Body, System, Definition, SystemDefinition, ProgramPart, Tree}
 use Rattle.cp_scope.specs.declared.types.Meaning as checked
@@ -15,7 +15,6 @@ use Rattle.cp_check.specs.Systems as systems
 use Rattle.cp_check.specs.Statements.{statements}
 use Rattle.cp_check.specs.Faults.{declarations, program_context, opened as checked_opened, faults_of}
 use Rattle.cp_lawful.proofs.Classes as classes
-use Rattle.cp_lawful.proofs.Kept.{parts_kept, written_kept, last_is}
 use Rattle.cp_lawful.proofs.Once.{no_left, no_right, no_first, none_before, inside_sound, defined_sound, declarations_sound, parts_sound, uses_sound as limits_sound}
 use Rattle.cp_lawful.proofs.Told as told
 use Rattle.cp_lawful.proofs.Told.{Told, heard}

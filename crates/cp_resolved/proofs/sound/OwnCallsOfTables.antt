@@ -1,10 +1,9 @@
 -- In the tables of an accepted tree no routine calls itself.
 use Rattle.std.proofs.Common.{◌≡◌, ℕ, zero, suc, ◌<◌, List, [], ◌∷◌, ◌∙◌, map, length, slice_index_or, ap, sym, subst, refl, arith}
-use Rattle.cp_resolved.proofs.Words.{Tree, PlainTables, laid, tables_laid, program, nothing_laid, no_item, IsOwnCall}
+use Rattle.cp_resolved.proofs.Words.{Tree, PlainTables, laid, tables_laid, program, nothing_laid, no_item, IsOwnCall, action_seen, item_seen}
 use Rattle.cp_slots.specs.declared.item.Item as code_item
 use Rattle.cp_slots.specs.declared.item.Action as code_action
 use Rattle.cp_slots.specs.declared.item.Action.TheVariants as action
-use Rattle.cp_slots.specs.Code.{action_seen, item_seen}
 use Rattle.cp_resolved.specs.OwnCalls.{OwnCallsLaw}
 use Rattle.cp_resolved.proofs.laid.Foreign.{IsForeign, AreForeign}
 use Rattle.cp_resolved.proofs.sound.OwnCalls.{program_foreign}

@@ -1,5 +1,5 @@
 -- Tables are sound in one way at most, so that their soundness may be taken from what is only known to be there.
-use Rattle.std.proofs.Common.{◌≡◌, ℕ, ◌<◌, Bool, true, false, List, [], ◌∷◌, Option, Some, None, ap, arith, subst}
+use Rattle.cp_resolved.proofs.Words.{◌≡◌, ℕ, ◌<◌, Bool, true, false, List, [], ◌∷◌, Option, Some, None, ap, arith, subst, ComponentKind, Process, Tables, parameter_at}
 use Rattle.std.proofs.Props.{props}
 use Rattle.cp_slots.specs.declared.item.Action.{Action}
 use Rattle.cp_slots.specs.declared.item.Action.TheVariants.{Block, If, Case, While, Until, For, Cycle, Call, Start}
@@ -9,7 +9,6 @@ use Rattle.cp_slots.specs.declared.place.ArgumentValue.{ArgumentValue}
 use Rattle.cp_slots.specs.declared.place.ArgumentValue.TheVariants as value
 use Rattle.cp_slots.specs.declared.place.ComponentPlace.{ComponentPlace}
 use Rattle.cp_slots.specs.declared.place.ComponentPlace.TheVariants.{Own, Parameter}
-use Rattle.cp_resolved.proofs.Words.{ComponentKind, Process, Tables, parameter_at}
 use Rattle.cp_slots.specs.declared.tables.ComponentKind.TheVariants as kind
 use Rattle.cp_slots.specs.Fits.{ListFits, InnerFits, ActionFits, ItemFits, KindFits, ProcessFits, IsSound}
 use Rattle.cp_slots.specs.Systems.{parameter_count, Names, HandsNone, HandsOne, Hands, IsOwn, StaysInside, ActionNames, IsItself, ComponentOwns, IsTyped}

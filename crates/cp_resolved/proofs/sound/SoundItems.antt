@@ -1,7 +1,6 @@
 -- The items and routines of tables that are laid out are sound, where no routine calls itself and the numbers are words.
 use Rattle.std.proofs.Common.{◌≡◌, ℕ, zero, suc, ◌+◌, ◌-◌, ◌*◌, ◌^◌, ◌<◌, ◌≤◌, min, List, [], ◌∷◌, map, length, Option, Some, None, slice_get, slice_index_or, refl, sym, ap, ◌∙◌, ◌⊎◌, inl, inr, arith}
-use Rattle.cp_resolved.proofs.Words.{none-some, same_Some, slice_get_within, most, plus, Layer, need_of, Tables, RoutineView, item_at, no_item, routine_at}
-use Rattle.cp_resolved.proofs.Words.{no_routine}
+use Rattle.cp_resolved.proofs.Words.{none-some, same_Some, slice_get_within, most, plus, Layer, need_of, Tables, RoutineView, item_at, no_item, routine_at, no_routine}
 use Rattle.cp_slots.specs.declared.item.Item as code_item
 use Rattle.cp_slots.specs.declared.item.ResolvedArm as code_arm
 use Rattle.cp_slots.specs.declared.item.Action as code_action

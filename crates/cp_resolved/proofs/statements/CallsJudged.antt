@@ -1,17 +1,15 @@
 -- What the rules have found of the calls in expressions that break none of them.
-use Rattle.std.proofs.Common.{◌≡◌, ℕ, Bool, true, false, ◌&&◌, if◌then◌else◌, List, [], ◌∷◌, Option, Some, None, Ok, refl, sym, ap, subst, ◌∙◌}
-use Rattle.cp_resolved.proofs.Words.{nat_eq, option_or, eq-eqb, Sign, Relation, Addition, Multiplication, CheckFault, ValueType, Predeclared, Use, no_use}
-use Rattle.cp_resolved.proofs.Words.{both_uses, broken, agree, is_of, values_of, Scopes, heading_at, body_at, Context, Operand, Named, or_left, or_right}
+use Rattle.cp_resolved.proofs.Words.{◌≡◌, ℕ, Bool, true, false, ◌&&◌, if◌then◌else◌, List, [], ◌∷◌, Option, Some, None, Ok, refl, sym, ap, subst, ◌∙◌, nat_eq, option_or}
+use Rattle.cp_resolved.proofs.Words.{eq-eqb, Sign, Relation, Addition, Multiplication, CheckFault, ValueType, Predeclared, Use, no_use, both_uses, broken, agree, is_of}
+use Rattle.cp_resolved.proofs.Words.{values_of, Scopes, heading_at, body_at, Context, Operand, Named, or_left, or_right, C5, C9, C10, C12, value, is_queue}
 use Rattle.cp_tree.specs.declared.expression.Addition.TheVariants as addition
 use Rattle.cp_tree.specs.declared.expression.Multiplication.TheVariants as multiplication
-use Rattle.cp_scope.specs.declared.fault.Rule.TheVariants.{C5, C9, C10, C12}
 use Rattle.cp_scope.specs.declared.fault.CheckFault.TheVariants as check_fault
 use Rattle.cp_scope.specs.declared.types.ValueType.TheVariants as types
 use Rattle.cp_scope.specs.declared.types.Base.TheVariants as base
 use Rattle.cp_scope.specs.declared.types.Predeclared.TheVariants as predeclared
 use Rattle.cp_check.specs.declared.operand.DesignatedName.{DesignatedName}
 use Rattle.cp_check.specs.declared.operand.Named.TheVariants.{Nothing, Constant, Variable, Parameter, Kind, Routine, Entry, Predeclared as Predeclared'}
-use Rattle.cp_check.specs.Operands.{value, is_queue}
 use Rattle.cp_check.specs.Operations as operations
 use Rattle.cp_check.specs.Calls as calls
 use Rattle.cp_check.specs.Expressions as expressions

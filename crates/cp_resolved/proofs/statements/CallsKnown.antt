@@ -1,8 +1,9 @@
 -- Each call in the statements of a number is one of a routine of some number; who may wait there, and where `continue` stands.
 use Rattle.std.proofs.Common.{◌≡◌, ℕ, Bool, true, false, ◌&&◌, ◌⊎◌, inl, inr, Option, Some, None, Ok, is_some, refl, sym, ap, subst, ◌∙◌}
-use Rattle.cp_resolved.proofs.Words.{not, SystemKind, Identifier, ValueType, Predeclared, Use, no_use, Judged, Context, Named, expression, designator}
-use Rattle.cp_resolved.proofs.Words.{IsAccepted, statements_loud, Name, Ty, has_components, RoutineMeaning, routine_in, last_field, is_call_meant, system_of}
-use Rattle.cp_resolved.proofs.Words.{Designated, designator_form, IsOwn, tokens_of, Here, meaning_at, IsRead, layouts_of, IsBare}
+use Rattle.cp_resolved.proofs.Words.{not, SystemKind, Identifier, ValueType, Predeclared, Use, no_use, Judged, Context, Named, expression, designator, IsAccepted}
+use Rattle.cp_resolved.proofs.Words.{statements_loud, Name, Ty, has_components, RoutineMeaning, routine_in, last_field, is_call_meant, system_of, Designated}
+use Rattle.cp_resolved.proofs.Words.{designator_form, IsOwn, tokens_of, Here, meaning_at, IsRead, layouts_of, IsBare, find, since, routine_meaning, standard_meaning}
+use Rattle.cp_resolved.proofs.Words.{permanent_variable, delay_procedure, continue_procedure, name_of, routine_called, routine_meant, routine_of_system, routine_of_type}
 use Rattle.cp_tree.specs.declared.declaration.SystemKind.TheVariants as system_kind
 use Rattle.cp_tree.specs.Syntax.{Program, Tree, Designator, designator as name_with, Selectors, no_selectors, more_selectors}
 use Rattle.cp_scope.specs.declared.types.Base as check_base
@@ -16,8 +17,6 @@ use Rattle.cp_check.specs.Names as names
 use Rattle.cp_check.specs.Statements.{statements, may_wait_in}
 use Rattle.cp_meaning.specs.Types as named
 use Rattle.cp_meaning.specs.Scopes as scopes
-use Rattle.cp_meaning.specs.Scopes.{find, since, routine_meaning, standard_meaning, permanent_variable, delay_procedure, continue_procedure}
-use Rattle.cp_meaning.specs.Expressions.{name_of, routine_called, routine_meant, routine_of_system, routine_of_type}
 use Rattle.cp_resolved.specs.Typed.{Tokens, is_entry_in, IsOrdinalResult, ResultIs, HeadingIs, IsMarked, RoutineIs, StandardIs, predeclared_of, ConstantIs, ScopesAgree, AreSmallSelectors}
 use Rattle.cp_resolved.proofs.statements.CalleesKnown.{At, at_number, numbered, routine_entry, CalleeKnown}
 use Rattle.cp_resolved.proofs.statements.CallsJudged.{OwnCall, CalledAs, GivesResult, IsValue}

@@ -1,9 +1,8 @@
 -- What is called by the name of a component, in statements that break no rule, is an entry of its system type, and no process has one.
-use Rattle.std.proofs.Common.{◌≡◌, ℕ, Bool, true, false, Option, Some, None, Ok, refl, sym, subst, ◌∙◌}
+use Rattle.cp_resolved.proofs.Words.{◌≡◌, ℕ, Bool, true, false, Option, Some, None, Ok, refl, sym, subst, ◌∙◌, Identifier, IsRead, ValueType, Predeclared, Judged, Scopes}
+use Rattle.cp_resolved.proofs.Words.{heading_at, Context, Named, designator, IsAccepted, Name, Ty, routine_meant, routine_of_type, routine_of_system, is_call_meant}
+use Rattle.cp_resolved.proofs.Words.{last_field, system_of, Chosen, field_chosen, tokens_of, Layouts, Here, is_own, is_parameter}
 use Rattle.cp_tree.specs.declared.declaration.SystemKind.TheVariants as system_kind
-use Rattle.cp_resolved.proofs.Words.{Identifier, IsRead, ValueType, Predeclared, Judged, Scopes, heading_at, Context, Named, designator, IsAccepted, Name, Ty}
-use Rattle.cp_resolved.proofs.Words.{routine_meant, routine_of_type, routine_of_system, is_call_meant, last_field, system_of, Chosen, field_chosen, tokens_of}
-use Rattle.cp_resolved.proofs.Words.{Layouts, Here, is_own, is_parameter}
 use Rattle.cp_tree.specs.Syntax.{Designator, designator as name_with, Selectors, no_selectors, more_selectors, Selector, field, index, Program, Tree}
 use Rattle.cp_check.specs.declared.operand.DesignatedName as check_designated
 use Rattle.cp_check.specs.declared.operand.Named.TheVariants as name

@@ -1,25 +1,22 @@
 -- Each function call in an expression that breaks no rule is one that the rules allow.
-use Rattle.std.proofs.Common.{◌≡◌, ℕ, ◌+◌, Bool, true, false, ◌&&◌, if◌then◌else◌, List, [], ◌∷◌, ◌++◌, Option, Some, None, Ok, refl, sym, ap, subst, ◌∙◌}
-use Rattle.cp_resolved.proofs.Words.{Identifier, Sign, ValueType, Meaning, Judged, both, ◌>>=◌, Context, Operand, Named, is_function, Scope, Item}
-use Rattle.cp_resolved.proofs.Words.{function_call}
+use Rattle.std.proofs.Common.{◌≡◌, ℕ, ◌+◌, Bool, true, false, ◌&&◌, List, [], ◌∷◌, ◌++◌, Option, Some, Ok, refl, sym, ap, subst}
+use Rattle.cp_resolved.proofs.Words.{Identifier, ValueType, Meaning, Judged, both, ◌>>=◌, Context, Operand, Named, is_function, Scope, Item, function_call}
 use Rattle.cp_tree.specs.Syntax.{Expression, alone, related, Sum, sum, Terms, no_terms, more_terms as terms_more, Term, term, Factors, no_factors, more_factors as factors_more, Factor, named as factor_named, group, negated, set_of, Expressions, no_expressions, more_expressions, Designator, designator as name_with, Selectors, no_selectors, more_selectors, field, index}
 use Rattle.cp_scope.specs.declared.types.ValueType.TheVariants as types
 use Rattle.cp_scope.specs.declared.types.Meaning.TheVariants as meaning
 use Rattle.cp_scope.specs.declared.types.Parameter as check_parameter
 use Rattle.cp_scope.specs.Scopes.{Scopes, field_at, member_at}
-use Rattle.cp_check.specs.declared.operand.OperandUse.TheVariants as place
 use Rattle.cp_check.specs.declared.operand.DesignatedName as check_designated
 use Rattle.cp_check.specs.declared.operand.Named.TheVariants as name
 use Rattle.cp_check.specs.Operations as operations
 use Rattle.cp_check.specs.Names as names
-use Rattle.cp_check.specs.Calls as calls
 use Rattle.cp_check.specs.Expressions.{expression, sum_value, more_terms, term_value, more_factors, factor, designator, selectors, arguments, is_unsigned, has_no_terms, has_no_factors, has_none, is_var_at}
 use Rattle.cp_check.specs.Expressions as expressions
 use Rattle.cp_meaning.specs.Lifting.{is_call, own_call, expression_calls, sum_calls, terms_calls, term_calls, factors_calls, factor_calls, expressions_calls, selectors_calls}
 use Rattle.cp_resolved.specs.Typed.{IsSmallExpression, IsSmallSum, AreSmallTerms, IsSmallTerm, AreSmallFactors, IsSmallFactor, AreSmallExpressions, IsSmallDesignator, AreSmallSelectors}
+use Rattle.cp_resolved.proofs.forms.UsedExpressions.{agreed_some, name_only, never, NameParts, name_parts, sum_only, term_only}
 use Rattle.cp_resolved.proofs.statements.CallsJudged.{Below, first_below, second_below, AreBelow, IsValue, OptionBelow, added_below, multiplied_below, signed_below, related_below, negated_below, constructed_below, CalledAs, GivesResult, ValueSaid, value_said}
 use Rattle.cp_resolved.proofs.agreeing.WithoutFaults.{ok_same, Then, then_of, both_of}
-use Rattle.cp_resolved.proofs.frames.LeastCells.{right_true as second_true}
 
 module _ (s : Scopes) (w : Context) (f : Bool) (scope : Scope) where
   -- what the designator of a call names, and that the call breaks no rule
@@ -76,33 +73,6 @@ module _ (s : Scopes) (w : Context) (f : Bool) (scope : Scope) where
   none_functions k [] = tt
   none_functions k (o ∷ os) = ((λ e. absurd (cc)), none_functions (k + 1) os)
 
-  -- ---- a name with its arguments
-
-  record NameParts (d : Designator) (es : Expressions) (at : ℕ) (p : Operand) : Type 0 where
-    value : check_designated.DesignatedName
-    is : designator s w d ≡ Ok value
-    operands : List Operand
-    arguments : arguments s w [] 0 es ≡ Ok operands
-    rest : calls.value_named s w at value operands value.named ≡ Ok p
-
-  name_parts : (b : Bool) (d : Designator) (es : Expressions) (at : ℕ) (p : Operand) → (b ≡ true → (es ≡ no_expressions) × (is_function p.place ≡ false)) → expressions.named_value s w b at (designator s w d) (arguments s w [] 0 es) ≡ Ok p → NameParts d es at p
-  unfolding calls.value_of expression
-  name_parts false d es at p only is =
-      let t : Then (both (designator s w d) (arguments s w [] 0 es)) (calls.value_of s w at) p = then_of (both (designator s w d) (arguments s w [] 0 es)) (calls.value_of s w at) p is in
-      let q = both_of (designator s w d) (arguments s w [] 0 es) t.value t.is in
-      record { value = t.value.0; is = q.first; operands = t.value.1; arguments = q.second; rest = t.rest }
-  name_parts true d es at p only is =
-      let t : Then (designator s w d) (calls.variable_of s w at) p = then_of (designator s w d) (calls.variable_of s w at) p is in
-      let k : (es ≡ no_expressions) × (is_function p.place ≡ false) = only refl in
-      record { value = t.value; is = t.is; operands = []; arguments = subst (λ (fs : Expressions). arguments s w [] 0 fs ≡ Ok []) (sym k.0) none; rest = go t.value (calls.is_other_function s w t.value.named) k.1 t.rest }
-    where
-      none : arguments s w [] 0 no_expressions ≡ Ok []
-      none = refl
-
-      go : (c : check_designated.DesignatedName) (b : Bool) → is_function p.place ≡ false → (if b then Ok (calls.placed at types.Queue place.Function c.uses) else calls.value_of s w at (c, [])) ≡ Ok p → calls.value_named s w at c [] c.named ≡ Ok p
-      go c true k z = absurd (let one : calls.placed at types.Queue place.Function c.uses ≡ p = ok_same (calls.placed at types.Queue place.Function c.uses) p z in let bad : true ≡ false = ap (λ (x : Operand). is_function x.place) one ∙ k in cc)
-      go c false k z = z
-
   -- ---- sums and terms
 
   record Walked (j : Judged (Option Operand)) (U : Type 0) : Type 0 where
@@ -110,41 +80,6 @@ module _ (s : Scopes) (w : Context) (f : Bool) (scope : Scope) where
     is : j ≡ Ok value
     below : OptionBelow f value
     rest : U
-
-  agreed_some : (at : ℕ) (j : Judged (Option Operand)) (p : Operand) → (j >>= operations.agreed at) ≡ Ok p → j ≡ Ok (Some p)
-  agreed_some at (Ok (Some o)) p e = ap (λ (z : Operand). Ok (Some z)) (ok_same o p e)
-  agreed_some at x p e = absurd (cc)
-
-  no_more : (v b : Bool) → b ≡ false → (v && b) ≡ true → ⊥
-  no_more v b e i = (let bad : false ≡ true = sym e ∙ second_true v b i in cc)
-
-  first_of : (v b : Bool) → (v && b) ≡ true → v ≡ true
-  first_of true b i = refl
-  first_of false b i = absurd (cc)
-
-  some_same : (a b : Operand) → (let j : Judged (Option Operand) = Ok (Some a) in j) ≡ Ok (Some b) → a ≡ b
-  some_same a b e = cc
-
-  sum_only : (at : ℕ) (v : Bool) (o : Option Sign) (ts : Terms) (q : Judged Operand) (a p : Operand) → q ≡ Ok a → (v ≡ true → is_function p.place ≡ false) → more_terms s w at (q >>= expressions.signed at o) ts ≡ Ok (Some p) → (v && (is_unsigned o && has_no_terms ts)) ≡ true → is_function a.place ≡ false
-  unfolding expression
-  sum_only at v None no_terms q a p x only is i =
-      let one : a ≡ p = some_same a p (sym (ap (λ (z : Judged Operand). z >>= expressions.signed at None) x) ∙ is) in
-      ap (λ (z : Operand). is_function z.place) one ∙ only (first_of v true i)
-  sum_only at v _ _ q a p x only is i = absurd (no_more v false refl i)
-
-  term_only : (at : ℕ) (v : Bool) (fs : Factors) (q : Judged Operand) (a p : Operand) → q ≡ Ok a → (v ≡ true → is_function p.place ≡ false) → more_factors s w at (q >>= expressions.some_operand) fs ≡ Ok (Some p) → (v && has_no_factors fs) ≡ true → is_function a.place ≡ false
-  unfolding expression
-  term_only at v no_factors q a p x only is i =
-      let one : a ≡ p = some_same a p (sym (ap (λ (z : Judged Operand). z >>= expressions.some_operand) x) ∙ is) in
-      ap (λ (z : Operand). is_function z.place) one ∙ only (first_of v true i)
-  term_only at v (factors_more m g fs) q a p x only is i = absurd (no_more v false refl i)
-
-  name_only : (v : Bool) (es : Expressions) (p : Operand) → (v ≡ true → is_function p.place ≡ false) → (v && has_none es) ≡ true → (es ≡ no_expressions) × (is_function p.place ≡ false)
-  name_only v no_expressions p only i = (refl, only (first_of v true i))
-  name_only v (more_expressions e es) p only i = absurd (no_more v false refl i)
-
-  pub never : (p : Operand) → false ≡ true → is_function p.place ≡ false
-  never p i = absurd (cc)
 
   -- what selectors begin with, judged without a fault
   pub record Begun (j : Judged check_designated.DesignatedName) (U : Type 0) : Type 0 where
@@ -175,7 +110,7 @@ module _ (s : Scopes) (w : Context) (f : Bool) (scope : Scope) where
         let rest = terms_said at ts m.1 (term_value s w b t >>= expressions.signed at o) (Some p) h all in
         let one : Then (term_value s w b t) (expressions.signed at o) rest.value = then_of (term_value s w b t) (expressions.signed at o) rest.value rest.is in
         let below : Below f one.value.uses = signed_below f at o one.value (subst (OptionBelow f) (sym (option_ok (operations.signed at o one.value) rest.value one.rest)) rest.below) in
-        said_both (term_calls scope t) (terms_calls scope ts) (term_said b t m.0 one.value (sum_only at v o ts (term_value s w b t) one.value p one.is only all) below one.is) rest.rest
+        said_both (term_calls scope t) (terms_calls scope ts) (term_said b t m.0 one.value (sum_only s w at v o ts (term_value s w b t) one.value p one.is only all) below one.is) rest.rest
 
     terms_said : (at : ℕ) (ts : Terms) → AreSmallTerms ts → (j : Judged (Option Operand)) (r : Option Operand) → OptionBelow f r → more_terms s w at j ts ≡ Ok r → Walked j (AllSaid (terms_calls scope ts))
     terms_said at no_terms m j r h is = record { value = r; is = is; below = h; rest = tt }
@@ -193,7 +128,7 @@ module _ (s : Scopes) (w : Context) (f : Bool) (scope : Scope) where
         let rest = factors_said at fs m.1 (factor s w b g >>= expressions.some_operand) (Some p) h all in
         let one : Then (factor s w b g) expressions.some_operand rest.value = then_of (factor s w b g) expressions.some_operand rest.value rest.is in
         let below : Below f one.value.uses = subst (OptionBelow f) (sym (option_ok (Some one.value) rest.value one.rest)) rest.below in
-        said_both (factor_calls scope g) (factors_calls scope fs) (factor_said b g m.0 one.value (term_only at v fs (factor s w b g) one.value p one.is only all) below one.is) rest.rest
+        said_both (factor_calls scope g) (factors_calls scope fs) (factor_said b g m.0 one.value (term_only s w at v fs (factor s w b g) one.value p one.is only all) below one.is) rest.rest
 
     factors_said : (at : ℕ) (fs : Factors) → AreSmallFactors fs → (j : Judged (Option Operand)) (r : Option Operand) → OptionBelow f r → more_factors s w at j fs ≡ Ok r → Walked j (AllSaid (factors_calls scope fs))
     factors_said at no_factors m j r h is = record { value = r; is = is; below = h; rest = tt }
@@ -207,7 +142,7 @@ module _ (s : Scopes) (w : Context) (f : Bool) (scope : Scope) where
     factor_said : (v : Bool) (g : Factor) → IsSmallFactor g → (p : Operand) → (v ≡ true → is_function p.place ≡ false) → Below f p.uses → factor s w v g ≡ Ok p → AllSaid (factor_calls scope g)
     factor_said v (factor_named at (name_with i ss) es) m p only h is =
         let d : Designator = name_with i ss in
-        let k : NameParts d es at p = name_parts (v && has_none es) d es at p (name_only v es p only) is in
+        let k : NameParts s w d es at p = name_parts s w (v && has_none es) d es at p (name_only v es p only) is in
         let x : ValueSaid s w f k.value.named k.value k.operands = value_said s w f at k.value k.operands k.value.named p k.rest h in
         let t : Then (selectors s w (names.begun s i) ss) (names.known i.at) k.value = then_of (selectors s w (names.begun s i) ss) (names.known i.at) k.value k.is in
         let y = selectors_said ss m.0 (names.begun s i) t.value (subst (λ (c : check_designated.DesignatedName). Below f c.uses) (sym (known_uses i.at t.value k.value t.value.named t.rest)) x.first) t.is in

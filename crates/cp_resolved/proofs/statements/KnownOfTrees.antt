@@ -1,13 +1,11 @@
 -- What the rules say of all statements of a tree that was read and breaks none, in any routine with their scope.
 use Rattle.std.proofs.Common.{◌≡◌, ◌∙◌, ℕ, zero, suc, ◌+◌, ◌-◌, ◌<◌, ◌≤◌, ◌==◌, Bool, true, false, if◌then◌else◌, List, [], ◌∷◌, ◌++◌, length, Option, Some, None, Ok, slice_get, ap, sym, refl, subst, arith, append_assoc, length-append}
-use Rattle.cp_resolved.proofs.Words.{length-map, eqb-true, eqb-false, leb-true, leb-false, Use, no_use, Judged, IsAccepted, Heard, statements_loud, spell}
-use Rattle.cp_resolved.proofs.Words.{Scope, RoutineMeaning, names_of, seen_inside, nothing_declared, Place, IsAgreed, AreAgreed, places_of, tokens_of, Here}
-use Rattle.cp_resolved.proofs.Words.{IsRead, initial_meaning, Each, layouts_of}
-use Rattle.std.specs.Prelude.{nat_eq, nat_le}
+use Rattle.cp_resolved.proofs.Words.{length-map, eqb-true, eqb-false, leb-true, leb-false, Use, no_use, Judged, IsAccepted, Heard, statements_loud, spell, Scope}
+use Rattle.cp_resolved.proofs.Words.{RoutineMeaning, names_of, seen_inside, nothing_declared, Place, IsAgreed, AreAgreed, places_of, tokens_of, Here, IsRead}
+use Rattle.cp_resolved.proofs.Words.{initial_meaning, Each, layouts_of, nat_eq, nat_le, Enumerated, enumerations_of, before_among, constants_before}
 use Rattle.cp_check.specs.Statements.{statements}
 use Rattle.cp_tree.specs.Syntax.{Definition, type_definition, system_definition, SystemDefinition, ProgramPart, program_types, Program, Tree}
 use Rattle.cp_meaning.specs.Systems.{system_in, Declared, definition_in, definitions_in, program_part_in, program_parts_in, declared, program_system, own_meaning}
-use Rattle.cp_resolved.specs.Enumerations.{Enumerated, enumerations_of, before_among, constants_before}
 use Rattle.cp_resolved.specs.Openings.{Opening, openings_of, meaning_in, meaning_at, parts_openings, routine_openings, initial_opening}
 use Rattle.cp_resolved.specs.Tokens.{all_tokens, definition_types, program_part_types, token_in, constants_among}
 use Rattle.cp_resolved.proofs.agreeing.DifferentTokens.{all_numbered}

@@ -1,8 +1,9 @@
 -- What the rules say of statements that break none, in any routine with their scope: of what is assigned, called, delayed, displayed and started.
 use Rattle.std.proofs.Common.{◌≡◌, ℕ, ◌+◌, Bool, true, false, ◌⊎◌, inl, inr, if◌then◌else◌, List, [], ◌∷◌, length, Option, Some, None, Ok, refl, sym, ap, subst, ◌∙◌}
-use Rattle.cp_resolved.proofs.Words.{nat_eq, Identifier, SystemKind, C5, C6, C12, ValueType, Predeclared, Use, no_use, both_uses, agree, Judged, broken, both}
-use Rattle.cp_resolved.proofs.Words.{◌>>=◌, faults, Scopes, heading_at, Context, Operand, OperandUse, Named, fault, expression, designator, arguments, Heard}
-use Rattle.cp_resolved.proofs.Words.{Name, RoutineMeaning, last_field, is_call_meant, result_type, Here, is_own, Each, IsSmallStart, IsSmallStatement, IsBare}
+use Rattle.cp_resolved.proofs.Words.{nat_eq, Identifier, SystemKind, C5, C6, C12, ValueType, Predeclared, Use, no_use, both_uses, agree, Judged, broken, both, ◌>>=◌}
+use Rattle.cp_resolved.proofs.Words.{faults, Scopes, heading_at, Context, Operand, OperandUse, Named, fault, expression, designator, arguments, Heard, Name}
+use Rattle.cp_resolved.proofs.Words.{RoutineMeaning, last_field, is_call_meant, result_type, Here, is_own, Each, IsSmallStart, IsSmallStatement, IsBare, Target}
+use Rattle.cp_resolved.proofs.Words.{is_assignable, is_queue_in, is_queue, name_of, routine_called, variable_in, HasQueue, IsPerformed}
 use Rattle.cp_tree.specs.declared.declaration.SystemKind.TheVariants.{Monitor}
 use Rattle.cp_tree.specs.Syntax.{Expression, Expressions, no_expressions, more_expressions, Designator, designator as name_with, Selectors, no_selectors, more_selectors, Start, Statement, assign, invoke, init}
 use Rattle.cp_scope.specs.declared.types.Parameter as check_parameter
@@ -11,9 +12,7 @@ use Rattle.cp_scope.specs.declared.types.Predeclared.TheVariants as predeclared
 use Rattle.cp_check.specs.declared.operand.OperandUse.TheVariants as place
 use Rattle.cp_check.specs.declared.operand.DesignatedName as check_designated
 use Rattle.cp_check.specs.declared.operand.Named.TheVariants as name
-use Rattle.cp_check.specs.declared.statement.Target.{Target}
 use Rattle.cp_check.specs.declared.statement.Target.TheVariants as target
-use Rattle.cp_check.specs.Operands.{is_assignable, is_queue_in, is_queue}
 use Rattle.cp_check.specs.Operations as operations
 use Rattle.cp_check.specs.Calls as calls
 use Rattle.cp_check.specs.Expressions as expressions
@@ -24,9 +23,7 @@ use Rattle.cp_meaning.specs.Types as named
 use Rattle.cp_meaning.specs.Types.{Ty, Base, Range, ordinal}
 use Rattle.cp_meaning.specs.Scopes as scopes
 use Rattle.cp_meaning.specs.Scopes.{find, standard_meaning, delay_procedure, continue_procedure, display_procedure}
-use Rattle.cp_meaning.specs.Expressions.{name_of, routine_called, variable_in}
 use Rattle.cp_resolved.specs.Compiled.{Formed, as_ordinal, Designated, a_variable, some_components, a_component, then_form, result_begun, begun_form, designator_form, expression_form}
-use Rattle.cp_resolved.specs.Formed.{HasQueue, IsPerformed}
 use Rattle.cp_resolved.specs.Stands.{IsOrdinal}
 use Rattle.cp_resolved.specs.Typed.{Tokens, Written, BaseIs, TypeIs, HeadingIs, RoutineIs, predeclared_of, StandardIs, ScopesAgree, Expressed, HasForm, AreSmallExpressions, AreSmallSelectors}
 use Rattle.cp_resolved.proofs.agreeing.Agreeing.{none_left, none_right}

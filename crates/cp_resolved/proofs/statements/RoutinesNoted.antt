@@ -1,15 +1,13 @@
 -- The routines of a system type by their numbers: which are entries, and what is written of their bodies where they are called.
 use Rattle.std.proofs.Common.{◌≡◌, ℕ, Bool, true, false, ◌&&◌, if◌then◌else◌, ◌⊎◌, inl, inr, List, [], ◌∷◌, ◌++◌, length, Option, Some, None, Ok, Err, is_some, slice_get, refl, sym, ap, subst, ◌∙◌, arith, append_assoc, length-append}
-use Rattle.cp_resolved.proofs.Words.{SystemKind, Use, no_use, Judged, Scopes, Shapes, body_shape, shape_in, may_enter, routine_step, routine_steps, Name}
-use Rattle.cp_resolved.proofs.Words.{same_name, find, since, routine_meaning, seen_inside, is_seen, routine_in, SystemMeaning, system_in, with_routines}
-use Rattle.cp_resolved.proofs.Words.{declared, own_meaning, each_in, in_part, in_routine, in_system, initial_meaning, Each, IsSmallRoutine, IsSmallSystem}
-use Rattle.cp_resolved.proofs.Words.{all_tokens, routine_tokens, Tokens, is_entry_in}
+use Rattle.cp_resolved.proofs.Words.{SystemKind, Use, no_use, Judged, Scopes, Shapes, body_shape, shape_in, may_enter, routine_step, routine_steps, Name, same_name, find}
+use Rattle.cp_resolved.proofs.Words.{since, routine_meaning, seen_inside, is_seen, routine_in, SystemMeaning, system_in, with_routines, declared, own_meaning, each_in}
+use Rattle.cp_resolved.proofs.Words.{in_part, in_routine, in_system, initial_meaning, Each, IsSmallRoutine, IsSmallSystem, all_tokens, routine_tokens, Tokens}
+use Rattle.cp_resolved.proofs.Words.{is_entry_in, inside, Place, routine_place, routine_places, initial_place, parts_scopes, system_places, AreAgreed, places_of}
 use Rattle.cp_tree.specs.declared.declaration.SystemKind.TheVariants as system_kind
 use Rattle.cp_tree.specs.Syntax.{Program, Routine, System}
 use Rattle.cp_check.specs.Statements.{statements}
-use Rattle.cp_check.specs.Systems.{inside}
 use Rattle.cp_meaning.specs.Scopes as scopes
-use Rattle.cp_resolved.specs.Judging.{Place, routine_place, routine_places, initial_place, parts_scopes, system_places, AreAgreed, places_of}
 use Rattle.cp_resolved.specs.Openings.{Opening, with_routine, routine_openings, parts_scope, initial_opening, system_openings, openings_of, meaning_in, meaning_at}
 use Rattle.cp_resolved.proofs.agreeing.Agreeing.{none_left, none_right, More}
 use Rattle.cp_resolved.proofs.agreeing.AgreeingNames.{Agree}

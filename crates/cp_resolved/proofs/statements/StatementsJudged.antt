@@ -1,12 +1,10 @@
 -- Each call, `delay` and `continue` in statements that break no rule is one that the rules allow.
 use Rattle.std.proofs.Common.{◌≡◌, ℕ, suc, ◌+◌, Bool, true, false, ◌&&◌, if◌then◌else◌, List, [], ◌∷◌, ◌++◌, length, Option, Some, None, Ok, Err, refl, sym, ap, subst, ◌∙◌, arith}
-use Rattle.std.specs.Prelude.{nat_eq, not, slice_get}
-use Rattle.cp_resolved.proofs.Words.{Identifier, CheckFault, ValueType, Predeclared, Use, no_use, both_uses, agree, is_of, Judged, both, ◌>>=◌, Context}
-use Rattle.cp_resolved.proofs.Words.{Operand, OperandUse, Named, Label, is_function, is_assignable, variable_faults, all_variable_faults, Scope, Item}
-use Rattle.cp_resolved.proofs.Words.{expression_calls, expressions_calls, selectors_calls, designator_calls, Each}
+use Rattle.cp_resolved.proofs.Words.{nat_eq, not, slice_get, Identifier, CheckFault, ValueType, Predeclared, Use, no_use, both_uses, agree, is_of, Judged, both, ◌>>=◌}
+use Rattle.cp_resolved.proofs.Words.{Context, Operand, OperandUse, Named, Label, is_function, is_assignable, variable_faults, all_variable_faults, Scope, Item}
+use Rattle.cp_resolved.proofs.Words.{expression_calls, expressions_calls, selectors_calls, designator_calls, Each, C5, C6, C7, C12, Target}
 use Rattle.cp_tree.specs.Syntax.{Expression, Expressions, Designator, designator as name_with, Selectors, Start, Statement, empty, assign, invoke, block, if_then, if_else, case_of, while_do, repeat_until, for_do, cycle, init, Statements, no_statements, more_statements, Arms, no_arms, more_arms, Arm, arm}
 use Rattle.cp_scope.specs.declared.fault.CheckFault.TheVariants as check_fault
-use Rattle.cp_scope.specs.declared.fault.Rule.TheVariants.{C5, C6, C7, C12}
 use Rattle.cp_scope.specs.declared.types.Base.TheVariants as base
 use Rattle.cp_scope.specs.declared.types.ValueType.TheVariants as types
 use Rattle.cp_scope.specs.declared.types.Parameter as check_parameter
@@ -15,7 +13,6 @@ use Rattle.cp_scope.specs.Scopes.{Scopes, heading_at, body_at, shape_in, as_need
 use Rattle.cp_check.specs.declared.operand.OperandUse.TheVariants as place
 use Rattle.cp_check.specs.declared.operand.DesignatedName as check_designated
 use Rattle.cp_check.specs.declared.operand.Named.TheVariants as name
-use Rattle.cp_check.specs.declared.statement.Target.{Target}
 use Rattle.cp_check.specs.declared.statement.Target.TheVariants as target
 use Rattle.cp_check.specs.Names as names
 use Rattle.cp_check.specs.Calls as calls
@@ -27,7 +24,8 @@ use Rattle.cp_resolved.specs.SmallStatements.{IsSmallStart, IsSmallStatement, Ar
 use Rattle.cp_resolved.specs.Typed.{IsSmallExpression, AreSmallExpressions, IsSmallDesignator, AreSmallSelectors}
 use Rattle.cp_resolved.proofs.agreeing.Agreeing.{none_left, none_right}
 use Rattle.cp_resolved.proofs.statements.CallsJudged.{Below, first_below, second_below, AreBelow, total_below, unless_ok, OwnCall, CalledOk, called_ok, called_below, own_call, entry_call}
-use Rattle.cp_resolved.proofs.statements.ExpressionsJudged.{AllSaid, said_both, NoneFunctions, none_functions, never, expression_said, arguments_said, designator_said}
+use Rattle.cp_resolved.proofs.forms.UsedExpressions.{never}
+use Rattle.cp_resolved.proofs.statements.ExpressionsJudged.{AllSaid, said_both, NoneFunctions, none_functions, expression_said, arguments_said, designator_said}
 use Rattle.cp_resolved.proofs.agreeing.WithoutFaults.{ok_same, Then, then_of, both_of, if_of}
 
 module _ (s : Scopes) (w : Context) (f : Bool) (scope : Scope) where
@@ -90,7 +88,7 @@ module _ (s : Scopes) (w : Context) (f : Bool) (scope : Scope) where
   -- ---- assignments
 
   expression_of : (e : Expression) → IsSmallExpression e → (o : Operand) → Below f o.uses → expression s w false e ≡ Ok o → Said (expression_calls scope e)
-  expression_of e m o h is = expression_said s w f scope false e m o (never s w f scope o) h is
+  expression_of e m o h is = expression_said s w f scope false e m o (never o) h is
 
   either_refused : (A : Type 0) (b : Bool) (g k : CheckFault) (r : A) → (if b then (let j : Judged A = Err (g ∷ []) in j) else Err (k ∷ [])) ≡ Ok r → ⊥
   either_refused A true g k r e = cc

@@ -1,10 +1,9 @@
 -- The parameters of each system type of a tree that are components are those of the tables, in their order.
 use Rattle.std.proofs.Common.{◌≡◌, ◌+◌, ◌<◌, ◌≤◌, ℕ, true, false, List, [], ◌∷◌, ◌++◌, length, Option, Some, None, slice_get, slice_index_or, refl, sym, ap, subst, ◌∙◌, ◌⊎◌, inl, inr, append_assoc, append-nil, arith}
-use Rattle.cp_resolved.proofs.Words.{slice_get_within, Program, Tree, ComponentParameter, plain, laid, system_type, system_types, component_cell, Layer}
-use Rattle.cp_resolved.proofs.Words.{Names, System, nothing_laid, parameter_count, Name, permanent_variable, Variable, Parameter, parameter_variables}
-use Rattle.cp_resolved.proofs.Words.{SystemMeaning, program_system, system_of, AreDifferent, AreDeclared, system_variables, IsFramed, CellsAre, PartsAre}
-use Rattle.cp_resolved.proofs.Words.{BoundIs, is_parameter, IsPlain, numbering_of}
-use Rattle.cp_symbols.specs.declared.names.LayoutMeaning.TheVariants as meaning
+use Rattle.cp_resolved.proofs.Words.{slice_get_within, Program, Tree, ComponentParameter, plain, laid, system_type, system_types, component_cell, Layer, Names, System}
+use Rattle.cp_resolved.proofs.Words.{nothing_laid, parameter_count, Name, permanent_variable, Variable, Parameter, parameter_variables, SystemMeaning, program_system}
+use Rattle.cp_resolved.proofs.Words.{system_of, AreDifferent, AreDeclared, system_variables, IsFramed, CellsAre, PartsAre, BoundIs, is_parameter, IsPlain, numbering_of}
+use Rattle.cp_layout.specs.declared.names.LayoutMeaning.TheVariants as meaning
 use Rattle.cp_layout.specs.Layers as layers
 use Rattle.cp_slots.specs.Tables.{Tables, SystemView, system_at, no_system, parameter_at, no_parameter}
 use Rattle.cp_meaning.specs.Types.{Ty, ordinal, queue_type, set_over, array_over, record_with, component_of}

@@ -1,12 +1,11 @@
 -- The parameters of a system type that are components have a cell each, inside the cells of the type and apart from each other.
 use Rattle.std.proofs.Common.{◌≡◌, ◌+◌, ◌*◌, ◌<◌, ◌≤◌, ℕ, Bool, true, false, ◌||◌, List, [], ◌∷◌, ◌++◌, Option, Some, None, slice_get, refl, sym, ap, subst, ◌∙◌, ◌⊎◌, inl, inr, arith}
-use Rattle.cp_resolved.proofs.Words.{min, none-some, slice_get_within, Tree, LayoutMeaning, most, plain, laid, Layer, Tables, system_at, IsAccepted}
-use Rattle.cp_resolved.proofs.Words.{Parameter, Variable, Name, same_name, permanent_variable, find, since, parameter_variables, Ty, array_over, component_of}
-use Rattle.cp_resolved.proofs.Words.{has_components, AreDeclared, system_variables, FoundIs, is_parameter, look, numbering_of, IsRead, Each, IsParameter}
-use Rattle.cp_resolved.proofs.Words.{components_among, slot_in, parts_at, layouts_of}
-use Rattle.cp_symbols.specs.declared.names.LayoutMeaning.TheVariants as meaning
+use Rattle.cp_resolved.proofs.Words.{min, none-some, slice_get_within, Tree, LayoutMeaning, most, plain, laid, Layer, Tables, system_at, IsAccepted, Parameter, Variable}
+use Rattle.cp_resolved.proofs.Words.{Name, same_name, permanent_variable, find, since, parameter_variables, Ty, array_over, component_of, has_components, AreDeclared}
+use Rattle.cp_resolved.proofs.Words.{system_variables, FoundIs, is_parameter, look, numbering_of, IsRead, Each, IsParameter, components_among, slot_in, parts_at}
+use Rattle.cp_resolved.proofs.Words.{layouts_of, SystemMeaning, declared, program_system, own_meaning, or_own, system_of}
+use Rattle.cp_layout.specs.declared.names.LayoutMeaning.TheVariants as meaning
 use Rattle.cp_layout.specs.Layers as layers
-use Rattle.cp_meaning.specs.Systems.{SystemMeaning, declared, program_system, own_meaning, or_own, system_of}
 use Rattle.cp_resolved.proofs.counts.FewCellsOfTables.{few_cells_law}
 use Rattle.cp_resolved.proofs.frames.FrameCells.{itself, look_left, look_each}
 use Rattle.cp_resolved.proofs.systems.PermanentCells.{width, taken, taken_before, taken_inside, taken_apart, Holds}

@@ -1,8 +1,8 @@
 -- The parameters and variables of a system type have its permanent cells, one after the other.
 use Rattle.std.proofs.Common.{◌≡◌, ◌+◌, ◌≤◌, ℕ, Bool, true, false, if◌then◌else◌, List, [], ◌∷◌, ◌++◌, length, Option, Some, None, refl, sym, ap, subst, ◌∙◌, ◌⊎◌, inl, inr, arith, append_assoc, append-nil}
-use Rattle.cp_resolved.proofs.Words.{min, bytes_eq, none-some, same_Some, Identifier, CellType, Contained, LayoutMeaning, most, plus, written_type, Name}
-use Rattle.cp_resolved.proofs.Words.{same_name, Ty, has_components, Scope, permanent_variable, parameter_variables, Enumerated, each_in, in_type, in_part}
-use Rattle.cp_resolved.proofs.Words.{cells_of, look, components_among}
+use Rattle.cp_resolved.proofs.Words.{min, bytes_eq, none-some, same_Some, Identifier, CellType, Contained, LayoutMeaning, most, plus, written_type, Name, same_name, Ty}
+use Rattle.cp_resolved.proofs.Words.{has_components, Scope, permanent_variable, parameter_variables, Enumerated, each_in, in_type, in_part, cells_of, look}
+use Rattle.cp_resolved.proofs.Words.{components_among, Each, IsSmallType, IsSmallPart, AreNumbered, IsParameter, AreParameters}
 use Rattle.cp_tree.specs.Syntax as syntax
 use Rattle.cp_slots.specs.declared.place.PlaceOrigin.TheVariants as origin
 use Rattle.cp_symbols.specs.declared.kinds.CellType.TheVariants as types
@@ -15,7 +15,6 @@ use Rattle.cp_meaning.specs.Types as named
 use Rattle.cp_meaning.specs.Declarations as meant
 use Rattle.cp_meaning.specs.Declarations.{Variable, Parameter, Block, Heading, names_of, named_variables, parameters_named, with_names}
 use Rattle.cp_resolved.specs.InStep.{Numbering, range_on, TypeIs, InStep}
-use Rattle.cp_resolved.specs.Small.{Each, IsSmallType, IsSmallPart, AreNumbered, IsParameter, AreParameters}
 use Rattle.cp_resolved.proofs.frames.Cells.{cells_same}
 use Rattle.cp_resolved.proofs.laid.Extends.{Longer}
 use Rattle.cp_resolved.proofs.frames.FrameCells.{look_left, look_right, itself, same_is}

@@ -1,9 +1,8 @@
 -- Each system type of a tree stands for its declaration: its initial statement, its cells and its parameters.
 use Rattle.std.proofs.Common.{◌≡◌, ◌+◌, ◌<◌, ◌≤◌, ◌⊎◌, inl, inr, ℕ, Bool, true, false, if◌then◌else◌, List, [], ◌∷◌, ◌++◌, Option, Some, None, refl, sym, ap, subst, ◌∙◌, arith, append_assoc}
-use Rattle.cp_resolved.proofs.Words.{min, none-some, same_Some, CellType, LayoutMeaning, most, Layer, Name, same_name, Ty, has_components, permanent_variable}
-use Rattle.cp_resolved.proofs.Words.{find, Variable, content_of, value_held, least_of, parameter_variables, SystemMeaning, HasType, AreDifferent, AreDeclared}
-use Rattle.cp_resolved.proofs.Words.{system_variables, Numbering, InStep, FoundIs, cells_of, look, Each, is_standing, IsStandingVariable, slot_in}
-use Rattle.cp_resolved.proofs.Words.{components_among}
+use Rattle.cp_resolved.proofs.Words.{min, none-some, same_Some, CellType, LayoutMeaning, most, Layer, Name, same_name, Ty, has_components, permanent_variable, find}
+use Rattle.cp_resolved.proofs.Words.{Variable, content_of, value_held, least_of, parameter_variables, SystemMeaning, HasType, AreDifferent, AreDeclared, system_variables}
+use Rattle.cp_resolved.proofs.Words.{Numbering, InStep, FoundIs, cells_of, look, Each, is_standing, IsStandingVariable, slot_in, components_among}
 use Rattle.cp_slots.specs.declared.place.PlaceOrigin.TheVariants as origin
 use Rattle.cp_symbols.specs.declared.names.LayoutMeaning.TheVariants as meaning
 use Rattle.cp_layout.specs.Layers as layers

@@ -1,19 +1,17 @@
 -- Each system type of a program is laid out as it is meant: its kind, its permanent variables and its components.
 use Rattle.std.proofs.Common.{◌≡◌, ℕ, zero, suc, ◌+◌, Bool, true, false, if◌then◌else◌, List, [], ◌∷◌, ◌++◌, length, Option, Some, None, slice_get, refl, sym, ap, subst, ◌∙◌, ◌⊎◌, append_assoc, append-nil, arith, length-append}
 use Rattle.cp_resolved.proofs.Words.{none-some, same_Some, LayoutMeaning, Layer, Owned, System, nothing_laid, written_type, Name, same_name, Ty, Scope}
-use Rattle.cp_resolved.proofs.Words.{permanent_variable, routine_meaning, seen_inside, Variable, Block, parts_begun, system_begun, parameters_of, Numbering}
-use Rattle.cp_resolved.proofs.Words.{CellsAre, PartsAre, BoundIs, InStep, FoundIs}
+use Rattle.cp_resolved.proofs.Words.{permanent_variable, routine_meaning, seen_inside, Variable, Block, parts_begun, system_begun, parameters_of, Numbering, CellsAre}
+use Rattle.cp_resolved.proofs.Words.{PartsAre, BoundIs, InStep, FoundIs, Enumerated, each_in, in_part, in_routine, in_definition, in_program_part, enumerations_of}
+use Rattle.cp_resolved.proofs.Words.{IsFitDefinition, AreFitDefinitions, IsFitPart, AreFitParts, nothing_declared, Each, IsSmallSystem, IsSmallDefinition}
+use Rattle.cp_resolved.proofs.Words.{IsSmallProgramPart, IsSmallProgram, AreNumbered, definition_parts, definitions_parts, part_parts, program_parts_parts, whole_laid}
 use Rattle.cp_tree.specs.Syntax as syntax
 use Rattle.cp_symbols.specs.declared.names.LayoutMeaning.TheVariants as meaning
 use Rattle.cp_layout.specs.Layers as layers
 use Rattle.cp_layout.specs.LaidDeclarations.{type_named, constants, variables, heading_with, with_new_frame, with_heading, routines, initial_statement, system_of, system, definition, system_definition, system_definitions, program_part, program_parts, program}
 use Rattle.cp_meaning.specs.Scopes as scopes
 use Rattle.cp_meaning.specs.Systems.{SystemMeaning, with_routines, system_in, Declared, definition_in, definitions_in, program_part_in, program_parts_in, declared, program_system, own_meaning}
-use Rattle.cp_resolved.specs.Enumerations.{Enumerated, each_in, in_part, in_routine, in_definition, in_program_part, enumerations_of}
-use Rattle.cp_resolved.specs.Fit.{IsFitDefinition, AreFitDefinitions, IsFitPart, AreFitParts, nothing_declared}
 use Rattle.cp_resolved.specs.Openings.{Opening, parts_scope, definition_openings, definitions_openings, part_openings, parts_openings, openings_of, routine_openings, initial_opening, AreOpened}
-use Rattle.cp_resolved.specs.Small.{Each, IsSmallSystem, IsSmallDefinition, IsSmallProgramPart, IsSmallProgram, AreNumbered}
-use Rattle.cp_resolved.specs.TreeLayouts.{definition_parts, definitions_parts, part_parts, program_parts_parts, whole_laid}
 use Rattle.cp_resolved.proofs.laid.Declares.{type_declares, constants_declare, variables_declare, declares_trans, declares_names}
 use Rattle.cp_resolved.proofs.laid.Extends.{Longer, Extends, extends_trans, initial_extends, routines_extend, system_extends, system_definitions_extend, program_parts_extend}
 use Rattle.cp_resolved.proofs.systems.HandedComponents.{AreBound, system_bound}

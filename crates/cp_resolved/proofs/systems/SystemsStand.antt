@@ -1,10 +1,9 @@
 -- The system types of a tree stand for their declarations.
 use Rattle.std.proofs.Common.{◌≡◌, ◌+◌, ◌-◌, ◌<◌, ◌≤◌, inl, inr, ℕ, zero, suc, true, false, List, [], ◌∷◌, ◌++◌, length, Option, Some, None, slice_get, slice_index_or, refl, sym, ap, subst, ◌∙◌, arith, length-append}
-use Rattle.cp_resolved.proofs.Words.{none-some, same_Some, slice_get_within, CellType, most, PlainTables, plain, laid, tables_laid, system_types, Layer}
-use Rattle.cp_resolved.proofs.Words.{System, nothing_laid, routine_of, statements, Tables, RoutineView, no_system, system_at, Name, Ty, has_components}
-use Rattle.cp_resolved.proofs.Words.{permanent_variable, find, Variable, Parameter, RoutineMeaning, parameter_variables, SystemMeaning, program_system}
-use Rattle.cp_resolved.proofs.Words.{system_of, all_begun, nothing_declared, Numbering, InStep, cells_of, look, SystemLayout, IsPlaced, Opening, openings_of}
-use Rattle.cp_resolved.proofs.Words.{meaning_at, numbering_of, Each, IsParameter}
+use Rattle.cp_resolved.proofs.Words.{none-some, same_Some, slice_get_within, CellType, most, PlainTables, plain, laid, tables_laid, system_types, Layer, System}
+use Rattle.cp_resolved.proofs.Words.{nothing_laid, routine_of, statements, Tables, RoutineView, no_system, system_at, Name, Ty, has_components, permanent_variable, find}
+use Rattle.cp_resolved.proofs.Words.{Variable, Parameter, RoutineMeaning, parameter_variables, SystemMeaning, program_system, system_of, all_begun, nothing_declared}
+use Rattle.cp_resolved.proofs.Words.{Numbering, InStep, cells_of, look, SystemLayout, IsPlaced, Opening, openings_of, meaning_at, numbering_of, Each, IsParameter}
 use Rattle.cp_tree.specs.Syntax as syntax
 use Rattle.cp_slots.specs.declared.place.PlaceOrigin.TheVariants as origin
 use Rattle.cp_symbols.specs.declared.names.LayoutMeaning.TheVariants as meaning

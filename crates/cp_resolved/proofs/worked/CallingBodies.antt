@@ -1,10 +1,8 @@
 -- The law of bodies is not empty: of the procedure of a program, which calls a function with its `var` parameter, what is wanted holds.
 use Rattle.std.proofs.Common.{◌≡◌, ◌≤◌, ◌∙◌, ◌⊎◌, inl, inr, ℕ, Bool, true, false, if◌then◌else◌, [], ◌∷◌, length, Option, Some, None, slice_get, refl, sym, ap, subst, arith}
-use Rattle.std.specs.Prelude.{codes}
-use Rattle.cp_resolved.proofs.Words.{bytes_eq, none-some, same_Some, LayoutMeaning, Names, Layer, outermost, nothing_laid, Tables, routine_at, plain, laid}
-use Rattle.cp_resolved.proofs.Words.{simple_type, written_type, statements, statement, assigned, Name, same_name, ordinal, Scope, RoutineMeaning}
-use Rattle.cp_resolved.proofs.Words.{routine_of_type, routine_begun, all_begun, ground_of, BodyFormed, Numbering, Here, is_own, place_of, meaning_at}
-use Rattle.cp_resolved.proofs.Words.{numbering_of, OwnAll}
+use Rattle.cp_resolved.proofs.Words.{codes, bytes_eq, none-some, same_Some, LayoutMeaning, Names, Layer, outermost, nothing_laid, Tables, routine_at, plain, laid}
+use Rattle.cp_resolved.proofs.Words.{simple_type, written_type, statements, statement, assigned, Name, same_name, ordinal, Scope, RoutineMeaning, routine_of_type}
+use Rattle.cp_resolved.proofs.Words.{routine_begun, all_begun, ground_of, BodyFormed, Numbering, Here, is_own, place_of, meaning_at, numbering_of, OwnAll, KnowsStarts}
 use Rattle.cp_tree.specs.Syntax as syntax
 use Rattle.cp_slots.specs.declared.place.PlaceOrigin.TheVariants as origin
 use Rattle.cp_symbols.specs.declared.kinds.CellBase.TheVariants as base
@@ -18,7 +16,6 @@ use Rattle.cp_layout.specs.LaidDeclarations.{variables, variables_of, local_part
 use Rattle.cp_meaning.specs.Scopes as scopes
 use Rattle.cp_resolved.specs.Compiled.{as_ordinal, then_form, Designated, a_variable, a_component, result_begun, begun_form, ordinal_form, with_index_form, with_element_form, expression_form, selected_form}
 use Rattle.cp_resolved.specs.FormedParts.{HeadingIs, KnowsHeadings}
-use Rattle.cp_resolved.specs.FormedStatements.{KnowsStarts}
 use Rattle.cp_resolved.proofs.names.Alike.{same_inside}
 use Rattle.cp_resolved.proofs.items.BodiesStand.{bodies_law}
 use Rattle.cp_resolved.proofs.worked.CallingPlaced.{calling_placed}

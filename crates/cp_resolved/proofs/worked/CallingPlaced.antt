@@ -1,7 +1,6 @@
 -- The law of layouts is not empty: a program with a function, a procedure with a `var` parameter, a permanent variable and a call has what it asks.
-use Rattle.std.proofs.Common.{◌≤◌, ℕ, zero, suc, Bool, true, false, if◌then◌else◌, [], ◌∷◌, Some, refl, arith}
-use Rattle.cp_resolved.proofs.Words.{most, same_name, Scope, find, system_of, all_calls_laid, AreApart, IsPlaced, IsPlain, AreOthers, IsSizedMeaning}
-use Rattle.cp_resolved.proofs.Words.{AreSized, AreWords, meaning_at, Each}
+use Rattle.cp_resolved.proofs.Words.{◌≤◌, ℕ, zero, suc, Bool, true, false, if◌then◌else◌, [], ◌∷◌, Some, refl, arith, most, same_name, Scope, find, system_of}
+use Rattle.cp_resolved.proofs.Words.{all_calls_laid, AreApart, IsPlaced, IsPlain, AreOthers, IsSizedMeaning, AreSized, AreWords, meaning_at, Each}
 use Rattle.cp_resolved.proofs.worked.CallingProgram.{calling}
 
 plain : IsPlain calling.program

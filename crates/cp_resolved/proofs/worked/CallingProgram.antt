@@ -1,9 +1,8 @@
 -- A program with variables and calls stands for itself: layouts for it exist, whatever items have the views that are wanted.
 use Rattle.std.proofs.Common.{◌≡◌, ◌∙◌, ℕ, zero, suc, ◌+◌, ◌<◌, ◌≤◌, ◌⊎◌, inl, inr, Bool, true, false, if◌then◌else◌, List, [], ◌∷◌, map, length, replicate, Option, Some, None, ap, sym, refl, subst, arith, get_or}
-use Rattle.std.specs.Prelude.{ℤ, pos, negsuc, codes, slice_index, slice_index_or}
-use Rattle.cp_resolved.proofs.Words.{length-map, Identifier, Tables, item_at, routine_at, no_item, Name, same_name, temporary, result_name, Ty, ordinal}
-use Rattle.cp_resolved.proofs.Words.{all_integers, has_components, Variable, RoutineMeaning, routine_in, system_of, step_down, component_with}
-use Rattle.cp_resolved.proofs.Words.{first_components, encode, HasType, as_ordinal, Ground, ItemAt, CallItem}
+use Rattle.cp_resolved.proofs.Words.{ℤ, pos, negsuc, codes, slice_index, slice_index_or, length-map, Identifier, Tables, item_at, routine_at, no_item, Name, same_name}
+use Rattle.cp_resolved.proofs.Words.{temporary, result_name, Ty, ordinal, all_integers, has_components, Variable, RoutineMeaning, routine_in, system_of, step_down}
+use Rattle.cp_resolved.proofs.Words.{component_with, first_components, encode, HasType, as_ordinal, Ground, ItemAt, CallItem}
 use Rattle.cp_tree.specs.declared.expression.Addition.TheVariants.{Plus}
 use Rattle.cp_tree.specs.Syntax.{Expression, alone, sum, no_terms, more_terms, term, no_factors, number, named, no_expressions, more_expressions, Designator, designator, no_selectors, assign, invoke, no_statements, more_statements, simple, type_name, function, procedure, Routine, program_variables, Tree}
 use Rattle.cp_slots.specs.declared.item.Item as code_item

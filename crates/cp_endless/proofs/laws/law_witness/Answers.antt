@@ -1,5 +1,4 @@
-use Rattle.cp_run.specs.Slots.{slots}
-use Rattle.cp_endless.specs.Silent.{without_output, ShowsLess}
+use Rattle.cp_endless.proofs.Words.{slots, without_output, ShowsLess}
 use Rattle.cp_endless.proofs.possible.Tables.{witnesses}
 use Rattle.cp_endless.proofs.slots.Output.{slots_forget}
 use Rattle.cp_endless.proofs.laws.law_witness.Goals as goal

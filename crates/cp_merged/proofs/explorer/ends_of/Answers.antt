@@ -1,12 +1,5 @@
-use Rattle.std.proofs.Common.{◌≡◌, ◌∙◌, map, ap, sym, subst, arith}
-use Rattle.cp_run.specs.Slots.{slots}
-use Rattle.cp_walk.specs.Report.{same_outcome}
-use Rattle.cp_merged.specs.Layers.{by_layers}
-use Rattle.cp_merged.specs.Code.{end_of}
-use Rattle.cp_merged.specs.Holds.{same_key}
-use Rattle.cp_merged.specs.Reached.{Reached}
+use Rattle.cp_merged.proofs.Words.{◌≡◌, ◌∙◌, map, ap, sym, subst, arith, slots, same_outcome, by_layers, end_of, same_key, Reached, IsDueFault}
 use Rattle.cp_merged.proofs.Arriving.{ends_are}
-use Rattle.cp_merged.specs.TooMany.{IsDueFault}
 use Rattle.cp_merged.proofs.Exploring.{err_to, rows_small}
 use Rattle.cp_merged.proofs.explorer.ends_of.Goals as goal
 

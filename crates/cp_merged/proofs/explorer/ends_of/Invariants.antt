@@ -1,6 +1,4 @@
-use Rattle.cp_machine.specs.System.{machine_of, IsStateOf}
-use Rattle.cp_states.specs.Rows.{IsRowOf}
-use Rattle.cp_merged.specs.Reached.{Reached}
+use Rattle.cp_merged.proofs.Words.{machine_of, IsStateOf, IsRowOf, Reached}
 use Rattle.cp_merged.proofs.explorer.ends_of.Given as goal
 
 abbrev pub invariant-loop-depth : goal.invariant-loop-depth

@@ -1,9 +1,4 @@
-use Rattle.std.proofs.Common.{map, sym, subst}
-use Rattle.std.specs.List.Sorted.{IsPermutation}
-use Rattle.cp_run.specs.Slots.{slots}
-use Rattle.cp_merged.specs.Code.{tally_of}
-use Rattle.cp_merged.specs.Holds.{same_key}
-use Rattle.cp_merged.specs.TooMany.{IsDueFault}
+use Rattle.cp_merged.proofs.Words.{map, sym, subst, IsPermutation, slots, tally_of, same_key, IsDueFault}
 use Rattle.cp_merged.proofs.Arriving.{key_sound}
 use Rattle.cp_merged.proofs.Exploring.{err_to}
 use Rattle.cp_merged.proofs.Sorting.{sorted_tally, ordered_from}

@@ -1,9 +1,5 @@
-use Rattle.std.proofs.Common.{◌<◌, ◌≤◌, length, arith, refl}
+use Rattle.cp_merged.proofs.Words.{◌<◌, ◌≤◌, length, arith, refl, machine_of, keep_refl, node_of, row_on}
 use Rattle.cp_machine.specs.Bodies.{has_moved}
-use Rattle.cp_machine.specs.System.{machine_of}
-use Rattle.cp_machine.proofs.Unmoved.{keep_refl}
-use Rattle.cp_run.specs.Code.{node_of}
-use Rattle.cp_states.proofs.Following.{row_on}
 use Rattle.cp_merged.proofs.Exploring.{holds_none, holds_first, reached_first, first_fault}
 use Rattle.cp_merged.proofs.explorer.first_layer.Goals as goal
 

@@ -1,8 +1,4 @@
-use Rattle.std.proofs.Common.{◌<◌, ◌≤◌, length, refl, sym, subst, arith}
-use Rattle.cp_run.specs.Slots.{slots}
-use Rattle.cp_walk.specs.Report.{same_outcome}
-use Rattle.cp_merged.specs.Layers.{front_at}
-use Rattle.cp_merged.specs.Holds.{same_key, AreLeads, AreEnds}
+use Rattle.cp_merged.proofs.Words.{◌<◌, ◌≤◌, length, refl, sym, subst, arith, slots, same_outcome, front_at, same_key, AreLeads, AreEnds}
 use Rattle.cp_merged.proofs.Exploring.{last_fault, all_fits}
 use Rattle.cp_merged.proofs.explorer.last_layer.Goals as goal
 

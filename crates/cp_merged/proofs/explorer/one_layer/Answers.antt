@@ -1,12 +1,5 @@
 use Rattle.std.proofs.Common.{◌<◌, ◌≤◌, ◌+◌, length, sym, subst, arith}
-use Rattle.cp_machine.specs.System.{machine_of}
-use Rattle.cp_run.specs.Slots.{slots}
-use Rattle.cp_states.specs.Rows.{IsRowOf}
-use Rattle.cp_walk.specs.Report.{same_outcome}
-use Rattle.cp_merged.specs.Layers.{front_at}
-use Rattle.cp_merged.specs.Holds.{same_key, AreLeads, Holds, IsStates}
-use Rattle.cp_merged.specs.Reached.{Reached}
-use Rattle.cp_merged.specs.TooMany.{IsDueFault, HasTooManyStates}
+use Rattle.cp_merged.proofs.Words.{machine_of, slots, IsRowOf, same_outcome, front_at, same_key, AreLeads, Holds, IsStates, Reached, IsDueFault, HasTooManyStates}
 use Rattle.cp_merged.proofs.Exploring.{holds_taken, reached_next, outcomes_fault, layer_fault, err_on, ok_both}
 use Rattle.cp_merged.proofs.explorer.one_layer.Goals as goal
 

@@ -1,8 +1,4 @@
-use Rattle.std.proofs.Common.{◌≡◌, ◌∙◌, ap, map, sym}
-use Rattle.indexmap.specs.IndexMap.{insert_entry}
-use Rattle.cp_walk.specs.Report.{same_outcome}
-use Rattle.cp_merged.specs.Code.{end_of}
-use Rattle.cp_merged.specs.declared.end_key.EndKey.{EndKey}
+use Rattle.cp_merged.proofs.Words.{◌≡◌, ◌∙◌, ap, map, sym, insert_entry, same_outcome, end_of, EndKey}
 use Rattle.cp_merged.specs.declared.prefixes.Prefixes as code
 use Rattle.cp_merged.proofs.Adding.{known_end, new_end}
 use Rattle.cp_merged.proofs.frontier.add_end.Goals as goal

@@ -1,7 +1,4 @@
-use Rattle.std.proofs.Common.{ap, ◌∙◌}
-use Rattle.cp_run.specs.Table.{table}
-use Rattle.cp_walk.specs.Report.{same_outcome}
-use Rattle.cp_merged.specs.Told.{told_text}
+use Rattle.cp_merged.proofs.Words.{ap, ◌∙◌, table, same_outcome, told_text}
 use Rattle.cp_merged.proofs.Exact.{exact_outcomes}
 use Rattle.cp_merged.proofs.Sorted.{layers_tally}
 use Rattle.cp_merged.proofs.Telling.{told_report}

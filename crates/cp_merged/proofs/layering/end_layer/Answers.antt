@@ -1,12 +1,6 @@
-use Rattle.std.proofs.Common.{rules, ◌≡◌, ◌∙◌, ◌∷◌, refl, sym, subst, arith}
-use Rattle.cp_machine.specs.System.{machine_of, output_of}
-use Rattle.cp_run.specs.Slots.{slots}
-use Rattle.cp_walk.specs.Report.{same_outcome}
-use Rattle.cp_merged.specs.Layers.{front_at}
-use Rattle.cp_merged.specs.Holds.{same_key, AreLeads}
+use Rattle.cp_merged.proofs.Words.{rules, ◌≡◌, ◌∙◌, ◌∷◌, refl, sym, subst, arith, machine_of, output_of, slots, same_outcome, front_at, same_key, AreLeads, StateRow}
 use Rattle.cp_merged.proofs.Making.{Ending, ending_start, ending_next, ending_more, ending_done, ending_small}
 use Rattle.cp_merged.specs.declared.prefixes.Prefixes as code
-use Rattle.cp_states.specs.declared.row.StateRow.{StateRow}
 use Rattle.cp_merged.proofs.layering.end_layer.Goals as goal
 
 pub loop-key-init : goal.loop-key-init

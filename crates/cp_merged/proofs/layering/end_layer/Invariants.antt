@@ -1,6 +1,5 @@
-use Rattle.std.proofs.Common.{◌≤◌}
+use Rattle.cp_merged.proofs.Words.{◌≤◌, MOST_SHOWN}
 use Rattle.std.specs.Prelude.{vec_capacity}
-use Rattle.cp_machine.specs.declared.state.TheConstants.{MOST_SHOWN}
 use Rattle.cp_merged.proofs.Making.{Ending}
 use Rattle.cp_merged.proofs.layering.end_layer.Given as goal
 

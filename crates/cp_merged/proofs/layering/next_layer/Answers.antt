@@ -1,14 +1,7 @@
 use Rattle.std.proofs.Common.{rules, ◌≡◌, ◌∙◌, ◌<◌, [], ◌∷◌, length, sym, subst, arith}
-use Rattle.cp_machine.specs.System.{machine_of}
-use Rattle.cp_run.specs.Slots.{slots}
-use Rattle.cp_states.specs.Rows.{IsRowOf}
-use Rattle.cp_states.proofs.Following.{row_on}
-use Rattle.cp_walk.specs.Report.{same_outcome}
-use Rattle.cp_merged.specs.Layers.{front_at}
-use Rattle.cp_merged.specs.Holds.{same_key, AreLeads}
+use Rattle.cp_merged.proofs.Words.{machine_of, slots, IsRowOf, row_on, same_outcome, front_at, same_key, AreLeads, StateRow}
 use Rattle.cp_merged.proofs.Making.{Making, leads_length, making_start, making_next, making_more, making_done, making_many, making_room, making_small}
 use Rattle.cp_merged.specs.declared.prefixes.Prefixes as code
-use Rattle.cp_states.specs.declared.row.StateRow.{StateRow}
 use Rattle.cp_merged.proofs.layering.next_layer.Goals as goal
 
 pub loop-key-init : goal.loop-key-init

@@ -1,6 +1,4 @@
-use Rattle.std.proofs.Common.{◌≤◌, length}
-use Rattle.cp_machine.specs.System.{machine_of, IsStateOf}
-use Rattle.cp_states.specs.Rows.{IsRowOf}
+use Rattle.cp_merged.proofs.Words.{◌≤◌, length, machine_of, IsStateOf, IsRowOf}
 use Rattle.cp_merged.proofs.Making.{Making}
 use Rattle.cp_merged.proofs.layering.next_layer.Given as goal
 

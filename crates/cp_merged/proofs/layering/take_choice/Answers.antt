@@ -1,17 +1,9 @@
 use Rattle.std.proofs.Common.{◌≡◌, ◌++◌, ◌∷◌, [], ◌∙◌, ◌-◌, ℕ, List, length, take, sym, ap, subst, arith}
 use Rattle.std.proofs.lemmas.List.{length-append, take_at}
 use Rattle.cp_machine.specs.Bodies.{has_moved, KeepBodies}
-use Rattle.cp_machine.specs.System.{Machine, machine_of}
-use Rattle.cp_machine.proofs.Unmoved.{keep_refl}
-use Rattle.cp_run.specs.Code.{node_of}
-use Rattle.cp_run.specs.Slots.{slots}
-use Rattle.cp_states.specs.Rows.{IsRowOf, KeepParts}
+use Rattle.cp_merged.proofs.Words.{Machine, machine_of, keep_refl, node_of, slots, IsRowOf, KeepParts, StateRow, row_on, same_outcome, same_key, Holds}
 use Rattle.cp_states.specs.Starts.{KeepBindings, NothingStarts}
-use Rattle.cp_states.specs.declared.row.StateRow.{StateRow}
-use Rattle.cp_states.proofs.Following.{row_on}
-use Rattle.cp_walk.specs.Report.{same_outcome}
 use Rattle.cp_merged.specs.Layers as layers
-use Rattle.cp_merged.specs.Holds.{same_key, Holds}
 use Rattle.cp_merged.specs.declared.prefixes.Prefixes as code
 use Rattle.cp_merged.proofs.Arriving.{choice_holds}
 use Rattle.cp_merged.proofs.Bounding.{choice_bounds}

@@ -1,13 +1,9 @@
 use Rattle.std.proofs.Common.{rules, ◌≡◌, ◌∙◌, ◌<◌, ◌+◌, ◌^◌, true, get_or, length, take, sym, ap, subst, arith}
 use Rattle.std.proofs.lemmas.List.{length-take-le, take_all, take_more}
 use Rattle.cp_key.proofs.Owned.{machine_own}
-use Rattle.cp_machine.specs.System.{Machine, machine_of}
-use Rattle.cp_run.specs.Run.{may, those_below}
-use Rattle.cp_run.specs.Slots.{slots}
+use Rattle.cp_merged.proofs.Words.{Machine, machine_of, may, those_below, slots, same_outcome, same_key, Holds, total}
 use Rattle.cp_states.proofs.Following.{parts_on, parts_same, row_on}
-use Rattle.cp_walk.specs.Report.{same_outcome}
 use Rattle.cp_merged.specs.Layers as layers
-use Rattle.cp_merged.specs.Holds.{same_key, Holds, total}
 use Rattle.cp_merged.specs.declared.prefixes.Prefixes as code
 use Rattle.cp_merged.proofs.Choosing.{after_list, length_those, list_more, list_those, may_those, room_for_one}
 use Rattle.cp_merged.proofs.layering.take_choices.Goals as goal

@@ -1,10 +1,5 @@
-use Rattle.std.proofs.Common.{◌≡◌, take}
-use Rattle.cp_machine.specs.System.{Machine, machine_of, IsStateOf}
-use Rattle.cp_run.specs.Slots.{slots}
-use Rattle.cp_states.specs.Rows.{IsRowOf, KeepParts}
-use Rattle.cp_walk.specs.Report.{same_outcome}
+use Rattle.cp_merged.proofs.Words.{◌≡◌, take, Machine, machine_of, IsStateOf, slots, IsRowOf, KeepParts, same_outcome, same_key, Holds}
 use Rattle.cp_merged.specs.Layers as layers
-use Rattle.cp_merged.specs.Holds.{same_key, Holds}
 use Rattle.cp_merged.proofs.Choosing.{after_list}
 use Rattle.cp_merged.proofs.layering.take_choices.Given as goal
 

@@ -1,8 +1,5 @@
-use Rattle.std.proofs.Common.{ap, map, sym, subst, arith}
-use Rattle.std.specs.List.Sorted.{IsPermutation}
+use Rattle.cp_merged.proofs.Words.{ap, map, sym, subst, arith, IsPermutation, tally_of, rows_in}
 use Rattle.std.proofs.lemmas.List.Sorted.{IsPermutation-map}
-use Rattle.cp_merged.specs.Code.{tally_of}
-use Rattle.cp_merged.specs.Told.{rows_in}
 use Rattle.cp_merged.proofs.Sorting.{rows_moved}
 use Rattle.cp_merged.proofs.ordered.sort_tallies.Goals as goal
 

@@ -1,5 +1,4 @@
-use Rattle.std.proofs.Common.{◌≡◌, ◌++◌, map}
-use Rattle.cp_merged.specs.Code.{end_of, tally_of}
+use Rattle.cp_merged.proofs.Words.{◌≡◌, ◌++◌, map, end_of, tally_of}
 use Rattle.cp_merged.proofs.ordered.tallies_of.Given as goal
 
 abbrev pub invariant-loop-key : goal.invariant-loop-key

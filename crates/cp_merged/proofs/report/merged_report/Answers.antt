@@ -1,5 +1,4 @@
-use Rattle.std.proofs.Common.{◌∙◌, ap}
-use Rattle.cp_merged.specs.Told.{told_text}
+use Rattle.cp_merged.proofs.Words.{◌∙◌, ap, told_text}
 use Rattle.cp_merged.proofs.Telling.{told_report}
 use Rattle.cp_merged.proofs.report.merged_report.Goals as goal
 

@@ -1,6 +1,4 @@
-use Rattle.std.proofs.Common.{string_bytes, arith}
-use Rattle.cp_walk.specs.Groups.{tally_text}
-use Rattle.cp_merged.specs.Code.{tally_of}
+use Rattle.cp_merged.proofs.Words.{string_bytes, arith, tally_text, tally_of}
 use Rattle.cp_walk.proofs.Joining.{each_whole}
 use Rattle.cp_merged.proofs.report.push_tallies.Goals as goal
 

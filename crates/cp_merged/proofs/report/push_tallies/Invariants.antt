@@ -1,7 +1,4 @@
-use Rattle.std.proofs.Common.{◌≡◌, ◌++◌, string_bytes, take}
-use Rattle.cp_run.specs.Table.{each}
-use Rattle.cp_walk.specs.Groups.{tally_text}
-use Rattle.cp_merged.specs.Code.{tally_of}
+use Rattle.cp_merged.proofs.Words.{◌≡◌, ◌++◌, string_bytes, take, each, tally_text, tally_of}
 use Rattle.cp_merged.proofs.report.push_tallies.Given as goal
 
 abbrev pub invariant-loop-tally : goal.invariant-loop-tally

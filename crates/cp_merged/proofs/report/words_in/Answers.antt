@@ -1,5 +1,4 @@
-use Rattle.std.proofs.Common.{◌∙◌, ◌<◌, length, ap, sym, arith}
-use Rattle.std.specs.Prelude.{sum_by}
+use Rattle.cp_merged.proofs.Words.{◌∙◌, ◌<◌, length, ap, sym, arith, sum_by}
 use Rattle.std.proofs.lemmas.List.Sums.{sum_by_more_le}
 use Rattle.cp_walk.proofs.Joining.{take_whole}
 use Rattle.cp_merged.specs.declared.tally.Tally.{Tally}

@@ -1,5 +1,4 @@
-use Rattle.std.proofs.Common.{◌≡◌, take}
-use Rattle.std.specs.Prelude.{sum_by}
+use Rattle.cp_merged.proofs.Words.{◌≡◌, take, sum_by}
 use Rattle.cp_merged.proofs.report.words_in.Given as goal
 
 abbrev pub invariant-loop-tally : goal.invariant-loop-tally

@@ -1,6 +1,5 @@
-use Rattle.std.proofs.Common.{◌∙◌, ap}
+use Rattle.cp_resolved.proofs.Words.{◌∙◌, ap, plain}
 use Rattle.cp_tree.specs.TreeView.{tree_view}
-use Rattle.cp_layout.specs.Laid.{plain}
 use Rattle.cp_slots.specs.Tables.{tables_of}
 use Rattle.cp_resolved.proofs.Resolving.{read_sound, read_program}
 use Rattle.cp_resolved.proofs.resolver.program_of.Goals as goal

@@ -1,9 +1,5 @@
-use Rattle.std.proofs.Common.{◌^◌, List}
-use Rattle.cp_slots.specs.Tables.{Tables}
-use Rattle.cp_machine.specs.System.{Machine, machine_of, IsStateOf}
-use Rattle.cp_states.specs.Rows.{IsRowOf, KeepParts}
+use Rattle.cp_merged.proofs.Words.{◌^◌, List, Tables, Machine, machine_of, IsStateOf, IsRowOf, KeepParts, same_key, AreLeads}
 use Rattle.cp_merged.specs.Layers as layers
-use Rattle.cp_merged.specs.Holds.{same_key, AreLeads}
 use Rattle.cp_merged.proofs.Arriving.{leads_more, room_for_state}
 use Rattle.cp_merged.proofs.Choosing.{ok_any, ok_to}
 use Rattle.cp_merged.proofs.frontier.Frontier.add_state.Goals as goal

@@ -1,5 +1,4 @@
-use Rattle.std.proofs.Common.{◌≡◌, ◌∙◌, not, ap}
-use Rattle.cp_merged.specs.Layers.{up_to}
+use Rattle.cp_merged.proofs.Words.{◌≡◌, ◌∙◌, not, ap, up_to}
 use Rattle.cp_merged.proofs.Adding.{lesser_after, lesser_up_to}
 use Rattle.cp_merged.proofs.prefixes.Prefixes.merge.Goals as goal
 
