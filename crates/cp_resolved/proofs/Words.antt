@@ -104,7 +104,8 @@ pub use Rattle.cp_slots.specs.declared.tables.Component.{Component}
 pub use Rattle.cp_slots.specs.declared.tables.ComponentKind.{ComponentKind}
 pub use Rattle.cp_slots.specs.declared.tables.ComponentParameter.{ComponentParameter}
 pub use Rattle.cp_slots.specs.declared.tables.Process.{Process}
-pub use Rattle.cp_layout.specs.Kinds.{Compounds, Fields, array, array_type, as_array, most, no_fields, plus, times}
+pub use Rattle.cp_symbols.specs.Kinds.{Compounds, array, most, plus, times}
+pub use Rattle.cp_layout.specs.Kinds.{Fields, array_type, as_array, no_fields}
 unfoldable pub use Rattle.cp_layout.specs.Kinds.{least}
 pub use Rattle.cp_layout.specs.Laid.{PlainTables, no_room, plain, room_for, system_type, system_types, types_of}
 unfoldable pub use Rattle.cp_layout.specs.Laid.{laid, room_from, tables_laid}
@@ -119,19 +120,20 @@ pub use Rattle.cp_layout.specs.LaidStatements.{assigned_as, initial_in, initial_
 unfoldable pub use Rattle.cp_layout.specs.LaidStatements.{assigned, statement, statements}
 pub use Rattle.cp_layout.specs.LaidTypes.{enumeration_base, named_type, type_meant, with_constant}
 unfoldable pub use Rattle.cp_layout.specs.LaidTypes.{enumerated, field_group, field_groups, fields_of_type, simple_type, written_type}
-pub use Rattle.cp_layout.specs.Layers.{Frame, Layer, Names, Noted, Owned, Pending, System, added, again, call_need, find_type, is_open, item_need, need_inside, need_of}
+pub use Rattle.cp_symbols.specs.Symbols.{Noted}
+pub use Rattle.cp_layout.specs.Layers.{Frame, Layer, Names, Owned, Pending, System, added, again, call_need, find_type, is_open, item_need, need_inside, need_of}
 pub use Rattle.cp_layout.specs.Layers.{no_frame, nothing_laid, outermost, own_result, pending_need, result_of, result_slot, routine_of, settled, settled_all, with_cell}
 pub use Rattle.cp_layout.specs.Layers.{with_item, with_room, without_pending}
 pub use Rattle.cp_layout.specs.Values.{Value, loaded, ordinal_of, ordinal_value, place_at, set_value}
-pub use Rattle.cp_layout.specs.declared.kinds.ArrayType.{ArrayType}
-pub use Rattle.cp_layout.specs.declared.kinds.CellBase.{CellBase}
-pub use Rattle.cp_layout.specs.declared.kinds.CellRange.{CellRange}
-pub use Rattle.cp_layout.specs.declared.kinds.CellType.{CellType}
+pub use Rattle.cp_symbols.specs.declared.kinds.ArrayType.{ArrayType}
+pub use Rattle.cp_symbols.specs.declared.kinds.CellBase.{CellBase}
+pub use Rattle.cp_symbols.specs.declared.kinds.CellRange.{CellRange}
+pub use Rattle.cp_symbols.specs.declared.kinds.CellType.{CellType}
 pub use Rattle.cp_layout.specs.declared.layer.Contained.{Contained}
 pub use Rattle.cp_layout.specs.declared.layer.Content.{Content}
-pub use Rattle.cp_layout.specs.declared.layer.FunctionResult.{FunctionResult}
-pub use Rattle.cp_layout.specs.declared.names.LayoutMeaning.{LayoutMeaning}
-pub use Rattle.cp_layout.specs.declared.names.PredeclaredRoutine.{PredeclaredRoutine}
+pub use Rattle.cp_symbols.specs.declared.symbols.FunctionResult.{FunctionResult}
+pub use Rattle.cp_symbols.specs.declared.names.LayoutMeaning.{LayoutMeaning}
+pub use Rattle.cp_symbols.specs.declared.names.PredeclaredRoutine.{PredeclaredRoutine}
 pub use Rattle.cp_resolved.specs.Begun.{all_begun, definition_begun, definitions_begun, initial_begun, parameters_of, part_begun, parts_begun, program_parts_begun}
 pub use Rattle.cp_resolved.specs.Begun.{routine_begun, routines_begun, system_begun}
 pub use Rattle.cp_resolved.specs.BodiesStand.{BodyFormed, CallsFormed, ground_of}

@@ -2,7 +2,7 @@
 use Rattle.cp_refine.proofs.Words.{◌≡◌, ℕ, ◌^◌, ◌<◌, true, List, arith, length, Tree, Tables, component_at, routine_at, Entry, Machine, Thread, thread_at, Ty, Layouts}
 use Rattle.cp_refine.proofs.Words.{SystemIs, is_free, ground_of, Prepared, RoutineFits, FrameFits, StackFits, ThreadFits, MachineFits, size_of}
 use Rattle.cp_slots.specs.Systems.{AreWords}
-use Rattle.cp_machine.proofs.Keeping.{frame_fits}
+use Rattle.cp_machine.proofs.rooms.Keeping.{frame_fits}
 use Rattle.cp_refine.proofs.assignments.Apart.{frame_apart, frames_apart, components_apart}
 use Rattle.cp_refine.proofs.assignments.BlockStores.{VariablesApart}
 use Rattle.cp_refine.proofs.expressions.DesignatedTypes.{NamesTyped}

@@ -11,8 +11,8 @@ use Rattle.cp_machine.proofs.rooms.KeepingAct.{step_fits}
 use Rattle.cp_machine.proofs.rooms.KernelFits.{admitted_fits}
 use Rattle.cp_machine.proofs.lines.KernelLines.{admitted_lines}
 use Rattle.cp_machine.proofs.LocalReady.{local_ready}
-use Rattle.cp_machine.proofs.ReachingKept.{step_reaches, admitted_reaches}
-use Rattle.cp_machine.proofs.StepLines.{step_lines}
+use Rattle.cp_machine.proofs.frames.ReachingKept.{step_reaches, admitted_reaches}
+use Rattle.cp_machine.proofs.lines.StepLines.{step_lines}
 use Rattle.cp_refine.specs.Named as own
 use Rattle.cp_refine.specs.Named.{gates_of, is_some, in_line_of}
 use Rattle.cp_refine.proofs.gates.Admitting.{admits}

@@ -5,7 +5,7 @@ use Rattle.cp_resolved.proofs.Words.{PlainTables, Listing, nothing_listed, conte
 use Rattle.cp_resolved.proofs.Words.{permanent_variable, Parameter, SystemMeaning, program_system, system_of, component_with, parameter_variables, first_component}
 use Rattle.cp_resolved.proofs.Words.{first_components, encode, CellsAre, PartsAre, BoundIs, look, is_parameter, Each, Ground, numbering_of, IsVisible, AreFew, StandsAt}
 use Rattle.cp_resolved.proofs.Words.{first_permanent, ContainedAt, slot_in, first_in, components_among, initial_or, parts_at, layouts_of, whole_laid}
-use Rattle.cp_layout.specs.declared.names.LayoutMeaning.TheVariants as meaning
+use Rattle.cp_symbols.specs.declared.names.LayoutMeaning.TheVariants as meaning
 use Rattle.cp_layout.specs.Layers as layers
 use Rattle.cp_slots.specs.Tables.{Tables, component_at, process_at, no_component, no_process}
 use Rattle.cp_meaning.specs.Values as values

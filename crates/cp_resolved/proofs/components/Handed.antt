@@ -5,7 +5,7 @@ use Rattle.cp_resolved.proofs.Words.{Fields, no_fields, named_type, with_constan
 use Rattle.cp_tree.specs.declared.declaration.SystemKind.TheVariants as system_kind
 use Rattle.cp_tree.specs.Syntax as syntax
 use Rattle.cp_tree.specs.Syntax.{ConstantDefinition, TypeDefinition, VariableGroup, Part, Group, ParameterGroup, RoutineKind, Simple, TypeTerm, FieldGroup, FieldGroups, Body, Routine, Definition, SystemDefinition, ProgramPart, Program}
-use Rattle.cp_layout.specs.declared.names.LayoutMeaning.TheVariants as meaning
+use Rattle.cp_symbols.specs.declared.names.LayoutMeaning.TheVariants as meaning
 use Rattle.cp_layout.specs.LaidComponents.{Listing, nothing_listed, contents_least, process_at, next_kind, component_with, with_component, program_listed}
 use Rattle.cp_layout.specs.LaidDeclarations.{Parameters, constant, constants, type_definition, type_definitions, components_of, variable_with, variable, variables_of, variable_group, variables, local, locals_of, local_group, local_variables, local_part, local_parts, constant_parameter, constant_parameters_of, constant_group, constant_groups, var_parameter, var_parameters_of, var_group, parameter_group, parameter_groups, heading, body, opened, with_heading, with_new_frame, heading_with, routine, routines, system, definition, system_definition, system_definitions, program_part, program_parts, program}
 use Rattle.cp_resolved.proofs.names.Entries.{still_there}

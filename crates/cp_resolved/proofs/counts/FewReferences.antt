@@ -8,7 +8,7 @@ use Rattle.cp_tree.specs.Syntax as syntax
 use Rattle.cp_tree.specs.Spelling.{put_optional, put_behind, put_all, put_parameters, put_names, put_identifier, put_constant_definition, put_variable_group, put_part, put_group, put_parameter_group, put_body, put_routine_kind, put_routine, put_system, put_definition, put_system_definition, put_program_part, spell}
 use Rattle.cp_tree.proofs.Grows.{grows_all, grows_optional, grows_type, grows_constant_definition, grows_variable_group, grows_part, grows_group, grows_parameters, grows_body, grows_routine, grows_definition, grows_program_part}
 use Rattle.cp_resolved.proofs.counts.Rooms.{Room}
-use Rattle.cp_layout.specs.declared.names.LayoutMeaning.TheVariants as meaning
+use Rattle.cp_symbols.specs.declared.names.LayoutMeaning.TheVariants as meaning
 use Rattle.cp_layout.specs.Layers.{Layer, Pending, frame_with, with_cell, with_room, settled_all, settled, without_pending, added, routine_of, nothing_laid}
 use Rattle.cp_layout.specs.LaidTypes.{with_constant, enumerated, simple_type, written_type, field_groups, field_group, named_type}
 use Rattle.cp_layout.specs.LaidDeclarations.{constant, constants, type_definition, type_definitions, variables, local, locals_of, local_variables, local_part, local_parts, Parameters, constant_parameter, constant_parameters_of, constant_groups, var_parameter, var_parameters_of, parameter_group, parameter_groups, body, heading, heading_with, with_heading, with_new_frame, opened, permanent_parts, routine, routines, initial_statement, system_groups, entered, system, definition, system_definition, system_definitions, program_part, program_parts, program}

@@ -3,8 +3,8 @@ use Rattle.std.proofs.Common.{◌≡◌, ◌+◌, ◌≤◌, ℕ, true, false, O
 use Rattle.cp_resolved.proofs.Words.{◌⊎◌, CellType, LayoutMeaning, place_at, Layer, Name, Ty, has_components, system_of, cells_of, Here, system_here, frame_here}
 use Rattle.cp_resolved.proofs.Words.{is_parameter, PlaceIs, DesignatedIs, Knows, begun_as, begun, component_found, component_of_array, element_selected, field_selected}
 use Rattle.cp_slots.specs.declared.place.PlaceOrigin.TheVariants as origin
-use Rattle.cp_layout.specs.declared.kinds.CellType.TheVariants as types
-use Rattle.cp_layout.specs.declared.names.LayoutMeaning.TheVariants as meaning
+use Rattle.cp_symbols.specs.declared.kinds.CellType.TheVariants as types
+use Rattle.cp_symbols.specs.declared.names.LayoutMeaning.TheVariants as meaning
 use Rattle.cp_layout.specs.Kinds as kinds
 use Rattle.cp_symbols.specs.Kinds.{most}
 use Rattle.cp_layout.specs.Kinds.{as_array, array_of}

@@ -2,8 +2,9 @@
 use Rattle.std.proofs.Common.{◌≡◌, ◌+◌, ◌*◌, ◌≤◌, ℕ, zero, suc, ℤ, pos, negsuc, Bool, true, false, if◌then◌else◌, List, ◌∷◌, Option, Some, None, refl, sym, ap, subst, ◌∙◌, arith}
 use Rattle.cp_resolved.proofs.Words.{min, ◌+ℤ◌, ◌-ℤ◌, bytes_eq, CellType, Ty, FieldTypes, length_of_range, natural_of, cells_of, cells_in, Chosen, field_chosen}
 use Rattle.cp_resolved.proofs.Words.{further_chosen, leb-zero, mul_comm}
-use Rattle.cp_layout.specs.Kinds as kinds
-use Rattle.cp_layout.specs.Kinds.{Compounds, Field, field_in, compound_cells, count_of, not_below_zero, most, times, plus}
+use Rattle.cp_symbols.specs.Kinds as kinds
+use Rattle.cp_symbols.specs.Kinds.{Compounds, Field, compound_cells, count_of, not_below_zero, most, times, plus}
+use Rattle.cp_layout.specs.Kinds.{field_in}
 use Rattle.cp_meaning.specs.Types as named
 use Rattle.cp_resolved.specs.InStep.{Numbering, range_on, TypeIs, FieldsAre}
 use Rattle.cp_resolved.proofs.names.Alike.{same_inside}

@@ -1,7 +1,7 @@
 -- The cells with which a variable begins are those of the least value of its type, and as many as are counted for it.
 use Rattle.std.proofs.Common.{◌≡◌, ℕ, zero, suc, ◌+◌, ◌*◌, ◌<◌, ◌==◌, ℤ, Bool, true, false, if◌then◌else◌, List, [], ◌∷◌, ◌++◌, length, Some, slice_get, refl, sym, ap, subst, ◌∙◌, arith, append_assoc, append-nil, length-append}
 use Rattle.cp_resolved.proofs.Words.{min, eqb-true, eqb-false, slice_get_within, CellType, Ty, FieldTypes, length_of_range, least_fields}
-use Rattle.cp_layout.specs.declared.kinds.CellType.TheVariants as types
+use Rattle.cp_symbols.specs.declared.kinds.CellType.TheVariants as types
 use Rattle.cp_layout.specs.Kinds as kinds
 use Rattle.cp_symbols.specs.Kinds.{Field, Compound, array, record_with, Compounds, compound_cells, count_of, most, plus, times}
 use Rattle.cp_layout.specs.Kinds.{array_type, least_by, fields_least, compound_least, compound_below}

@@ -1,7 +1,7 @@
 -- Constants and types leave the frame and the cells of the system type as they are.
 use Rattle.cp_resolved.proofs.Words.{◌≡◌, ◌+◌, ℕ, List, [], ◌∷◌, length, refl, ap, ◌∙◌, Identifier, CellBase, Layer, Frame, Owned, as_integer, Fields, no_fields}
 use Rattle.cp_tree.specs.Syntax as syntax
-use Rattle.cp_layout.specs.declared.names.LayoutMeaning.TheVariants as meaning
+use Rattle.cp_symbols.specs.declared.names.LayoutMeaning.TheVariants as meaning
 use Rattle.cp_layout.specs.LaidTypes.{with_constant, simple_type, enumerated, enumeration_base, written_type, field_groups, field_group}
 use Rattle.cp_layout.specs.LaidDeclarations.{constant, constants, type_definition, type_definitions}
 

@@ -1,7 +1,7 @@
 -- The seats of all routines, initial statements and system types of a tree.
 use Rattle.std.proofs.Common.{◌≡◌, ◌+◌, ◌-◌, ℕ, suc, false, List, [], ◌∷◌, ◌++◌, length, None, slice_get, slice_index_or, refl, sym, ap, subst, ◌∙◌, arith, append-nil}
 use Rattle.cp_tree.specs.Syntax as syntax
-use Rattle.cp_layout.specs.declared.names.LayoutMeaning.TheVariants as meaning
+use Rattle.cp_symbols.specs.declared.names.LayoutMeaning.TheVariants as meaning
 use Rattle.cp_resolved.proofs.Words.{system_type, types_of, system_types, Layer, System, nothing_laid, written_type, SystemView, no_system, permanent_variable}
 use Rattle.cp_resolved.proofs.Words.{predeclared, Variable, Parameter, parameter_variables, Enumerated, each_in, in_routine, in_program_part, enumerations_of, IsFitPart}
 use Rattle.cp_resolved.proofs.Words.{AreFitParts, nothing_declared, system_variables, Numbering, InStep, initial_meaning, Each, IsSmallProgramPart, IsSmallProgram}

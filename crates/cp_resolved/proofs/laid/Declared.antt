@@ -3,8 +3,8 @@ use Rattle.std.proofs.Common.{◌≡◌, ℕ, ◌+◌, ℤ, Bool, true, false, i
 use Rattle.cp_resolved.proofs.Words.{bytes_eq, Identifier, CellBase, CellType, LayoutMeaning, Contained, as_integer, CellRange}
 use Rattle.cp_tree.specs.Syntax as syntax
 use Rattle.cp_tree.specs.Syntax.{ConstantDefinition, TypeDefinition, VariableGroup, Part, Group, ParameterGroup, RoutineKind, Simple, TypeTerm, FieldGroup, FieldGroups}
-use Rattle.cp_layout.specs.declared.kinds.CellType.TheVariants as types
-use Rattle.cp_layout.specs.declared.names.LayoutMeaning.TheVariants as meaning
+use Rattle.cp_symbols.specs.declared.kinds.CellType.TheVariants as types
+use Rattle.cp_symbols.specs.declared.names.LayoutMeaning.TheVariants as meaning
 use Rattle.cp_layout.specs.declared.layer.Content.TheVariants as content
 use Rattle.cp_symbols.specs.Kinds.{Compound, array, record_with, cells_of}
 use Rattle.cp_layout.specs.Kinds.{Fields, no_fields, array_type}

@@ -4,8 +4,8 @@ use Rattle.std.proofs.Common.{◌≡◌, ℕ, ◌+◌, Bool, true, false, if◌t
 use Rattle.std.proofs.lemmas.List.{append-nil}
 use Rattle.cp_resolved.proofs.Words.{Identifier, CellBase, CellType, Contained, as_integer, Compounds, Fields, no_fields, Names, Layer, Owned, Frame, Noted}
 use Rattle.cp_tree.specs.Syntax as syntax
-use Rattle.cp_layout.specs.declared.kinds.CellType.TheVariants as types
-use Rattle.cp_layout.specs.declared.names.LayoutMeaning.TheVariants as meaning
+use Rattle.cp_symbols.specs.declared.kinds.CellType.TheVariants as types
+use Rattle.cp_symbols.specs.declared.names.LayoutMeaning.TheVariants as meaning
 use Rattle.cp_layout.specs.LaidTypes.{named_type, simple_type, enumerated, enumeration_base, with_constant, written_type, field_groups, field_group}
 use Rattle.cp_layout.specs.LaidDeclarations.{constant, constants, type_definition, type_definitions, components_of, variable, variable_with, variables_of, variable_group, variables, local, locals_of, local_group, local_variables, permanent_part, permanent_parts, local_part, local_parts, Parameters, constant_parameter, constant_parameters_of, constant_group, constant_groups, var_parameter, var_parameters_of, var_group, parameter_group, parameter_groups, heading, system_parameter, system_parameters_of, system_group, system_groups}
 

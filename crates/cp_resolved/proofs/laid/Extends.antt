@@ -3,8 +3,9 @@ use Rattle.std.proofs.Common.{◌≡◌, ℕ, ◌-◌, List, [], ◌∷◌, ◌+
 use Rattle.std.proofs.lemmas.List.{append-nil}
 use Rattle.std.proofs.Math.Seq.{drop-append_seam}
 use Rattle.cp_tree.specs.Syntax as syntax
-use Rattle.cp_layout.specs.declared.names.LayoutMeaning.TheVariants as meaning
-use Rattle.cp_layout.specs.Layers.{Names, Layer, Heading, Owned, Frame, Noted, no_frame, with_routine}
+use Rattle.cp_symbols.specs.declared.names.LayoutMeaning.TheVariants as meaning
+use Rattle.cp_symbols.specs.Symbols.{Noted}
+use Rattle.cp_layout.specs.Layers.{Names, Layer, Heading, Owned, Frame, no_frame, with_routine}
 use Rattle.cp_resolved.proofs.Words.{statements, routine_begun, system_begun}
 use Rattle.cp_layout.specs.LaidDeclarations.{Parameters, heading, heading_with, body, with_new_frame, with_heading, opened, closed, routine, routines, initial_statement, entered, system_groups, permanent_parts, system, definition, system_definition, system_definitions, program_part, program_parts, constants, variables}
 use Rattle.cp_resolved.proofs.laid.Grown.{Grew, statements_grew}

@@ -1,8 +1,8 @@
 -- What names, types and system types lead to is there: the numbers of system types and routines are below how many there are.
 use Rattle.std.proofs.Common.{◌≡◌, ℕ, suc, ◌+◌, ◌<◌, ◌≤◌, Bool, true, false, if◌then◌else◌, ◌&&◌, nat_le, nat_lt, List, [], ◌∷◌, drop, length, Option, Some, None, slice_get, refl, sym, subst, arith, rules}
 use Rattle.cp_resolved.proofs.Words.{bytes_eq, CellType, ArrayType, LayoutMeaning, initial_in, initial_of}
-use Rattle.cp_layout.specs.declared.kinds.CellType.TheVariants as types
-use Rattle.cp_layout.specs.declared.names.LayoutMeaning.TheVariants as meaning
+use Rattle.cp_symbols.specs.declared.kinds.CellType.TheVariants as types
+use Rattle.cp_symbols.specs.declared.names.LayoutMeaning.TheVariants as meaning
 use Rattle.cp_slots.specs.Code.{ComponentPlace, OrdinalExpression, Place}
 use Rattle.cp_symbols.specs.Kinds.{Compound, array, record_with, Compounds, Field}
 use Rattle.cp_layout.specs.Kinds.{array_of, as_array, field_of}

@@ -3,7 +3,7 @@ use Rattle.std.proofs.Common.{◌+◌, ℕ, ℤ, Bool, true, false, if◌then◌
 use Rattle.cp_resolved.proofs.Words.{Identifier, PlaceOrigin, CellBase, CellType, Contained, LayoutMeaning, Names, Layer, as_integer, IsInFrame, Fields, no_fields}
 use Rattle.cp_tree.specs.Syntax as syntax
 use Rattle.cp_slots.specs.declared.place.PlaceOrigin.TheVariants as origin
-use Rattle.cp_layout.specs.declared.names.LayoutMeaning.TheVariants as meaning
+use Rattle.cp_symbols.specs.declared.names.LayoutMeaning.TheVariants as meaning
 use Rattle.cp_layout.specs.LaidTypes.{constant_of, named_type, with_constant, simple_type, enumerated, enumeration_base, written_type, field_groups, field_group}
 use Rattle.cp_layout.specs.LaidDeclarations.{constant, constants, type_definition, type_definitions, components_of, variable, variable_with, variables_of, variable_group, variables, local, locals_of, local_group, local_variables, permanent_part, permanent_parts, local_part, local_parts, Parameters, constant_parameter, constant_parameters_of, constant_group, constant_groups, var_parameter, var_parameters_of, var_group, parameter_group, parameter_groups, heading, system, definition, system_definition, system_definitions, program_part, program_parts}
 use Rattle.cp_resolved.proofs.laid.Extends.{system_names}

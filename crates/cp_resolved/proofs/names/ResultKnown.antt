@@ -5,7 +5,7 @@ use Rattle.cp_slots.specs.declared.place.PlaceOrigin.TheVariants as origin
 use Rattle.cp_resolved.proofs.Words.{FunctionResult, LayoutMeaning, Compounds, Name, result_name, Ty, Scope, RoutineMeaning, result_type, all_begun, all_calls_laid, Here}
 use Rattle.cp_resolved.proofs.Words.{frame_here, is_named, is_own, IsPlaced, place_of, KnowsAt, Opening, meaning_at, numbering_of, HasResult, ResultsAre, Layer}
 use Rattle.cp_resolved.proofs.Words.{result_of, result_slot, own_result, begun_at, layer_or, name_with, name_in, origin_in, hidden_origin}
-use Rattle.cp_layout.specs.declared.names.LayoutMeaning.TheVariants as meaning
+use Rattle.cp_symbols.specs.declared.names.LayoutMeaning.TheVariants as meaning
 use Rattle.cp_layout.specs.Layers as layers
 use Rattle.cp_meaning.specs.Scopes as scopes
 use Rattle.cp_resolved.specs.FormedStatements.{OwnResult, KnowsResult}

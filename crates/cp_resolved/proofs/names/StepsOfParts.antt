@@ -5,7 +5,7 @@ use Rattle.cp_resolved.proofs.Words.{Enumerated, in_type, each_in, in_part, name
 use Rattle.std.proofs.lemmas.List.{append-nil}
 use Rattle.cp_tree.specs.Syntax as syntax
 use Rattle.cp_slots.specs.declared.place.PlaceOrigin.TheVariants as origin
-use Rattle.cp_layout.specs.declared.kinds.CellType.TheVariants as types
+use Rattle.cp_symbols.specs.declared.kinds.CellType.TheVariants as types
 use Rattle.cp_layout.specs.LaidTypes as laid
 use Rattle.cp_layout.specs.LaidDeclarations as laid_parts
 use Rattle.cp_layout.specs.LaidDeclarations.{constant, constants, constant_meaning, type_definition, type_definitions, array_components, components_in, components_of, variable, variable_with, variables_of, variable_group, variables, local, locals_of, local_group, local_variables, permanent_part, permanent_parts, local_part, local_parts, Parameters, constant_parameter, constant_parameters_of, constant_group, constant_groups, var_parameter, var_parameters_of, var_group, parameter_group, parameter_groups, heading, system_parameter, system_parameters_of, system_group, system_groups}

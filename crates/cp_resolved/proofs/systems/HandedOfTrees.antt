@@ -3,7 +3,7 @@ use Rattle.std.proofs.Common.{◌≡◌, ◌+◌, ◌<◌, ◌≤◌, ℕ, true,
 use Rattle.cp_resolved.proofs.Words.{slice_get_within, Program, Tree, ComponentParameter, plain, laid, system_type, system_types, component_cell, Layer, Names, System}
 use Rattle.cp_resolved.proofs.Words.{nothing_laid, parameter_count, Name, permanent_variable, Variable, Parameter, parameter_variables, SystemMeaning, program_system}
 use Rattle.cp_resolved.proofs.Words.{system_of, AreDifferent, AreDeclared, system_variables, IsFramed, CellsAre, PartsAre, BoundIs, is_parameter, IsPlain, numbering_of}
-use Rattle.cp_layout.specs.declared.names.LayoutMeaning.TheVariants as meaning
+use Rattle.cp_symbols.specs.declared.names.LayoutMeaning.TheVariants as meaning
 use Rattle.cp_layout.specs.Layers as layers
 use Rattle.cp_slots.specs.Tables.{Tables, SystemView, system_at, no_system, parameter_at, no_parameter}
 use Rattle.cp_meaning.specs.Types.{Ty, ordinal, queue_type, set_over, array_over, record_with, component_of}

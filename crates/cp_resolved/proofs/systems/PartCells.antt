@@ -4,7 +4,7 @@ use Rattle.cp_resolved.proofs.Words.{min, none-some, slice_get_within, Tree, Lay
 use Rattle.cp_resolved.proofs.Words.{Name, same_name, permanent_variable, find, since, parameter_variables, Ty, array_over, component_of, has_components, AreDeclared}
 use Rattle.cp_resolved.proofs.Words.{system_variables, FoundIs, is_parameter, look, numbering_of, IsRead, Each, IsParameter, components_among, slot_in, parts_at}
 use Rattle.cp_resolved.proofs.Words.{layouts_of, SystemMeaning, declared, program_system, own_meaning, or_own, system_of}
-use Rattle.cp_layout.specs.declared.names.LayoutMeaning.TheVariants as meaning
+use Rattle.cp_symbols.specs.declared.names.LayoutMeaning.TheVariants as meaning
 use Rattle.cp_layout.specs.Layers as layers
 use Rattle.cp_resolved.proofs.counts.FewCellsOfTables.{few_cells_law}
 use Rattle.cp_resolved.proofs.frames.FrameCells.{itself, look_left, look_each}

@@ -4,8 +4,8 @@ use Rattle.cp_resolved.proofs.Words.{none-some, same_Some, Identifier, Permanent
 use Rattle.cp_resolved.proofs.Words.{Block, Heading, names_of, named_variables, parts_begun, in_type, each_in, in_part, Each, IsSmallType, IsSmallPart, AreNumbered}
 use Rattle.cp_resolved.proofs.Words.{AreParameters, Compounds, array, array_type, as_array}
 use Rattle.cp_tree.specs.Syntax as syntax
-use Rattle.cp_layout.specs.declared.kinds.CellType.TheVariants as types
-use Rattle.cp_layout.specs.declared.names.LayoutMeaning.TheVariants as meaning
+use Rattle.cp_symbols.specs.declared.kinds.CellType.TheVariants as types
+use Rattle.cp_symbols.specs.declared.names.LayoutMeaning.TheVariants as meaning
 use Rattle.cp_layout.specs.Layers.{Names, Layer, find, seen_inside, is_open, outermost, nothing_laid}
 use Rattle.cp_layout.specs.LaidDeclarations.{array_components, components_in, components_of, constants, type_definitions, variable, variable_with, variables_of, variable_group, variables, permanent_part, permanent_parts, Parameters, entered, system_parameter, system_parameters_of, system_group, system_groups}
 use Rattle.cp_meaning.specs.Types as named
