@@ -13,7 +13,8 @@ fn is_open(meaning: LayoutMeaning) -> bool
     ensures { result ≡ spec.is_open meaning }
 {
     match meaning {
-        LayoutMeaning::Constant(..) | LayoutMeaning::Kind(_) | LayoutMeaning::Predeclared(_) => true,
+        LayoutMeaning::Constant(..) | LayoutMeaning::Kind(_) | LayoutMeaning::Predeclared(_) =>
+            true,
         _ => false,
     }
 }

@@ -7,8 +7,8 @@ ghost use Rattle.cp_legend.specs.Names.{component_seen, part_seen, parts_seen, s
 
 use crate::legend::LegendComponent;
 use crate::parts::{ComponentPart, all_parts};
-use cp_symbols::Symbols;
 use cp_slots::{Component, ComponentKind, Resolved};
+use cp_symbols::Symbols;
 use std::alloc::{AllocError, Global};
 
 /// The components, by their numbers: the program, and each followed by those that it contains.

@@ -7,8 +7,8 @@ ghost use Rattle.cp_legend.specs.Names.{IsLegendOf, component_seen, routine_name
 use crate::components::components_of;
 use crate::sorting::{all_permanents, all_routines, all_systems};
 use crate::types::LegendTypes;
-use cp_symbols::{CellType, Symbols};
 use cp_slots::{ComponentKind, Resolved};
+use cp_symbols::{CellType, Symbols};
 use cp_tree::SystemKind;
 use std::alloc::{AllocError, Global};
 

@@ -8,8 +8,8 @@ ghost use Rattle.cp_legend.specs.Names.{routine_names_seen, source_seen, system_
 
 use crate::legend::{LegendParameter, LegendPassing, LegendRoutine, LegendSystem, Variable};
 use crate::parts::home_of;
-use cp_symbols::{CellType, FunctionResult, LayoutMeaning, RoutineSymbol, Symbol, Symbols};
 use cp_slots::PlaceOrigin;
+use cp_symbols::{CellType, FunctionResult, LayoutMeaning, RoutineSymbol, Symbol, Symbols};
 use cp_tree::SystemKind;
 use std::alloc::{AllocError, Global};
 

@@ -2,9 +2,9 @@
 
 use crate::json::Json;
 use crate::register::Register;
-use cp_symbols::CellType;
 use cp_legend::{Legend, LegendComponent};
 use cp_slots::ComponentKind;
+use cp_symbols::CellType;
 use std::alloc::{AllocError, Global};
 
 /// Whose a variable is. That of a class belongs to what contains the class.

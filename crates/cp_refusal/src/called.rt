@@ -1,7 +1,7 @@
 //! What is called or used by a name, alone or as a routine of a component.
 
 use crate::components::{component_type, system_named, type_in_program};
-use crate::declared::{Declared, Looked, kind_declared, find_meaning, enclosing};
+use crate::declared::{Declared, Looked, enclosing, find_meaning, kind_declared};
 use crate::extent::Extent;
 use crate::rules::{mark_at, name_at};
 use crate::waits::after_index;

@@ -9,8 +9,8 @@ ghost use Rattle.cp_resolved.specs.Resolving.{IsProgramOf};
 
 use cp_check::Checked;
 use cp_layout::{lay_out, lay_out_with_symbols};
-use cp_symbols::Symbols;
 use cp_slots::{Layout, Resolved};
+use cp_symbols::Symbols;
 use std::alloc::{AllocError, Global};
 
 /// The resolved program of a checked tree: its tables stand for the tree.

@@ -1,7 +1,7 @@
 //! What is said of expectations, in words.
 
 use crate::examinee::Examinee;
-use crate::mark_objects::{misread_json, marks_as_json};
+use crate::mark_objects::{marks_as_json, misread_json};
 use crate::mark_texts::{
     doubt_text, doubtful, expectation_text, push_schedule, stops_text, verdict_words,
 };

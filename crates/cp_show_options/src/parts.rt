@@ -149,7 +149,11 @@ fn mark_part(alloc: Global, matches: &ArgMatches<'_>) -> Result<ShowPart, Option
 }
 
 // What words expect, if they stand alone and can be read.
-fn expectations_by(alloc: Global, words: &str, is_alone: bool) -> Result<Option<Reading>, AllocError> {
+fn expectations_by(
+    alloc: Global,
+    words: &str,
+    is_alone: bool,
+) -> Result<Option<Reading>, AllocError> {
     if !is_alone {
         return Ok(None);
     }

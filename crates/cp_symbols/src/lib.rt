@@ -7,4 +7,6 @@ mod symbols;
 
 pub use kinds::{ArrayType, CellBase, CellRange, CellType, values_of};
 pub use names::{LayoutMeaning, PredeclaredRoutine};
-pub use symbols::{FieldSymbol, FunctionResult, RoutineSymbol, Symbol, Symbols, SystemSymbol, TypeSymbol};
+pub use symbols::{
+    FieldSymbol, FunctionResult, RoutineSymbol, Symbol, Symbols, SystemSymbol, TypeSymbol,
+};

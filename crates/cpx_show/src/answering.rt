@@ -19,12 +19,12 @@ use cp_front::{
     Loaded, MOST_BYTES, ReadFault, Refusal, Sink, Source, StreamFault, drop_loaded, drop_refusal,
     load_with_symbols, read_source, refusal_line, write_text,
 };
-use cp_symbols::Symbols;
 use cp_legend::{Legend, legend_of};
 use cp_progress::ObserveProgress;
 use cp_progress_line::ObserveWork;
 use cp_show_mark::{Examinee, ShowAnswer, ShowVerdict, mark_answer, mark_of};
 use cp_show_options::{Asked, ShowPart};
+use cp_symbols::Symbols;
 use std::alloc::{AllocError, Global};
 
 /// Reads a source, shows what is asked for, and answers the exit code: 0 reported, 1 source refused, 2 no expectation or one

@@ -2,6 +2,7 @@
 use Rattle.std.proofs.Common.{◌≡◌, ◌+◌, ◌*◌, ◌≤◌, ℕ, zero, suc, Bool, true, false, if◌then◌else◌, List, Option, Some, None, refl, sym, ap, subst, ◌∙◌, arith}
 use Rattle.cp_resolved.proofs.Words.{bytes_eq, PlaceOrigin, CellType, Ty, FieldTypes, length_of_range, cells_of, cells_in, Chosen, field_chosen, further_chosen, loaded}
 use Rattle.cp_symbols.specs.declared.kinds.CellType.TheVariants as types
+use Rattle.cp_symbols.specs.Kinds as symbol_kinds
 use Rattle.cp_layout.specs.Kinds as kinds
 use Rattle.cp_symbols.specs.Kinds.{Compounds, most, plus}
 use Rattle.cp_layout.specs.Kinds.{as_field, field_of, as_array, array_of}

@@ -2,6 +2,7 @@
 use Rattle.std.proofs.Common.{◌≡◌, ℕ, zero, suc, ◌+◌, ◌*◌, ◌<◌, ◌==◌, ℤ, Bool, true, false, if◌then◌else◌, List, [], ◌∷◌, ◌++◌, length, Some, slice_get, refl, sym, ap, subst, ◌∙◌, arith, append_assoc, append-nil, length-append}
 use Rattle.cp_resolved.proofs.Words.{min, eqb-true, eqb-false, slice_get_within, CellType, Ty, FieldTypes, length_of_range, least_fields}
 use Rattle.cp_symbols.specs.declared.kinds.CellType.TheVariants as types
+use Rattle.cp_symbols.specs.Kinds as symbol_kinds
 use Rattle.cp_layout.specs.Kinds as kinds
 use Rattle.cp_symbols.specs.Kinds.{Field, Compound, array, record_with, Compounds, compound_cells, count_of, most, plus, times}
 use Rattle.cp_layout.specs.Kinds.{array_type, least_by, fields_least, compound_least, compound_below}

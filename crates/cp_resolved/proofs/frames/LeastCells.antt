@@ -3,6 +3,7 @@ use Rattle.std.proofs.Common.{◌≡◌, ◌+◌, ◌-◌, ◌*◌, ◌<◌, ◌
 use Rattle.cp_resolved.proofs.Words.{min, int_le, int_lt, slice_get_within, CellType, range_of_base, cells_of, cells_in, IsFull, AreFull, mul_comm}
 use Rattle.std.proofs.Math.Dec.{T, eqb_refl, leb-zero}
 use Rattle.cp_symbols.specs.declared.kinds.CellType.TheVariants as types
+use Rattle.cp_symbols.specs.Kinds as symbol_kinds
 use Rattle.cp_layout.specs.Kinds as kinds
 use Rattle.cp_symbols.specs.Kinds.{array, record_with, Compounds, Field, compound_cells, count_of, most, times}
 use Rattle.cp_layout.specs.Kinds.{array_type, fields_least, compound_least, compound_below, least_below}

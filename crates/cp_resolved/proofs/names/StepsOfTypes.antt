@@ -11,6 +11,7 @@ use Rattle.cp_slots.specs.declared.place.PlaceOrigin.TheVariants as origin
 use Rattle.cp_symbols.specs.declared.kinds.CellBase.TheVariants as base
 use Rattle.cp_symbols.specs.declared.kinds.CellType.TheVariants as types
 use Rattle.cp_symbols.specs.declared.names.LayoutMeaning.TheVariants as meaning
+use Rattle.cp_symbols.specs.Kinds as symbol_kinds
 use Rattle.cp_layout.specs.Kinds as kinds
 use Rattle.cp_symbols.specs.Kinds.{Compounds, Compound, Field, array, record_with, cells_of, plus, times, count_of}
 use Rattle.cp_layout.specs.Kinds.{Fields, array_type}
