@@ -1,10 +1,10 @@
 -- The paths in the legend of a tree are those of the language.
-use Rattle.std.proofs.Common.{◌≡◌, ℕ, ◌<◌, ◌≤◌, Bool, true, false, if◌then◌else◌, List, [], ◌∷◌, ◌++◌, length, Option, Some, None, ◌==◌, refl, sym, ap, subst, ◌∙◌, arith}
+use Rattle.std.proofs.Common.{◌≡◌, ℕ, ◌<◌, ◌≤◌, Bool, true, false, if◌then◌else◌, List, [], ◌∷◌, ◌++◌, length, map, Option, Some, None, ◌==◌, refl, sym, ap, subst, ◌∙◌, arith}
 use Rattle.std.proofs.lemmas.Bool.{eqb-false, eqb-true}
 use Rattle.cp_tree.specs.Syntax.{Program, Tree}
 use Rattle.cp_symbols.specs.declared.symbols.Symbols as code_symbols
 use Rattle.cp_layout.specs.Layers.{Layer}
-use Rattle.cp_layout.specs.Laid.{laid, whole, tables_laid}
+use Rattle.cp_layout.specs.Laid.{PlainTables, laid, whole, tables_laid}
 use Rattle.cp_layout.specs.Symbols.{AreSymbolsOf}
 use Rattle.cp_meaning.specs.Declarations.{Variable}
 use Rattle.cp_meaning.specs.Systems.{declared, program_system, system_of}
@@ -23,9 +23,10 @@ use Rattle.cp_resolved.proofs.components.ComponentsOfTree.{count_same, low}
 use Rattle.cp_resolved.proofs.declarations.EnumerationsRead.{read_few}
 use Rattle.cp_resolved.proofs.declarations.Plain.{plain_law}
 use Rattle.cp_resolved.proofs.declarations.SystemVariables.{accepted_own}
-use Rattle.cp_legend.specs.Names.{Source, source_seen, parts_of}
+use Rattle.cp_legend.specs.Names.{Source, component_seen, components_of, source_seen, parts_of}
 use Rattle.cp_legend_laws.specs.Paths.{variable_type, type_in_system}
-use Rattle.cp_legend_laws.specs.Statements.{PathsAre, PathsLaw}
+use Rattle.cp_legend_laws.specs.Called.{called_in_legend, tabled}
+use Rattle.cp_legend_laws.specs.Statements.{LegendLaw, PathsAre, PathsLaw}
 use Rattle.cp_legend_laws.proofs.KnownConstants.{KnownVariables, enumerations_known, variables_are_known}
 use Rattle.cp_legend_laws.proofs.LinedUp.{count, below, same_types, lined_up}
 use Rattle.cp_legend_laws.proofs.NamedParts.{among, Match}
@@ -114,3 +115,12 @@ module _ (t : Tree) (y : code_symbols.Symbols) (is : AreSymbolsOf y (whole t)) (
 
 pub paths_law : PathsLaw
 paths_law t y read accepted is = paths_are t y is (plain_law t read accepted) (accepted_own t read accepted) (read_few t.program read)
+
+pub legend_law : LegendLaw
+legend_law t y r l read accepted is tables named =
+    let all : r.components ≡ (laid t).components = ap (λ (q : PlainTables). q.components) tables in
+    let here : map component_seen l.components.items ≡ components_of (source_seen y) (laid t).components = named.components ∙ ap (components_of (source_seen y)) all in
+    record {
+      tables = ap (map tabled) here ∙ (lined_up t y is).tables ∙ sym all;
+      paths = ap (map called_in_legend) here ∙ (paths_law t y read accepted is).paths;
+    }

@@ -27,6 +27,7 @@ abbrev pub element_text : Ty → Option ℕ → List ℕ
 element_text (array_over r t) (Some n) = index_text r n
 element_text t o = []
 
+-- of another name some type that has no components
 abbrev pub variable_type : Option Meaning → Ty
 variable_type (Some (permanent_variable t)) = t
 variable_type o = queue_type

@@ -2,12 +2,14 @@
 use Rattle.std.specs.Prelude.{◌≡◌, map}
 use Rattle.cp_tree.specs.Read.{IsRead}
 use Rattle.cp_tree.specs.Syntax.{Tree}
-use Rattle.cp_symbols.specs.declared.symbols.Symbols as code_symbols
-use Rattle.cp_layout.specs.Laid.{laid, whole}
+use Rattle.cp_layout.specs.declared.symbols.Symbols as code_symbols
+use Rattle.cp_slots.specs.Tables.{Tables}
+use Rattle.cp_layout.specs.Laid.{plain, laid, whole}
 use Rattle.cp_layout.specs.Symbols.{AreSymbolsOf}
 use Rattle.cp_meaning.specs.Components as language
 use Rattle.cp_lawful.specs.Accepted.{IsAccepted}
-use Rattle.cp_legend.specs.Names.{components_of, source_seen}
+use Rattle.cp_legend.specs.declared.legend.Legend as code_legend
+use Rattle.cp_legend.specs.Names.{IsLegendOf, component_seen, components_of, source_seen}
 use Rattle.cp_legend_laws.specs.Called.{all_called, called_in_legend, tabled}
 use Rattle.cp_legend_laws.specs.Paths.{called_in_language}
 
@@ -27,3 +29,12 @@ pub record PathsAre (t : Tree) (s : code_symbols.Symbols) : Type 0 where
 -- of each tree that was read and breaks no rule
 abbrev pub PathsLaw : Type 0
 PathsLaw = (t : Tree) (s : code_symbols.Symbols) → IsRead t.program → IsAccepted t → AreSymbolsOf s (whole t) → PathsAre t s
+
+-- So these are the components of a legend that stands beside tables: each is the one of the tables at its number, and has the name that the language gives it.
+pub record ComponentsAreNamed (t : Tree) (r : Tables) (l : code_legend.Legend) : Type 0 where
+  pub tables : map tabled (map component_seen l.components.items) ≡ r.components
+  pub paths : map called_in_legend (map component_seen l.components.items) ≡ map (called_in_language t.program) (language.components_of t.program)
+
+-- of each legend of the tables and symbols of a tree that was read and breaks no rule
+abbrev pub LegendLaw : Type 0
+LegendLaw = (t : Tree) (s : code_symbols.Symbols) (r : Tables) (l : code_legend.Legend) → IsRead t.program → IsAccepted t → AreSymbolsOf s (whole t) → plain r ≡ laid t → IsLegendOf l (source_seen s) r.components → ComponentsAreNamed t r l

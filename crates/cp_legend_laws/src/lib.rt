@@ -3,4 +3,4 @@
 
 pub mod laws;
 
-pub use laws::{law_components, law_paths};
+pub use laws::{law_components, law_legend, law_paths};
