@@ -2,7 +2,7 @@
 use Rattle.std.specs.Prelude.{◌≡◌, map}
 use Rattle.cp_tree.specs.Read.{IsRead}
 use Rattle.cp_tree.specs.Syntax.{Tree}
-use Rattle.cp_layout.specs.declared.symbols.Symbols as code_symbols
+use Rattle.cp_symbols.specs.declared.symbols.Symbols as code_symbols
 use Rattle.cp_slots.specs.Tables.{Tables}
 use Rattle.cp_layout.specs.Laid.{plain, laid, whole}
 use Rattle.cp_layout.specs.Symbols.{AreSymbolsOf}
