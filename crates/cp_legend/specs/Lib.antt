@@ -1,3 +1,4 @@
 pub mod Names
 pub mod Places
 pub mod Values
+pub mod Written

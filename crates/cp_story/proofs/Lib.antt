@@ -3,6 +3,7 @@ pub mod Calls
 pub mod Changing
 pub mod Folding
 pub mod Lists
+pub mod Rows
 pub mod Stops
 pub mod Telling
 pub mod Waits

@@ -1,10 +1,13 @@
 pub mod Aimed
 pub mod Changes
+pub mod Columns
 pub mod Events
 pub mod Fold
-pub mod Passed
+pub mod Joined
+pub mod Sentences
 pub mod Stop
 pub mod Story
+pub mod Text
 pub mod Told
 pub mod Views
 pub mod Waiting

@@ -1,6 +1,15 @@
 //! Columns of text.
 
+ghost use Rattle.std.specs.Prelude.{◌≡◌, ◌++◌, [], map, IfOk, OnOk, slice_get, slice_index_or};
+ghost use Rattle.std.specs.String.{string_bytes};
+ghost use Rattle.cp_run.specs.Table.{each};
+ghost use Rattle.cp_story.specs.Columns as spec;
+ghost use Rattle.cp_story.specs.Columns.{row_seen};
+
 use std::alloc::{AllocError, Global};
+
+/// How many columns a table has.
+const COLUMNS: usize = 5;
 
 /// A line of a table.
 #[derive(Drop)]
@@ -9,49 +18,123 @@ pub struct TableRow {
 }
 
 impl TableRow {
-    pub fn new(cells: Vec<String>) -> TableRow {
+    pub fn new(cells: Vec<String>) -> TableRow
+        ensures { row_seen result ≡ map string_bytes cells.items }
+    {
         TableRow { cells }
+    }
+
+    // How wide its cell of a column is, if it has one.
+    fn width(&self, column: usize) -> usize
+        ensures { result ≡ spec.width_of (slice_get (row_seen self.now) column) }
+    {
+        match self.cells.get(column) {
+            Some(cell) => cell.len(),
+            None => 0,
+        }
     }
 }
 
 /// Appends the rows, each column as wide as its widest cell, two spaces apart. No line ends with a space.
-pub fn push_rows(alloc: Global, text: &mut String, rows: &[TableRow]) -> Result<(), AllocError> {
+#[tactic(auto, using(crate::proofs::Rows::each_step, crate::proofs::Rows::each_none))]
+pub fn push_rows(alloc: Global, text: &mut String, rows: &[TableRow]) -> Result<(), AllocError>
+    ensures { OnOk result (string_bytes text.new ≡ string_bytes text.old ++ spec.rows_text (map row_seen rows.now)) }
+{
     let widths = widths(alloc, rows)?;
     for row in rows {
-        let mut pending = 0usize;
-        for (cell, width) in row.cells.iter().zip(&widths) {
-            if !cell.is_empty() {
-                push_spaces(text, pending)?;
-                pending = 0;
-                text.push_str(cell.as_str())?;
-            }
-            let unused = width.saturating_sub(cell.len());
-            let gap = if *width == 0 { 0 } else { 2usize };
-            pending = pending.saturating_add(unused).saturating_add(gap);
-        }
-        text.push('\n')?;
+        push_row(alloc, text, &widths, row)?;
     }
     Ok(())
 }
 
-fn push_spaces(text: &mut String, count: usize) -> Result<(), AllocError> {
+fn push_row(
+    alloc: Global,
+    text: &mut String,
+    widths: &[usize],
+    row: &TableRow,
+) -> Result<(), AllocError>
+    ensures { OnOk result (string_bytes text.new ≡ string_bytes text.old ++ spec.row_text widths.now (row_seen row.now)) }
+{
+    push_cells(alloc, text, widths, &row.cells)?;
+    text.push_str("\n")
+}
+
+#[tactic(auto, using(crate::proofs::Rows::cells_step, crate::proofs::Rows::cells_none))]
+fn push_cells(
+    alloc: Global,
+    text: &mut String,
+    widths: &[usize],
+    cells: &[String],
+) -> Result<(), AllocError>
+    ensures { OnOk result (string_bytes text.new ≡ string_bytes text.old ++ spec.cells_text widths.now 0 [] (map string_bytes cells.now)) }
+{
+    let mut before = String::new(alloc);
+    for (column, cell) in cells.iter().enumerate() {
+        push_cell(text, &mut before, cell.as_str())?;
+        push_gap(&mut before, width_at(widths, column), cell.as_str())?;
+    }
+    Ok(())
+}
+
+fn width_at(widths: &[usize], column: usize) -> usize
+    ensures { result ≡ slice_index_or widths.now column 0 }
+{
+    match widths.get(column) {
+        Some(width) => *width,
+        None => 0,
+    }
+}
+
+// Appends a cell behind the spaces that stand before it; where there is no text, they stand before the next one.
+fn push_cell(text: &mut String, before: &mut String, cell: &str) -> Result<(), AllocError>
+    ensures text { OnOk result (string_bytes text.new ≡ string_bytes text.old ++ spec.cell_text (string_bytes before.old) cell.now) }
+    ensures before { OnOk result (string_bytes before.new ≡ spec.left_before (string_bytes before.old) cell.now) }
+{
+    if cell.is_empty() {
+        return Ok(());
+    }
+    text.push_str(before.as_str())?;
+    text.push_str(cell)?;
+    before.clear();
+    Ok(())
+}
+
+fn push_gap(before: &mut String, width: usize, cell: &str) -> Result<(), AllocError>
+    ensures { OnOk result (string_bytes before.new ≡ string_bytes before.old ++ spec.gap width cell.now) }
+{
+    push_blanks(before, width.saturating_sub(cell.len()))?;
+    before.push_str(if width == 0 { "" } else { "  " })
+}
+
+#[tactic(auto, unfolding(crate::specs::Columns::blanks))]
+fn push_blanks(text: &mut String, count: usize) -> Result<(), AllocError>
+    ensures { OnOk result (string_bytes text.new ≡ string_bytes text.old ++ spec.blanks count) }
+{
     for _ in 0..count {
-        text.push(' ')?;
+        text.push_str(" ")?;
     }
     Ok(())
 }
 
-fn widths(alloc: Global, rows: &[TableRow]) -> Result<Vec<usize>, AllocError> {
-    let mut widths: Vec<usize> = Vec::new(alloc);
-    for row in rows {
-        for (column, cell) in row.cells.iter().enumerate() {
-            if column >= widths.len() {
-                widths.push(0)?;
-            }
-            if let Some(width) = widths.get_mut(column) {
-                *width = (*width).max(cell.len());
-            }
-        }
+#[tactic(auto, using(crate::proofs::Rows::each_number, crate::proofs::Rows::no_number))]
+fn widths(alloc: Global, rows: &[TableRow]) -> Result<Vec<usize>, AllocError>
+    ensures { IfOk result (λ v. v.items ≡ spec.widths (map row_seen rows.now)) }
+{
+    let mut widths = Vec::new(alloc);
+    for column in 0..COLUMNS {
+        widths.push(width(rows, column))?;
     }
     Ok(widths)
+}
+
+// The width of the widest cell of a column.
+#[tactic(auto, using(crate::proofs::Rows::wider, crate::proofs::Rows::widest_is))]
+fn width(rows: &[TableRow], column: usize) -> usize
+    ensures { result ≡ spec.width (map row_seen rows.now) column }
+{
+    let mut widest = 0usize;
+    for row in rows {
+        widest = widest.max(row.width(column));
+    }
+    widest
 }

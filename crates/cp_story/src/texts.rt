@@ -1,8 +1,16 @@
 //! A story as lines of text.
 
+ghost use Rattle.std.specs.Prelude.{◌≡◌, ◌++◌, [], map, option_map, codes, decimal, string_bytes, IfOk, OnOk};
+ghost use Rattle.cp_legend.specs.Names.{legend_seen};
+ghost use Rattle.cp_story.specs.Columns.{row_seen, rows_text};
+ghost use Rattle.cp_story.specs.Joined.{joined};
+ghost use Rattle.cp_story.specs.Sentences as sentences;
+ghost use Rattle.cp_story.specs.Text as spec;
+ghost use Rattle.cp_story.specs.Views.{changed_of, decision_of, wait_of};
+
 use crate::event::{Change, Choice, StoryEvent};
 use crate::stopping::AbruptEnd;
-use crate::story::Story;
+use crate::story::{Story, Wait};
 use crate::tables::{TableRow, push_rows};
 use crate::words::{happening_words, push_process, refused_words, unused_words, wait_words};
 use cp_legend::Legend;
@@ -11,102 +19,229 @@ use std::alloc::{AllocError, Global};
 
 /// The lines of a story: one for each event, one for each process that waits, one that says why a number can't be taken or that numbers are left, and
 /// `end`, the last line of the plain trace.
-pub fn text(
-    alloc: Global,
-    legend: &Legend,
-    story: &Story,
-    end: &str,
-) -> Result<String, AllocError> {
+pub fn text(alloc: Global, legend: &Legend, story: &Story, end: &str) -> Result<String, AllocError>
+    ensures { IfOk result (λ t. string_bytes t ≡ spec.story_text (legend_seen legend.now) story.now end.now) }
+{
     let mut text = String::new(alloc);
-    let mut rows = Vec::new(alloc);
-    for event in &story.events {
-        rows.push(event_row(alloc, legend, event)?)?;
-    }
-    if let Some(stop) = &story.stop {
-        rows.push(stop_row(alloc, legend, story, stop)?)?;
-    }
-    push_rows(alloc, &mut text, &rows)?;
-    for wait in &story.waits {
-        text.push_str(wait_words(alloc, legend, wait)?.as_str())?;
-        text.push('\n')?;
-    }
-    push_refused(alloc, &mut text, story)?;
-    push_unused(alloc, &mut text, story)?;
+    push_table(alloc, legend, &mut text, story)?;
+    push_waits(alloc, legend, &mut text, &story.waits)?;
+    push_refused(alloc, &mut text, &story.end, &story.last_choice)?;
+    push_unused(alloc, &mut text, story.left)?;
     text.push_str(end)?;
     Ok(text)
 }
 
-// Why the number of the last choice can't be taken, if it can't.
-fn push_refused(alloc: Global, text: &mut String, story: &Story) -> Result<(), AllocError> {
-    if let (RunEnd::NotReady { .. }, Some(choice)) = (&story.end, &story.last_choice) {
-        text.push_str(refused_words(alloc, choice)?.as_str())?;
-        text.push('\n')?;
+fn push_table(
+    alloc: Global,
+    legend: &Legend,
+    text: &mut String,
+    story: &Story,
+) -> Result<(), AllocError>
+    ensures { OnOk result (string_bytes text.new ≡ string_bytes text.old ++ rows_text (spec.story_rows (legend_seen legend.now) story.now)) }
+{
+    let mut rows = event_rows(alloc, legend, &story.events)?;
+    push_stop(alloc, legend, &mut rows, &story.last_choice, &story.stop)?;
+    push_rows(alloc, text, &rows)
+}
+
+#[tactic(auto, using(crate::proofs::Rows::map_step, crate::proofs::Rows::map_none, crate::proofs::Rows::row_more))]
+fn event_rows(
+    alloc: Global,
+    legend: &Legend,
+    events: &[StoryEvent],
+) -> Result<Vec<TableRow>, AllocError>
+    ensures { IfOk result (λ v. map row_seen v.items ≡ map (spec.event_row (legend_seen legend.now)) events.now) }
+{
+    let mut rows = Vec::new(alloc);
+    for event in events {
+        rows.push(event_row(alloc, legend, event)?)?;
+    }
+    Ok(rows)
+}
+
+// Appends how a run stopped, where no event tells of it.
+#[tactic(auto, using(crate::proofs::Rows::row_more))]
+fn push_stop(
+    alloc: Global,
+    legend: &Legend,
+    rows: &mut Vec<TableRow>,
+    choice: &Option<Choice>,
+    stop: &Option<AbruptEnd>,
+) -> Result<(), AllocError>
+    ensures { OnOk result (map row_seen rows.new.items ≡ map row_seen rows.old.items ++ spec.stop_rows (legend_seen legend.now) (option_map decision_of choice.now) stop.now) }
+{
+    match stop {
+        Some(stop) => {
+            rows.push(stop_row(alloc, legend, choice, stop)?)?;
+            Ok(())
+        }
+        None => Ok(()),
+    }
+}
+
+#[tactic(auto, using(crate::proofs::Rows::each_step, crate::proofs::Rows::each_none))]
+fn push_waits(
+    alloc: Global,
+    legend: &Legend,
+    text: &mut String,
+    waits: &[Wait],
+) -> Result<(), AllocError>
+    ensures { OnOk result (string_bytes text.new ≡ string_bytes text.old ++ spec.waits_text (legend_seen legend.now) (map wait_of waits.now)) }
+{
+    for wait in waits {
+        push_wait(alloc, legend, text, wait)?;
     }
     Ok(())
+}
+
+fn push_wait(
+    alloc: Global,
+    legend: &Legend,
+    text: &mut String,
+    wait: &Wait,
+) -> Result<(), AllocError>
+    ensures { OnOk result (string_bytes text.new ≡ string_bytes text.old ++ (sentences.wait_text (legend_seen legend.now) (wait_of wait.now) ++ codes "\n")) }
+{
+    let words = wait_words(alloc, legend, wait)?;
+    text.push_str(words.as_str())?;
+    text.push_str("\n")
+}
+
+// Why the number of the last choice can't be taken, if it can't.
+fn push_refused(
+    alloc: Global,
+    text: &mut String,
+    end: &RunEnd,
+    choice: &Option<Choice>,
+) -> Result<(), AllocError>
+    ensures { OnOk result (string_bytes text.new ≡ string_bytes text.old ++ spec.refused_line (spec.refusal end.now (option_map decision_of choice.now))) }
+{
+    match end {
+        RunEnd::NotReady { .. } => push_refused_choice(alloc, text, choice),
+        RunEnd::Ended { .. } | RunEnd::Wants { .. } => Ok(()),
+    }
+}
+
+fn push_refused_choice(
+    alloc: Global,
+    text: &mut String,
+    choice: &Option<Choice>,
+) -> Result<(), AllocError>
+    ensures { OnOk result (string_bytes text.new ≡ string_bytes text.old ++ spec.refused_line (option_map decision_of choice.now)) }
+{
+    match choice {
+        Some(choice) => {
+            let words = refused_words(alloc, choice)?;
+            text.push_str(words.as_str())?;
+            text.push_str("\n")
+        }
+        None => Ok(()),
+    }
 }
 
 // That numbers of the schedule were not used, if there are some.
-fn push_unused(alloc: Global, text: &mut String, story: &Story) -> Result<(), AllocError> {
-    if let Some(words) = unused_words(alloc, story.left)? {
-        text.push_str(words.as_str())?;
-        text.push('\n')?;
+fn push_unused(alloc: Global, text: &mut String, left: usize) -> Result<(), AllocError>
+    ensures { OnOk result (string_bytes text.new ≡ string_bytes text.old ++ spec.unused_line (sentences.unused_text left)) }
+{
+    match unused_words(alloc, left)? {
+        Some(words) => {
+            text.push_str(words.as_str())?;
+            text.push_str("\n")
+        }
+        None => Ok(()),
     }
-    Ok(())
 }
 
-fn event_row(alloc: Global, legend: &Legend, event: &StoryEvent) -> Result<TableRow, AllocError> {
-    let mut cells = Vec::new(alloc);
-    cells.push(choice_text(alloc, &event.choice)?)?;
-    cells.push(process_text(alloc, legend, Some(event.plain.process))?)?;
-    cells.push(line_text(alloc, event.line)?)?;
-    cells.push(happening_words(alloc, legend, event)?)?;
-    cells.push(changes_text(alloc, legend, &event.changes)?)?;
+fn event_row(alloc: Global, legend: &Legend, event: &StoryEvent) -> Result<TableRow, AllocError>
+    ensures { IfOk result (λ r. row_seen r ≡ spec.event_row (legend_seen legend.now) event.now) }
+{
+    let choice = choice_text(alloc, &event.choice)?;
+    let process = process_text(alloc, legend, event.plain.process)?;
+    let line = line_text(alloc, event.line)?;
+    let words = happening_words(alloc, legend, event)?;
+    let changes = changes_text(alloc, legend, &event.changes)?;
+    let cells = vec![in alloc; choice, process, line, words, changes]?;
     Ok(TableRow::new(cells))
 }
 
 fn stop_row(
     alloc: Global,
     legend: &Legend,
-    story: &Story,
+    choice: &Option<Choice>,
     stop: &AbruptEnd,
-) -> Result<TableRow, AllocError> {
-    let mut cells = Vec::new(alloc);
-    cells.push(choice_text(alloc, &story.last_choice)?)?;
-    cells.push(process_text(alloc, legend, Some(stop.process))?)?;
-    cells.push(line_text(alloc, stop.line)?)?;
-    cells.push(stop.words.clone()?)?;
+) -> Result<TableRow, AllocError>
+    ensures { IfOk result (λ r. row_seen r ≡ spec.stop_row (legend_seen legend.now) (option_map decision_of choice.now) stop.now) }
+{
+    let choice = choice_text(alloc, choice)?;
+    let process = process_text(alloc, legend, stop.process)?;
+    let line = line_text(alloc, stop.line)?;
+    let words = stop.words.clone()?;
+    let cells = vec![in alloc; choice, process, line, words]?;
     Ok(TableRow::new(cells))
 }
 
 /// A choice as `0 of 01`: the number taken, and the numbers that could be.
-pub fn choice_text(alloc: Global, choice: &Option<Choice>) -> Result<String, AllocError> {
+pub fn choice_text(alloc: Global, choice: &Option<Choice>) -> Result<String, AllocError>
+    ensures { IfOk result (λ t. string_bytes t ≡ spec.choice_text (option_map decision_of choice.now)) }
+{
     let mut text = String::new(alloc);
-    let Some(choice) = choice else {
-        return Ok(text);
-    };
+    if let Some(choice) = choice {
+        push_taken(&mut text, choice)?;
+    }
+    Ok(text)
+}
+
+fn push_taken(text: &mut String, choice: &Choice) -> Result<(), AllocError>
+    ensures { OnOk result (string_bytes text.new ≡ string_bytes text.old ++ spec.taken_text (decision_of choice.now)) }
+{
     let number = choice.number;
     write!(text, "{number} of ")?;
-    let is_short = choice.options.as_slice().iter().all(|option| *option < 10);
-    let mut is_first = true;
-    for option in choice.options.as_slice() {
-        if !is_short && !is_first {
-            text.push(',')?;
+    push_options(text, choice.options.as_slice())
+}
+
+fn push_options(text: &mut String, options: &[u8]) -> Result<(), AllocError>
+    ensures { OnOk result (string_bytes text.new ≡ string_bytes text.old ++ spec.options_text options.now) }
+{
+    push_numbers(text, if are_digits(options) { "" } else { "," }, options)
+}
+
+#[tactic(auto, using(crate::proofs::Rows::numbers_step, crate::proofs::Rows::numbers_none))]
+fn push_numbers(text: &mut String, between: &str, numbers: &[u8]) -> Result<(), AllocError>
+    ensures { OnOk result (string_bytes text.new ≡ string_bytes text.old ++ joined [] between.now decimal numbers.now) }
+{
+    let mut before = "";
+    for number in numbers {
+        let number = *number;
+        text.push_str(before)?;
+        write!(text, "{number}")?;
+        before = between;
+    }
+    Ok(())
+}
+
+#[tactic(auto, using(crate::proofs::Rows::digits_front, crate::proofs::Rows::digits_none))]
+fn are_digits(numbers: &[u8]) -> bool
+    ensures { result ≡ spec.are_digits numbers.now }
+{
+    for number in numbers {
+        if *number >= 10 {
+            return false;
         }
-        is_first = false;
-        write!(text, "{option}")?;
     }
-    Ok(text)
+    true
 }
 
-fn process_text(alloc: Global, legend: &Legend, process: Option<u8>) -> Result<String, AllocError> {
+fn process_text(alloc: Global, legend: &Legend, process: u8) -> Result<String, AllocError>
+    ensures { IfOk result (λ t. string_bytes t ≡ sentences.process_text (legend_seen legend.now) process) }
+{
     let mut text = String::new(alloc);
-    if let Some(process) = process {
-        push_process(legend, &mut text, process)?;
-    }
+    push_process(legend, &mut text, process)?;
     Ok(text)
 }
 
-fn line_text(alloc: Global, line: Option<u32>) -> Result<String, AllocError> {
+fn line_text(alloc: Global, line: Option<u32>) -> Result<String, AllocError>
+    ensures { IfOk result (λ t. string_bytes t ≡ spec.line_text line) }
+{
     match line {
         Some(line) => format!(in alloc; "line {line}"),
         None => Ok(String::new(alloc)),
@@ -114,23 +249,30 @@ fn line_text(alloc: Global, line: Option<u32>) -> Result<String, AllocError> {
 }
 
 /// What changed, as `forks[1].taken=true`.
+#[tactic(auto, using(crate::proofs::Rows::joined_step, crate::proofs::Rows::joined_none))]
 pub fn changes_text(
     alloc: Global,
     legend: &Legend,
     changes: &[Change],
-) -> Result<String, AllocError> {
+) -> Result<String, AllocError>
+    ensures { IfOk result (λ t. string_bytes t ≡ spec.changes_text (legend_seen legend.now) (map changed_of changes.now)) }
+{
     let mut text = String::new(alloc);
-    let mut is_first = true;
+    let mut before = "";
     for change in changes {
-        if !is_first {
-            text.push_str("  ")?;
-        }
-        is_first = false;
-        text.push_str(legend.monitor_name(change.monitor))?;
-        text.push('.')?;
-        text.push_str(change.name.as_str())?;
-        text.push('=')?;
-        change.value.push_to(&mut text)?;
+        text.push_str(before)?;
+        push_change(legend, &mut text, change)?;
+        before = "  ";
     }
     Ok(text)
+}
+
+fn push_change(legend: &Legend, text: &mut String, change: &Change) -> Result<(), AllocError>
+    ensures { OnOk result (string_bytes text.new ≡ string_bytes text.old ++ spec.change_text (legend_seen legend.now) (changed_of change.now)) }
+{
+    text.push_str(legend.monitor_name(change.monitor))?;
+    text.push_str(".")?;
+    text.push_str(change.name.as_str())?;
+    text.push_str("=")?;
+    change.value.push_to(text)
 }

@@ -1,5 +1,14 @@
 //! What happened, in words.
 
+ghost use Rattle.std.specs.Prelude.{◌≡◌, ◌++◌, [], map, option_map, codes, string_bytes, IfOk, OnOk, slice_get};
+ghost use Rattle.cp_legend.specs.Names.{legend_seen};
+ghost use Rattle.cp_legend.specs.Values.{value_seen};
+ghost use Rattle.cp_legend.specs.Written.{value_text};
+ghost use Rattle.cp_run.specs.Table.{each};
+ghost use Rattle.cp_story.specs.Joined.{joined};
+ghost use Rattle.cp_story.specs.Sentences as spec;
+ghost use Rattle.cp_story.specs.Views.{decision_of, wait_of};
+
 use crate::event::{Choice, Happening, OpenCall, Queue, Returned, StoryEvent};
 use crate::story::{Story, Wait};
 use cp_legend::{Legend, SourceValue};
@@ -28,24 +37,42 @@ pub fn stop_words(story: &Story) -> Option<Stop<'_>> {
 }
 
 /// Appends a process by its number and its name.
-pub fn push_process(legend: &Legend, text: &mut String, process: u8) -> Result<(), AllocError> {
+pub fn push_process(legend: &Legend, text: &mut String, process: u8) -> Result<(), AllocError>
+    ensures { OnOk result (string_bytes text.new ≡ string_bytes text.old ++ spec.process_text (legend_seen legend.now) process) }
+{
     let name = legend.process_name(process);
     write!(text, "{process} {name}")
 }
 
+// Appends each process between two texts.
+#[tactic(auto, using(crate::proofs::Rows::each_number_step, crate::proofs::Rows::each_number_none))]
 fn push_processes(
     legend: &Legend,
     text: &mut String,
     before: &str,
     processes: &[u8],
     after: &str,
-) -> Result<(), AllocError> {
+) -> Result<(), AllocError>
+    ensures { OnOk result (string_bytes text.new ≡ string_bytes text.old ++ each (spec.between_text (legend_seen legend.now) before.now after.now) processes.now) }
+{
     for process in processes {
-        text.push_str(before)?;
-        push_process(legend, text, *process)?;
-        text.push_str(after)?;
+        push_between(legend, text, before, *process, after)?;
     }
     Ok(())
+}
+
+fn push_between(
+    legend: &Legend,
+    text: &mut String,
+    before: &str,
+    process: u8,
+    after: &str,
+) -> Result<(), AllocError>
+    ensures { OnOk result (string_bytes text.new ≡ string_bytes text.old ++ spec.between_text (legend_seen legend.now) before.now after.now process) }
+{
+    text.push_str(before)?;
+    push_process(legend, text, process)?;
+    text.push_str(after)
 }
 
 /// Appends a call: the monitor, the routine, and the arguments if there are any.
@@ -54,46 +81,91 @@ pub fn push_call(
     text: &mut String,
     call: OpenCall,
     arguments: &[SourceValue],
-) -> Result<(), AllocError> {
+) -> Result<(), AllocError>
+    ensures { OnOk result (string_bytes text.new ≡ string_bytes text.old ++ spec.call_text (legend_seen legend.now) call (map value_seen arguments.now)) }
+{
     text.push_str(legend.monitor_name(call.monitor))?;
-    text.push('.')?;
+    text.push_str(".")?;
     text.push_str(legend.routine_name(call.routine))?;
-    let Some((first, rest)) = arguments.split_first() else {
+    push_arguments(text, arguments)
+}
+
+// Appends a call without its arguments, behind these words.
+fn push_bare_call(
+    legend: &Legend,
+    text: &mut String,
+    words: &str,
+    call: OpenCall,
+) -> Result<(), AllocError>
+    ensures { OnOk result (string_bytes text.new ≡ string_bytes text.old ++ (words.now ++ spec.call_text (legend_seen legend.now) call [])) }
+{
+    text.push_str(words)?;
+    push_call(legend, text, call, &[])
+}
+
+fn push_arguments(text: &mut String, arguments: &[SourceValue]) -> Result<(), AllocError>
+    ensures { OnOk result (string_bytes text.new ≡ string_bytes text.old ++ spec.arguments_text (map value_seen arguments.now)) }
+{
+    if arguments.is_empty() {
         return Ok(());
-    };
-    text.push('(')?;
-    first.push_to(text)?;
-    for argument in rest {
-        text.push_str(", ")?;
-        argument.push_to(text)?;
     }
-    text.push(')')
+    push_values(text, arguments)?;
+    text.push_str(")")
+}
+
+#[tactic(auto, using(crate::proofs::Rows::joined_step, crate::proofs::Rows::joined_none))]
+fn push_values(text: &mut String, values: &[SourceValue]) -> Result<(), AllocError>
+    ensures { OnOk result (string_bytes text.new ≡ string_bytes text.old ++ joined (codes "(") (codes ", ") value_text (map value_seen values.now)) }
+{
+    let mut before = "(";
+    for value in values {
+        text.push_str(before)?;
+        value.push_to(text)?;
+        before = ", ";
+    }
+    Ok(())
 }
 
 /// Appends a queue, after the monitor that it is in.
-pub fn push_queue(legend: &Legend, text: &mut String, queue: &Queue) -> Result<(), AllocError> {
+pub fn push_queue(legend: &Legend, text: &mut String, queue: &Queue) -> Result<(), AllocError>
+    ensures { OnOk result (string_bytes text.new ≡ string_bytes text.old ++ spec.queue_text (legend_seen legend.now) queue.now) }
+{
     text.push_str(legend.monitor_name(queue.monitor))?;
-    text.push('.')?;
+    text.push_str(".")?;
     text.push_str(queue.name.as_str())
 }
 
 /// Appends a displayed value.
-pub fn push_shown(legend: &Legend, text: &mut String, value: Shown) -> Result<(), AllocError> {
+pub fn push_shown(legend: &Legend, text: &mut String, value: Shown) -> Result<(), AllocError>
+    ensures { OnOk result (string_bytes text.new ≡ string_bytes text.old ++ spec.shown_text (legend_seen legend.now) value) }
+{
     match value {
         Shown::Integer(number) => write!(text, "{number}"),
-        Shown::Char(code) => {
-            if code > 32 && code < 127 && code != 39 {
-                let character = char::from(code);
-                write!(text, "'{character}'")
-            } else {
-                write!(text, "'(:{code}:)'")
-            }
-        }
+        Shown::Char(code) => push_char(text, code),
         Shown::Truth(truth) => text.push_str(if truth { "true" } else { "false" }),
-        Shown::Constant(number) => match legend.constants.get(number as usize) {
-            Some(name) => text.push_str(name.as_str()),
-            None => Ok(()),
-        },
+        Shown::Constant(number) => push_constant(legend, text, number as usize),
+    }
+}
+
+fn push_char(text: &mut String, code: u8) -> Result<(), AllocError>
+    ensures { OnOk result (string_bytes text.new ≡ string_bytes text.old ++ spec.char_text code) }
+{
+    if code >= 33 && code <= 126 && code != 39 {
+        let character = char::from(code);
+        text.push_str("'")?;
+        text.push(character)?;
+        text.push_str("'")
+    } else {
+        write!(text, "'(:{code}:)'")
+    }
+}
+
+fn push_constant(legend: &Legend, text: &mut String, number: usize) -> Result<(), AllocError>
+    ensures { OnOk result (string_bytes text.new ≡ string_bytes text.old ++ spec.constant_text (slice_get (legend_seen legend.now).constants number)) }
+{
+    match legend.constants.get(number) {
+        Some(name) => text.push_str(name.as_str()),
+        None => Ok(()),
     }
 }
 
@@ -102,12 +174,12 @@ pub fn happening_words(
     alloc: Global,
     legend: &Legend,
     event: &StoryEvent,
-) -> Result<String, AllocError> {
+) -> Result<String, AllocError>
+    ensures { IfOk result (λ t. string_bytes t ≡ spec.event_text (legend_seen legend.now) event.now) }
+{
     let mut text = String::new(alloc);
     push_happening(legend, &mut text, &event.happening)?;
-    if event.wakes_nobody() {
-        text.push_str(", where nobody waits")?;
-    }
+    push_nobody(&mut text, &event.happening, event.woken.as_slice())?;
     push_returned(&mut text, &event.returned)?;
     push_processes(legend, &mut text, ", wakes ", event.woken.as_slice(), "")?;
     push_processes(legend, &mut text, ", lets ", event.let_in.as_slice(), " in")?;
@@ -118,18 +190,16 @@ fn push_happening(
     legend: &Legend,
     text: &mut String,
     happening: &Happening,
-) -> Result<(), AllocError> {
+) -> Result<(), AllocError>
+    ensures { OnOk result (string_bytes text.new ≡ string_bytes text.old ++ spec.happening_text (legend_seen legend.now) happening.now) }
+{
     match happening {
         Happening::Enter {
             call,
             arguments,
             waits,
         } => {
-            text.push_str(if *waits {
-                "waits at the gate for "
-            } else {
-                "enters "
-            })?;
+            text.push_str(entering(*waits))?;
             push_call(legend, text, *call, arguments)
         }
         Happening::Leave(call) => {
@@ -153,53 +223,150 @@ fn push_happening(
             push_shown(legend, text, *value)
         }
         Happening::End => text.push_str("ends"),
-        Happening::Admit(call) => {
-            text.push_str("is let in to ")?;
-            push_call(legend, text, *call, &[])
-        }
+        Happening::Admit(call) => push_bare_call(legend, text, "is let in to ", *call),
     }
 }
 
-/// Appends what came back from a call: `, y = 2` for each `var` parameter, `, = 2` for a function's result.
-pub fn push_returned(text: &mut String, returned: &[Returned]) -> Result<(), AllocError> {
-    for one in returned {
-        text.push_str(", ")?;
-        if !one.name.is_empty() {
-            text.push_str(one.name.as_str())?;
-            text.push(' ')?;
-        }
-        text.push_str("= ")?;
-        one.value.push_to(text)?;
+fn entering(waits: bool) -> &'static str
+    ensures { result.now ≡ spec.entering_text waits }
+{
+    if waits {
+        "waits at the gate for "
+    } else {
+        "enters "
+    }
+}
+
+// That nobody waits in a queue that is continued.
+fn push_nobody(text: &mut String, happening: &Happening, woken: &[u8]) -> Result<(), AllocError>
+    ensures { OnOk result (string_bytes text.new ≡ string_bytes text.old ++ spec.nobody_text happening.now woken.now) }
+{
+    if is_continue(happening) && woken.is_empty() {
+        return text.push_str(", where nobody waits");
     }
     Ok(())
 }
 
+fn is_continue(happening: &Happening) -> bool
+    ensures { result ≡ spec.is_continue happening.now }
+{
+    matches!(happening, Happening::Continue(..))
+}
+
+/// Appends what came back from a call: `, y = 2` for each `var` parameter, `, = 2` for a function's result.
+#[tactic(auto, using(crate::proofs::Rows::each_item_step, crate::proofs::Rows::each_item_none))]
+pub fn push_returned(text: &mut String, returned: &[Returned]) -> Result<(), AllocError>
+    ensures { OnOk result (string_bytes text.new ≡ string_bytes text.old ++ each spec.returned_text returned.now) }
+{
+    for one in returned {
+        push_one_returned(text, one)?;
+    }
+    Ok(())
+}
+
+fn push_one_returned(text: &mut String, one: &Returned) -> Result<(), AllocError>
+    ensures { OnOk result (string_bytes text.new ≡ string_bytes text.old ++ spec.returned_text one.now) }
+{
+    text.push_str(", ")?;
+    push_named(text, one.name.as_str())?;
+    text.push_str("= ")?;
+    one.value.push_to(text)
+}
+
+fn push_named(text: &mut String, name: &str) -> Result<(), AllocError>
+    ensures { OnOk result (string_bytes text.new ≡ string_bytes text.old ++ spec.named_text name.now) }
+{
+    if name.is_empty() {
+        return Ok(());
+    }
+    text.push_str(name)?;
+    text.push_str(" ")
+}
+
 /// Where a process waits: `0 program waits in forks[1].hungry`.
-pub fn wait_words(alloc: Global, legend: &Legend, wait: &Wait) -> Result<String, AllocError> {
+pub fn wait_words(alloc: Global, legend: &Legend, wait: &Wait) -> Result<String, AllocError>
+    ensures { IfOk result (λ t. string_bytes t ≡ spec.wait_text (legend_seen legend.now) (wait_of wait.now)) }
+{
     let mut text = String::new(alloc);
     push_process(legend, &mut text, wait.process)?;
-    match wait.status {
+    push_place(alloc, legend, &mut text, wait.status, wait.call)?;
+    push_inside(legend, &mut text, &wait.inside)?;
+    Ok(text)
+}
+
+fn push_place(
+    alloc: Global,
+    legend: &Legend,
+    text: &mut String,
+    status: Status,
+    call: Option<OpenCall>,
+) -> Result<(), AllocError>
+    ensures { OnOk result (string_bytes text.new ≡ string_bytes text.old ++ spec.place_text (legend_seen legend.now) status call) }
+{
+    match status {
         Status::Delayed(cell) => {
-            let monitor = legend.monitor_of(cell).unwrap_or(0);
-            let name = legend.permanent_name(alloc, cell, 1)?;
             text.push_str(" waits in ")?;
-            push_queue(legend, &mut text, &Queue { monitor, name })?;
+            push_cell_queue(alloc, legend, text, cell)
         }
-        _ => {
-            text.push_str(" waits at the gate")?;
-            if let Some(call) = wait.call {
-                text.push_str(" for ")?;
-                push_call(legend, &mut text, call, &[])?;
-            }
+        Status::Unstarted | Status::Ready | Status::AtGate(_) | Status::Ended => {
+            push_at_gate(legend, text, call)
         }
     }
+}
+
+// The queue that has a cell.
+fn push_cell_queue(
+    alloc: Global,
+    legend: &Legend,
+    text: &mut String,
+    cell: usize,
+) -> Result<(), AllocError>
+    ensures { OnOk result (string_bytes text.new ≡ string_bytes text.old ++ spec.cell_queue_text (legend_seen legend.now) cell) }
+{
+    let monitor = legend.monitor_of(cell).unwrap_or(0);
+    let name = legend.permanent_name(alloc, cell, 1)?;
+    text.push_str(legend.monitor_name(monitor))?;
+    text.push_str(".")?;
+    text.push_str(name.as_str())
+}
+
+fn push_at_gate(
+    legend: &Legend,
+    text: &mut String,
+    call: Option<OpenCall>,
+) -> Result<(), AllocError>
+    ensures { OnOk result (string_bytes text.new ≡ string_bytes text.old ++ (codes " waits at the gate" ++ spec.gate_text (legend_seen legend.now) call)) }
+{
+    text.push_str(" waits at the gate")?;
+    push_gate(legend, text, call)
+}
+
+fn push_gate(legend: &Legend, text: &mut String, call: Option<OpenCall>) -> Result<(), AllocError>
+    ensures { OnOk result (string_bytes text.new ≡ string_bytes text.old ++ spec.gate_text (legend_seen legend.now) call) }
+{
+    match call {
+        Some(call) => push_bare_call(legend, text, " for ", call),
+        None => Ok(()),
+    }
+}
+
+fn push_monitor(legend: &Legend, text: &mut String, monitor: u8) -> Result<(), AllocError>
+    ensures { OnOk result (string_bytes text.new ≡ string_bytes text.old ++ spec.monitor_text (legend_seen legend.now) monitor) }
+{
+    text.push_str(legend.monitor_name(monitor))
+}
+
+#[tactic(auto, using(crate::proofs::Rows::numbers_step, crate::proofs::Rows::numbers_none))]
+fn push_inside(legend: &Legend, text: &mut String, inside: &[u8]) -> Result<(), AllocError>
+    ensures { OnOk result (string_bytes text.new ≡ string_bytes text.old ++ joined (codes ", inside ") (codes " and ") (spec.monitor_text (legend_seen legend.now)) inside.now) }
+{
     let mut before = ", inside ";
-    for monitor in &wait.inside {
+    for monitor in inside {
         text.push_str(before)?;
-        text.push_str(legend.monitor_name(*monitor))?;
+        push_monitor(legend, text, *monitor)?;
         before = " and ";
     }
-    Ok(text)
+    Ok(())
 }
 
 /// The name of a run error, as the trace has it.
@@ -247,7 +414,9 @@ pub fn output_words(
 }
 
 /// That so many last numbers of a schedule are not used, if there are some.
-pub fn unused_words(alloc: Global, left: usize) -> Result<Option<String>, AllocError> {
+pub fn unused_words(alloc: Global, left: usize) -> Result<Option<String>, AllocError>
+    ensures { IfOk result (λ words. option_map string_bytes words ≡ spec.unused_text left) }
+{
     let words = match left {
         0 => return Ok(None),
         1 => "the last number is not used: the run has ended before it".to_string(alloc)?,
@@ -261,24 +430,51 @@ pub fn unused_words(alloc: Global, left: usize) -> Result<Option<String>, AllocE
 }
 
 /// Who can't be chosen, and who can: `9 can't go on here: 1 or 2`.
-pub fn refused_words(alloc: Global, choice: &Choice) -> Result<String, AllocError> {
+pub fn refused_words(alloc: Global, choice: &Choice) -> Result<String, AllocError>
+    ensures { IfOk result (λ t. string_bytes t ≡ spec.refused_text (decision_of choice.now)) }
+{
     let number = choice.number;
-    let what = if choice.at_gate { "be let in" } else { "go on" };
-    let mut text = format!(in alloc; "{number} can't {what} here: ")?;
+    let mut text = String::new(alloc);
+    write!(text, "{number}")?;
+    text.push_str(refusal(choice.at_gate))?;
     push_options(&mut text, choice.options.as_slice())?;
     Ok(text)
 }
 
+fn refusal(at_gate: bool) -> &'static str
+    ensures { result.now ≡ spec.refusal_text at_gate }
+{
+    if at_gate {
+        " can't be let in here: "
+    } else {
+        " can't go on here: "
+    }
+}
+
 // Numbers as alternatives: `0, 1 or 2`.
-fn push_options(text: &mut String, options: &[u8]) -> Result<(), AllocError> {
+#[tactic(auto, using(crate::proofs::Rows::alternatives_step, crate::proofs::Rows::alternatives_none))]
+fn push_options(text: &mut String, options: &[u8]) -> Result<(), AllocError>
+    ensures { OnOk result (string_bytes text.new ≡ string_bytes text.old ++ spec.alternatives_text options.now) }
+{
     let last = options.len().saturating_sub(1);
     for (place, option) in options.iter().enumerate() {
-        if place > 0 {
-            text.push_str(if place == last { " or " } else { ", " })?;
-        }
+        let option = *option;
+        text.push_str(sign_before(place, last))?;
         write!(text, "{option}")?;
     }
     Ok(())
+}
+
+fn sign_before(place: usize, last: usize) -> &'static str
+    ensures { result.now ≡ spec.sign_before place last }
+{
+    if place == 0 {
+        ""
+    } else if place == last {
+        " or "
+    } else {
+        ", "
+    }
 }
 
 /// How a run stops, in the words of a lecture: `deadlock: all wait`.

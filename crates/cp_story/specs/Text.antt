@@ -1,0 +1,86 @@
+-- The text of a story: a table of its events, and lines below it.
+use Rattle.std.specs.Prelude.{ℕ, ◌&&◌, nat_lt, true, Bool, if◌then◌else◌, List, [], ◌∷◌, ◌++◌, Option, Some, None, map, option_map, codes, decimal}
+use Rattle.std.specs.String.{string_bytes}
+use Rattle.cp_legend.specs.Names.{Legend}
+use Rattle.cp_legend.specs.Written.{value_text}
+use Rattle.cp_run.specs.declared.outcome.RunEnd.{RunEnd}
+use Rattle.cp_run.specs.declared.outcome.RunEnd.TheVariants as run_end
+use Rattle.cp_run.specs.Table.{each}
+use Rattle.cp_story.specs.Changes.{Changed}
+use Rattle.cp_story.specs.Columns.{Row, rows_text}
+use Rattle.cp_story.specs.Joined.{joined}
+use Rattle.cp_story.specs.Sentences.{monitor_text, process_text, event_text, wait_text, refused_text, unused_text}
+use Rattle.cp_story.specs.Story.{Decision}
+use Rattle.cp_story.specs.Views.{decision_of, told_of, wait_of}
+use Rattle.cp_story.specs.Waiting.{Waiting}
+use Rattle.cp_story.specs.declared.event.StoryEvent.{StoryEvent}
+use Rattle.cp_story.specs.declared.stopping.AbruptEnd.{AbruptEnd}
+use Rattle.cp_story.specs.declared.story.Story.{Story}
+
+-- ---- cells
+
+abbrev pub are_digits : List ℕ → Bool
+are_digits [] = true
+are_digits (n ∷ ns) = nat_lt n 10 && are_digits ns
+
+-- side by side where each has one digit, else with commas
+abbrev pub options_text : List ℕ → List ℕ
+options_text options = joined [] (if are_digits options then [] else codes ",") decimal options
+
+-- the number that was taken, of those that could be
+abbrev pub taken_text : Decision → List ℕ
+taken_text d = decimal d.number ++ codes " of " ++ options_text d.options
+
+abbrev pub choice_text : Option Decision → List ℕ
+choice_text None = []
+choice_text (Some d) = taken_text d
+
+abbrev pub line_text : Option ℕ → List ℕ
+line_text None = []
+line_text (Some line) = codes "line " ++ decimal line
+
+-- a variable of a monitor, and its value
+abbrev pub change_text : Legend → Changed → List ℕ
+change_text l c = monitor_text l c.monitor ++ codes "." ++ c.name ++ codes "=" ++ value_text c.value
+
+abbrev pub changes_text : Legend → List Changed → List ℕ
+changes_text l changes = joined [] (codes "  ") (change_text l) changes
+
+-- ---- rows
+
+-- an event: the choice before it, its process, the line, what happened, and what changed in monitors
+abbrev pub event_row : Legend → StoryEvent → Row
+event_row l e = choice_text (told_of e).choice ∷ process_text l (told_of e).process ∷ line_text (told_of e).line ∷ event_text l e ∷ changes_text l (told_of e).changes ∷ []
+
+-- how the run stopped where no event tells of it, behind a choice if one came last
+abbrev pub stop_row : Legend → Option Decision → AbruptEnd → Row
+stop_row l choice stop = choice_text choice ∷ process_text l stop.process ∷ line_text stop.line ∷ string_bytes stop.words ∷ []
+
+abbrev pub stop_rows : Legend → Option Decision → Option AbruptEnd → List Row
+stop_rows l choice None = []
+stop_rows l choice (Some stop) = stop_row l choice stop ∷ []
+
+abbrev pub story_rows : Legend → Story → List Row
+story_rows l s = map (event_row l) s.events.items ++ stop_rows l (option_map decision_of s.last_choice) s.stop
+
+-- ---- lines below the table
+
+abbrev pub waits_text : Legend → List Waiting → List ℕ
+waits_text l ws = each (λ w. wait_text l w ++ codes "\n") ws
+
+-- why the number of the last choice can't be taken, where it can't
+abbrev pub refusal : RunEnd → Option Decision → Option Decision
+refusal (run_end.NotReady place) choice = choice
+refusal _ choice = None
+
+abbrev pub refused_line : Option Decision → List ℕ
+refused_line None = []
+refused_line (Some d) = refused_text d ++ codes "\n"
+
+abbrev pub unused_line : Option (List ℕ) → List ℕ
+unused_line None = []
+unused_line (Some words) = words ++ codes "\n"
+
+-- The rows of all events; who waits; why a number can't be taken; that numbers are left; and the last line.
+abbrev pub story_text : Legend → Story → (end : List ℕ) → List ℕ
+story_text l s end = rows_text (story_rows l s) ++ waits_text l (map wait_of s.waits.items) ++ refused_line (refusal s.end (option_map decision_of s.last_choice)) ++ unused_line (unused_text s.left) ++ end
