@@ -3,6 +3,7 @@ pub mod Changes
 pub mod Columns
 pub mod Events
 pub mod Fold
+pub mod Halted
 pub mod Joined
 pub mod Sentences
 pub mod Stop

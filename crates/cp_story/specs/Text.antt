@@ -1,6 +1,5 @@
 -- The text of a story: a table of its events, and lines below it.
 use Rattle.std.specs.Prelude.{ℕ, ◌&&◌, nat_lt, true, Bool, if◌then◌else◌, List, [], ◌∷◌, ◌++◌, Option, Some, None, map, option_map, codes, decimal}
-use Rattle.std.specs.String.{string_bytes}
 use Rattle.cp_legend.specs.Names.{Legend}
 use Rattle.cp_legend.specs.Written.{value_text}
 use Rattle.cp_run.specs.declared.outcome.RunEnd.{RunEnd}
@@ -8,13 +7,13 @@ use Rattle.cp_run.specs.declared.outcome.RunEnd.TheVariants as run_end
 use Rattle.cp_run.specs.Table.{each}
 use Rattle.cp_story.specs.Changes.{Changed}
 use Rattle.cp_story.specs.Columns.{Row, rows_text}
+use Rattle.cp_story.specs.Halted.{Halted, halted_seen}
 use Rattle.cp_story.specs.Joined.{joined}
 use Rattle.cp_story.specs.Sentences.{monitor_text, process_text, event_text, wait_text, refused_text, unused_text}
 use Rattle.cp_story.specs.Story.{Decision}
 use Rattle.cp_story.specs.Views.{decision_of, told_of, wait_of}
 use Rattle.cp_story.specs.Waiting.{Waiting}
 use Rattle.cp_story.specs.declared.event.StoryEvent.{StoryEvent}
-use Rattle.cp_story.specs.declared.stopping.AbruptEnd.{AbruptEnd}
 use Rattle.cp_story.specs.declared.story.Story.{Story}
 
 -- ---- cells
@@ -53,15 +52,15 @@ abbrev pub event_row : Legend → StoryEvent → Row
 event_row l e = choice_text (told_of e).choice ∷ process_text l (told_of e).process ∷ line_text (told_of e).line ∷ event_text l e ∷ changes_text l (told_of e).changes ∷ []
 
 -- how the run stopped where no event tells of it, behind a choice if one came last
-abbrev pub stop_row : Legend → Option Decision → AbruptEnd → Row
-stop_row l choice stop = choice_text choice ∷ process_text l stop.process ∷ line_text stop.line ∷ string_bytes stop.words ∷ []
+abbrev pub stop_row : Legend → Option Decision → Halted → Row
+stop_row l choice stop = choice_text choice ∷ process_text l stop.process ∷ line_text stop.line ∷ stop.words ∷ []
 
-abbrev pub stop_rows : Legend → Option Decision → Option AbruptEnd → List Row
+abbrev pub stop_rows : Legend → Option Decision → Option Halted → List Row
 stop_rows l choice None = []
 stop_rows l choice (Some stop) = stop_row l choice stop ∷ []
 
 abbrev pub story_rows : Legend → Story → List Row
-story_rows l s = map (event_row l) s.events.items ++ stop_rows l (option_map decision_of s.last_choice) s.stop
+story_rows l s = map (event_row l) s.events.items ++ stop_rows l (option_map decision_of s.last_choice) (option_map halted_seen s.stop)
 
 -- ---- lines below the table
 

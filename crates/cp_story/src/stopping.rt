@@ -1,9 +1,14 @@
 //! How a run stops between two events.
 
-use crate::event::Queue;
+ghost use Rattle.std.specs.Prelude.{◌≡◌, ◌++◌, map, option_map, string_bytes, IfOk, OnOk};
+ghost use Rattle.cp_legend.specs.Names.{legend_seen};
+ghost use Rattle.cp_story.specs.Halted as spec;
+ghost use Rattle.cp_story.specs.Halted.{halted_seen};
+ghost use Rattle.cp_story.specs.Views.{wait_of};
+
 use crate::observer::Last;
 use crate::story::Wait;
-use crate::words::{push_process, push_queue};
+use crate::words::{push_cell_queue, push_process};
 use cp_legend::Legend;
 use cp_machine::{ErrorName, Status};
 use cp_run::{OutcomeKind, RunEnd};
@@ -27,50 +32,118 @@ pub fn abrupt_end(
     end: &RunEnd,
     last: Last,
     waits: &[Wait],
-) -> Result<Option<AbruptEnd>, AllocError> {
-    let RunEnd::Ended { outcome, .. } = end else {
-        return Ok(None);
-    };
-    match outcome.kind {
+) -> Result<Option<AbruptEnd>, AllocError>
+    ensures { IfOk result (λ s. option_map halted_seen s ≡ spec.halted_at (legend_seen legend.now) end.now last (map wait_of waits.now)) }
+{
+    match end {
+        RunEnd::Ended { outcome, .. } => abrupt_end_as(alloc, legend, outcome.kind, last, waits),
+        RunEnd::Wants { .. } | RunEnd::NotReady { .. } => Ok(None),
+    }
+}
+
+fn abrupt_end_as(
+    alloc: Global,
+    legend: &Legend,
+    kind: OutcomeKind,
+    last: Last,
+    waits: &[Wait],
+) -> Result<Option<AbruptEnd>, AllocError>
+    ensures { IfOk result (λ s. option_map halted_seen s ≡ spec.halted_as (legend_seen legend.now) last (map wait_of waits.now) kind) }
+{
+    match kind {
         OutcomeKind::RunError {
             name,
             process,
             line,
         } => {
-            let waiting = waiting_in(name, last.queue, waits);
-            Ok(Some(AbruptEnd {
-                process,
-                line: Some(line),
-                words: error_words(alloc, legend, name, last.queue, waiting)?,
-                waiting,
-            }))
+            let waiting = waiting_at_error(name, waits, last.queue);
+            let stop = end_by_error(alloc, legend, name, process, line, last.queue, waiting)?;
+            Ok(Some(stop))
         }
-        OutcomeKind::StepLimit => end_at_limit(alloc, last, "goes on to the limit of steps"),
-        OutcomeKind::OutputLimit => end_at_limit(alloc, last, "displays a value too many"),
+        OutcomeKind::StepLimit => {
+            let stop = end_at_limit(alloc, last, "goes on to the limit of steps")?;
+            Ok(Some(stop))
+        }
+        OutcomeKind::OutputLimit => {
+            let stop = end_at_limit(alloc, last, "displays a value too many")?;
+            Ok(Some(stop))
+        }
         OutcomeKind::Finished | OutcomeKind::AllWaiting | OutcomeKind::ChoiceLimit => Ok(None),
     }
 }
 
-fn end_at_limit(alloc: Global, last: Last, words: &str) -> Result<Option<AbruptEnd>, AllocError> {
-    Ok(Some(AbruptEnd {
+fn end_at_limit(alloc: Global, last: Last, words: &str) -> Result<AbruptEnd, AllocError>
+    ensures { IfOk result (λ s. halted_seen s ≡ spec.halted_after last words.now) }
+{
+    Ok(AbruptEnd {
         process: last.process,
         line: last.line,
         words: String::from_str(alloc, words)?,
         waiting: None,
-    }))
+    })
+}
+
+fn end_by_error(
+    alloc: Global,
+    legend: &Legend,
+    name: ErrorName,
+    process: u8,
+    line: u32,
+    queue: Option<usize>,
+    waiting: Option<u8>,
+) -> Result<AbruptEnd, AllocError>
+    ensures { IfOk result (λ s. halted_seen s ≡ spec.halted_by (legend_seen legend.now) name process line queue waiting) }
+{
+    Ok(AbruptEnd {
+        process,
+        line: Some(line),
+        words: error_words(alloc, legend, name, queue, waiting)?,
+        waiting,
+    })
 }
 
 // Who waits in the queue of a cell, where the error is that it is in use.
-fn waiting_in(name: ErrorName, queue: Option<usize>, waits: &[Wait]) -> Option<u8> {
-    let (ErrorName::QueueInUse, Some(cell)) = (name, queue) else {
-        return None;
-    };
+fn waiting_at_error(name: ErrorName, waits: &[Wait], queue: Option<usize>) -> Option<u8>
+    ensures { result ≡ spec.waiting_at_error name (map wait_of waits.now) queue }
+{
+    match name {
+        ErrorName::QueueInUse => waiting_in_cell(waits, queue),
+        ErrorName::Overflow
+        | ErrorName::ZeroDivisor
+        | ErrorName::Range
+        | ErrorName::NoCase
+        | ErrorName::NotInit
+        | ErrorName::InitTwice => None,
+    }
+}
+
+fn waiting_in_cell(waits: &[Wait], queue: Option<usize>) -> Option<u8>
+    ensures { result ≡ spec.waiting_in_cell (map wait_of waits.now) queue }
+{
+    match queue {
+        Some(cell) => first_in_cell(cell, waits),
+        None => None,
+    }
+}
+
+fn first_in_cell(cell: usize, waits: &[Wait]) -> Option<u8>
+    ensures { result ≡ spec.first_in_cell cell (map wait_of waits.now) }
+{
     for wait in waits {
-        if wait.status == Status::Delayed(cell) {
+        if is_in_cell(cell, wait.status) {
             return Some(wait.process);
         }
     }
     None
+}
+
+fn is_in_cell(cell: usize, status: Status) -> bool
+    ensures { result ≡ spec.is_in_cell cell status }
+{
+    match status {
+        Status::Delayed(other) => other == cell,
+        Status::Unstarted | Status::Ready | Status::AtGate(_) | Status::Ended => false,
+    }
 }
 
 // An error, and who waits in the queue if it is in use.
@@ -80,22 +153,62 @@ fn error_words(
     name: ErrorName,
     queue: Option<usize>,
     waiting: Option<u8>,
-) -> Result<String, AllocError> {
+) -> Result<String, AllocError>
+    ensures { IfOk result (λ t. string_bytes t ≡ spec.error_text name ++ spec.in_use_text (legend_seen legend.now) queue waiting) }
+{
     let mut text = String::from_str(alloc, stop_phrase(name))?;
-    if let (Some(process), Some(cell)) = (waiting, queue) {
-        let queue = Queue {
-            monitor: legend.monitor_of(cell).unwrap_or(0),
-            name: legend.permanent_name(alloc, cell, 1)?,
-        };
-        text.push_str(": ")?;
-        push_process(legend, &mut text, process)?;
-        text.push_str(" waits in ")?;
-        push_queue(legend, &mut text, &queue)?;
-    }
+    push_in_use(alloc, legend, &mut text, queue, waiting)?;
     Ok(text)
 }
 
-fn stop_phrase(name: ErrorName) -> &'static str {
+fn push_in_use(
+    alloc: Global,
+    legend: &Legend,
+    text: &mut String,
+    queue: Option<usize>,
+    waiting: Option<u8>,
+) -> Result<(), AllocError>
+    ensures { OnOk result (string_bytes text.new ≡ string_bytes text.old ++ spec.in_use_text (legend_seen legend.now) queue waiting) }
+{
+    match queue {
+        Some(cell) => push_in_cell(alloc, legend, text, cell, waiting),
+        None => Ok(()),
+    }
+}
+
+fn push_in_cell(
+    alloc: Global,
+    legend: &Legend,
+    text: &mut String,
+    cell: usize,
+    waiting: Option<u8>,
+) -> Result<(), AllocError>
+    ensures { OnOk result (string_bytes text.new ≡ string_bytes text.old ++ spec.in_cell_text (legend_seen legend.now) cell waiting) }
+{
+    match waiting {
+        Some(process) => push_waiting(alloc, legend, text, cell, process),
+        None => Ok(()),
+    }
+}
+
+fn push_waiting(
+    alloc: Global,
+    legend: &Legend,
+    text: &mut String,
+    cell: usize,
+    process: u8,
+) -> Result<(), AllocError>
+    ensures { OnOk result (string_bytes text.new ≡ string_bytes text.old ++ spec.waiting_text (legend_seen legend.now) cell process) }
+{
+    text.push_str(": ")?;
+    push_process(legend, text, process)?;
+    text.push_str(" waits in ")?;
+    push_cell_queue(alloc, legend, text, cell)
+}
+
+fn stop_phrase(name: ErrorName) -> &'static str
+    ensures { result.now ≡ spec.error_text name }
+{
     match name {
         ErrorName::Overflow => "stops with overflow",
         ErrorName::ZeroDivisor => "stops with zero-divisor",

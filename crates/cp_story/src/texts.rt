@@ -3,6 +3,7 @@
 ghost use Rattle.std.specs.Prelude.{◌≡◌, ◌++◌, [], map, option_map, codes, decimal, string_bytes, IfOk, OnOk};
 ghost use Rattle.cp_legend.specs.Names.{legend_seen};
 ghost use Rattle.cp_story.specs.Columns.{row_seen, rows_text};
+ghost use Rattle.cp_story.specs.Halted.{halted_seen};
 ghost use Rattle.cp_story.specs.Joined.{joined};
 ghost use Rattle.cp_story.specs.Sentences as sentences;
 ghost use Rattle.cp_story.specs.Text as spec;
@@ -68,7 +69,7 @@ fn push_stop(
     choice: &Option<Choice>,
     stop: &Option<AbruptEnd>,
 ) -> Result<(), AllocError>
-    ensures { OnOk result (map row_seen rows.new.items ≡ map row_seen rows.old.items ++ spec.stop_rows (legend_seen legend.now) (option_map decision_of choice.now) stop.now) }
+    ensures { OnOk result (map row_seen rows.new.items ≡ map row_seen rows.old.items ++ spec.stop_rows (legend_seen legend.now) (option_map decision_of choice.now) (option_map halted_seen stop.now)) }
 {
     match stop {
         Some(stop) => {
@@ -170,7 +171,7 @@ fn stop_row(
     choice: &Option<Choice>,
     stop: &AbruptEnd,
 ) -> Result<TableRow, AllocError>
-    ensures { IfOk result (λ r. row_seen r ≡ spec.stop_row (legend_seen legend.now) (option_map decision_of choice.now) stop.now) }
+    ensures { IfOk result (λ r. row_seen r ≡ spec.stop_row (legend_seen legend.now) (option_map decision_of choice.now) (halted_seen stop.now)) }
 {
     let choice = choice_text(alloc, choice)?;
     let process = process_text(alloc, legend, stop.process)?;

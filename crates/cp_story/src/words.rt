@@ -314,8 +314,8 @@ fn push_place(
     }
 }
 
-// The queue that has a cell.
-fn push_cell_queue(
+/// Appends the queue that has a cell.
+pub fn push_cell_queue(
     alloc: Global,
     legend: &Legend,
     text: &mut String,

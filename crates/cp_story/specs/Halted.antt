@@ -1,0 +1,89 @@
+-- How a run stopped between two events, in words.
+use Rattle.std.specs.Prelude.{ℕ, ◌==◌, Bool, false, List, [], ◌++◌, Option, Some, None, option_map, find, codes}
+use Rattle.std.specs.String.{string_bytes}
+use Rattle.cp_legend.specs.Names.{Legend}
+use Rattle.cp_machine.specs.declared.process.Status.{Status}
+use Rattle.cp_machine.specs.declared.process.Status.TheVariants as status
+use Rattle.cp_run.specs.declared.outcome.OutcomeKind.{OutcomeKind}
+use Rattle.cp_run.specs.declared.outcome.OutcomeKind.TheVariants as kind
+use Rattle.cp_run.specs.declared.outcome.RunEnd.{RunEnd}
+use Rattle.cp_run.specs.declared.outcome.RunEnd.TheVariants as run_end
+use Rattle.cp_store.specs.declared.error.ErrorName.{ErrorName}
+use Rattle.cp_store.specs.declared.error.ErrorName.TheVariants.{Overflow, ZeroDivisor, Range, NoCase, QueueInUse, NotInit, InitTwice}
+use Rattle.cp_story.specs.Sentences.{cell_queue_text, process_text}
+use Rattle.cp_story.specs.Waiting.{Waiting}
+use Rattle.cp_story.specs.declared.observer.Last.{Last}
+use Rattle.cp_story.specs.declared.stopping.AbruptEnd.{AbruptEnd}
+
+pub record Halted : Type 0 where
+  pub process : ℕ
+  -- the line of the step that failed, or of the last one
+  pub line : Option ℕ
+  pub words : List ℕ
+  -- who waits already in the queue that is in use
+  pub waiting : Option ℕ
+
+abbrev pub halted_seen : AbruptEnd → Halted
+halted_seen s = record { process = s.process; line = s.line; words = string_bytes s.words; waiting = s.waiting }
+
+abbrev pub error_text : ErrorName → List ℕ
+error_text Overflow = codes "stops with overflow"
+error_text ZeroDivisor = codes "stops with zero-divisor"
+error_text Range = codes "stops with range"
+error_text NoCase = codes "stops with no-case"
+error_text QueueInUse = codes "stops with queue-in-use"
+error_text NotInit = codes "stops with not-init"
+error_text InitTwice = codes "stops with init-twice"
+
+-- ---- a queue that is in use
+
+abbrev pub is_in_cell : (cell : ℕ) → Status → Bool
+is_in_cell cell (status.Delayed other) = other == cell
+is_in_cell cell _ = false
+
+abbrev pub process_of : Waiting → ℕ
+process_of w = w.process
+
+-- the first who waits in the queue of a cell
+abbrev pub first_in_cell : (cell : ℕ) → List Waiting → Option ℕ
+first_in_cell cell ws = option_map process_of (find (λ w. is_in_cell cell w.status) ws)
+
+abbrev pub waiting_in_cell : List Waiting → Option ℕ → Option ℕ
+waiting_in_cell ws None = None
+waiting_in_cell ws (Some cell) = first_in_cell cell ws
+
+-- where the error is that a queue is in use
+abbrev pub waiting_at_error : ErrorName → List Waiting → (queue : Option ℕ) → Option ℕ
+waiting_at_error QueueInUse ws queue = waiting_in_cell ws queue
+waiting_at_error _ ws queue = None
+
+abbrev pub waiting_text : Legend → (cell process : ℕ) → List ℕ
+waiting_text l cell process = codes ": " ++ process_text l process ++ codes " waits in " ++ cell_queue_text l cell
+
+abbrev pub in_cell_text : Legend → (cell : ℕ) → (waiting : Option ℕ) → List ℕ
+in_cell_text l cell None = []
+in_cell_text l cell (Some process) = waiting_text l cell process
+
+abbrev pub in_use_text : Legend → (queue waiting : Option ℕ) → List ℕ
+in_use_text l None waiting = []
+in_use_text l (Some cell) waiting = in_cell_text l cell waiting
+
+-- ---- how a run stopped
+
+abbrev pub halted_by : Legend → ErrorName → (process line : ℕ) → (queue waiting : Option ℕ) → Halted
+halted_by l name process line queue waiting = record { process = process; line = Some line; words = error_text name ++ in_use_text l queue waiting; waiting = waiting }
+
+-- after the last step
+abbrev pub halted_after : Last → List ℕ → Halted
+halted_after last words = record { process = last.process; line = last.line; words = words; waiting = None }
+
+abbrev pub halted_as : Legend → Last → List Waiting → OutcomeKind → Option Halted
+halted_as l last ws (kind.RunError name process line) = Some (halted_by l name process line last.queue (waiting_at_error name ws last.queue))
+halted_as l last ws kind.StepLimit = Some (halted_after last (codes "goes on to the limit of steps"))
+halted_as l last ws kind.OutputLimit = Some (halted_after last (codes "displays a value too many"))
+halted_as l last ws _ = None
+
+-- where no event tells of it: an error, or a limit of steps or of displayed values
+abbrev pub halted_at : Legend → RunEnd → Last → List Waiting → Option Halted
+halted_at l (run_end.Ended outcome used) last ws = halted_as l last ws outcome.kind
+halted_at l _ last ws = None
