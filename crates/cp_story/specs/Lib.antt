@@ -5,6 +5,7 @@ pub mod Events
 pub mod Fold
 pub mod Halted
 pub mod Joined
+pub mod Passed
 pub mod Sentences
 pub mod Stop
 pub mod Story
