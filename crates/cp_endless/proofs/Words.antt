@@ -3,32 +3,22 @@ pub use Rattle.std.proofs.Common.{List, [], ap, arith, inl, inr, length, refl, s
 pub use Rattle.std.proofs.lemmas.Bool.{cases_order}
 pub use Rattle.std.proofs.lemmas.List.{length-append}
 pub use Rattle.std.specs.List.{AllByRecursion as Each}
-pub use Rattle.std.specs.Ordering.{int_eq}
-pub use Rattle.std.specs.Prelude.{Contains, pos, slice_index_or, slice_set, ℤ, ◌==◌}
+pub use Rattle.std.specs.Prelude.{Contains, pos, ◌==◌}
 pub use Rattle.cp_tree.specs.Syntax.{Program}
 pub use Rattle.cp_meaning.specs.State.{State, ready}
-pub use Rattle.cp_slots.specs.Tables.{Tables, component_at, item_at}
-pub use Rattle.cp_slots.specs.declared.item.Action.{Action}
-pub use Rattle.cp_slots.specs.declared.item.Item.{Item}
-pub use Rattle.cp_slots.specs.declared.place.Argument.{Argument}
+pub use Rattle.cp_slots.specs.Tables.{Tables}
 pub use Rattle.cp_slots.specs.declared.tables.ComponentKind.{ComponentKind}
 pub use Rattle.cp_resolved.proofs.names.Alike.{same_inside as some_same}
 pub use Rattle.cp_resolved.specs.Layouts.{Layouts}
 pub use Rattle.cp_resolved.specs.Stands.{Ground}
-pub use Rattle.cp_store.specs.Values.{is_true, ranged}
-pub use Rattle.cp_store.specs.declared.argument.Bound.{Bound}
-pub use Rattle.cp_store.specs.declared.error.ErrorName.{ErrorName}
-pub use Rattle.cp_store.specs.declared.memory.Address.{Address}
 pub use Rattle.cp_store.specs.declared.memory.Frame.{Frame}
 pub use Rattle.cp_machine.specs.Machine.{Machine, Thread, thread_at}
-pub use Rattle.cp_machine.specs.Stack.{from_end, rest_of}
-pub use Rattle.cp_machine.specs.Step.{act, step_at, take_top}
+pub use Rattle.cp_machine.specs.Stack.{rest_of}
+pub use Rattle.cp_machine.specs.Step.{step_at}
 pub use Rattle.cp_machine.specs.declared.event.Event.{Event}
 pub use Rattle.cp_machine.specs.declared.event.Event.TheVariants.{Kernel, Local, OutputFull}
 pub use Rattle.cp_machine.specs.declared.gates.Gates.{Gates}
-pub use Rattle.cp_machine.specs.declared.gates.Gates.TheVariants.{Any, First}
 pub use Rattle.cp_machine.specs.declared.process.Entry.{Entry}
-pub use Rattle.cp_machine.specs.declared.process.Entry.TheVariants.{InitEnd, Rest, Return, Successor}
 pub use Rattle.cp_machine.specs.declared.shown.Shown.{Shown}
 pub use Rattle.cp_machine.specs.declared.state.TheConstants.{MOST_SHOWN}
 pub use Rattle.cp_run.specs.Code.{IfGoes}

@@ -1,274 +1,75 @@
 -- Two machines that differ in what they displayed before some moment alone, and that is as much, take the same steps:
 -- a step, or an admission, leaves them so, and the events are the same. Only `display` looks at the output, at how long it is.
-use Rattle.std.proofs.Common.{◌≡◌, ℕ, ◌+◌, ◌∙◌, List, [], ◌∷◌, ◌++◌, length, Option, Some, None, Result, Ok, Err, if◌then◌else◌, Bool, true, false}
-use Rattle.cp_machine.proofs.Words.{refl, sym, subst, ap, ℤ, pos, slice_set, slice_index_or, ◌==◌, int_eq, Tables, item_at, component_at, Action, Item}
-use Rattle.cp_machine.proofs.Words.{Argument, ComponentKind, Bound, ErrorName, Address, Frame, is_true, ranged, Event, Gates, First, Any, Entry, Rest}
-use Rattle.cp_machine.proofs.Words.{Successor, Return, InitEnd, Delayed, MOST_SHOWN, value_of, set_of, address_of, component_of, arguments_of, admitted}
-use Rattle.cp_machine.proofs.Words.{admitted_at, from_end, rest_of, act, take_top, step_at}
-use Rattle.std.proofs.lemmas.List.{append_assoc, length-append}
-use Rattle.cp_slots.specs.declared.item.Action.TheVariants.{Empty, Assign, AssignSet, Copy, Block, If, Case, While, Until, For, Cycle, Call, Start, Delay, Continue, Display}
-use Rattle.cp_slots.specs.declared.tables.ComponentKind.TheVariants as kind
-use Rattle.cp_store.specs.declared.memory.Address.TheVariants as address
-use Rattle.cp_store.specs.Sets as sets
+use Rattle.std.proofs.Common.{◌≡◌, ℕ, ◌+◌, ◌∙◌, List, [], ◌∷◌, ◌++◌, length, Option, Some, None, if◌then◌else◌, Bool, true, false, refl, sym, subst, ap}
+use Rattle.cp_machine.proofs.Words.{◌==◌, Tables, Entry, MOST_SHOWN, admitted, admitted_at, Stepped, step_at, append_assoc, length-append, Shown, show}
+use Rattle.cp_machine.proofs.StepKeeps.{step_twins}
 use Rattle.cp_machine.specs.Alike.{AreAlike}
-use Rattle.cp_machine.specs.declared.shown.Shown.{Shown}
-use Rattle.cp_machine.specs.Calls.{left, called, called_in, called_by, start_process, start_inside, started, returned, delayed_in, delay_at, continued_from, continue_at}
-use Rattle.cp_machine.specs.Kernel.{first_in, one_in, let_in, let_in_by, entered, entered_by, delayed, resumed, continued, waits_in}
-use Rattle.cp_machine.specs.Machine.{Machine, thread_at, monitor_at, phase_at, is_initialised, is_uninitialised, is_unstarted, is_ready, is_pending, in_line, waits}
-use Rattle.cp_machine.specs.Machine.{with_stack, with_status, with_permanents, with_output}
-use Rattle.cp_machine.specs.Statements.{Stepped, fault, with_value, arm_for, is_beyond, next_value, succeeded, show, shown_as}
+use Rattle.cp_machine.specs.Machine.{Machine, is_ready, is_pending, in_line, waits, with_stack, with_output}
 
--- ---- two machines, of which the other is the one with another output, `o`
+-- two steps: machines that are alike, and the same event
+abbrev Twins : List Shown → List Shown → Stepped → Stepped → Type 0
+Twins before other x y = AreAlike before other x.machine y.machine × (y.event ≡ x.event)
 
-module _ (before other since o : List Shown) (theirs : o ≡ other ++ since) where
-  -- what this machine displayed
-  abbrev Shows : Machine → Type 0
-  Shows m = m.output ≡ before ++ since
+-- ---- two machines that are alike
 
-  abbrev Both : Machine → Machine → Type 0
-  Both m n = AreAlike before other m n
+module _ (before other : List Shown) (m n : Machine) (a : AreAlike before other m n) where
+  -- what leaves the output of one as it was leaves both alike
+  still_alike : (k : Machine) → k.output ≡ m.output → AreAlike before other k (with_output k n.output)
+  still_alike k e = record { same = refl; since = a.since; mine = e ∙ a.mine; theirs = a.theirs }
 
-  -- two steps: machines that are alike, and the same event
-  abbrev Twins : Stepped → Stepped → Type 0
-  Twins x y = AreAlike before other x.machine y.machine × (y.event ≡ x.event)
-
-  -- what is done to a machine is done to the other
-  abbrev BothBy : (Machine → Machine) → Machine → Type 0
-  BothBy f m = Both (f m) (f (with_output m o))
-
-  abbrev TwinsBy : (Machine → Stepped) → Machine → Type 0
-  TwinsBy f m = Twins (f m) (f (with_output m o))
-
-  alike : (m : Machine) → Shows m → Both m (with_output m o)
-  alike m h = record { same = refl; since = since; mine = h; theirs = theirs }
-
-  -- whatever is done to a machine, but to its output
-  twins : (m : Machine) (event : Event) → Shows m → Twins (record { machine = m; event = event }) (record { machine = with_output m o; event = event })
-  twins m event h = (alike m h, refl)
-
-  either_twins : (b : Bool) {x y x' y' : Stepped} → Twins x x' → Twins y y' → Twins (if b then x else y) (if b then x' else y')
-  either_twins true h k = h
-  either_twins false h k = k
-
-  -- each is asked by itself, and the answers are the same
-  both_twins : (b c : Bool) {x y x' y' : Stepped} → c ≡ b → Twins x x' → Twins y y' → Twins (if b then x else y) (if c then x' else y')
-  both_twins b c {x} {y} {x'} {y'} e h k = subst (λ d. Twins (if b then x else y) (if d then x' else y')) (sym e) (either_twins b h k)
-
-  -- ---- the kernel
-
-  first_in_alike : (m : Machine) (monitor : ℕ) (line : List ℕ) → Shows m → BothBy (λ x. first_in x monitor line) m
-  first_in_alike m monitor [] h = alike _ h
-  first_in_alike m monitor (q ∷ line) h = alike _ h
-
-  one_in_alike : (m : Machine) (monitor : ℕ) (line : List ℕ) → Shows m → BothBy (λ x. one_in x monitor line) m
-  one_in_alike m monitor [] h = alike _ h
-  one_in_alike m monitor (q ∷ []) h = alike _ h
-  one_in_alike m monitor (p ∷ q ∷ line) h = alike _ h
-
-  let_in_by_alike : (gates : Gates) (m : Machine) (monitor : ℕ) (line : List ℕ) → Shows m → BothBy (λ x. let_in_by gates x monitor line) m
-  let_in_by_alike First m monitor line h = first_in_alike m monitor line h
-  let_in_by_alike Any m monitor line h = one_in_alike m monitor line h
-
-  let_in_alike : (m : Machine) (monitor : ℕ) → Shows m → BothBy (λ x. let_in x monitor) m
-  let_in_alike m monitor h = let_in_by_alike m.gates m monitor (monitor_at m monitor).line h
-
-  entered_by_alike : (holder : Option ℕ) (m : Machine) (p monitor : ℕ) → Shows m → BothBy (λ x. entered_by holder x p monitor) m
-  entered_by_alike None m p monitor h = alike _ h
-  entered_by_alike (Some q) m p monitor h = alike _ h
-
-  entered_alike : (m : Machine) (p monitor : ℕ) → Shows m → BothBy (λ x. entered x p monitor) m
-  entered_alike m p monitor h = entered_by_alike (monitor_at m monitor).holder m p monitor h
-
-  delayed_alike : (m : Machine) (p monitor cell : ℕ) → Shows m → BothBy (λ x. delayed x p monitor cell) m
-  delayed_alike m p monitor cell h = let_in_alike (with_status (with_permanents m (slice_set m.permanents cell (pos 1))) p (Delayed cell)) monitor h
-
-  resumed_alike : (waiter : Option ℕ) (m : Machine) (monitor : ℕ) → Shows m → BothBy (λ x. resumed waiter x monitor) m
-  resumed_alike None m monitor h = let_in_alike m monitor h
-  resumed_alike (Some q) m monitor h = alike _ h
-
-  continued_alike : (m : Machine) (monitor cell : ℕ) → Shows m → BothBy (λ x. continued x monitor cell) m
-  continued_alike m monitor cell h = resumed_alike (waits_in m cell) (with_permanents m (slice_set m.permanents cell (pos 0))) monitor h
-
-  -- ---- admission
-
-  admitted_at_alike : (pending : Option ℕ) (m : Machine) (pid : ℕ) → Shows m → BothBy (λ x. admitted_at pending x pid) m
-  admitted_at_alike None m pid h = alike _ h
-  admitted_at_alike (Some monitor) m pid h = alike _ h
-
-  -- ---- calls and ends
-
-  called_in_twins : (r : Tables) (m : Machine) (pid : ℕ) (k : ComponentKind) (routine component : ℕ) (arguments : List Argument) (bounds : List Bound) (result : Option ℕ) (rest : List Entry)
-      → Shows m → TwinsBy (λ x. called_in r x pid k routine component arguments bounds result rest) m
-  called_in_twins r m pid (kind.Monitor monitor) routine component arguments bounds result rest h =
-      (entered_alike (called r m pid routine component arguments bounds result (Some monitor) rest) pid monitor h, refl)
-  called_in_twins r m pid kind.Class routine component arguments bounds result rest h = twins _ _ h
-  called_in_twins r m pid (kind.Process number) routine component arguments bounds result rest h = twins _ _ h
-
-  called_by_twins : (r : Tables) (m : Machine) (pid line : ℕ) (is_entry : Bool) (routine component : ℕ) (arguments : List Argument) (bounds : List Bound) (result : Option ℕ) (rest : List Entry)
-      → Shows m → TwinsBy (λ x. called_by r x pid line is_entry routine component arguments bounds result rest) m
-  called_by_twins r m pid line false routine component arguments bounds result rest h = twins _ _ h
-  called_by_twins r m pid line true routine component arguments bounds result rest h =
-      either_twins (is_initialised (phase_at m component)) (called_in_twins r m pid (component_at r component).kind routine component arguments bounds result rest h) (twins _ _ h)
-
-  start_process_twins : (r : Tables) (m : Machine) (pid line q component : ℕ) (arguments : List Argument) (bounds : List Bound) (rest : List Entry)
-      → Shows m → TwinsBy (λ x. start_process r x pid line q component arguments bounds rest) m
-  start_process_twins r m pid line q component arguments bounds rest h = either_twins (is_unstarted (thread_at m.threads q).status) (twins _ _ h) (twins _ _ h)
-
-  start_inside_twins : (r : Tables) (m : Machine) (pid line routine component : ℕ) (arguments : List Argument) (bounds : List Bound) (rest : List Entry)
-      → Shows m → TwinsBy (λ x. start_inside r x pid line routine component arguments bounds rest) m
-  start_inside_twins r m pid line routine component arguments bounds rest h = either_twins (is_uninitialised (phase_at m component)) (twins _ _ h) (twins _ _ h)
-
-  started_twins : (r : Tables) (m : Machine) (pid line : ℕ) (k : ComponentKind) (routine component : ℕ) (arguments : List Argument) (bounds : List Bound) (rest : List Entry)
-      → Shows m → TwinsBy (λ x. started r x pid line k routine component arguments bounds rest) m
-  started_twins r m pid line (kind.Process q) routine component arguments bounds rest h = start_process_twins r m pid line q component arguments bounds rest h
-  started_twins r m pid line (kind.Monitor monitor) routine component arguments bounds rest h = start_inside_twins r m pid line routine component arguments bounds rest h
-  started_twins r m pid line kind.Class routine component arguments bounds rest h = start_inside_twins r m pid line routine component arguments bounds rest h
-
-  returned_twins : (r : Tables) (m : Machine) (pid : ℕ) (caller : Frame) (result monitor : Option ℕ) (es : List Entry) → Shows m → TwinsBy (λ x. returned r x pid caller result monitor es) m
-  returned_twins r m pid caller result None es h = twins _ _ h
-  returned_twins r m pid caller result (Some monitor) es h = (let_in_alike (left r m pid caller result es) monitor h, refl)
-
-  -- ---- delay and continue
-
-  delayed_in_twins : (m : Machine) (pid line cell : ℕ) (k : ComponentKind) (rest : List Entry) → Shows m → TwinsBy (λ x. delayed_in x pid line cell k rest) m
-  delayed_in_twins m pid line cell (kind.Monitor monitor) rest h =
-      either_twins (is_true (slice_index_or m.permanents cell (pos 0))) (twins _ _ h) (delayed_alike (with_stack m pid rest) pid monitor cell h, refl)
-  delayed_in_twins m pid line cell kind.Class rest h = twins _ _ h
-  delayed_in_twins m pid line cell (kind.Process number) rest h = twins _ _ h
-
-  delay_at_twins : (r : Tables) (m : Machine) (pid line : ℕ) (rest : List Entry) (a : Address) → Shows m → TwinsBy (λ x. delay_at r x pid line rest a) m
-  delay_at_twins r m pid line rest (address.Permanent cell) h = delayed_in_twins m pid line cell (component_at r (thread_at m.threads pid).frame.component).kind rest h
-  delay_at_twins r m pid line rest (address.Local cell) h = twins _ _ h
-
-  continued_from_twins : (r : Tables) (m : Machine) (pid cell : ℕ) (es : List Entry) → Shows m → TwinsBy (λ x. continued_from r x pid cell es) m
-  continued_from_twins r m pid cell [] h = twins _ _ h
-  continued_from_twins r m pid cell (Rest at ∷ es) h = twins _ _ h
-  continued_from_twins r m pid cell (Successor at z last ∷ es) h = twins _ _ h
-  continued_from_twins r m pid cell (InitEnd caller component ∷ es) h = twins _ _ h
-  continued_from_twins r m pid cell (Return caller result None ∷ es) h = twins _ _ h
-  continued_from_twins r m pid cell (Return caller result (Some monitor) ∷ es) h = (continued_alike (left r m pid caller result es) monitor cell h, refl)
-
-  continue_at_twins : (r : Tables) (m : Machine) (pid : ℕ) (next : Option ℕ) (es : List Entry) (a : Address) → Shows m → TwinsBy (λ x. continue_at r x pid next es a) m
-  continue_at_twins r m pid next es (address.Permanent cell) h = continued_from_twins r (with_stack m pid (from_end es)) pid cell (from_end es) h
-  continue_at_twins r m pid next es (address.Local cell) h = twins _ _ h
+  admitted_at_alike : (pending : Option ℕ) (pid : ℕ) → AreAlike before other (admitted_at pending m pid) (admitted_at pending (with_output m n.output) pid)
+  admitted_at_alike None pid = still_alike m refl
+  admitted_at_alike (Some monitor) pid = still_alike (admitted_at (Some monitor) m pid) refl
 
   -- ---- display
 
-  -- the outputs are as long, so that both are full or neither is
-  module _ (long : length before ≡ length other) (m : Machine) (h : Shows m) where
-    as_long : length o ≡ length m.output
-    as_long = ap length theirs ∙ length-append other since ∙ ap (λ k. k + length since) (sym long) ∙ sym (length-append before since) ∙ sym (ap length h)
+  -- each is asked by itself, and the answers are the same
+  both_twins : (b c : Bool) {x y x' y' : Stepped} → c ≡ b → Twins before other x x' → Twins before other y y' → Twins before other (if b then x else y) (if c then x' else y')
+  both_twins true true e h k = h
+  both_twins false false e h k = k
+  both_twins true false e h k = absurd (cc)
+  both_twins false true e h k = absurd (cc)
 
-    one_more : (pid : ℕ) (rest : List Entry) (v : Shown) → Both (with_output (with_stack m pid rest) (m.output ++ v ∷ [])) (with_output (with_stack m pid rest) (o ++ v ∷ []))
+  -- the outputs are as long, so that both are full or neither is
+  module _ (long : length before ≡ length other) where
+    as_long : length n.output ≡ length m.output
+    as_long = ap length a.theirs ∙ length-append other a.since ∙ ap (λ k. k + length a.since) (sym long) ∙ sym (length-append before a.since) ∙ sym (ap length a.mine)
+
+    one_more : (pid : ℕ) (rest : List Entry) (v : Shown) → AreAlike before other (with_output (with_stack m pid rest) (m.output ++ v ∷ [])) (with_output (with_stack m pid rest) (n.output ++ v ∷ []))
     one_more pid rest v =
         record {
           same = refl;
-          since = since ++ v ∷ [];
-          mine = ap (λ k. k ++ v ∷ []) h ∙ append_assoc before since (v ∷ []);
-          theirs = ap (λ k. k ++ v ∷ []) theirs ∙ append_assoc other since (v ∷ []);
+          since = a.since ++ v ∷ [];
+          mine = ap (λ k. k ++ v ∷ []) a.mine ∙ append_assoc before a.since (v ∷ []);
+          theirs = ap (λ k. k ++ v ∷ []) a.theirs ∙ append_assoc other a.since (v ∷ []);
         }
 
-    show_twins : (pid : ℕ) (rest : List Entry) (v : Shown) → TwinsBy (λ x. show x pid rest v) m
+    show_twins : (pid : ℕ) (rest : List Entry) (v : Shown) → Twins before other (show m pid rest v) (show (with_output m n.output) pid rest v)
     show_twins pid rest v =
-        both_twins (length m.output == MOST_SHOWN) (length o == MOST_SHOWN) (ap (λ k. k == MOST_SHOWN) as_long) (twins m _ h) (one_more pid rest v, refl)
-
-  -- ---- a step
-
-  module _ (long : length before ≡ length other) (r : Tables) (m : Machine) (pid : ℕ) (h : Shows m) where
-    -- the same value goes into both, or the same run error ends both
-    evaluated : {A : Type 0} (line : ℕ) (x : Result A ErrorName) {go go_too : A → Stepped} → ((v : A) → Twins (go v) (go_too v))
-        → Twins (with_value x (fault m pid line) go) (with_value x (fault (with_output m o) pid line) go_too)
-    evaluated line (Ok v) f = f v
-    evaluated line (Err e) f = twins _ _ h
-
-    act_twins : (at : ℕ) (item : Item) (a : Action) (es : List Entry) → TwinsBy (λ x. act r x pid at item a es) m
-    act_twins at item Empty es = twins _ _ h
-    act_twins at item (Assign target value low high) es =
-        evaluated item.line (value_of m pid value) (λ v.
-        evaluated item.line (address_of m pid target) (λ p.
-        evaluated item.line (ranged low high v) (λ w. twins _ _ h)))
-    act_twins at item (AssignSet target value low high) es =
-        evaluated item.line (set_of m pid value) (λ v.
-        evaluated item.line (address_of m pid target) (λ p.
-        evaluated item.line (sets.ranged low high v) (λ w. twins _ _ h)))
-    act_twins at item (Copy target source size) es =
-        evaluated item.line (address_of m pid source) (λ from.
-        evaluated item.line (address_of m pid target) (λ to. twins _ _ h))
-    act_twins at item (Block list) es = twins _ _ h
-    act_twins at item (If test list other) es = evaluated item.line (value_of m pid test) (λ v. twins _ _ h)
-    act_twins at item (Case selector arms) es =
-        evaluated item.line (value_of m pid selector) (λ v.
-        evaluated item.line (arm_for v arms.items) (λ list. twins _ _ h))
-    act_twins at item (While test list again) es = evaluated item.line (value_of m pid test) (λ v. twins _ _ h)
-    act_twins at item (Until test list again) es = evaluated item.line (value_of m pid test) (λ v. twins _ _ h)
-    act_twins at item (For variable low high first last down list) es =
-        evaluated item.line (value_of m pid first) (λ x.
-        evaluated item.line (value_of m pid last) (λ y.
-        either_twins (is_beyond down x y) (twins _ _ h)
-        (evaluated item.line (ranged low high x) (λ z. twins _ _ h))))
-    act_twins at item (Cycle list) es = twins _ _ h
-    act_twins at item (Call routine component is_entry arguments result) es =
-        evaluated item.line (component_of m pid component) (λ c.
-        evaluated item.line (arguments_of m pid arguments.items) (λ bs.
-        called_by_twins r m pid item.line is_entry routine c arguments.items bs result (rest_of item.next es) h))
-    act_twins at item (Start component routine arguments) es =
-        evaluated item.line (component_of m pid component) (λ c.
-        evaluated item.line (arguments_of m pid arguments.items) (λ bs.
-        started_twins r m pid item.line (component_at r c).kind routine c arguments.items bs (rest_of item.next es) h))
-    act_twins at item (Delay place) es = evaluated item.line (address_of m pid place) (λ p. delay_at_twins r m pid item.line (rest_of item.next es) p h)
-    act_twins at item (Continue place) es = evaluated item.line (address_of m pid place) (λ p. continue_at_twins r m pid item.next es p h)
-    act_twins at item (Display value kind) es = evaluated item.line (value_of m pid value) (λ v. show_twins long m h pid (rest_of item.next es) (shown_as kind v))
-
-    successor_twins : (at : ℕ) (item : Item) (a : Action) (es : List Entry) (z last : ℤ) → TwinsBy (λ x. succeeded x pid at item a es z last) m
-    successor_twins at item (For variable low high first end down list) es z last =
-        either_twins (int_eq z last) (twins _ _ h)
-        (evaluated item.line (next_value down low high z) (λ w. twins _ _ h))
-    successor_twins at item Empty es z last = twins _ _ h
-    successor_twins at item (Assign target value low high) es z last = twins _ _ h
-    successor_twins at item (AssignSet target value low high) es z last = twins _ _ h
-    successor_twins at item (Copy target source size) es z last = twins _ _ h
-    successor_twins at item (Block list) es z last = twins _ _ h
-    successor_twins at item (If test list other) es z last = twins _ _ h
-    successor_twins at item (Case selector arms) es z last = twins _ _ h
-    successor_twins at item (While test list again) es z last = twins _ _ h
-    successor_twins at item (Until test list again) es z last = twins _ _ h
-    successor_twins at item (Cycle list) es z last = twins _ _ h
-    successor_twins at item (Call routine component is_entry arguments result) es z last = twins _ _ h
-    successor_twins at item (Start component routine arguments) es z last = twins _ _ h
-    successor_twins at item (Delay place) es z last = twins _ _ h
-    successor_twins at item (Continue place) es z last = twins _ _ h
-    successor_twins at item (Display value shown) es z last = twins _ _ h
-
-    top_twins : (es : List Entry) → TwinsBy (λ x. take_top r x pid es) m
-    top_twins [] = twins _ _ h
-    top_twins (Rest at ∷ es) = act_twins at (item_at r at) (item_at r at).action es
-    top_twins (Successor at z last ∷ es) = successor_twins at (item_at r at) (item_at r at).action es z last
-    top_twins (Return caller result monitor ∷ es) = returned_twins r m pid caller result monitor es h
-    top_twins (InitEnd caller component ∷ es) = twins _ _ h
+        both_twins (length m.output == MOST_SHOWN) (length n.output == MOST_SHOWN) (ap (λ k. k == MOST_SHOWN) as_long) (still_alike m refl, refl) (one_more pid rest v, refl)
 
 -- ---- a step, an admission and readings
 
 -- both machines take a step
-step_twins : (r : Tables) (before other : List Shown) (m n : Machine) (pid : ℕ) → length before ≡ length other
-    → AreAlike before other m n → AreAlike before other (step_at r m pid).machine (step_at r n pid).machine × ((step_at r n pid).event ≡ (step_at r m pid).event)
-step_twins r before other m n pid long a =
-    subst (λ k. AreAlike before other (step_at r m pid).machine (step_at r k pid).machine × ((step_at r k pid).event ≡ (step_at r m pid).event)) (sym a.same)
-    (top_twins before other a.since n.output a.theirs long r m pid a.mine (thread_at m.threads pid).stack)
+steps_alike : (r : Tables) (before other : List Shown) (m n : Machine) (pid : ℕ) → length before ≡ length other → AreAlike before other m n → Twins before other (step_at r m pid) (step_at r n pid)
+steps_alike r before other m n pid long a =
+    subst (λ k. Twins before other (step_at r m pid) (step_at r k pid)) (sym a.same)
+    (step_twins n.output (Twins before other) r m pid (λ k event e. (still_alike before other m n a k e, refl)) (show_twins before other m n a long pid))
 
 -- after a step they are alike
 pub step_alike : (r : Tables) (before other : List Shown) (m n : Machine) (pid : ℕ) → length before ≡ length other
     → AreAlike before other m n → AreAlike before other (step_at r m pid).machine (step_at r n pid).machine
-step_alike r before other m n pid long a = (step_twins r before other m n pid long a).0
+step_alike r before other m n pid long a = (steps_alike r before other m n pid long a).0
 
 -- and the step is the same
 pub step_event_alike : (r : Tables) (before other : List Shown) (m n : Machine) (pid : ℕ) → length before ≡ length other
     → AreAlike before other m n → (step_at r n pid).event ≡ (step_at r m pid).event
-step_event_alike r before other m n pid long a = (step_twins r before other m n pid long a).1
+step_event_alike r before other m n pid long a = (steps_alike r before other m n pid long a).1
 
 -- after an admission they are alike
 pub admitted_alike : (before other : List Shown) (m n : Machine) (pid : ℕ) → AreAlike before other m n → AreAlike before other (admitted m pid) (admitted n pid)
 admitted_alike before other m n pid a =
-    subst (λ k. AreAlike before other (admitted m pid) (admitted k pid)) (sym a.same) (admitted_at_alike before other a.since n.output a.theirs m.pending m pid a.mine)
+    subst (λ k. AreAlike before other (admitted m pid) (admitted k pid)) (sym a.same) (admitted_at_alike before other m n a m.pending pid)
 
 -- the same processes are ready
 pub ready_alike : (before other : List Shown) (m n : Machine) (p : ℕ) → AreAlike before other m n → is_ready n p ≡ is_ready m p

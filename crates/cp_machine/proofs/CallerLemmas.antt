@@ -1,34 +1,28 @@
 -- What the crates above need of the machine.
-use Rattle.std.proofs.Common.{◌≡◌, ◌∙◌, ℕ, zero, suc, ◌<◌, ◌≤◌, Bool, true, false, List, [], ◌∷◌, length, is_some as std_is_some, Option, None, Some, refl, sym, ap, arith, filter}
+use Rattle.std.proofs.Common.{◌≡◌, ◌∙◌, ℕ, ◌<◌, ◌≤◌, Bool, true, false, List, length, is_some as std_is_some, Option, None, Some, refl, sym, ap, arith, filter}
 use Rattle.cp_machine.proofs.Words.{range_with_len, Tables, Gates, State, Status, Ready, admitted_at, still, unstarted_thread}
 use Rattle.std.proofs.lemmas.List.{length-map, get_or-set_same}
 use Rattle.cp_machine.specs.Machine.{thread_of, Thread, thread_at, no_thread, is_at_gate, is_ready_status, in_line_of, is_some}
 use Rattle.cp_machine.specs.System.{Machine, machine_of, opening, is_ready, in_line, waiting_of, is_pending, admitted, IsStateOf}
-use Rattle.cp_machine.proofs.lines.KernelLines.{pending_at_gate}
+use Rattle.cp_machine.proofs.ListLemmas.{passes_within}
+use Rattle.cp_machine.proofs.lines.KernelLines.{gate_within, pending_at_gate}
 pub use Rattle.cp_machine.proofs.LocalReady.{local_ready}
 
 -- a state has the program's processes
 pub threads_count : (r : Tables) (s : State) → IsStateOf r s → length (machine_of s).threads ≡ length r.processes
 threads_count r s own = own.fits.threads
 
-ready_status_within : (ts : List Thread) (p : ℕ) → is_ready_status (thread_at ts p).status ≡ true → p < length ts
-ready_status_within [] p h = absurd (cc)
-ready_status_within (t ∷ ts) zero h = omega arith
-ready_status_within (t ∷ ts) (suc p) h = omega (arith, ready_status_within ts p h)
-
 -- who is ready is one of the threads
 pub ready_thread : (m : Machine) (p : ℕ) → is_ready m p ≡ true → p < length m.threads
-ready_thread m p h = ready_status_within m.threads p h
+ready_thread m p h = passes_within (λ (t : Thread). is_ready_status t.status) m.threads p no_thread refl h
 
 -- who is ready is one of the processes
 pub ready_within : (s : State) (p : ℕ) → is_ready (machine_of s) p ≡ true → p < length s.processes.items
-ready_within s p h = let lt = ready_status_within (machine_of s).threads p h in omega (arith, lt, length-map s.processes.items thread_of)
+ready_within s p h = let lt = ready_thread (machine_of s) p h in omega (arith, lt, length-map s.processes.items thread_of)
 
 pub in_line_within : (pending : Option ℕ) (ts : List Thread) (p : ℕ) → in_line_of pending (thread_at ts p).status ≡ true → p < length ts
 in_line_within None ts p h = absurd (cc)
-in_line_within (Some monitor) [] p h = absurd (cc)
-in_line_within (Some monitor) (t ∷ ts) zero h = omega arith
-in_line_within (Some monitor) (t ∷ ts) (suc p) h = omega (arith, in_line_within (Some monitor) ts p h)
+in_line_within (Some monitor) ts p h = gate_within monitor ts p h
 
 -- who is in the line is one of the processes
 pub line_within : (s : State) (p : ℕ) → in_line (machine_of s) p ≡ true → p < length s.processes.items

@@ -93,15 +93,13 @@ frame_fits : (r : Tables) (f : Frame) (es : List Entry) → StackFits r f es →
 frame_fits r f [] h = h
 frame_fits r f (Rest at ∷ es) h = frame_fits r f es h.1
 frame_fits r f (Successor at value last ∷ es) h = frame_fits r f es h.1
-frame_fits r f (Return caller result monitor ∷ es) h = h.0.fits
-frame_fits r f (InitEnd caller component ∷ es) h = h.0.fits
+frame_fits r f _ h = h.0.fits
 
 stack_within : (r : Tables) (f : Frame) (es : List Entry) → StackFits r f es → length es ≤ r.depth
 stack_within r f [] h = omega arith
-stack_within r f (Rest at ∷ es) h = omega (arith, h.0.deep)
-stack_within r f (Successor at value last ∷ es) h = omega (arith, h.0.deep)
 stack_within r f (Return caller result monitor ∷ es) h = omega (arith, h.1)
 stack_within r f (InitEnd caller component ∷ es) h = omega (arith, h.1)
+stack_within r f _ h = omega (arith, h.0.deep)
 
 -- what a thread that fits has is within what is reserved
 pub thread_within : (r : Tables) (t : Thread) → IsSound r → ThreadFits r t → (length t.stack ≤ r.depth) × (length t.cells ≤ r.cells) × (length t.references ≤ r.references)

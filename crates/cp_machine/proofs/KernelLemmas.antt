@@ -1,24 +1,19 @@
 -- Monitors that are read, queues that are searched, and lines by their length.
-use Rattle.std.proofs.Common.{◌≡◌, ℕ, ◌<◌, ◌≤◌, ◌∙◌, List, [], ◌∷◌, Bool, Some, length, map, ap, sym, refl, arith}
-use Rattle.std.specs.Prelude.{position, slice_index_or}
-use Rattle.std.specs.List.{position_or_len}
-use Rattle.cp_machine.proofs.Words.{get_or-map, length-map, Gate, first_in, one_in, freed}
-use Rattle.cp_machine.specs.Machine.{Machine, monitor_of, no_monitor, with_pending}
+use Rattle.cp_machine.proofs.Words.{◌≡◌, ℕ, ◌<◌, ◌≤◌, ◌∙◌, List, [], ◌∷◌, Bool, Some, length, map, ap, sym, refl, arith, position, slice_index_or, position_or_len}
+use Rattle.cp_machine.proofs.Words.{get_or-map, length-map, Gate, first_in, one_in, freed, Machine, monitor_of, no_monitor, with_pending}
 
 pub guard_read : (gs : List Gate) (monitor : ℕ) (g : Gate) → monitor < length gs → g ≡ slice_index_or gs monitor g → slice_index_or (map monitor_of gs) monitor no_monitor ≡ monitor_of g
 guard_read gs monitor g h e = get_or-map monitor_of gs monitor g no_monitor h ∙ ap monitor_of (sym e)
 
 -- a line of more than one
 pub one_in_many : (m : Machine) (monitor : ℕ) (line : List ℕ) → 1 < length line → one_in m monitor line ≡ with_pending (freed m monitor line) (Some monitor)
-one_in_many m monitor [] h = absurd (omega arith)
-one_in_many m monitor (q ∷ []) h = absurd (omega arith)
 one_in_many m monitor (p ∷ q ∷ line) h = refl
+one_in_many m monitor _ h = absurd (omega arith)
 
 -- a line of at most one
 pub one_in_few : (m : Machine) (monitor : ℕ) (line : List ℕ) → length line ≤ 1 → one_in m monitor line ≡ first_in m monitor line
-one_in_few m monitor [] h = refl
-one_in_few m monitor (q ∷ []) h = refl
 one_in_few m monitor (p ∷ q ∷ line) h = absurd (omega arith)
+one_in_few m monitor _ h = refl
 
 place_map : {X Y : Type 0} (f : X → Y) (p : Y → Bool) (xs : List X) → position_or_len p (map f xs) ≡ position_or_len (λ x. p (f x)) xs
 place_map f p [] = refl

@@ -11,6 +11,8 @@ pub mod Overwriting
 pub mod ResultLemmas
 pub mod StackLemmas
 pub mod StartLemmas
+pub mod StepKeeps
+pub mod Stepping
 pub mod StoreLemmas
 pub mod TakeLemmas
 pub mod ThreadLemmas

@@ -1,7 +1,6 @@
--- Numbers below a bound that pass a test, and tests of a list's images.
-use Rattle.std.proofs.Common.{arith, ◌≡◌, ℕ, zero, suc, ◌+◌, ◌-◌, ◌≤◌, ◌∙◌, List, [], ◌∷◌, ◌++◌, Bool, true, false, map, ap, sym, refl, cond}
-use Rattle.std.specs.Prelude.{◌||◌}
-use Rattle.std.specs.List.{filter, range_with_len, list_any}
+-- Numbers below a bound that pass a test, tests of a list's images, and lists of which one element changes.
+use Rattle.std.proofs.Common.{arith, ◌≡◌, ℕ, zero, suc, ◌+◌, ◌-◌, ◌<◌, ◌≤◌, ◌∙◌, ◌⊎◌, inl, inr, List, [], ◌∷◌, ◌++◌, length, Bool, true, false, map, ap, sym, subst, refl, cond, get_or-set_same, get_or-set_other}
+use Rattle.cp_machine.proofs.Words.{◌||◌, slice_index_or, slice_set, filter, range_with_len, list_any, cases_eq}
 use Rattle.std.proofs.lemmas.List.{append-nil, map-id}
 use Rattle.cp_machine.specs.declared.state.Readiness.{Readiness}
 use Rattle.cp_machine.specs.declared.state.Readiness.TheVariants.{Several}
@@ -57,3 +56,33 @@ pub several_done : (f : ℕ → Bool) (k n : ℕ) (r : Readiness) → k ≤ n �
 several_done f k n r le h is =
     let e : k + (n - k) ≡ n = omega (arith, le) in
     sym (ap (λ i. readiness_of (filter f (range_with_len 0 i))) (sym e) ∙ several_kept f k (n - k) (sym h ∙ is))
+
+-- where one element of a list changes, all are to what they were as it is
+pub set_related : {X : Type 0} (R : X → X → Type 0) → ((x : X) → R x x) → (xs : List X) (at : ℕ) (y d : X) → R (slice_index_or xs at d) y → (k : ℕ) → R (slice_index_or xs k d) (slice_index_or (slice_set xs at y) k d)
+set_related R same [] at y d h k = same d
+set_related R same (x ∷ xs) zero y d h zero = h
+set_related R same (x ∷ xs) zero y d h (suc k) = same (slice_index_or xs k d)
+set_related R same (x ∷ xs) (suc at) y d h zero = same x
+set_related R same (x ∷ xs) (suc at) y d h (suc k) = set_related R same xs at y d h k
+
+-- the one that changes is the new one, or there is none
+pub set_itself : {X : Type 0} (P : X → Type 0) (xs : List X) (at : ℕ) (y d : X) → P y → P d → P (slice_index_or (slice_set xs at y) at d)
+set_itself P [] at y d new none = none
+set_itself P (x ∷ xs) zero y d new none = new
+set_itself P (x ∷ xs) (suc at) y d new none = set_itself P xs at y d new none
+
+-- what holds of the new one, and of each other one, holds of each
+pub each_set : {X : Type 0} (P : ℕ → X → Type 0) (xs : List X) (at : ℕ) (y d : X) → (at < length xs → P at y) → ((k : ℕ) → k < length xs → (k ≡ at → ⊥) → P k (slice_index_or xs k d)) → (k : ℕ) → k < length xs → P k (slice_index_or (slice_set xs at y) k d)
+each_set P xs at y d new others k lt = go (cases_eq k at)
+  where
+    go : (k ≡ at) ⊎ (k ≡ at → ⊥) → P k (slice_index_or (slice_set xs at y) k d)
+    go (inl e) =
+        let here : at < length xs = omega (arith, e, lt) in
+        subst (λ j. P j (slice_index_or (slice_set xs at y) j d)) (sym e) (subst (P at) (sym (get_or-set_same xs at y d here)) (new here))
+    go (inr ne) = subst (P k) (sym (get_or-set_other xs at k y d ne)) (others k lt ne)
+
+-- where a test fails of nothing, what passes it is one of the list
+pub passes_within : {X : Type 0} (f : X → Bool) (xs : List X) (k : ℕ) (d : X) → f d ≡ false → f (slice_index_or xs k d) ≡ true → k < length xs
+passes_within f [] k d none h = absurd (cc)
+passes_within f (x ∷ xs) zero d none h = omega arith
+passes_within f (x ∷ xs) (suc k) d none h = omega (arith, passes_within f xs k d none h)

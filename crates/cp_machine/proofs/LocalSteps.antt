@@ -1,11 +1,9 @@
 -- A statement of a frequent kind is done by a local step, or leaves the machine as it was.
 use Rattle.std.proofs.Common.{◌≡◌, ◌∙◌, ℕ, ◌<◌, List, length, Option, Result, Ok, Err, Bool, true, false, refl, ap, sym, subst, if◌then◌else◌}
-use Rattle.cp_machine.proofs.Words.{ℤ, int_eq, length-map, Tables, Action, For, Item, OrdinalExpression, Place, ErrorName, ranged, Event, Entry, State}
-use Rattle.cp_machine.proofs.Words.{Machine, is_pending, is_ready, is_some, machine_of, value_of, address_of, Reaches}
+use Rattle.cp_machine.proofs.Words.{ℤ, int_eq, Tables, Action, For, Item, OrdinalExpression, Place, ErrorName, ranged, Event, Entry, State, Machine, is_pending, is_ready}
+use Rattle.cp_machine.proofs.Words.{is_some, machine_of, value_of, address_of, Reaches, IsReserved, IsStateOf, LinesFit, MachineFits, is_local, step_at}
 use Rattle.cp_machine.specs.declared.event.Event.TheVariants.{Local, Kernel, Ended, Fault, OutputFull}
-use Rattle.cp_machine.specs.Fits.{IsReserved, IsStateOf, LinesFit, MachineFits}
 use Rattle.cp_machine.specs.Statements.{Stepped, with_value, outcome, local, assign, branch, while_do, until, next_value, succeeded}
-use Rattle.cp_machine.specs.Step.{is_local, step_at}
 use Rattle.cp_machine.proofs.rooms.KeepingAct.{step_fits}
 use Rattle.cp_machine.proofs.LocalReady.{local_ready}
 use Rattle.cp_machine.proofs.frames.ReachingKept.{step_reaches}

@@ -1,13 +1,10 @@
 -- What a statement comes to, by what its parts answer.
 use Rattle.std.proofs.Common.{◌≡◌, ◌∙◌, ℕ, ◌<◌, Bool, true, false, if◌then◌else◌, List, length, Option, Result, Ok, Err, ap, sym, subst, arith, get_or-set_same}
-use Rattle.cp_machine.proofs.Words.{ℤ, int_eq, length-map, length-set, OrdinalExpression, PlaceOrigin, Place, ErrorName, Address, SetValue, Memory, ranged}
-use Rattle.cp_machine.proofs.Words.{Entry, State, HasCells, rest_of}
-use Rattle.cp_slots.specs.declared.place.SetExpression.{SetExpression}
+use Rattle.cp_machine.proofs.Words.{ℤ, int_eq, length-map, length-set, OrdinalExpression, PlaceOrigin, Place, ErrorName, Address, Memory, ranged, Entry, State, HasCells}
+use Rattle.cp_machine.proofs.Words.{rest_of, address_of, cells_put, memory_at, number_put, value_of}
 use Rattle.cp_store.specs.Inside as store
-use Rattle.cp_store.specs.Sets as sets
 use Rattle.cp_machine.specs.Machine.{Machine, Thread, machine_of, no_thread, thread_at, thread_of, with_stack}
-use Rattle.cp_machine.specs.Memory.{address_of, cells_put, memory_at, number_put, set_of, set_put, value_of}
-use Rattle.cp_machine.specs.Statements.{Stepped, assign, assign_set, assigned, copy, fault, for_from, gone_on, is_beyond, local, next_turn, next_value, set_assigned, with_value}
+use Rattle.cp_machine.specs.Statements.{assign, assigned, copy, fault, for_from, gone_on, is_beyond, local, next_turn, next_value, with_value}
 
 -- ---- a process whose control stack alone changed
 

@@ -1,5 +1,5 @@
 -- The last element of a list is overwritten.
-use Rattle.std.proofs.Common.{◌≡◌, ◌∙◌, ℕ, ◌<◌, ◌-◌, suc, List, [], ◌∷◌, ◌++◌, length, refl, reverse, drop, slice_set, ap, sym, arith}
+use Rattle.std.proofs.Common.{◌≡◌, ◌∙◌, ◌<◌, ◌-◌, List, [], ◌∷◌, ◌++◌, length, refl, reverse, drop, slice_set, ap, arith}
 use Rattle.std.proofs.lemmas.List.{set_at, length-reverse, reverse-append, reverse-reverse}
 
 -- of a list that is read from its end

@@ -1,7 +1,6 @@
 -- A function's result is there.
-use Rattle.cp_machine.proofs.Words.{◌≡◌, ℕ, ◌+◌, ◌<◌, List, ◌∷◌, length, Option, Some, None, arith, subst, Tables, routine_at, Frame, Entry, Return, InitEnd}
-use Rattle.cp_machine.proofs.Words.{StackFits, ThreadFits, size_of, Thread}
-use Rattle.cp_machine.specs.Reach.{ResultReaches, StackReaches, ThreadReaches}
+use Rattle.cp_machine.proofs.Words.{◌≡◌, ℕ, ◌+◌, ◌<◌, List, ◌∷◌, length, Option, Some, None, arith, subst, Tables, routine_at, Frame, Entry, Return, InitEnd, StackFits}
+use Rattle.cp_machine.proofs.Words.{ThreadFits, size_of, Thread, ResultReaches, StackReaches, ThreadReaches}
 use Rattle.cp_machine.specs.Results.{HasResult}
 
 result_there : (r : Tables) (t : Thread) (caller : Frame) (slot : Option ℕ) → length t.cells ≡ t.frame.base + size_of r t.frame.routine → t.frame.base ≡ caller.base + size_of r caller.routine → ResultReaches r t.frame caller slot → HasResult t caller (routine_at r t.frame.routine).result slot

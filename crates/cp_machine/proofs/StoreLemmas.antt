@@ -1,11 +1,10 @@
 -- Writes keep how many cells and references there are.
-use Rattle.cp_machine.proofs.Words.{◌≡◌, ◌∙◌, ℕ, zero, suc, List, [], ◌∷◌, length, refl, length-set, Argument, Bound, Address, Permanent, Local, Frame}
-use Rattle.cp_machine.proofs.Words.{SetValue, set_written}
+use Rattle.cp_machine.proofs.Words.{◌≡◌, ◌∙◌, ℕ, zero, suc, List, [], ◌∷◌, length, refl, length-set, Argument, Bound, Address, Permanent, Local, Frame, SetValue}
+use Rattle.cp_machine.proofs.Words.{set_written, Memory, onward, moved, cell_at, put_number, put_copy}
 use Rattle.std.specs.Prelude.{ℤ, ◌/◌, ◌%◌, ◌^◌}
 use Rattle.std.specs.Int.{cast_signed, w16}
 use Rattle.cp_store.specs.declared.argument.Bound.TheVariants.{Scalar, Set, Copy, Reference, Component}
 use Rattle.cp_store.specs.Arguments.{put_value, put_in_frame, bound_in_frame, bound_in_component, put_binding, bindings_after}
-use Rattle.cp_store.specs.Memory.{Memory, onward, moved, cell_at, put_number, put_copy}
 use Rattle.cp_store.specs.Sets.{put_word, put_pair, put_quad, put_set}
 
 -- as many cells and references
@@ -56,8 +55,7 @@ kept_value : (x : Memory) (at : Address) (b : Bound) → Kept (put_value x at b)
 kept_value x at (Scalar z) = kept_number x at z
 kept_value x at (Set s) = kept_set_value x at s
 kept_value x at (Copy from n) = kept_copy x at from n
-kept_value x at (Reference place) = kept_same x
-kept_value x at (Component number) = kept_same x
+kept_value x at _ = kept_same x
 
 kept_in_frame : (x : Memory) (f : Frame) (slot : ℕ) (b : Bound) → Kept (put_in_frame x f slot b) x
 kept_in_frame x f slot (Reference place) = record { permanents = refl; cells = refl; references = length-set x.references (onward f.references slot) place }
@@ -82,10 +80,7 @@ kept_component x base (a ∷ arguments) (b ∷ bs) =
 
 length_binding : (bindings : List ℕ) (number : ℕ) (b : Bound) → length (put_binding bindings number b) ≡ length bindings
 length_binding bindings number (Component component) = length-set bindings number component
-length_binding bindings number (Scalar z) = refl
-length_binding bindings number (Set s) = refl
-length_binding bindings number (Copy from n) = refl
-length_binding bindings number (Reference place) = refl
+length_binding bindings number _ = refl
 
 pub length-bindings : (bindings : List ℕ) (base : ℕ) (arguments : List Argument) (bs : List Bound) → length (bindings_after bindings base arguments bs) ≡ length bindings
 length-bindings bindings base [] bs = refl

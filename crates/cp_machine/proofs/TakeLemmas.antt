@@ -1,7 +1,6 @@
 -- What the item that a process takes needs is there.
-use Rattle.std.proofs.Common.{◌≡◌, ◌∙◌, ℕ, ◌<◌, List, ◌∷◌, length, Option, ap, sym, subst, arith, true}
-use Rattle.cp_machine.proofs.Words.{ℤ, length-map, Tables, item_at, InnerFits, CallFits, ActionFits, Action, Item, Argument, Entry, Rest, Successor, State}
-use Rattle.cp_machine.proofs.Words.{is_ready, machine_of, monitor_of, thread_of}
+use Rattle.cp_machine.proofs.Words.{◌≡◌, ◌∙◌, ℕ, ◌<◌, List, ◌∷◌, length, Option, ap, sym, subst, arith, true, ℤ, length-map, Tables, item_at, InnerFits, CallFits}
+use Rattle.cp_machine.proofs.Words.{ActionFits, Action, Item, Argument, Entry, Rest, Successor, State, is_ready, machine_of, monitor_of, thread_of}
 use Rattle.cp_machine.specs.Fits.{EntryFits, ThreadFits, IsStateOf, IsBusy, HasRoom, HasCallRoom, HaveGateRoom}
 use Rattle.cp_machine.proofs.rooms.KeepingAct.{action_fits}
 use Rattle.cp_machine.proofs.lines.KernelLines.{line_short}

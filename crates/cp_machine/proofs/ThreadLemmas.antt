@@ -1,6 +1,5 @@
 -- A process that is read or changed is a thread that is read or changed.
-use Rattle.cp_machine.proofs.Words.{◌≡◌, ℕ, ◌<◌, ◌∙◌, List, length, map, ap, sym, slice_index_or, get_or-map, Memory, ProcessState, Gate, memory_at}
-use Rattle.cp_machine.proofs.Words.{with_memory}
+use Rattle.cp_machine.proofs.Words.{◌≡◌, ℕ, ◌<◌, ◌∙◌, List, length, map, ap, sym, slice_index_or, get_or-map, Memory, ProcessState, Gate, memory_at, with_memory}
 use Rattle.cp_machine.specs.Machine.{Machine, Thread, monitor_of, thread_of, thread_at, no_thread, no_monitor, with_permanents, with_thread}
 
 pub thread_read : (ps : List ProcessState) (pid : ℕ) (p : ProcessState) → pid < length ps → p ≡ slice_index_or ps pid p → thread_at (map thread_of ps) pid ≡ thread_of p

@@ -1,56 +1,57 @@
 -- The names that many proofs of this crate use, from one place.
-pub use Rattle.std.proofs.Common.{Bool, Err, List, None, Ok, Option, Result, Some, [], ap, arith, drop, eqb, false, get_or-set_same, length, map, of_z, refl}
-pub use Rattle.std.proofs.Common.{rules, subst, suc, sym, take, to_z, true, w16, zero, ℕ, ◌++◌, ◌+◌, ◌<◌, ◌∙◌, ◌∷◌, ◌≡◌, ◌≤◌}
-pub use Rattle.std.proofs.lemmas.Bool.{cases_eq, cases_lt, ltb-true}
-pub use Rattle.std.proofs.lemmas.List.{append-nil, get_or-map, length-append, length-map, length-reverse, length-set, map-set, with_items_is}
-pub use Rattle.std.specs.List.{IsDistinct, filter, range_with_len}
+pub use Rattle.std.proofs.Common.{Bool, Err, List, None, Ok, Option, Result, Some, [], ap, arith, drop, eqb, false, get_or-set_same, inl, inr, length, map, of_z, refl}
+pub use Rattle.std.proofs.Common.{rules, subst, suc, sym, take, to_z, true, w16, zero, ℕ, ◌++◌, ◌+◌, ◌-◌, ◌<◌, ◌∙◌, ◌∷◌, ◌≡◌, ◌≤◌, ◌⊎◌}
+pub use Rattle.std.proofs.lemmas.Bool.{cases_eq, cases_lt, false≢true, ltb-true}
+pub use Rattle.std.proofs.lemmas.List.{append-nil, append_assoc, get_or-map, length-append, length-map, length-reverse, length-set, map-set, with_items_is}
+pub use Rattle.std.specs.List.{IsDistinct, filter, list_any, position_or_len, range_with_len}
 pub use Rattle.std.specs.Ordering.{int_eq}
-pub use Rattle.std.specs.Prelude.{IfSome, nat_lt, pos, replicate, slice_index_or, slice_set, vec_capacity, vec_len, ℤ, ◌&&◌, ◌==◌}
+pub use Rattle.std.specs.Prelude.{IfSome, IsTrue, nat_lt, pos, position, replicate, slice_index_or, slice_set, vec_capacity, vec_len, ℤ, ◌&&◌, ◌==◌, ◌||◌}
 pub use Rattle.arrayvec.specs.ArrayVec.{array_vec_len}
 pub use Rattle.cp_slots.specs.Fits.{ActionFits, CallFits, InnerFits, IsSound, KindFits, ListFits}
-pub use Rattle.cp_slots.specs.Inside.{arguments_inside, binds_from, component_inside, result_inside}
-pub use Rattle.cp_slots.specs.Systems.{ActionNames, IsOf, IsTyped, Names, own_of, parameter_count}
+pub use Rattle.cp_slots.specs.Inside.{SET_CELLS, action_inside, arguments_inside, binds_from, component_inside, result_inside}
+pub use Rattle.cp_slots.specs.Systems.{ActionNames, Hands, HandsOne, IsItself, IsOf, IsTyped, Names, own_of, parameter_count}
 pub use Rattle.cp_slots.specs.Tables.{RoutineView, Tables, component_at, item_at, no_process, parameter_at, process_at, routine_at, system_at}
 pub use Rattle.cp_slots.specs.declared.item.Action.{Action}
-pub use Rattle.cp_slots.specs.declared.item.Action.TheVariants.{Assign, AssignSet, Block, Call, Case, Continue, Copy, Cycle, Delay, Display, For, If, Start}
-pub use Rattle.cp_slots.specs.declared.item.Action.TheVariants.{Until, While}
+pub use Rattle.cp_slots.specs.declared.item.Action.TheVariants.{Assign, AssignSet, Block, Call, Case, Continue, Copy, Cycle, Delay, Display, Empty, For, If, Start, Until}
+pub use Rattle.cp_slots.specs.declared.item.Action.TheVariants.{While}
 pub use Rattle.cp_slots.specs.declared.item.Item.{Item}
 pub use Rattle.cp_slots.specs.declared.item.ResolvedArm.{ResolvedArm}
 pub use Rattle.cp_slots.specs.declared.place.Argument.{Argument}
+pub use Rattle.cp_slots.specs.declared.place.ArgumentValue.{ArgumentValue}
 pub use Rattle.cp_slots.specs.declared.place.ComponentPlace.{ComponentPlace}
 pub use Rattle.cp_slots.specs.declared.place.OrdinalExpression.{OrdinalExpression}
 pub use Rattle.cp_slots.specs.declared.place.Place.{Place}
 pub use Rattle.cp_slots.specs.declared.place.PlaceOrigin.{PlaceOrigin}
 pub use Rattle.cp_slots.specs.declared.tables.ComponentKind.{ComponentKind}
 pub use Rattle.cp_store.proofs.Reaches.{and_left, and_right}
-pub use Rattle.cp_store.specs.Arguments.{bindings_after, bound_in_component, bound_in_frame}
+pub use Rattle.cp_store.specs.Arguments.{bindings_after, bound_in_component, bound_in_frame, bounds_or, put_in_frame, put_value}
 pub use Rattle.cp_store.specs.Inside.{AllFitComponent, Covers, FindsComponent}
-pub use Rattle.cp_store.specs.Memory.{Memory, memory_of, nowhere, onward, put_copy, put_number}
-pub use Rattle.cp_store.specs.Values.{is_true, ranged}
+pub use Rattle.cp_store.specs.Memory.{Memory, cell_at, memory_of, moved, nowhere, onward, put_copy, put_number}
+pub use Rattle.cp_store.specs.Places.{address_at, origin_address, referred}
+pub use Rattle.cp_store.specs.Values.{is_true, ranged, then_with}
 pub use Rattle.cp_store.specs.declared.argument.Bound.{Bound}
 pub use Rattle.cp_store.specs.declared.error.ErrorName.{ErrorName}
 pub use Rattle.cp_store.specs.declared.memory.Address.{Address}
 pub use Rattle.cp_store.specs.declared.memory.Address.TheVariants.{Local, Permanent}
 pub use Rattle.cp_store.specs.declared.memory.Frame.{Frame}
 pub use Rattle.cp_store.specs.declared.set.SetValue.{SetValue}
-pub use Rattle.cp_machine.specs.Calls.{called, called_by, called_in, continued_from, frame_behind, left, opened, started}
-pub use Rattle.cp_machine.specs.Fits.{AreFirstKnown, EntryFits, FrameFits, HasCallRoom, HasRoom, HaveCells, HaveGateRoom, HaveReferences, HaveStacks}
-pub use Rattle.cp_machine.specs.Fits.{LinesFit, MachineFits, StackFits, ThreadFits, size_of}
-pub use Rattle.cp_machine.specs.Kernel.{delayed, entered, first_in, freed, one_in}
-pub use Rattle.cp_machine.specs.Machine.{Machine, Monitor, Thread, in_line, is_at_gate, is_delayed_at, is_initialised, is_pending, is_ready, is_ready_status}
-pub use Rattle.cp_machine.specs.Machine.{is_some, is_uninitialised, is_unstarted, machine_of, monitor_at, monitor_of, no_monitor, no_thread, phase_at}
-pub use Rattle.cp_machine.specs.Machine.{readiness_of, thread_at, thread_of, under, with_bindings, with_permanents, with_phase, with_stack, with_status}
-pub use Rattle.cp_machine.specs.Machine.{with_thread}
-pub use Rattle.cp_machine.specs.Memory.{address_of, arguments_of, cells_put, component_of, frame_opened, memory_at, number_put, origin_of, parameters_bound}
-pub use Rattle.cp_machine.specs.Memory.{set_of, value_of, with_memory}
+pub use Rattle.cp_machine.specs.Calls.{call, called, called_by, called_in, continued_from, frame_behind, left, opened, start, started}
+pub use Rattle.cp_machine.specs.Fits.{AreFirstKnown, EntryFits, Follows, FrameFits, HasCallRoom, HasRoom, HaveCells, HaveGateRoom, HaveReferences, HaveStacks, IsBusy}
+pub use Rattle.cp_machine.specs.Fits.{IsFirstKnown, IsReserved, IsStateOf, IsTaken, LinesFit, MachineFits, StackFits, ThreadFits, size_of}
+pub use Rattle.cp_machine.specs.Kernel.{continued, delayed, entered, entered_by, first_in, freed, goes_in, let_in, let_in_by, one_in, resumed, waits_in}
+pub use Rattle.cp_machine.specs.Machine.{Machine, Monitor, Thread, in_line, is_at_gate, is_delayed_at, is_initialised, is_pending, is_ready, is_ready_status, is_some}
+pub use Rattle.cp_machine.specs.Machine.{is_uninitialised, is_unstarted, machine_of, monitor_at, monitor_of, no_monitor, no_thread, phase_at, readiness_of, thread_at}
+pub use Rattle.cp_machine.specs.Machine.{thread_of, under, with_bindings, with_output, with_pending, with_permanents, with_phase, with_stack, with_status, with_thread}
+pub use Rattle.cp_machine.specs.Memory.{address_of, arguments_of, cells_put, component_of, frame_opened, memory_at, number_put, origin_of, parameters_bound, set_of}
+pub use Rattle.cp_machine.specs.Memory.{value_of, with_memory}
 unfoldable pub use Rattle.cp_machine.specs.Memory.{set_written}
 pub use Rattle.cp_machine.specs.Opening.{admitted, admitted_at, opening, still, unstarted_thread, without}
-pub use Rattle.cp_machine.specs.Reach.{AreBound, EndsBegun, Executes, ExecutesAs, FitsComponent, FrameReaches, HasBegunAs, HasCells, IsBehind, Reaches}
-pub use Rattle.cp_machine.specs.Reach.{StackExecutes, StackReaches, ThreadReaches, frame_at}
-pub use Rattle.cp_machine.specs.Stack.{from_end, rest_of, top_first}
-pub use Rattle.cp_machine.specs.Statements.{Stepped, arm_for, assign, branch, fault, gone_on, is_beyond, local, next_value, outcome, succeeded, until}
-pub use Rattle.cp_machine.specs.Statements.{while_do, with_value}
-pub use Rattle.cp_machine.specs.Step.{act, step_at, take_top}
+pub use Rattle.cp_machine.specs.Reach.{AreBound, CanCall, CanStart, EndsBegun, Executes, ExecutesAs, FitsComponent, FitsNew, FitsOwn, FrameReaches, HasBegunAs, HasCells}
+pub use Rattle.cp_machine.specs.Reach.{IsBehind, Reaches, ResultReaches, StackExecutes, StackReaches, ThreadReaches, frame_at}
+pub use Rattle.cp_machine.specs.Stack.{above, from_end, is_inner, rest_of, top_first}
+pub use Rattle.cp_machine.specs.Statements.{Stepped, arm_for, assign, branch, case_of, fault, gone_on, is_beyond, local, next_turn, next_value, outcome, show, succeeded}
+pub use Rattle.cp_machine.specs.Statements.{until, while_do, with_value}
+pub use Rattle.cp_machine.specs.Step.{act, is_local, step_at, take_top}
 pub use Rattle.cp_machine.specs.declared.event.Event.{Event}
 pub use Rattle.cp_machine.specs.declared.event.Event.TheVariants.{Kernel}
 pub use Rattle.cp_machine.specs.declared.gates.Gates.{Gates}
@@ -60,6 +61,7 @@ pub use Rattle.cp_machine.specs.declared.process.Entry.TheVariants.{InitEnd, Res
 pub use Rattle.cp_machine.specs.declared.process.ProcessState.{ProcessState}
 pub use Rattle.cp_machine.specs.declared.process.Status.{Status}
 pub use Rattle.cp_machine.specs.declared.process.Status.TheVariants.{AtGate, Delayed, Ended, Ready, Unstarted}
+pub use Rattle.cp_machine.specs.declared.shown.Shown.{Shown}
 pub use Rattle.cp_machine.specs.declared.state.Gate.{Gate}
 pub use Rattle.cp_machine.specs.declared.state.Phase.{Phase}
 pub use Rattle.cp_machine.specs.declared.state.Phase.TheVariants.{Initialised, Initialising, Uninitialised}

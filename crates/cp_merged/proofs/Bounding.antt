@@ -6,7 +6,7 @@ use Rattle.cp_machine.specs.Fits.{IsStateOf, LinesFit, MachineFits}
 use Rattle.cp_machine.specs.Reach.{Reaches}
 use Rattle.cp_machine.specs.System.{Machine, admitted, is_pending, is_ready, in_line, machine_of, step_at}
 use Rattle.cp_machine.specs.declared.event.Event.{Event}
-use Rattle.cp_machine.specs.declared.event.Event.TheVariants.{Local, Kernel, Ended as ProcessEnded, Fault, OutputFull}
+use Rattle.cp_machine.specs.declared.event.Event.TheVariants.{Local, Fault, OutputFull}
 use Rattle.cp_machine.proofs.CallerLemmas.{admitted_free, local_ready, ready_thread}
 use Rattle.cp_machine.proofs.rooms.KeepingAct.{step_fits}
 use Rattle.cp_machine.proofs.rooms.KernelFits.{admitted_fits}
@@ -40,9 +40,8 @@ module _ (r : Tables) (gates : Gates) where
 
   -- whom a turn names
   abbrev named : Turn → ℕ
-  named (Over kind) = 0
-  named Due = 0
   named (Goes q) = q
+  named _ = 0
 
   among_ready : (m : Machine) (kernel : Bool) (p q : ℕ) → (kernel ≡ false → is_ready m p ≡ true) → (ready : List ℕ) → those_below (processes_of r) (is_ready m) ≡ ready → turn_among (slots r gates) m kernel p ready ≡ Goes q → is_ready m q ≡ true
   among_ready m kernel p q on [] is e = nobody ((slots r gates).waits m) e
@@ -68,10 +67,9 @@ module _ (r : Tables) (gates : Gates) where
       let n = (step_at r m p).machine in
       let still : is_ready n p ≡ true = local_ready r m n p Local (ready_thread m p ready) ready (ap (λ event. record { machine = n; event = event }) is) refl in
       turn_ready n false p q (λ local. still) (is_pending n) refl e
-  after_ready m p q ready (Kernel call) is e = turn_ready (step_at r m p).machine true p q (λ local. absurd (cc)) (is_pending (step_at r m p).machine) refl e
-  after_ready m p q ready ProcessEnded is e = turn_ready (step_at r m p).machine true p q (λ local. absurd (cc)) (is_pending (step_at r m p).machine) refl e
   after_ready m p q ready (Fault error) is e = absurd (cc)
   after_ready m p q ready OutputFull is e = absurd (cc)
+  after_ready m p q ready _ is e = turn_ready (step_at r m p).machine true p q (λ local. absurd (cc)) (is_pending (step_at r m p).machine) refl e
 
   -- ---- steps
 
@@ -95,12 +93,11 @@ module _ (r : Tables) (gates : Gates) where
   turned : (left : ℕ) (m : Machine) (p : ℕ) → Fine r m → is_ready m p ≡ true → is_pending m ≡ false →
       ((q : ℕ) → is_ready (step_at r m p).machine q ≡ true → is_pending (step_at r m p).machine ≡ false → Bounds (step_at r m p).machine (standing (stretch (slots r gates) left (step_at r m p).machine q))) →
       (turn : Turn) → turn_after (slots r gates) (step_at r m p).machine p (step_at r m p).event ≡ turn → Bounds m (standing (node_at (step_at r m p).machine (stretch (slots r gates) left (step_at r m p).machine) turn))
-  turned left m p h ready free on (Over kind) is = step_bound m p h ready free
-  turned left m p h ready free on Due is = step_bound m p h ready free
   turned left m p h ready free on (Goes q) is =
       let n = (step_at r m p).machine in
       let next = after_ready m p q ready (step_at r m p).event refl is in
       bounds_trans m n (standing (stretch (slots r gates) left n q)) (step_bound m p h ready free) (on q next.0 next.1)
+  turned left m p h ready free on _ is = step_bound m p h ready free
 
   stretch_bound : (left : ℕ) (m : Machine) (p : ℕ) → Fine r m → is_ready m p ≡ true → is_pending m ≡ false → Bounds m (standing (stretch (slots r gates) left m p))
   unfolding stretch
@@ -112,13 +109,12 @@ module _ (r : Tables) (gates : Gates) where
   -- ---- a choice
 
   admission_bound : (steps : ℕ) (m : Machine) (p : ℕ) → Fine r m → in_line m p ≡ true → (turn : Turn) → settled_turn (slots r gates) (admitted m p) true p ≡ turn → Bounds m (standing (node_at (admitted m p) (stretch (slots r gates) steps (admitted m p)) turn))
-  admission_bound steps m p h line (Over kind) is = admitted_bounds m p
-  admission_bound steps m p h line Due is = admitted_bounds m p
   admission_bound steps m p h line (Goes q) is =
       let n = admitted m p in
       let fine : Fine r n = record { sound = h.sound; fits = admitted_fits r m p h.fits; lines = admitted_lines m p h.lines line; reach = admitted_reaches r m p line h.reach } in
       bounds_trans m n (standing (stretch (slots r gates) steps n q)) (admitted_bounds m p)
       (stretch_bound steps n q fine (settled_ready n true p q (λ local. absurd (cc)) is) (admitted_free m n p line refl))
+  admission_bound steps m p h line _ is = admitted_bounds m p
 
   chosen_bound : (steps : ℕ) (m : Machine) (p : ℕ) → Fine r m → may (slots r gates) m p ≡ true → (b : Bool) → is_pending m ≡ b → Bounds m (standing (chosen (slots r gates) steps m p))
   chosen_bound steps m p h goes true pending =

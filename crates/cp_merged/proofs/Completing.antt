@@ -1,7 +1,7 @@
 -- A table without choice-limit stays as it is with more choices; and closed states bound all tables.
 use Rattle.std.proofs.Common.{◌≡◌, ◌∙◌, ◌+◌, ℕ, zero, suc, Bool, true, false, if◌then◌else◌, List, [], ◌∷◌, ◌++◌, map, refl, sym, ap, subst}
 use native.Mathlib.Numerals.{unary_clauses}
-use Rattle.cp_merged.proofs.Words.{OutcomeKind, Finished, AllWaiting, RunError, ChoiceLimit, StepLimit, OutputLimit, System, joined_below, Node, Halted, Choosing, may}
+use Rattle.cp_merged.proofs.Words.{OutcomeKind, ChoiceLimit, System, joined_below, Node, Halted, Choosing, may}
 use Rattle.cp_merged.proofs.Words.{chosen, opened, Line, table, behind, walk, table_walk, All-from_recursion, recursion_from_All}
 use Rattle.std.specs.List.{AllByRecursion as Each}
 use Rattle.std.specs.Prelude.{All}
@@ -55,12 +55,8 @@ complete sys choices steps (suc more) c =
     ap (λ k. table sys k steps) (simp unary_clauses refl) ∙ table_more sys (choices + more) steps (subst IsComplete (sym rest) c) ∙ rest
 
 known_of : (known : OutcomeKind → Type 0) (kind : OutcomeKind) → known kind → IsKnown known kind
-known_of known Finished k = k
-known_of known AllWaiting k = k
-known_of known (RunError name process line) k = k
 known_of known ChoiceLimit k = tt
-known_of known StepLimit k = k
-known_of known OutputLimit k = k
+known_of known _ k = k
 
 all_below : (P : Line → Type 0) (n : ℕ) (f : ℕ → List Line) → ((p : ℕ) → Each P (f p)) → Each P (joined_below n f)
 all_below P zero f h = tt

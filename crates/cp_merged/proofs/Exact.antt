@@ -38,9 +38,8 @@ shown_of (suc (suc (suc zero))) n = Truth (n == 1)
 shown_of (suc (suc (suc (suc m)))) n = Constant n
 
 all_of : List ℕ → List Shown
-all_of [] = []
-all_of (m ∷ []) = []
 all_of (m ∷ n ∷ ns) = shown_of m n ∷ all_of ns
+all_of _ = []
 
 not_negative : (n : ℕ) → is_negative (pos n) ≡ false
 not_negative n = le-ltb n 0 (omega arith)
@@ -59,10 +58,8 @@ abbrev made : OutcomeKind → List ℕ → Outcome
 made kind ns = record { kind = kind; output = all_of ns }
 
 of_error : List ℕ → Outcome
-of_error [] = made Finished []
-of_error (name ∷ []) = made Finished []
-of_error (name ∷ process ∷ []) = made Finished []
 of_error (name ∷ process ∷ line ∷ ns) = made (RunError (error_of name) process line) ns
+of_error _ = made Finished []
 
 outcome_of : List ℕ → Outcome
 outcome_of [] = made Finished []

@@ -8,7 +8,7 @@ pub use Rattle.std.specs.Cmp.Lexicographic.{slice_cmp}
 pub use Rattle.std.specs.List.Sorted.{IsPermutation}
 pub use Rattle.std.specs.Map.{lookup}
 pub use Rattle.std.specs.Ordering.{is_lt, nat_cmp}
-pub use Rattle.std.specs.Prelude.{Contains, nat_eq, pos, sum_by}
+pub use Rattle.std.specs.Prelude.{Contains, nat_eq, sum_by}
 pub use Rattle.indexmap.specs.IndexMap.{insert_entry}
 pub use Rattle.cp_slots.specs.Tables.{Tables}
 pub use Rattle.cp_store.specs.declared.error.ErrorName.{ErrorName}
@@ -31,7 +31,7 @@ pub use Rattle.cp_run.specs.Table.{Line, each, table}
 pub use Rattle.cp_run.specs.declared.outcome.Halt.{Halt}
 pub use Rattle.cp_run.specs.declared.outcome.Outcome.{Outcome}
 pub use Rattle.cp_run.specs.declared.outcome.OutcomeKind.{OutcomeKind}
-pub use Rattle.cp_run.specs.declared.outcome.OutcomeKind.TheVariants.{AllWaiting, ChoiceLimit, Finished, OutputLimit, RunError, StepLimit}
+pub use Rattle.cp_run.specs.declared.outcome.OutcomeKind.TheVariants.{AllWaiting, ChoiceLimit, Finished}
 pub use Rattle.cp_walk.proofs.Walks.{table_walk}
 pub use Rattle.cp_walk.specs.Groups.{Tally, tally_text}
 pub use Rattle.cp_walk.specs.Report.{outcome_numbers, same_outcome}

@@ -32,13 +32,13 @@ use std::mem;
 pub const MOST_OUTCOMES: usize = 50_000;
 
 /// The states of a layer.
-pub type Layer = IndexMap<StateRow, Prefixes>;
+pub type StateLayer = IndexMap<StateRow, Prefixes>;
 
 /// The outcomes of the words that have ended.
 pub type Ends = IndexMap<EndKey, Prefixes>;
 
 // A state that is known takes no memory.
-fn add_row(layer: &mut Layer, key: StateRow, prefixes: &Prefixes) -> Result<(), AllocError>
+fn add_row(layer: &mut StateLayer, key: StateRow, prefixes: &Prefixes) -> Result<(), AllocError>
     requires { IfSome (lookup (λ k. pointwise nat_eq key.numbers k.numbers) layer.old.entries) (λ y. y.count + prefixes.now.count < 10 ^ 126) }
     ensures { IfOk result (λ _. map keyed layer.new.entries ≡ with_lead (pointwise nat_eq) (map keyed layer.old.entries) (keyed (key, prefixes.now))) }
 {
@@ -69,7 +69,7 @@ fn add_end(ended: &mut Ends, key: EndKey, prefixes: &Prefixes) -> Result<(), All
 #[derive(Drop)]
 pub struct Frontier {
     pub ended: Ends,
-    pub layer: Layer,
+    pub layer: StateLayer,
     /// The parts of all states so far.
     pub store: Store,
 }
@@ -88,7 +88,7 @@ impl Frontier {
     }
 
     /// The layer, in whose place an empty one begins. It has room for as many states, unless memory for them is refused.
-    pub fn take_layer(&mut self, alloc: Global) -> Layer
+    pub fn take_layer(&mut self, alloc: Global) -> StateLayer
         ensures layer { result.entries ≡ self.old.layer.entries }
         ensures empty { self.new.layer.entries ≡ [] }
         ensures ended { self.new.ended.entries ≡ self.old.ended.entries }

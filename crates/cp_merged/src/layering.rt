@@ -13,7 +13,7 @@ ghost use Rattle.cp_merged.specs.Holds.{same_key, AreLeads, AreEnds, Holds, tota
 ghost use Rattle.cp_merged.specs.TooMany.{HasTooManyStates};
 
 use crate::fault::MergeFault;
-use crate::frontier::{Frontier, Layer};
+use crate::frontier::{Frontier, StateLayer};
 use crate::prefixes::Prefixes;
 use crate::word::Word;
 use cp_machine::{Moved, State, Ticks};
@@ -123,7 +123,7 @@ pub fn next_layer<O: ObserveProgress, S: Ledger, C: Ledger>(
     most: usize,
     observer: &mut O,
     depth: u8,
-    layer: &Layer,
+    layer: &StateLayer,
     state: &mut State,
     row: &mut StateRow,
     next: &mut State,
@@ -188,7 +188,7 @@ pub fn end_layer(
     program: &Resolved,
     limits: Limits,
     state: &mut State,
-    layer: &Layer,
+    layer: &StateLayer,
     frontier: &mut Frontier,
 ) -> Result<(), AllocError>
     requires own { IsStateOf program.now state.old }

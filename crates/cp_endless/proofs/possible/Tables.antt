@@ -5,7 +5,7 @@ use Rattle.std.proofs.lemmas.List.Elements.{All-from_recursion}
 use Rattle.cp_machine.specs.declared.event.Event.TheVariants.{Local, Fault, OutputFull}
 use Rattle.cp_run.specs.declared.outcome.OutcomeKind.TheVariants.{Finished, AllWaiting, ChoiceLimit, OutputLimit}
 use Rattle.cp_run.specs.declared.outcome.Outcome.{Outcome}
-use Rattle.cp_run.specs.Run.{those_below, Node, Halted, Choosing, node_at, turn_among, settled_turn, turn_at, turn_after, stretch, opened, may, chosen, Answer, Ended as HasEnded, Wants, NotReady, later, run_from, run}
+use Rattle.cp_run.specs.Run.{those_below, Node, Halted, Choosing, node_at, turn_among, settled_turn, turn_at, turn_after, stretch, opened, may, chosen, Answer, Ended as HasEnded, NotReady, later, run_from, run}
 use Rattle.cp_endless.specs.Forgetting.{OutputDecidesNothing, forgetting_system}
 use Rattle.cp_endless.specs.Tables.{IsKnownEnd, TablesLaw, WitnessLaw}
 use Rattle.cp_endless.proofs.Basics.{each_append}
@@ -26,9 +26,8 @@ same_those (suc n) f g h = ap (λ l. l ++ (if f n then n ∷ [] else [])) (same_
 
 -- the kind of an end
 abbrev kind_in : {S : Type 0} → OutcomeKind → Option (Node S) → OutcomeKind
-kind_in d None = d
 kind_in d (Some (Halted k s)) = k
-kind_in d (Some (Choosing s)) = d
+kind_in d _ = d
 
 same_kind : {S : Type 0} (j k : OutcomeKind) (s t : S) → Some (Halted j s) ≡ Some (Halted k t) → j ≡ k
 same_kind j k s t e = ap (kind_in j) e
@@ -57,8 +56,7 @@ module _ {S : Type 0} (a b : System S) (R : S → S → Type 0) (f : Follows a b
 
   among_same : (s t : S) (kernel : Bool) (p : ℕ) (ready : List ℕ) → R s t → turn_among a s kernel p ready ≡ turn_among b t kernel p ready
   among_same s t kernel p [] r = ap (λ c. if c then Over AllWaiting else Over Finished) (f.waits s t r)
-  among_same s t kernel p (q ∷ []) r = refl
-  among_same s t kernel p (q ∷ z ∷ qs) r = refl
+  among_same s t kernel p _ r = refl
 
   settled_same : (s t : S) (kernel : Bool) (p : ℕ) → R s t → settled_turn a s kernel p ≡ settled_turn b t kernel p
   settled_same s t kernel p r =
@@ -123,8 +121,7 @@ module _ {S : Type 0} (a b : System S) (R : S → S → Type 0) (f : Follows a b
     -- the run stops short of an end, or ends so
     abbrev EndsKnown : Answer → Type 0
     EndsKnown (HasEnded o used) = IsKnownEnd ends o.kind
-    EndsKnown (Wants ready) = Unit {0}
-    EndsKnown (NotReady place) = Unit {0}
+    EndsKnown _ = Unit {0}
 
     known_later : (x : Answer) → EndsKnown x → EndsKnown (later x)
     known_later (HasEnded o used) h = h

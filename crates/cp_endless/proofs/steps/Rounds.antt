@@ -43,11 +43,11 @@ module _ {S : Type 0} (sys : System S) where
   -- ---- a round
 
   module _ (s : S) (p : ℕ) (round : IsRound sys s p) where
-    abbrev times : ℕ → ℕ
+    abbrev pub times : ℕ → ℕ
     times zero = 0
     times (suc k) = suc round.after + times k
 
-    many : (k : ℕ) → k ≤ times k
+    pub many : (k : ℕ) → k ≤ times k
     many zero = omega arith
     many (suc k) = let h = many k in omega (arith, h)
 
@@ -55,7 +55,7 @@ module _ {S : Type 0} (sys : System S) where
     again zero = refl
     again (suc k) = from_there (suc round.after) (times k) round.state round.process round.state round.process round.returns ∙ again k
 
-    arrives : (k : ℕ) → spot_after sys (round.before + times k) s p ≡ Some (round.state, round.process)
+    pub arrives : (k : ℕ) → spot_after sys (round.before + times k) s p ≡ Some (round.state, round.process)
     arrives k = from_there round.before (times k) s p round.state round.process round.comes ∙ again k
 
     never_none : (n : ℕ) → spot_after sys n s p ≡ None → ⊥
@@ -90,7 +90,7 @@ module _ {S : Type 0} (sys : System S) where
       by Due e is on = absurd (cc)
       by (Goes r) e is on = on r e is
 
-  moment_of : (P : Moment S → Type 0) (n : ℕ) (s : S) (p : ℕ) → AnyOf P (stretch_moments sys n s p) → (i : ℕ) × (t : S) × (q : ℕ) × (spot_after sys i s p ≡ Some (t, q)) × P (record { state = t; mover = q })
+  pub moment_of : (P : Moment S → Type 0) (n : ℕ) (s : S) (p : ℕ) → AnyOf P (stretch_moments sys n s p) → (i : ℕ) × (t : S) × (q : ℕ) × (spot_after sys i s p ≡ Some (t, q)) × P (record { state = t; mover = q })
   unfolding stretch_moments
   moment_of P zero s p a = absurd a
   moment_of P (suc n) s p (inl now) = (0, s, p, refl, now)
@@ -160,7 +160,7 @@ module _ {S : Type 0} (sys : System S) where
 
   -- ---- what is so in the whole stretch is so in the round
 
-  any_moment : (P : Moment S → Type 0) (n : ℕ) (s : S) (p i : ℕ) (t : S) (q : ℕ) → i < n → spot_after sys i s p ≡ Some (t, q) → P (record { state = t; mover = q }) → AnyOf P (stretch_moments sys n s p)
+  pub any_moment : (P : Moment S → Type 0) (n : ℕ) (s : S) (p i : ℕ) (t : S) (q : ℕ) → i < n → spot_after sys i s p ≡ Some (t, q) → P (record { state = t; mover = q }) → AnyOf P (stretch_moments sys n s p)
   unfolding stretch_moments
   any_moment P zero s p i t q less is h = absurd (omega (arith, less))
   any_moment P (suc n) s p zero t q less is h = inl (subst (λ (x : S × ℕ). P (record { state = x.0; mover = x.1 })) (sym (some_same (s, p) (t, q) is)) h)

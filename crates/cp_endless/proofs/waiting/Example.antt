@@ -12,9 +12,8 @@ use Rattle.cp_endless.proofs.waiting.Lassos.{lassos}
 -- ---- two processes display for ever, and a third waits
 
 abbrev goes : ℕ → Bool
-goes zero = true
-goes (suc zero) = true
 goes (suc (suc p)) = false
+goes _ = true
 
 -- its states are what was displayed; the processes 0 and 1 are ready in each, and each step displays a seven
 abbrev talkers : System (List Shown)
@@ -64,9 +63,8 @@ unfolding stretch opened chosen may
 talkers_lasso = record { reached = refl; back = refl }
 
 abbrev waits_third : List Shown → ℕ → Bool
-waits_third s zero = false
-waits_third s (suc zero) = false
 waits_third s (suc (suc p)) = true
+waits_third s _ = false
 
 talkers_fair : (p : ℕ) → p < 3 → IsServed silent_talkers p (moments_along silent_talkers 5 (Choosing []) (0 ∷ 1 ∷ []))
 unfolding stretch opened chosen may moments stretch_moments

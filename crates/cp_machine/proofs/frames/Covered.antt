@@ -1,18 +1,15 @@
 -- What the frame of a process may name is there.
-use Rattle.cp_machine.proofs.Words.{◌≡◌, ℕ, ◌+◌, ◌<◌, ◌≤◌, List, [], ◌∷◌, length, ap, arith, slice_index_or, IsSound, IsOf, IsTyped, own_of, Tables}
-use Rattle.cp_machine.proofs.Words.{component_at, routine_at, system_at, Address, Permanent, Local, Frame, Memory, Entry, Rest, Successor, Return, InitEnd}
-use Rattle.cp_machine.proofs.Words.{FrameFits, ThreadFits, MachineFits, size_of, Machine, thread_at, memory_at, IsBehind, FrameReaches, StackReaches}
-use Rattle.cp_machine.proofs.Words.{ThreadReaches}
+use Rattle.cp_machine.proofs.Words.{◌≡◌, ℕ, ◌+◌, ◌<◌, ◌≤◌, List, [], ◌∷◌, length, ap, arith, slice_index_or, IsSound, IsOf, IsTyped, own_of, Tables, component_at}
+use Rattle.cp_machine.proofs.Words.{routine_at, system_at, Address, Permanent, Local, Frame, Memory, Entry, Rest, Successor, FrameFits, ThreadFits, MachineFits, size_of}
+use Rattle.cp_machine.proofs.Words.{Machine, thread_at, memory_at, IsBehind, FrameReaches, StackReaches, ThreadReaches, referred}
 use Rattle.cp_store.specs.Inside.{HasCells, Covers}
-use Rattle.cp_store.specs.Places.{referred}
 use Rattle.cp_machine.proofs.rooms.Keeping.{frame_fits}
 
 pub frame_reaches : (r : Tables) (references : List Address) (f : Frame) (es : List Entry) → StackReaches r references f es → FrameReaches r references f
 frame_reaches r references f [] h = h
 frame_reaches r references f (Rest at ∷ es) h = frame_reaches r references f es h
 frame_reaches r references f (Successor at value last ∷ es) h = frame_reaches r references f es h
-frame_reaches r references f (Return caller slot monitor ∷ es) h = h.0
-frame_reaches r references f (InitEnd caller component ∷ es) h = h.0
+frame_reaches r references f _ h = h.0
 
 -- a component of a system type has the permanent cells that a routine of the type may name
 pub component_has : (r : Tables) (routine component : ℕ) → IsTyped r → routine < length r.routines → IsOf r (routine_at r routine).system component → (component_at r component).base + (routine_at r routine).own ≤ length r.permanents

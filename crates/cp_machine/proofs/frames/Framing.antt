@@ -1,14 +1,12 @@
 -- What the frames of a process may name stays there.
-use Rattle.std.proofs.Common.{◌≡◌, ℕ, zero, suc, ◌+◌, ◌^◌, ◌<◌, ◌≤◌, ◌∙◌, ◌⊎◌, inl, inr, List, [], ◌∷◌, length, Option, Some, None, ap, sym, refl, subst, arith, get_or-set_same, get_or-set_other}
-use Rattle.cp_machine.proofs.Words.{ℤ, pos, slice_set, slice_index_or, cases_eq, length-set, Tables, routine_at, IsSound, Argument, Bound, Address, Permanent}
-use Rattle.cp_machine.proofs.Words.{Local, Frame, SetValue, Entry, Rest, Successor, Return, InitEnd, Status, Ready, AtGate, Delayed, Gates, First, Any}
-use Rattle.cp_machine.proofs.Words.{StackFits, with_memory, set_written, admitted, admitted_at, IsBehind, FrameReaches, StackReaches, ThreadReaches, rest_of}
-use Rattle.cp_machine.proofs.Words.{from_end}
+use Rattle.std.proofs.Common.{◌≡◌, ℕ, zero, suc, ◌+◌, ◌^◌, ◌<◌, ◌≤◌, ◌∙◌, List, [], ◌∷◌, length, Option, Some, None, ap, sym, refl, subst, arith, get_or-set_other}
+use Rattle.cp_machine.proofs.Words.{ℤ, pos, slice_set, slice_index_or, length-set, Tables, routine_at, IsSound, Argument, Bound, Address, Permanent, Local}
+use Rattle.cp_machine.proofs.Words.{Frame, SetValue, Entry, Rest, Successor, Return, InitEnd, Status, Ready, AtGate, Delayed, Gates, First, Any, StackFits, with_memory}
+use Rattle.cp_machine.proofs.Words.{set_written, admitted, admitted_at, IsBehind, FrameReaches, StackReaches, ThreadReaches, rest_of, from_end, put_value, put_in_frame}
+use Rattle.cp_machine.proofs.Words.{bound_in_frame, bound_in_component, Memory, cell_at, moved, nowhere, onward, put_number, put_copy, referred}
 use Rattle.cp_store.specs.declared.argument.Bound.TheVariants.{Scalar, Set, Copy, Reference, Component}
-use Rattle.cp_store.specs.Arguments.{put_value, put_in_frame, bound_in_frame, bound_in_component}
-use Rattle.cp_store.specs.Memory.{Memory, cell_at, moved, nowhere, onward, put_number, put_copy}
-use Rattle.cp_store.specs.Places.{referred}
 use Rattle.cp_store.specs.Sets.{put_set}
+use Rattle.cp_machine.proofs.ListLemmas.{each_set}
 use Rattle.cp_machine.specs.Kernel.{let_in, let_in_by, first_in, one_in, goes_in, entered, entered_by, delayed, continued, resumed, waits_in}
 use Rattle.cp_machine.specs.Machine.{Machine, Thread, thread_at, no_thread, monitor_at, with_permanents, with_thread, with_status, with_stack}
 
@@ -22,11 +20,9 @@ rest_reaches r references f None es h = h
 rest_reaches r references f (Some at) es h = h
 
 pub end_reaches : (r : Tables) (references : List Address) (f : Frame) (es : List Entry) → StackReaches r references f es → StackReaches r references f (from_end es)
-end_reaches r references f [] h = h
 end_reaches r references f (Rest at ∷ es) h = end_reaches r references f es h
 end_reaches r references f (Successor at value last ∷ es) h = end_reaches r references f es h
-end_reaches r references f (Return caller slot monitor ∷ es) h = h
-end_reaches r references f (InitEnd caller component ∷ es) h = h
+end_reaches r references f _ h = h
 
 -- ---- other references, which are the same below a number
 
@@ -63,15 +59,7 @@ stack_agrees r old new n f (InitEnd caller component ∷ es) sound fits within a
 
 -- a thread is replaced by one that reaches its cells, whatever the replaced one did
 pub thread_framed : (r : Tables) (m : Machine) (pid : ℕ) (x : Thread) → (pid < length m.threads → ThreadReaches r x) → ((q : ℕ) → q < length m.threads → (q ≡ pid → ⊥) → ThreadReaches r (thread_at m.threads q)) → Framed r (with_thread m pid x)
-thread_framed r m pid x new others = λ q lt. (let within : q < length m.threads = (let long = length-set m.threads pid x in omega (arith, lt, long)) in go q within (cases_eq q pid))
-  where
-    go : (q : ℕ) → q < length m.threads → (q ≡ pid) ⊎ (q ≡ pid → ⊥) → ThreadReaches r (thread_at (slice_set m.threads pid x) q)
-    go q lt (inl e) =
-        let P : ℕ → Type 0 = λ k. ThreadReaches r (thread_at (slice_set m.threads pid x) k) in
-        let within : pid < length m.threads = omega (arith, e, lt) in
-        let same = get_or-set_same m.threads pid x no_thread within in
-        subst P (sym e) (subst (ThreadReaches r) (sym same) (new within))
-    go q lt (inr ne) = subst (ThreadReaches r) (sym (get_or-set_other m.threads pid q x no_thread ne)) (others q lt ne)
+thread_framed r m pid x new others q lt = each_set (λ k. ThreadReaches r) m.threads pid x no_thread new others q (let long = length-set m.threads pid x in omega (arith, lt, long))
 
 pub status_framed : (r : Tables) (m : Machine) (pid : ℕ) (status : Status) → Framed r m → Framed r (with_status m pid status)
 status_framed r m pid status h = thread_framed r m pid _ (λ lt. h pid lt) (λ q lt ne. h q lt)
@@ -94,9 +82,8 @@ first_in_framed r m monitor [] h = h
 first_in_framed r m monitor (q ∷ line) h = goes_in_framed r m monitor q line h
 
 one_in_framed : (r : Tables) (m : Machine) (monitor : ℕ) (line : List ℕ) → Framed r m → Framed r (one_in m monitor line)
-one_in_framed r m monitor [] h = h
 one_in_framed r m monitor (q ∷ []) h = goes_in_framed r m monitor q [] h
-one_in_framed r m monitor (p ∷ q ∷ line) h = h
+one_in_framed r m monitor _ h = h
 
 let_in_by_framed : (r : Tables) (gates : Gates) (m : Machine) (monitor : ℕ) (line : List ℕ) → Framed r m → Framed r (let_in_by gates m monitor line)
 let_in_by_framed r First m monitor line h = first_in_framed r m monitor line h
@@ -153,8 +140,7 @@ names_value : (x : Memory) (at : Address) (b : Bound) → (put_value x at b).ref
 names_value x at (Scalar z) = names_number x at z
 names_value x at (Set s) = names_same x at s
 names_value x at (Copy from n) = names_copy x at from n
-names_value x at (Reference place) = refl
-names_value x at (Component number) = refl
+names_value x at _ = refl
 
 pub names_component : (x : Memory) (base : ℕ) (arguments : List Argument) (bounds : List Bound) → (bound_in_component x base arguments bounds).references ≡ x.references
 names_component x base [] bs = refl

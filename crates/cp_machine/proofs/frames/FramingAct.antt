@@ -1,20 +1,17 @@
 -- What the frames of all processes may name stays there in a step.
 use Rattle.std.proofs.Common.{◌≡◌, ℕ, ◌<◌, List, [], ◌∷◌, length, Option, Some, None, Result, Ok, Err, if◌then◌else◌, Bool, true, false, sym, refl, subst, arith, get_or-set_same}
-use Rattle.std.specs.Prelude.{ℤ, ◌==◌, slice_index_or, ◌&&◌, IsTrue, pos}
-use Rattle.cp_machine.proofs.Words.{int_eq, length-set, Tables, item_at, routine_at, component_at, IsSound, ListFits, CallFits, ActionFits, IsOf, IsTyped}
-use Rattle.cp_machine.proofs.Words.{Names, ActionNames, Action, Argument, ComponentPlace, PlaceOrigin, ComponentKind, Bound, ErrorName, Address, SetValue}
-use Rattle.cp_machine.proofs.Words.{bound_in_component, put_number, put_copy, ranged, is_true, and_left, and_right, Entry, Rest, Successor, Return, InitEnd}
-use Rattle.cp_machine.proofs.Words.{Ready, Ended, MOST_SHOWN, EntryFits, StackFits, MachineFits, size_of, StackReaches, rest_of, from_end, act, take_top}
-use Rattle.cp_machine.proofs.Words.{step_at}
-use Rattle.cp_slots.specs.Inside.{action_inside, component_inside, arguments_inside, binds_from, result_inside}
-use Rattle.cp_slots.specs.declared.item.Action.TheVariants.{Empty, Assign, AssignSet, Copy, Block, If, Case, While, Until, For, Cycle, Call, Start, Delay, Continue, Display}
+use Rattle.cp_machine.proofs.Words.{ℤ, ◌==◌, slice_index_or, ◌&&◌, IsTrue, pos, int_eq, length-set, Tables, item_at, routine_at, component_at, IsSound, ListFits}
+use Rattle.cp_machine.proofs.Words.{CallFits, ActionFits, IsOf, IsTyped, Names, ActionNames, Action, Argument, ComponentPlace, PlaceOrigin, ComponentKind, Bound}
+use Rattle.cp_machine.proofs.Words.{ErrorName, Address, SetValue, bound_in_component, put_number, put_copy, ranged, is_true, and_left, and_right, Entry, Rest, Successor}
+use Rattle.cp_machine.proofs.Words.{Return, InitEnd, Ready, Ended, MOST_SHOWN, EntryFits, StackFits, MachineFits, size_of, StackReaches, rest_of, from_end, act, take_top}
+use Rattle.cp_machine.proofs.Words.{step_at, action_inside, component_inside, arguments_inside, binds_from, result_inside, Empty, Assign, AssignSet, Copy, Block, If}
+use Rattle.cp_machine.proofs.Words.{Case, While, Until, For, Cycle, Call, Start, Delay, Continue, Display, Machine, Thread, thread_at, no_thread, phase_at}
+use Rattle.cp_machine.proofs.Words.{is_initialised, is_uninitialised, is_unstarted, with_stack, Stepped, arm_for, is_beyond, next_value, succeeded, with_value, gone_on}
 use Rattle.cp_slots.specs.declared.tables.ComponentKind.TheVariants as kind
 use Rattle.cp_store.specs.declared.memory.Address.TheVariants as address
 use Rattle.cp_store.specs.Sets as sets
 use Rattle.cp_machine.specs.Calls.{called, left, called_in, called_by, start_inside, started, opened, delayed_in, delay_at, continued_from, continue_at}
-use Rattle.cp_machine.specs.Machine.{Machine, Thread, thread_at, no_thread, phase_at, is_initialised, is_uninitialised, is_unstarted, with_stack}
 use Rattle.cp_machine.specs.Memory.{memory_at, value_of, set_of, address_of, component_of, arguments_of, origin_of, number_put, set_put, set_written, cells_put, parameters_bound}
-use Rattle.cp_machine.specs.Statements.{Stepped, arm_for, is_beyond, next_value, succeeded, with_value, gone_on}
 use Rattle.cp_machine.proofs.frames.Framing.{Framed, rest_reaches, end_reaches, stack_framed, status_framed, memory_framed, let_in_framed, entered_framed, delayed_framed, continued_framed, names_number, names_set, names_copy, names_component}
 use Rattle.cp_machine.proofs.frames.FramingSteps.{left_framed, opened_framed, called_framed}
 use Rattle.cp_machine.proofs.rooms.Keeping.{end_fits, rest_fits, stack_fits}
@@ -108,18 +105,16 @@ module _ (r : Tables) (m : Machine) (pid : ℕ) (lt : pid < length m.threads) (s
             (parameters_framed r (opened r m pid routine component (InitEnd t.frame component) next) pid (component_at r component).base arguments bounds (opened_framed r m pid lt sound typed fits framed routine component (item_at r at).need arguments fit of next next_fits next_below none)) framed
 
         starts : (k : ComponentKind) → Good r (started r m pid (item_at r at).line k routine component arguments bounds next)
-        starts (kind.Monitor monitor) = starts_inside
-        starts kind.Class = starts_inside
         starts (kind.Process q) =
             either_good r (is_unstarted (thread_at m.threads q).status) _ _
             (status_framed r (parameters_bound (with_stack m pid next) pid (component_at r component).base arguments bounds) q Ready (parameters_framed r (with_stack m pid next) pid (component_at r component).base arguments bounds going)) framed
+        starts _ = starts_inside
 
     -- ---- queues
 
     delays_in : (cell : ℕ) (k : ComponentKind) → Good r (delayed_in m pid (item_at r at).line cell k next)
     delays_in cell (kind.Monitor monitor) = either_good r (is_true (slice_index_or m.permanents cell (pos 0))) _ _ framed (delayed_framed r (with_stack m pid next) pid monitor cell going)
-    delays_in cell kind.Class = going
-    delays_in cell (kind.Process number) = going
+    delays_in cell _ = going
 
     delays : (a : Address) → Good r (delay_at r m pid (item_at r at).line next a)
     delays (address.Permanent cell) = delays_in cell (component_at r t.frame.component).kind
@@ -204,21 +199,7 @@ module _ (r : Tables) (m : Machine) (pid : ℕ) (lt : pid < length m.threads) (s
     succeeds_good (For variable low high first end down list) z last =
         either_good r (int_eq z last) _ _ going
         (value_good r (next_value down low high z) _ _ (λ e. framed) (λ w is. goes variable list last w))
-    succeeds_good Empty z last = going
-    succeeds_good (Assign target value low high) z last = going
-    succeeds_good (AssignSet target value low high) z last = going
-    succeeds_good (Copy target source size) z last = going
-    succeeds_good (Block list) z last = going
-    succeeds_good (If test list other) z last = going
-    succeeds_good (Case selector arms) z last = going
-    succeeds_good (While test list again) z last = going
-    succeeds_good (Until test list again) z last = going
-    succeeds_good (Cycle list) z last = going
-    succeeds_good (Call routine component is_entry arguments slot) z last = going
-    succeeds_good (Start component routine arguments) z last = going
-    succeeds_good (Delay place) z last = going
-    succeeds_good (Continue place) z last = going
-    succeeds_good (Display value kind) z last = going
+    succeeds_good _ z last = going
 
   -- what is known of an item that is on the control stack
   facts_at : (at : ℕ) (below : ℕ) → EntryFits r t.frame at below → ActionFits r t.frame.routine (item_at r at).need (item_at r at).action × IsTrue (action_inside r (routine_at r t.frame.routine) (item_at r at).action) × ActionNames r (routine_at r t.frame.routine).system (item_at r at).action

@@ -1,14 +1,13 @@
 -- What the frames of a process may name stays there where frames are opened and given up.
 use Rattle.std.proofs.Common.{◌≡◌, ℕ, ◌+◌, ◌^◌, ◌<◌, ◌≤◌, ◌∙◌, List, ◌∷◌, ◌++◌, length, take, Option, Some, None, Ok, true, ap, sym, refl, subst, arith, get_or-set_same, get_or-set_other}
-use Rattle.cp_machine.proofs.Words.{slice_set, replicate, nat_lt, ltb-true, Tables, routine_at, IsSound, CallFits, arguments_inside, binds_from}
-use Rattle.cp_machine.proofs.Words.{result_inside, IsOf, IsTyped, Argument, Bound, Address, Permanent, Local, Frame, bound_in_frame, Memory, nowhere}
-use Rattle.cp_machine.proofs.Words.{and_left, and_right, Entry, Return, InitEnd, frame_behind, opened, left, called, Machine, Thread, thread_at, no_thread}
-use Rattle.cp_machine.proofs.Words.{with_permanents, memory_at, frame_opened, arguments_of, rest_of}
+use Rattle.cp_machine.proofs.Words.{slice_set, replicate, nat_lt, ltb-true, Tables, routine_at, IsSound, CallFits, arguments_inside, binds_from, result_inside, IsOf}
+use Rattle.cp_machine.proofs.Words.{IsTyped, Argument, Bound, Address, Permanent, Local, Frame, bound_in_frame, Memory, nowhere, and_left, and_right, Entry, Return}
+use Rattle.cp_machine.proofs.Words.{InitEnd, frame_behind, opened, left, called, Machine, Thread, thread_at, no_thread, with_permanents, memory_at, frame_opened}
+use Rattle.cp_machine.proofs.Words.{arguments_of, rest_of, FrameFits, Follows, StackFits, ThreadFits, MachineFits, size_of}
 use Rattle.std.proofs.lemmas.List.{length-set, get_or-take, get_or_append_left}
 use Rattle.cp_store.specs.Inside.{HasCells}
 use Rattle.cp_store.specs.Memory as store
 use Rattle.cp_store.proofs.Opened.{opened_behind}
-use Rattle.cp_machine.specs.Fits.{FrameFits, Follows, StackFits, ThreadFits, MachineFits, size_of}
 use Rattle.cp_machine.specs.Reach.{IsBehind, FrameReaches, ResultReaches, StackReaches, ThreadReaches}
 use Rattle.cp_machine.proofs.frames.Covered.{covered}
 use Rattle.cp_machine.proofs.frames.Framing.{Framed, Agree, rest_reaches, stack_agrees, thread_framed, names_below}

@@ -2,16 +2,14 @@
 use Rattle.std.proofs.Common.{◌≡◌, ◌∙◌, ℕ, ◌+◌, ◌-◌, ◌<◌, ◌≤◌, ◌^◌, Bool, true, false, List, length, Option, Some, None, Result, Ok, Err, ap, sym, refl, subst, arith, get_or-set_same, if◌then◌else◌}
 use Rattle.std.specs.Prelude.{ℤ, IfOk, ◌&&◌, nat_le, nat_lt, slice_index_or}
 use Rattle.std.proofs.lemmas.Bool.{leb-true, ltb-true}
-use Rattle.cp_machine.proofs.Words.{ActionFits, InnerFits, Tables, RoutineView, item_at, routine_at, Action, Item, PlaceOrigin, Place, ErrorName, Address}
-use Rattle.cp_machine.proofs.Words.{Frame, Covers, Memory, memory_of, nowhere, onward, Entry, ProcessState, State, Machine, Thread, machine_of, no_thread}
-use Rattle.cp_machine.proofs.Words.{thread_at, under, with_stack, address_of, memory_at, origin_of}
+use Rattle.cp_machine.proofs.Words.{ActionFits, InnerFits, Tables, RoutineView, item_at, routine_at, Action, Item, PlaceOrigin, Place, ErrorName, Address, Frame, Covers}
+use Rattle.cp_machine.proofs.Words.{Memory, memory_of, nowhere, onward, Entry, ProcessState, State, Machine, Thread, machine_of, no_thread, thread_at, under, with_stack}
+use Rattle.cp_machine.proofs.Words.{address_of, memory_at, origin_of, origin_address, EntryFits, HasRoom, IsStateOf, IsTaken}
 use Rattle.cp_slots.specs.Inside.{SET_CELLS, action_inside, expression_inside, has, place_room, room_from, set_inside}
 use Rattle.cp_slots.specs.declared.item.Action.TheVariants.{Empty, Assign, AssignSet, Copy, Block, If, Case, While, Until, For, Cycle, Call, Start, Delay, Continue, Display}
 use Rattle.cp_slots.specs.declared.place.PlaceOrigin.TheVariants as origin
 use Rattle.cp_store.specs.Inside as store
-use Rattle.cp_store.specs.Places.{origin_address}
 use Rattle.cp_store.proofs.Reaches.{and_left, and_right, has_fewer, have_cells}
-use Rattle.cp_machine.specs.Fits.{EntryFits, HasRoom, IsStateOf, IsTaken}
 use Rattle.cp_machine.specs.Reach.{CanName, CanReach, CanRead, CanReadSet, HasCells, frame_at}
 use Rattle.cp_machine.proofs.frames.Covered.{covered}
 use Rattle.cp_machine.proofs.rooms.RoomLemmas.{rest_stands, within}
@@ -96,22 +94,18 @@ still_has s pid stack n at cells lt after h =
 
 -- what an item reads and writes
 abbrev pub ActionReads : Machine → (pid : ℕ) → Action → Type 0
-ActionReads m pid Empty = Unit {0}
 ActionReads m pid (Assign target value low high) = CanRead m pid value × CanReach m pid target 1
 ActionReads m pid (AssignSet target value low high) = CanReadSet m pid value × CanReach m pid target SET_CELLS
 ActionReads m pid (Copy target source size) = CanReach m pid source size × CanReach m pid target size
-ActionReads m pid (Block list) = Unit {0}
 ActionReads m pid (If test list other) = CanRead m pid test
 ActionReads m pid (Case selector arms) = CanRead m pid selector
 ActionReads m pid (While test body again) = CanRead m pid test
 ActionReads m pid (Until test body again) = CanRead m pid test
 ActionReads m pid (For variable low high from to down body) = CanName m pid variable 1 × CanRead m pid from × CanRead m pid to
-ActionReads m pid (Cycle list) = Unit {0}
-ActionReads m pid (Call routine component is_entry arguments result) = Unit {0}
-ActionReads m pid (Start component routine arguments) = Unit {0}
 ActionReads m pid (Delay place) = CanReach m pid place 1
 ActionReads m pid (Continue place) = CanReach m pid place 1
 ActionReads m pid (Display value kind) = CanRead m pid value
+ActionReads m pid _ = Unit {0}
 
 module _ (r : Tables) (m : Machine) (pid : ℕ) (v : RoutineView) (covers : Covers (memory_at m pid) v (frame_at m pid)) where
   inside_reads : (a : Action) → action_inside r v a ≡ true → ActionReads m pid a
@@ -120,19 +114,13 @@ module _ (r : Tables) (m : Machine) (pid : ℕ) (v : RoutineView) (covers : Cove
   inside_reads (AssignSet target value low high) i = ((v, covers, and_left (set_inside v value) _ i), (v, covers, and_right (set_inside v value) _ i))
   inside_reads (Copy target source size) i = ((v, covers, and_left (has size (place_room v source)) _ i), (v, covers, and_right (has size (place_room v source)) _ i))
   inside_reads (Block list) i = tt
-  inside_reads (If test list other) i = (v, covers, i)
-  inside_reads (Case selector arms) i = (v, covers, i)
-  inside_reads (While test body again) i = (v, covers, i)
-  inside_reads (Until test body again) i = (v, covers, i)
   inside_reads (For variable low high from to down body) i =
       let bounds = and_right (has 1 (room_from v variable)) (expression_inside v from && expression_inside v to) i in
       ((v, covers, and_left (has 1 (room_from v variable)) _ i), (v, covers, and_left (expression_inside v from) (expression_inside v to) bounds), (v, covers, and_right (expression_inside v from) (expression_inside v to) bounds))
   inside_reads (Cycle list) i = tt
   inside_reads (Call routine component is_entry arguments result) i = tt
   inside_reads (Start component routine arguments) i = tt
-  inside_reads (Delay place) i = (v, covers, i)
-  inside_reads (Continue place) i = (v, covers, i)
-  inside_reads (Display value kind) i = (v, covers, i)
+  inside_reads _ i = (v, covers, i)
 
 -- an item in the routine of the frame that a process executes
 module _ (r : Tables) (s : State) (pid at below : ℕ) (item : Item) (lt : pid < length s.processes.items) (own : IsStateOf r s) (stands : EntryFits r (frame_at (machine_of s) pid) at below) (same : item ≡ item_at r at) where

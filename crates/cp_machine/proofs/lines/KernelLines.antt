@@ -1,14 +1,14 @@
 -- What the kernel does keeps each line the line of those at its gate.
-use Rattle.std.proofs.Common.{◌≡◌, ◌∙◌, ℕ, zero, suc, ◌<◌, ◌≤◌, ◌⊎◌, inl, inr, List, [], ◌∷◌, ◌++◌, length, Option, Some, None, true, false, eqb, ap, sym, refl, subst, arith, length-append}
-use Rattle.cp_machine.proofs.Words.{IfSome, pos, slice_index_or, slice_set, IsDistinct, Gates, First, Any, Status, Unstarted, Ready, AtGate, Delayed, Ended}
-use Rattle.cp_machine.proofs.Words.{LinesFit, admitted, admitted_at, without}
+use Rattle.std.proofs.Common.{◌≡◌, ◌∙◌, ℕ, suc, ◌<◌, ◌≤◌, ◌⊎◌, inl, inr, List, [], ◌∷◌, ◌++◌, length, Option, Some, None, true, false, eqb, ap, sym, refl, subst, arith, length-append}
+use Rattle.cp_machine.proofs.Words.{IfSome, pos, slice_index_or, slice_set, IsDistinct, Gates, First, Any, Status, Unstarted, Ready, AtGate, Delayed, LinesFit, admitted}
+use Rattle.cp_machine.proofs.Words.{admitted_at, without, let_in, let_in_by, first_in, one_in, freed, goes_in, entered, entered_by, delayed, continued, resumed, waits_in}
 use Rattle.std.proofs.lemmas.Bool.{cases_eq, eq-eqb, eqb-true, ne_eqb}
 use Rattle.std.proofs.lemmas.List.{get_or-set_same, get_or-set_other}
 use Rattle.std.proofs.lemmas.List.Quantifiers.{position-Some}
 use Rattle.std.proofs.lemmas.Map.Keys.{IsDistinct-tail}
 use Rattle.std.proofs.lemmas.Map.Steps.{length-le_from_distinct_below}
-use Rattle.cp_machine.specs.Kernel.{let_in, let_in_by, first_in, one_in, freed, goes_in, entered, entered_by, delayed, continued, resumed, waits_in}
 use Rattle.cp_machine.specs.Machine.{Machine, Thread, Monitor, thread_at, no_thread, monitor_at, no_monitor, is_at_gate, is_delayed_at, is_ready_status, is_unstarted, in_line, in_line_of, with_status}
+use Rattle.cp_machine.proofs.ListLemmas.{set_related, passes_within}
 use Rattle.cp_machine.proofs.lines.LineLists.{has, has_first, has_pushed, pushed_other, pushed_once, first_gone, first_other, without_gone, without_other, without_once}
 
 abbrev pub line_of : List Monitor → ℕ → List ℕ
@@ -24,59 +24,35 @@ IsOff s = (g : ℕ) → is_at_gate g s ≡ false
 
 pub ready_off : (s : Status) → is_ready_status s ≡ true → IsOff s
 ready_off Ready h = λ g. refl
-ready_off Unstarted h = absurd (cc)
-ready_off (AtGate a) h = absurd (cc)
-ready_off (Delayed cell) h = absurd (cc)
-ready_off Ended h = absurd (cc)
+ready_off _ h = absurd (cc)
 
 pub unstarted_off : (s : Status) → is_unstarted s ≡ true → IsOff s
 unstarted_off Unstarted h = λ g. refl
-unstarted_off Ready h = absurd (cc)
-unstarted_off (AtGate a) h = absurd (cc)
-unstarted_off (Delayed cell) h = absurd (cc)
-unstarted_off Ended h = absurd (cc)
+unstarted_off _ h = absurd (cc)
 
 delayed_off : (cell : ℕ) (s : Status) → is_delayed_at cell s ≡ true → IsOff s
 delayed_off cell (Delayed queue) h = λ g. refl
-delayed_off cell Unstarted h = absurd (cc)
-delayed_off cell Ready h = absurd (cc)
-delayed_off cell (AtGate a) h = absurd (cc)
-delayed_off cell Ended h = absurd (cc)
+delayed_off cell _ h = absurd (cc)
 
 -- a process is at one gate at most
 one_gate : (g k : ℕ) (s : Status) → is_at_gate g s ≡ true → (k ≡ g → ⊥) → is_at_gate k s ≡ false
 one_gate g k (AtGate a) h ne = ne_eqb a k (λ e. ne (sym e ∙ eqb-true a g h))
-one_gate g k Unstarted h ne = refl
-one_gate g k Ready h ne = refl
-one_gate g k (Delayed cell) h ne = refl
-one_gate g k Ended h ne = refl
+one_gate g k _ h ne = refl
 
 -- ---- lists of which one element changes
 
 -- what is read of the threads stays where it is the same at the one that changes
 pub read_set : {A : Type 0} (f : Thread → A) (ts : List Thread) (p : ℕ) (x : Thread) → f x ≡ f (thread_at ts p) → (q : ℕ) → f (thread_at (slice_set ts p x) q) ≡ f (thread_at ts q)
-read_set f [] p x e q = refl
-read_set f (t ∷ ts) zero x e zero = e
-read_set f (t ∷ ts) zero x e (suc q) = refl
-read_set f (t ∷ ts) (suc p) x e zero = refl
-read_set f (t ∷ ts) (suc p) x e (suc q) = read_set f ts p x e q
+read_set f ts p x e = set_related (λ (t u : Thread). f u ≡ f t) (λ t. refl) ts p x no_thread e
 
 line_set : (ms : List Monitor) (g : ℕ) (y : Monitor) → y.line ≡ line_of ms g → (k : ℕ) → line_of (slice_set ms g y) k ≡ line_of ms k
-line_set [] g y e k = refl
-line_set (m ∷ ms) zero y e zero = e
-line_set (m ∷ ms) zero y e (suc k) = refl
-line_set (m ∷ ms) (suc g) y e zero = refl
-line_set (m ∷ ms) (suc g) y e (suc k) = line_set ms g y e k
+line_set ms g y e = set_related (λ (a b : Monitor). b.line ≡ a.line) (λ a. refl) ms g y no_monitor e
 
 pub gate_within : (g : ℕ) (ts : List Thread) (q : ℕ) → is_at_gate g (thread_at ts q).status ≡ true → q < length ts
-gate_within g [] q h = absurd (cc)
-gate_within g (t ∷ ts) zero h = omega arith
-gate_within g (t ∷ ts) (suc q) h = omega (arith, gate_within g ts q h)
+gate_within g ts q h = passes_within (λ (t : Thread). is_at_gate g t.status) ts q no_thread refl h
 
 line_within : (ms : List Monitor) (g q : ℕ) → has (line_of ms g) q ≡ true → g < length ms
-line_within [] g q h = absurd (cc)
-line_within (m ∷ ms) zero q h = omega arith
-line_within (m ∷ ms) (suc g) q h = omega (arith, line_within ms g q h)
+line_within ms g q h = passes_within (λ (m : Monitor). has m.line q) ms g no_monitor refl h
 
 -- ---- changes that no line notices
 
@@ -208,11 +184,6 @@ admitted_lines m p h at = admitted_at_lines m.pending m p (lines_as m h) at
 
 -- ---- what follows
 
-ready_within : (ts : List Thread) (p : ℕ) → is_ready_status (thread_at ts p).status ≡ true → p < length ts
-ready_within [] p h = absurd (cc)
-ready_within (t ∷ ts) zero h = omega arith
-ready_within (t ∷ ts) (suc p) h = omega (arith, ready_within ts p h)
-
 -- a process that is ready is in no line, so each line is shorter than the list of processes
 pub line_short : (m : Machine) (g p : ℕ) → LinesFit m → is_ready_status (thread_at m.threads p).status ≡ true → length (monitor_at m g).line < length m.threads
 line_short m g p h ready =
@@ -222,7 +193,7 @@ line_short m g p h ready =
     omega (arith, few, length-append line (p ∷ []))
   where
     within : (q : ℕ) → has ((monitor_at m g).line ++ p ∷ []) q ≡ true → (q ≡ p) ⊎ (q ≡ p → ⊥) → q < length m.threads
-    within q e (inl same) = omega (arith, ready_within m.threads p ready, same)
+    within q e (inl same) = omega (arith, passes_within (λ (t : Thread). is_ready_status t.status) m.threads p no_thread refl ready, same)
     within q e (inr ne) = gate_within g m.threads q (h.gate g q ∙ sym (pushed_other (monitor_at m g).line p q ne) ∙ e)
 
 first_at_gate : (m : Machine) (g : ℕ) (line : List ℕ) → LinesFit m → line ≡ (monitor_at m g).line → 2 ≤ length line → (p : ℕ) × (p < length m.threads) × (is_at_gate g (thread_at m.threads p).status ≡ true)

@@ -1,13 +1,13 @@
 -- What the kernel does keeps what is known of components.
-use Rattle.std.proofs.Common.{◌≡◌, ◌∙◌, ℕ, zero, suc, ◌+◌, ◌<◌, ◌⊎◌, inl, inr, List, [], ◌∷◌, length, Option, Some, None, true, false, ap, sym, refl, subst, arith, get_or-set_same, get_or-set_other}
-use Rattle.cp_machine.proofs.Words.{pos, slice_index_or, slice_set, cases_eq, length-set, IsOf, Tables, component_at, parameter_at, ComponentKind, Memory}
-use Rattle.cp_machine.proofs.Words.{Frame, Gates, First, Any, Entry, Rest, Successor, Return, InitEnd, Status, Unstarted, Ready, AtGate, Delayed, Ended}
-use Rattle.cp_machine.proofs.Words.{Phase, Uninitialised, LinesFit, with_memory, admitted, admitted_at, AreBound, EndsBegun, ExecutesAs, HasBegunAs}
-use Rattle.cp_machine.proofs.Words.{StackExecutes}
+use Rattle.std.proofs.Common.{◌≡◌, ◌∙◌, ℕ, ◌+◌, ◌<◌, List, [], ◌∷◌, length, Option, Some, None, true, false, ap, sym, refl, subst, arith}
+use Rattle.cp_machine.proofs.Words.{pos, slice_index_or, slice_set, length-set, IsOf, Tables, component_at, parameter_at, ComponentKind, Memory, Frame, Gates}
+use Rattle.cp_machine.proofs.Words.{First, Any, Entry, Rest, Successor, Return, InitEnd, Status, Ready, AtGate, Delayed, Phase, Uninitialised, LinesFit, with_memory}
+use Rattle.cp_machine.proofs.Words.{admitted, admitted_at, AreBound, EndsBegun, ExecutesAs, HasBegunAs, StackExecutes}
 use Rattle.std.proofs.lemmas.List.Quantifiers.{position-Some}
 use Rattle.cp_slots.specs.declared.tables.ComponentKind.TheVariants as kind
 use Rattle.cp_machine.specs.Kernel.{let_in, let_in_by, first_in, one_in, goes_in, entered, entered_by, delayed, continued, resumed, waits_in}
 use Rattle.cp_machine.specs.Machine.{Machine, Thread, in_line, in_line_of, is_at_gate, is_delayed_at, is_uninitialised, is_unstarted, monitor_at, no_thread, phase_at, thread_at, with_permanents, with_phase, with_stack, with_status, with_thread}
+use Rattle.cp_machine.proofs.ListLemmas.{set_related, each_set}
 use Rattle.cp_machine.proofs.parameters.ExecutingLemmas.{Executing}
 use Rattle.cp_machine.proofs.lines.KernelLines.{read_set}
 use Rattle.cp_machine.proofs.lines.LineLists.{has, has_first}
@@ -19,8 +19,7 @@ KeepsPhases m n = (component : ℕ) → is_uninitialised (phase_at m component) 
 
 executes_later : (m n : Machine) (pid component : ℕ) (k : ComponentKind) → KeepsPhases m n → ExecutesAs m pid component k → ExecutesAs n pid component k
 executes_later m n pid component (kind.Process number) keeps e = e
-executes_later m n pid component (kind.Monitor monitor) keeps e = keeps component e
-executes_later m n pid component kind.Class keeps e = keeps component e
+executes_later m n pid component _ keeps e = keeps component e
 
 pub stack_later : (r : Tables) (m n : Machine) (pid : ℕ) (f : Frame) (es : List Entry) → KeepsPhases m n → StackExecutes r m pid f es → StackExecutes r n pid f es
 stack_later r m n pid f [] keeps h = executes_later m n pid f.component (component_at r f.component).kind keeps h
@@ -40,8 +39,7 @@ ends_later m n (InitEnd caller component ∷ es) keeps h = (keeps component h.0,
 
 begun_back : (m n : Machine) → ((q : ℕ) → is_unstarted (thread_at n.threads q).status ≡ is_unstarted (thread_at m.threads q).status) → KeepsPhases n m → (component : ℕ) (k : ComponentKind) → HasBegunAs n component k → HasBegunAs m component k
 begun_back m n statuses keeps component (kind.Process number) b = sym (statuses number) ∙ b
-begun_back m n statuses keeps component (kind.Monitor monitor) b = keeps component b
-begun_back m n statuses keeps component kind.Class b = keeps component b
+begun_back m n statuses keeps component _ b = keeps component b
 
 pub bound_kept : (r : Tables) (m n : Machine) → n.bindings ≡ m.bindings → ((q : ℕ) → is_unstarted (thread_at n.threads q).status ≡ is_unstarted (thread_at m.threads q).status) → KeepsPhases n m → AreBound r m → AreBound r n
 bound_kept r m n bindings statuses keeps h = λ component number lt begun count.
@@ -86,19 +84,12 @@ same_executes r m n threads phases bindings h =
 
 -- a thread is replaced
 pub thread_all : (r : Tables) (m : Machine) (pid : ℕ) (x : Thread) → (pid < length m.threads → ThreadExecutes r m pid x) → AllExecute r m → AllExecute r (with_thread m pid x)
-thread_all r m pid x t h q lt = (let long = length-set m.threads pid x in let within : q < length m.threads = omega (arith, long) in each q within (cases_eq q pid))
+thread_all r m pid x t h q lt =
+    each_set (ThreadExecutes r (with_thread m pid x)) m.threads pid x no_thread (λ within. later pid x (t within)) (λ k within ne. later k (thread_at m.threads k) (h k within)) q
+    (let long = length-set m.threads pid x in omega (arith, lt, long))
   where
     later : (q : ℕ) (u : Thread) → ThreadExecutes r m q u → ThreadExecutes r (with_thread m pid x) q u
     later q u k = thread_later r m (with_thread m pid x) q u (λ c b. b) k
-
-    each : (q : ℕ) → q < length m.threads → (q ≡ pid) ⊎ (q ≡ pid → ⊥) → ThreadExecutes r (with_thread m pid x) q (thread_at (slice_set m.threads pid x) q)
-    each q lt (inl e) =
-        let P : ℕ → Type 0 = λ k. ThreadExecutes r (with_thread m pid x) k (thread_at (slice_set m.threads pid x) k) in
-        let within : pid < length m.threads = omega arith in
-        let same = get_or-set_same m.threads pid x no_thread within in
-        subst P (sym e) (subst (ThreadExecutes r (with_thread m pid x) pid) (sym same) (later pid x (t within)))
-    each q lt (inr ne) =
-        subst (ThreadExecutes r (with_thread m pid x) q) (sym (get_or-set_other m.threads pid q x no_thread ne)) (later q (thread_at m.threads q) (h q lt))
 
 -- .. by one that has started if it had
 pub thread_executes : (r : Tables) (m : Machine) (pid : ℕ) (x : Thread) → (pid < length m.threads → ThreadExecutes r m pid x) → is_unstarted x.status ≡ is_unstarted (thread_at m.threads pid).status → Executing r m → Executing r (with_thread m pid x)
@@ -118,11 +109,7 @@ memory_executes r m pid x h =
     thread_executes r _ pid _ (λ lt. (p.executes pid lt, p.ends pid lt)) refl p
 
 phase_set : (ps : List Phase) (c : ℕ) (x : Phase) → is_uninitialised x ≡ is_uninitialised (slice_index_or ps c Uninitialised) → (k : ℕ) → is_uninitialised (slice_index_or (slice_set ps c x) k Uninitialised) ≡ is_uninitialised (slice_index_or ps k Uninitialised)
-phase_set [] c x e k = refl
-phase_set (p ∷ ps) zero x e zero = e
-phase_set (p ∷ ps) zero x e (suc k) = refl
-phase_set (p ∷ ps) (suc c) x e zero = refl
-phase_set (p ∷ ps) (suc c) x e (suc k) = phase_set ps c x e k
+phase_set ps c x e = set_related (λ (p q : Phase). is_uninitialised q ≡ is_uninitialised p) (λ p. refl) ps c x Uninitialised e
 
 -- a component that has begun goes on to another phase
 pub phase_executes : (r : Tables) (m : Machine) (component : ℕ) (phase : Phase) → is_uninitialised (phase_at m component) ≡ false → is_uninitialised phase ≡ false → Executing r m → Executing r (with_phase m component phase)
@@ -135,17 +122,11 @@ phase_executes r m component phase old new h =
 
 pub at_gate_started : (monitor : ℕ) (s : Status) → is_at_gate monitor s ≡ true → is_unstarted s ≡ false
 at_gate_started monitor (AtGate gate) h = refl
-at_gate_started monitor Unstarted h = absurd (cc)
-at_gate_started monitor Ready h = absurd (cc)
-at_gate_started monitor (Delayed cell) h = absurd (cc)
-at_gate_started monitor Ended h = absurd (cc)
+at_gate_started monitor _ h = absurd (cc)
 
 delayed_started : (cell : ℕ) (s : Status) → is_delayed_at cell s ≡ true → is_unstarted s ≡ false
 delayed_started cell (Delayed queue) h = refl
-delayed_started cell Unstarted h = absurd (cc)
-delayed_started cell Ready h = absurd (cc)
-delayed_started cell (AtGate gate) h = absurd (cc)
-delayed_started cell Ended h = absurd (cc)
+delayed_started cell _ h = absurd (cc)
 
 abbrev pub HasStarted : Machine → ℕ → Type 0
 HasStarted m q = is_unstarted (thread_at m.threads q).status ≡ false
@@ -167,9 +148,8 @@ first_in_executes r m monitor [] started h = same_executes r m _ refl refl refl 
 first_in_executes r m monitor (q ∷ line) started h = goes_in_executes r m monitor q line (started q (has_first q line)) h
 
 one_in_executes : (r : Tables) (m : Machine) (monitor : ℕ) (line : List ℕ) → LineStarted m line → Executing r m → Executing r (one_in m monitor line)
-one_in_executes r m monitor [] started h = same_executes r m _ refl refl refl h
 one_in_executes r m monitor (q ∷ []) started h = goes_in_executes r m monitor q [] (started q (has_first q [])) h
-one_in_executes r m monitor (p ∷ q ∷ line) started h = same_executes r m _ refl refl refl h
+one_in_executes r m monitor _ started h = same_executes r m _ refl refl refl h
 
 let_in_by_executes : (r : Tables) (gates : Gates) (m : Machine) (monitor : ℕ) (line : List ℕ) → LineStarted m line → Executing r m → Executing r (let_in_by gates m monitor line)
 let_in_by_executes r First m monitor line started h = first_in_executes r m monitor line started h

@@ -1,10 +1,9 @@
 -- A step keeps what is known of components.
 use Rattle.std.proofs.Common.{◌≡◌, ℕ, ◌<◌, List, [], ◌∷◌, length, Option, Some, None, Ok, IsTrue, true, sym, refl, subst, if◌then◌else◌}
-use Rattle.cp_machine.proofs.Words.{ℤ, ◌==◌, int_eq, component_inside, ActionNames, IsOf, IsTyped, Names, Tables, RoutineView, component_at, item_at}
-use Rattle.cp_machine.proofs.Words.{routine_at, Action, Item, ComponentPlace, FindsComponent, Memory, put_copy, put_number, is_true, ranged, Frame, Entry}
-use Rattle.cp_machine.proofs.Words.{Rest, Successor, Return, InitEnd, Ended, Initialised, MOST_SHOWN, left, EntryFits, LinesFit, MachineFits, StackFits}
-use Rattle.cp_machine.proofs.Words.{Machine, is_ready, thread_at, with_stack, Executes, FrameReaches, ThreadReaches, rest_of, arm_for, is_beyond, next_value}
-use Rattle.cp_machine.proofs.Words.{succeeded, act, step_at, take_top}
+use Rattle.cp_machine.proofs.Words.{ℤ, ◌==◌, int_eq, component_inside, ActionNames, IsOf, IsTyped, Names, Tables, RoutineView, component_at, item_at, routine_at, Action}
+use Rattle.cp_machine.proofs.Words.{Item, ComponentPlace, FindsComponent, Memory, put_copy, put_number, is_true, ranged, Frame, Entry, Rest, Successor, Return, InitEnd}
+use Rattle.cp_machine.proofs.Words.{Ended, Initialised, MOST_SHOWN, left, EntryFits, LinesFit, MachineFits, StackFits, Machine, is_ready, thread_at, with_stack, Executes}
+use Rattle.cp_machine.proofs.Words.{FrameReaches, ThreadReaches, rest_of, arm_for, is_beyond, next_value, succeeded, act, step_at, take_top}
 use Rattle.cp_slots.specs.declared.item.Action.TheVariants.{Empty, Assign, AssignSet, Copy, Block, If, Case, While, Until, For, Cycle, Call, Start, Delay, Continue, Display}
 use Rattle.cp_store.specs.Sets as sets
 use Rattle.cp_machine.specs.Memory.{address_of, arguments_of, component_of, memory_at, set_of, set_written, value_of, with_memory}
@@ -77,21 +76,7 @@ module _ (r : Tables) (m : Machine) (pid : ℕ) (typed : IsTyped r) (fits : Mach
   successor_going at item (For variable low high first end down list) es z last s =
       either_going r (int_eq z last) _ _ (λ e. goes _ (above item.next es s))
       (value_going r (next_value down low high z) _ _ (λ e. h) (λ v of_v. gone_going r m pid typed fits lines ready reaches h at variable list es last v s))
-  successor_going at item Empty es z last s = goes _ (above item.next es s)
-  successor_going at item (Assign target value low high) es z last s = goes _ (above item.next es s)
-  successor_going at item (AssignSet target value low high) es z last s = goes _ (above item.next es s)
-  successor_going at item (Copy target source size) es z last s = goes _ (above item.next es s)
-  successor_going at item (Block list) es z last s = goes _ (above item.next es s)
-  successor_going at item (If test list other) es z last s = goes _ (above item.next es s)
-  successor_going at item (Case selector arms) es z last s = goes _ (above item.next es s)
-  successor_going at item (While test list again) es z last s = goes _ (above item.next es s)
-  successor_going at item (Until test list again) es z last s = goes _ (above item.next es s)
-  successor_going at item (Cycle list) es z last s = goes _ (above item.next es s)
-  successor_going at item (Call routine place is_entry arguments slot) es z last s = goes _ (above item.next es s)
-  successor_going at item (Start place routine arguments) es z last s = goes _ (above item.next es s)
-  successor_going at item (Delay place) es z last s = goes _ (above item.next es s)
-  successor_going at item (Continue place) es z last s = goes _ (above item.next es s)
-  successor_going at item (Display value kind) es z last s = goes _ (above item.next es s)
+  successor_going at item _ es z last s = goes _ (above item.next es s)
 
   leaves : (caller : Frame) (slot : Option ℕ) (es : List Entry) → Runs r m pid caller es → Executing r (left r m pid caller slot es)
   leaves caller slot es s = left_going r m pid typed fits lines ready reaches h m caller slot es h s

@@ -1,17 +1,14 @@
 -- A start binds each parameter that is a component to one of its system type, and no cell of another component.
 use Rattle.std.proofs.Common.{◌≡◌, ◌∙◌, ℕ, ◌+◌, ◌<◌, ◌≤◌, ◌⊎◌, inl, inr, List, [], ◌∷◌, ◌++◌, length, Result, Ok, Err, ap, sym, refl, subst, arith, get_or-set_same, get_or-set_other}
 use Rattle.cp_machine.proofs.Words.{ℤ, slice_index_or, slice_set, cases_eq, cases_lt, Tables, component_at, parameter_at, system_at, Argument, ComponentPlace}
-use Rattle.cp_machine.proofs.Words.{OrdinalExpression, Place, Memory, onward, Bound, ErrorName, Frame, Machine}
-use Rattle.std.proofs.lemmas.List.{append-nil, append_assoc, length-set}
-use Rattle.cp_slots.specs.Systems.{Hands, HandsOne, IsOf, IsTyped, Names, own_of, parameter_count}
-use Rattle.cp_slots.specs.declared.place.ArgumentValue.{ArgumentValue}
+use Rattle.cp_machine.proofs.Words.{OrdinalExpression, Place, Memory, onward, Bound, ErrorName, Frame, Machine, append-nil, append_assoc, length-set, Hands, HandsOne}
+use Rattle.cp_machine.proofs.Words.{IsOf, IsTyped, Names, own_of, parameter_count, ArgumentValue, ranged, then_with}
 use Rattle.cp_slots.specs.declared.place.ArgumentValue.TheVariants as value
 use Rattle.cp_slots.specs.declared.place.SetExpression.{SetExpression}
 use Rattle.cp_store.specs.Arguments.{bindings_after, bound_at, bounds_after, bounds_at, put_binding}
 use Rattle.cp_store.specs.Components as components
 use Rattle.cp_store.specs.Places.{address_at, set_at, value_at}
 use Rattle.cp_store.specs.Sets as sets
-use Rattle.cp_store.specs.Values.{ranged, then_with}
 use Rattle.cp_store.specs.declared.argument.Bound.TheVariants.{Scalar, Set, Copy, Reference, Component}
 use Rattle.cp_machine.specs.Reach.{AreBound, HasBegun, bound_component}
 use Rattle.cp_machine.proofs.parameters.ExecutingLemmas.{ok_is}

@@ -2,10 +2,9 @@
 use Rattle.std.proofs.Common.{◌≡◌, ◌∙◌, ℕ, ◌+◌, ◌*◌, ◌<◌, ◌≤◌, length, Result, Ok, Err, Bool, true, false, IsTrue, ap, sym, refl, subst, arith, if◌then◌else◌}
 use Rattle.std.specs.Prelude.{ℤ, ◌-ℤ◌, ◌&&◌, int_le, slice_index_or, unsigned_abs}
 use Rattle.std.proofs.lemmas.Int.{ints}
-use Rattle.cp_machine.proofs.Words.{component_inside, IsOf, IsTyped, Names, parameter_count, Tables, RoutineView, component_at, parameter_at, system_at}
-use Rattle.cp_machine.proofs.Words.{ComponentPlace, ComponentKind, FindsComponent, ErrorName, Frame, Status, Unstarted, Ready, AtGate, Delayed, Ended}
-use Rattle.cp_machine.proofs.Words.{MachineFits, Machine, is_ready, is_ready_status, is_unstarted, thread_at, AreBound, EndsBegun, Executes, ExecutesAs}
-use Rattle.cp_machine.proofs.Words.{HasBegunAs, StackExecutes}
+use Rattle.cp_machine.proofs.Words.{component_inside, IsOf, IsTyped, Names, parameter_count, Tables, RoutineView, component_at, parameter_at, system_at, ComponentPlace}
+use Rattle.cp_machine.proofs.Words.{ComponentKind, FindsComponent, ErrorName, Frame, Status, Ready, MachineFits, Machine, is_ready, is_ready_status, is_unstarted}
+use Rattle.cp_machine.proofs.Words.{thread_at, AreBound, EndsBegun, Executes, ExecutesAs, HasBegunAs, StackExecutes}
 use Rattle.cp_slots.specs.declared.place.ComponentPlace.TheVariants.{Own, Contained, Element, Parameter}
 use Rattle.cp_slots.specs.declared.tables.ComponentKind.TheVariants as kind
 use Rattle.cp_store.specs.Components as components
@@ -22,10 +21,7 @@ pub record Executing (r : Tables) (m : Machine) : Type 0 where
 
 pub ready_started : (s : Status) → is_ready_status s ≡ true → is_unstarted s ≡ false
 ready_started Ready h = refl
-ready_started Unstarted h = absurd (cc)
-ready_started (AtGate monitor) h = absurd (cc)
-ready_started (Delayed cell) h = absurd (cc)
-ready_started Ended h = absurd (cc)
+ready_started _ h = absurd (cc)
 
 pub ok_is : {A : Type 0} {x y : A} → ◌≡◌ {A = Result A ErrorName} (Ok x) (Ok y) → x ≡ y
 ok_is {A = A} {x = x} {y = y} same = ap (ok_or x) same
@@ -49,8 +45,7 @@ between low high z above below = grind (arith, ints)
 begun_as : (m : Machine) (pid component : ℕ) (k : ComponentKind) → is_ready m pid ≡ true → ExecutesAs m pid component k → HasBegunAs m component k
 begun_as m pid component (kind.Process number) ready e =
     subst (λ q. is_unstarted (thread_at m.threads q).status ≡ false) (sym e) (ready_started (thread_at m.threads pid).status ready)
-begun_as m pid component (kind.Monitor monitor) ready e = e
-begun_as m pid component kind.Class ready e = e
+begun_as m pid component _ ready e = e
 
 module _ (r : Tables) (m : Machine) (typed : IsTyped r) (fits : MachineFits r m) (bound : AreBound r m) (pid : ℕ) (ready : is_ready m pid ≡ true) (f : Frame) (system : ℕ) (of : IsOf r system f.component) (own : f.own ≡ (component_at r f.component).base) (executes : Executes r m pid f.component) where
   -- the permanent cells of the component that is executed

@@ -1,10 +1,9 @@
 -- In the opening state only the program has begun, which has no parameters.
 use Rattle.std.proofs.Common.{◌≡◌, ◌∙◌, ℕ, zero, suc, ◌<◌, ◌⊎◌, inl, inr, [], length, Option, Some, None, true, false, ap, sym, refl, subst, arith}
-use Rattle.cp_machine.proofs.Words.{replicate, slice_index_or, cases_eq, IsSound, KindFits, Tables, component_at, no_process, process_at, routine_at}
-use Rattle.cp_machine.proofs.Words.{ComponentKind, Gates, Ready, Uninitialised, Thread, is_uninitialised, is_unstarted, no_thread, thread_at, opening, still}
-use Rattle.cp_machine.proofs.Words.{unstarted_thread, AreBound, EndsBegun, ExecutesAs, HasBegunAs, StackExecutes, rest_of}
+use Rattle.cp_machine.proofs.Words.{replicate, slice_index_or, cases_eq, IsSound, KindFits, Tables, component_at, no_process, process_at, routine_at, ComponentKind}
+use Rattle.cp_machine.proofs.Words.{Gates, Ready, Uninitialised, Thread, is_uninitialised, is_unstarted, no_thread, thread_at, opening, still, unstarted_thread, AreBound}
+use Rattle.cp_machine.proofs.Words.{EndsBegun, ExecutesAs, HasBegunAs, StackExecutes, rest_of, IsItself, IsTyped, parameter_count}
 use Rattle.std.proofs.lemmas.List.{get_or-map, get_or-set_other, length-map}
-use Rattle.cp_slots.specs.Systems.{IsItself, IsTyped, parameter_count}
 use Rattle.cp_slots.specs.declared.tables.ComponentKind.TheVariants as kind
 use Rattle.cp_machine.proofs.parameters.Executing.{AllExecute, ThreadExecutes, executing, thread_all}
 use Rattle.cp_machine.proofs.parameters.ExecutingLemmas.{Executing}
@@ -54,8 +53,7 @@ module _ (r : Tables) (gates : Gates) (sound : IsSound r) (typed : IsTyped r) (a
 
   begun_program : (c : ℕ) (k : ComponentKind) → c < length r.components → (component_at r c).kind ≡ k → HasBegunAs (opening r gates) c k → (process_at r 0).component ≡ c
   begun_program c (kind.Process q) lt is begun = only_program c q lt is begun
-  begun_program c (kind.Monitor monitor) lt is begun = (let none = none_initialised (length r.components) c in absurd (cc))
-  begun_program c kind.Class lt is begun = (let none = none_initialised (length r.components) c in absurd (cc))
+  begun_program c _ lt is begun = (let none = none_initialised (length r.components) c in absurd (cc))
 
   opening_bound : AreBound r (opening r gates)
   opening_bound c number lt begun few =

@@ -1,10 +1,10 @@
 -- A component begins: a process becomes ready, or a class or monitor is being initialised.
-use Rattle.std.proofs.Common.{◌≡◌, ◌∙◌, ℕ, zero, suc, ◌+◌, ◌<◌, ◌≤◌, ◌⊎◌, List, [], ◌∷◌, length, false, ap, sym, refl, subst, get_or-set_same, get_or-set_other}
-use Rattle.cp_machine.proofs.Words.{slice_index_or, slice_set, Tables, component_at, parameter_at, process_at, ComponentKind, Ready, Phase, Initialising}
-use Rattle.cp_machine.proofs.Words.{Uninitialised, HasBegunAs}
+use Rattle.std.proofs.Common.{◌≡◌, ◌∙◌, ℕ, ◌+◌, ◌<◌, ◌≤◌, ◌⊎◌, List, length, false, ap, sym, refl, subst, get_or-set_same, get_or-set_other}
+use Rattle.cp_machine.proofs.Words.{slice_index_or, Tables, component_at, parameter_at, process_at, ComponentKind, Ready, Phase, Initialising, Uninitialised, HasBegunAs}
 use Rattle.cp_slots.specs.Systems.{IsItself, IsOf, IsTyped, own_of, parameter_count}
 use Rattle.cp_slots.specs.declared.tables.ComponentKind.TheVariants as kind
 use Rattle.cp_machine.specs.Machine.{Machine, is_uninitialised, is_unstarted, no_thread, phase_at, thread_at, with_bindings, with_phase, with_status}
+use Rattle.cp_machine.proofs.ListLemmas.{set_related}
 use Rattle.cp_machine.proofs.parameters.Executing.{AllExecute, KeepsPhases, all_later, all_of, executing, thread_all}
 use Rattle.cp_machine.proofs.parameters.ExecutingHanded.{begins}
 use Rattle.cp_machine.proofs.parameters.ExecutingLemmas.{Executing}
@@ -14,15 +14,8 @@ use Rattle.cp_machine.proofs.parameters.ExecutingLemmas.{Executing}
 pub initialising_begun : (m : Machine) (c : ℕ) → c < length m.phases → is_uninitialised (phase_at (with_phase m c Initialising) c) ≡ false
 initialising_begun m c there = ap is_uninitialised (get_or-set_same m.phases c Initialising Uninitialised there)
 
-initialising_set : (ps : List Phase) (c d : ℕ) → is_uninitialised (slice_index_or ps d Uninitialised) ≡ false → is_uninitialised (slice_index_or (slice_set ps c Initialising) d Uninitialised) ≡ false
-initialising_set [] c d b = b
-initialising_set (p ∷ ps) zero zero b = refl
-initialising_set (p ∷ ps) zero (suc d) b = b
-initialising_set (p ∷ ps) (suc c) zero b = b
-initialising_set (p ∷ ps) (suc c) (suc d) b = initialising_set ps c d b
-
 pub initialising_keeps : (m : Machine) (c : ℕ) → KeepsPhases m (with_phase m c Initialising)
-initialising_keeps m c d b = initialising_set m.phases c d b
+initialising_keeps m c = set_related (λ (p q : Phase). is_uninitialised p ≡ false → is_uninitialised q ≡ false) (λ p b. b) m.phases c Initialising Uninitialised (λ b. refl)
 
 -- ---- a component begins
 

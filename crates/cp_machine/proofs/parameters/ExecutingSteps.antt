@@ -1,12 +1,11 @@
 -- A step keeps what is known of components: calls, queues and starts.
 use Rattle.std.proofs.Common.{◌≡◌, ◌∙◌, ℕ, ◌+◌, ◌<◌, ◌≤◌, ◌⊎◌, List, [], ◌∷◌, length, Option, Some, None, Result, Ok, Err, Bool, true, false, sym, refl, subst, arith, if◌then◌else◌}
-use Rattle.cp_machine.proofs.Words.{ℤ, pos, slice_index_or, Tables, component_at, parameter_at, routine_at, Argument, ComponentPlace, PlaceOrigin}
-use Rattle.cp_machine.proofs.Words.{ComponentKind, bindings_after, bound_in_component, bound_in_frame, Memory, put_number, is_true, Bound, ErrorName, Address}
-use Rattle.cp_machine.proofs.Words.{Frame, Entry, Rest, Successor, Return, InitEnd, Phase, Uninitialised, Initialising, Initialised, LinesFit, MachineFits}
-use Rattle.cp_machine.proofs.Words.{arguments_of, component_of, memory_at, origin_of, with_memory, EndsBegun, Executes, ExecutesAs, FrameReaches}
-use Rattle.cp_machine.proofs.Words.{StackExecutes, from_end, rest_of, Stepped, gone_on, with_value}
+use Rattle.cp_machine.proofs.Words.{ℤ, pos, slice_index_or, Tables, component_at, parameter_at, routine_at, Argument, ComponentPlace, PlaceOrigin, ComponentKind}
+use Rattle.cp_machine.proofs.Words.{bindings_after, bound_in_component, bound_in_frame, Memory, put_number, is_true, Bound, ErrorName, Address, Frame, Entry, Rest}
+use Rattle.cp_machine.proofs.Words.{Successor, Return, InitEnd, Phase, Uninitialised, Initialising, LinesFit, MachineFits, arguments_of, component_of, memory_at}
+use Rattle.cp_machine.proofs.Words.{origin_of, with_memory, EndsBegun, Executes, ExecutesAs, FrameReaches, StackExecutes, from_end, rest_of, Stepped, gone_on, with_value}
 use Rattle.cp_slots.specs.Systems.{Hands, IsOf, IsOwn, IsTyped, StaysInside, own_of, parameter_count}
-use Rattle.cp_slots.specs.declared.place.ComponentPlace.TheVariants.{Own, Contained, Element, Parameter}
+use Rattle.cp_slots.specs.declared.place.ComponentPlace.TheVariants.{Own}
 use Rattle.cp_slots.specs.declared.tables.ComponentKind.TheVariants as kind
 use Rattle.cp_store.specs.declared.memory.Address.TheVariants as address
 use Rattle.cp_machine.specs.Calls.{called, called_by, called_in, continue_at, continued_from, delay_at, delayed_in, frame_behind, left, opened, start_inside, start_process, started}
@@ -28,18 +27,15 @@ rest_runs r m pid f None es h = h
 rest_runs r m pid f (Some at) es h = h
 
 end_runs : (r : Tables) (m : Machine) (pid : ℕ) (f : Frame) (es : List Entry) → Runs r m pid f es → Runs r m pid f (from_end es)
-end_runs r m pid f [] h = h
 end_runs r m pid f (Rest at ∷ es) h = end_runs r m pid f es h
 end_runs r m pid f (Successor at z last ∷ es) h = end_runs r m pid f es h
-end_runs r m pid f (Return caller slot monitor ∷ es) h = h
-end_runs r m pid f (InitEnd caller component ∷ es) h = h
+end_runs r m pid f _ h = h
 
 pub top_executes : (r : Tables) (m : Machine) (pid : ℕ) (f : Frame) (es : List Entry) → StackExecutes r m pid f es → Executes r m pid f.component
 top_executes r m pid f [] h = h
 top_executes r m pid f (Rest at ∷ es) h = top_executes r m pid f es h
 top_executes r m pid f (Successor at z last ∷ es) h = top_executes r m pid f es h
-top_executes r m pid f (Return caller slot monitor ∷ es) h = h.0
-top_executes r m pid f (InitEnd caller component ∷ es) h = h.0
+top_executes r m pid f _ h = h.0
 
 -- ---- choices
 
@@ -59,16 +55,13 @@ either_runs r m pid f true es fs h k = h
 either_runs r m pid f false es fs h k = k
 
 initialised_begun : (p : Phase) → is_initialised p ≡ true → is_uninitialised p ≡ false
-initialised_begun Initialised h = refl
-initialised_begun Initialising h = refl
 initialised_begun Uninitialised h = absurd (cc)
+initialised_begun _ h = refl
 
 -- what is named by itself alone is the component that is executed
 stays : (m : Machine) (pid : ℕ) (place : ComponentPlace) (c : ℕ) → IsOwn place → component_of m pid place ≡ Ok c → (thread_at m.threads pid).frame.component ≡ c
 stays m pid Own c own is = ok_is is
-stays m pid (Contained number) c own is = absurd own
-stays m pid (Element first low high stride index) c own is = absurd own
-stays m pid (Parameter slot) c own is = absurd own
+stays m pid _ c own is = absurd own
 
 -- statuses stay where a process writes, or goes on in its own thread
 abbrev pub Calm : Machine → Machine → Type 0
@@ -133,8 +126,7 @@ module _ (r : Tables) (m : Machine) (pid : ℕ) (typed : IsTyped r) (fits : Mach
       let calm : Calm m n = thread_calm m pid _ refl in
       either_going r (is_true (slice_index_or m.permanents cell (pos 0))) _ _ (λ e. h)
       (delayed_executes r n pid monitor cell (calm pid ∙ has_started) (calm_line n monitor calm) (stack_going rest s))
-  delayed_in_going line cell kind.Class rest s = stack_going rest s
-  delayed_in_going line cell (kind.Process number) rest s = stack_going rest s
+  delayed_in_going line cell _ rest s = stack_going rest s
 
   pub delay_at_going : (line : ℕ) (rest : List Entry) (a : Address) → Runs r m pid own.frame rest → Going r (delay_at r m pid line rest a)
   delay_at_going line rest (address.Permanent cell) s = delayed_in_going line cell (component_at r own.frame.component).kind rest s
@@ -145,15 +137,11 @@ module _ (r : Tables) (m : Machine) (pid : ℕ) (typed : IsTyped r) (fits : Mach
   left_going n caller slot es k s = thread_executes r n pid _ (λ lt. s) refl k
 
   continued_from_going : (n : Machine) → Executing r n → ((monitor : ℕ) → LineStarted n (monitor_at n monitor).line) → (cell : ℕ) (f : Frame) (es : List Entry) → Runs r n pid f es → Going r (continued_from r n pid cell es)
-  continued_from_going n k line cell f [] s = k
-  continued_from_going n k line cell f (Rest at ∷ es) s = k
-  continued_from_going n k line cell f (Successor at z last ∷ es) s = k
-  continued_from_going n k line cell f (InitEnd caller component ∷ es) s = k
-  continued_from_going n k line cell f (Return caller slot None ∷ es) s = k
   continued_from_going n k line cell f (Return caller slot (Some monitor) ∷ es) s =
       let o = left r n pid caller slot es in
       let later : Calm n o = thread_calm n pid _ refl in
       continued_executes r o monitor cell (λ q there. (later q ∙ line monitor q there)) (left_going n caller slot es k (s.0.1, s.1))
+  continued_from_going n k line cell f _ s = k
 
   pub continue_at_going : (next : Option ℕ) (es : List Entry) (a : Address) → Runs r m pid own.frame es → Going r (continue_at r m pid next es a)
   continue_at_going next es (address.Permanent cell) s =
@@ -212,5 +200,4 @@ module _ (r : Tables) (m : Machine) (pid : ℕ) (typed : IsTyped r) (fits : Mach
 
     pub started_going : (line : ℕ) (k : ComponentKind) → (component_at r c).kind ≡ k → Going r (started r m pid line k routine c arguments bounds rest)
     started_going line (kind.Process q) is = start_process_going line q is
-    started_going line (kind.Monitor monitor) is = start_inside_going line (λ begun. subst (ExecutesAs Begun pid c) (sym is) begun)
-    started_going line kind.Class is = start_inside_going line (λ begun. subst (ExecutesAs Begun pid c) (sym is) begun)
+    started_going line _ is = start_inside_going line (λ begun. subst (ExecutesAs Begun pid c) (sym is) begun)

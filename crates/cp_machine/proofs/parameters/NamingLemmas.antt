@@ -1,14 +1,13 @@
 -- What a call or a start names is a component of the routine's system type, and its arguments fit.
 use Rattle.std.proofs.Common.{◌≡◌, ◌∙◌, ℕ, ◌+◌, ◌<◌, ◌≤◌, Bool, List, ◌∷◌, length, Option, true, ap, sym, refl, subst, arith, get_or-set_same}
-use Rattle.cp_machine.proofs.Words.{◌&&◌, length-append, ActionNames, IsOf, Names, own_of, Tables, RoutineView, component_at, item_at, routine_at, system_at}
-use Rattle.cp_machine.proofs.Words.{Action, Call, Start, Item, Argument, ComponentPlace, Bound, Covers, and_left, and_right, Entry, State, frame_behind}
-use Rattle.cp_machine.proofs.Words.{opened, Machine, Thread, machine_of, no_thread, thread_at, under, with_stack, frame_opened, memory_at, rest_of}
+use Rattle.cp_machine.proofs.Words.{◌&&◌, length-append, ActionNames, IsOf, Names, own_of, Tables, RoutineView, component_at, item_at, routine_at, system_at, Action}
+use Rattle.cp_machine.proofs.Words.{Call, Start, Item, Argument, ComponentPlace, Bound, Covers, and_left, and_right, Entry, State, frame_behind, opened, Machine, Thread}
+use Rattle.cp_machine.proofs.Words.{machine_of, no_thread, thread_at, under, with_stack, frame_opened, memory_at, rest_of, IsTaken}
 use Rattle.std.specs.declared.alloc.Global.{Global}
 use Rattle.std.specs.declared.vec.Vec.{Vec}
 use Rattle.cp_slots.specs.Inside.{action_inside, arguments_inside, binds_from, component_inside, result_inside}
 use Rattle.cp_store.specs.Inside as store
 use Rattle.cp_store.proofs.Fitting.{arguments_read, calls_fit, starts_fit}
-use Rattle.cp_machine.specs.Fits.{IsTaken}
 use Rattle.cp_machine.specs.Reach.{CanCall, CanStart, FitsComponent, FitsNew, FitsOwn, NamesOwner, frame_at}
 use Rattle.cp_machine.proofs.frames.Covered.{component_has}
 use Rattle.cp_machine.proofs.parameters.ExecutingAct.{process_finds, process_reads}

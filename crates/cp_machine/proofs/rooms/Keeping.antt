@@ -1,14 +1,12 @@
 -- A step keeps each process inside what was reserved for it.
 use Rattle.std.proofs.Common.{◌≡◌, ℕ, ◌+◌, ◌-◌, ◌<◌, ◌≤◌, ◌∙◌, ◌⊎◌, inl, inr, List, [], ◌∷◌, length, take, Option, Some, None, Result, Ok, Err, Bool, true, false, sym, refl, subst, arith, length-append, if◌then◌else◌}
-use Rattle.cp_machine.proofs.Words.{ℤ, pos, slice_index_or, replicate, cases_lt, IsSound, ListFits, InnerFits, CallFits, KindFits, Argument, Bound, ErrorName}
-use Rattle.cp_machine.proofs.Words.{Frame, Memory, nowhere, onward, Entry, Rest, Successor, Return, InitEnd, Phase, memory_at, with_memory, frame_opened}
-use Rattle.cp_machine.proofs.Words.{parameters_bound, rest_of, from_end, Stepped, with_value}
+use Rattle.cp_machine.proofs.Words.{ℤ, pos, slice_index_or, replicate, cases_lt, IsSound, ListFits, InnerFits, CallFits, KindFits, Argument, Bound, ErrorName, Frame}
+use Rattle.cp_machine.proofs.Words.{Memory, nowhere, onward, Entry, Rest, Successor, Return, InitEnd, Phase, memory_at, with_memory, frame_opened, parameters_bound}
+use Rattle.cp_machine.proofs.Words.{rest_of, from_end, Stepped, with_value, Shown, FrameFits, Follows, StackFits, ThreadFits, MachineFits}
 use Rattle.std.proofs.lemmas.List.{get_or_past, length-set, length-take-le, length-replicate}
 use Rattle.cp_slots.specs.Tables.{Tables, item_at, routine_at, component_at, no_component}
 use Rattle.cp_slots.specs.declared.tables.Component.{Component}
-use Rattle.cp_machine.specs.declared.shown.Shown.{Shown}
 use Rattle.cp_machine.specs.Calls.{frame_behind, with_result, given_up, left}
-use Rattle.cp_machine.specs.Fits.{FrameFits, Follows, StackFits, ThreadFits, MachineFits}
 use Rattle.cp_machine.specs.Machine.{Machine, Thread, thread_at, with_bindings, with_phase, with_stack, with_output}
 use Rattle.cp_machine.proofs.rooms.KernelFits.{thread_fits, permanents_fit}
 use Rattle.cp_machine.proofs.StoreLemmas.{Kept, kept_component, length-bindings}
@@ -19,8 +17,7 @@ pub frame_fits : (r : Tables) (f : Frame) (es : List Entry) → StackFits r f es
 frame_fits r f [] h = h
 frame_fits r f (Rest at ∷ es) h = frame_fits r f es h.1
 frame_fits r f (Successor at value last ∷ es) h = frame_fits r f es h.1
-frame_fits r f (Return caller slot monitor ∷ es) h = h.0.fits
-frame_fits r f (InitEnd caller component ∷ es) h = h.0.fits
+frame_fits r f _ h = h.0.fits
 
 pub rest_fits : (r : Tables) (f : Frame) (list : Option ℕ) (need : ℕ) (es : List Entry) → ListFits r f.routine need list → length es + 1 + need ≤ r.depth → StackFits r f es → StackFits r f (rest_of list es)
 rest_fits r f None need es n d h = h
@@ -39,19 +36,16 @@ inner_fits r f None need n es i l d h = h
 inner_fits r f (Some at) need n es i l d h = rest_fits r f (Some at) (need - 1) es i.1 (let some : 1 ≤ need = i.0 in omega arith) h
 
 pub end_fits : (r : Tables) (f : Frame) (es : List Entry) → StackFits r f es → StackFits r f (from_end es)
-end_fits r f [] h = h
 end_fits r f (Rest at ∷ es) h = end_fits r f es h.1
 end_fits r f (Successor at value last ∷ es) h = end_fits r f es h.1
-end_fits r f (Return caller slot monitor ∷ es) h = h
-end_fits r f (InitEnd caller component ∷ es) h = h
+end_fits r f _ h = h
 
 -- a control stack has at most the entries that were reserved
 pub stack_within : (r : Tables) (f : Frame) (es : List Entry) → StackFits r f es → length es ≤ r.depth
 stack_within r f [] h = omega arith
-stack_within r f (Rest at ∷ es) h = omega (arith, h.0.deep)
-stack_within r f (Successor at value last ∷ es) h = omega (arith, h.0.deep)
 stack_within r f (Return caller slot monitor ∷ es) h = omega (arith, h.1)
 stack_within r f (InitEnd caller component ∷ es) h = omega (arith, h.1)
+stack_within r f _ h = omega (arith, h.0.deep)
 
 -- ---- parts of a machine
 

@@ -78,21 +78,7 @@ module _ (r : Tables) (m : Machine) (pid : ℕ) (lt : pid < length m.threads) (s
   successor_fits (For variable low high first end down list) a z last =
       either_fits r (int_eq z last) _ _ going
       (value_fits r (next_value down low high z) _ _ (λ e. h) (λ w. goes_fits r m pid lt sound h at variable list es (item_at r at).need w last a s.0.deep s))
-  successor_fits Empty a z last = going
-  successor_fits (Assign target value low high) a z last = going
-  successor_fits (AssignSet target value low high) a z last = going
-  successor_fits (Copy target source size) a z last = going
-  successor_fits (Block list) a z last = going
-  successor_fits (If test list other) a z last = going
-  successor_fits (Case selector arms) a z last = going
-  successor_fits (While test list again) a z last = going
-  successor_fits (Until test list again) a z last = going
-  successor_fits (Cycle list) a z last = going
-  successor_fits (Call routine component is_entry arguments slot) a z last = going
-  successor_fits (Start component routine arguments) a z last = going
-  successor_fits (Delay place) a z last = going
-  successor_fits (Continue place) a z last = going
-  successor_fits (Display value kind) a z last = going
+  successor_fits _ a z last = going
 
 -- what is known of an item that is on the control stack of a process
 pub action_fits : (r : Tables) (m : Machine) (pid at below : ℕ) → IsSound r → EntryFits r (thread_at m.threads pid).frame at below → ActionFits r (thread_at m.threads pid).frame.routine (item_at r at).need (item_at r at).action

@@ -77,28 +77,22 @@ module _ (r : Tables) (m : Machine) (pid : ℕ) (lt : pid < length m.threads) (s
         either_fits r (is_uninitialised (phase_at m component)) _ _ (phase_fits r _ component Initialising (parameters_fit r _ pid _ arguments bounds (thread_fits r m pid _ (λ l. t) h))) h
 
     pub started_fits : (k : ComponentKind) (routine component : ℕ) (arguments : List Argument) (bounds : List Bound) → CallFits r own.frame.routine (item_at r at).need routine arguments → Fit r (started r m pid (item_at r at).line k routine component arguments bounds (rest_of (item_at r at).next es))
-    started_fits (kind.Monitor monitor) routine component arguments bounds c = start_inside_fits routine component arguments bounds c
-    started_fits kind.Class routine component arguments bounds c = start_inside_fits routine component arguments bounds c
     started_fits (kind.Process q) routine component arguments bounds c =
         either_fits r (is_unstarted (thread_at m.threads q).status) _ _ (status_fits r _ q Ready (parameters_fit r _ pid _ arguments bounds next_machine)) h
+    started_fits _ routine component arguments bounds c = start_inside_fits routine component arguments bounds c
 
     delayed_in_fits : (cell : ℕ) (k : ComponentKind) → KindFits r k → Fit r (delayed_in m pid (item_at r at).line cell k (rest_of (item_at r at).next es))
     delayed_in_fits cell (kind.Monitor monitor) inside =
         either_fits r (is_true (slice_index_or m.permanents cell (pos 0))) _ _ h (delayed_fits r _ pid monitor cell next_machine inside)
-    delayed_in_fits cell kind.Class inside = next_machine
-    delayed_in_fits cell (kind.Process number) inside = next_machine
+    delayed_in_fits cell _ inside = next_machine
 
     pub delay_at_fits : (a : Address) → Fit r (delay_at r m pid (item_at r at).line (rest_of (item_at r at).next es) a)
     delay_at_fits (address.Permanent cell) = delayed_in_fits cell _ (kind_fits r own.frame.component sound)
     delay_at_fits (address.Local cell) = next_machine
 
 continued_from_fits : (r : Tables) (m : Machine) (pid cell : ℕ) (es : List Entry) → StackFits r (thread_at m.threads pid).frame es → MachineFits r m → Fit r (continued_from r m pid cell es)
-continued_from_fits r m pid cell [] s h = h
-continued_from_fits r m pid cell (Rest at ∷ es) s h = h
-continued_from_fits r m pid cell (Successor at z last ∷ es) s h = h
-continued_from_fits r m pid cell (InitEnd caller component ∷ es) s h = h
-continued_from_fits r m pid cell (Return caller slot None ∷ es) s h = h
 continued_from_fits r m pid cell (Return caller slot (Some monitor) ∷ es) s h = continued_fits r _ monitor cell (left_fits r m pid caller slot es s.0 s.3 h) s.2
+continued_from_fits r m pid cell _ s h = h
 
 -- the frame stays where the stack changes
 pub frame_kept : (m : Machine) (pid : ℕ) (stack : List Entry) → pid < length m.threads → (thread_at (with_stack m pid stack).threads pid).frame ≡ (thread_at m.threads pid).frame

@@ -1,7 +1,8 @@
 -- What the kernel does keeps each process inside what was reserved for it.
-use Rattle.std.proofs.Common.{◌≡◌, ℕ, ◌<◌, ◌∙◌, ◌⊎◌, inl, inr, List, [], ◌∷◌, Option, Some, None, length, sym, subst, arith, get_or-set_same, get_or-set_other}
-use Rattle.cp_machine.proofs.Words.{ℤ, IfSome, pos, slice_set, cases_eq, length-set, Tables, Gates, First, Any, Status, Ready, AtGate, Delayed, MachineFits}
+use Rattle.std.proofs.Common.{◌≡◌, ℕ, ◌<◌, ◌∙◌, List, [], ◌∷◌, Option, Some, None, length, arith}
+use Rattle.cp_machine.proofs.Words.{ℤ, IfSome, pos, slice_set, length-set, Tables, Gates, First, Any, Status, Ready, AtGate, Delayed, MachineFits}
 use Rattle.cp_machine.proofs.Words.{ThreadFits, admitted, admitted_at, without}
+use Rattle.cp_machine.proofs.ListLemmas.{each_set}
 use Rattle.cp_machine.specs.Kernel.{let_in, let_in_by, first_in, one_in, freed, goes_in, entered, entered_by, delayed, continued, resumed, waits_in}
 use Rattle.cp_machine.specs.Machine.{Machine, Thread, Monitor, thread_at, no_thread, monitor_at, with_thread, with_status, with_monitor, with_pending, with_permanents}
 
@@ -18,16 +19,8 @@ thread_fits r m pid x fit h =
       phases = h.phases;
       monitors = h.monitors;
       pending = h.pending;
-      each = λ q lt. (let within : q < length m.threads = omega (arith, long) in go q within (cases_eq q pid));
+      each = λ q lt. each_set (λ k. ThreadFits r) m.threads pid x no_thread fit (λ k within ne. h.each k within) q (omega (arith, lt, long));
     }
-  where
-    go : (q : ℕ) → q < length m.threads → (q ≡ pid) ⊎ (q ≡ pid → ⊥) → ThreadFits r (thread_at (slice_set m.threads pid x) q)
-    go q lt (inl e) =
-        let P : ℕ → Type 0 = λ k. ThreadFits r (thread_at (slice_set m.threads pid x) k) in
-        let within : pid < length m.threads = omega arith in
-        let same = get_or-set_same m.threads pid x no_thread within in
-        subst P (sym e) (subst (ThreadFits r) (sym same) (fit within))
-    go q lt (inr ne) = subst (ThreadFits r) (sym (get_or-set_other m.threads pid q x no_thread ne)) (h.each q lt)
 
 pub status_fits : (r : Tables) (m : Machine) (pid : ℕ) (status : Status) → MachineFits r m → MachineFits r (with_status m pid status)
 status_fits r m pid status h = thread_fits r m pid _ (λ lt. (let t : ThreadFits r (thread_at m.threads pid) = h.each pid lt in record { stack = t.stack; cells = t.cells; references = t.references })) h

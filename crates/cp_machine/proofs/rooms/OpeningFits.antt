@@ -1,8 +1,7 @@
 -- The opening state is the program's.
-use Rattle.std.proofs.Common.{◌≡◌, ℕ, ◌-◌, ◌<◌, ◌≤◌, ◌∙◌, [], Option, None, Some, length, map, sym, refl, subst, arith, ◌⊎◌, inl, inr}
-use Rattle.cp_machine.proofs.Words.{slice_set, cases_eq, Tables, item_at, routine_at, process_at, no_process, IsSound, ListFits, nowhere, Frame, Gates}
-use Rattle.cp_machine.proofs.Words.{Status, Uninitialised, FrameFits, EntryFits, MachineFits, StackFits, ThreadFits, Machine, Thread, thread_at, no_monitor}
-use Rattle.cp_machine.proofs.Words.{no_thread, with_status, unstarted_thread, still, rest_of}
+use Rattle.cp_machine.proofs.Words.{◌≡◌, ℕ, ◌-◌, ◌<◌, ◌≤◌, ◌∙◌, [], Option, None, Some, length, map, sym, refl, subst, arith, ◌⊎◌, inl, inr, slice_set, cases_eq, Tables}
+use Rattle.cp_machine.proofs.Words.{item_at, routine_at, process_at, no_process, IsSound, ListFits, nowhere, Frame, Gates, Status, Uninitialised, FrameFits, EntryFits}
+use Rattle.cp_machine.proofs.Words.{MachineFits, StackFits, ThreadFits, Machine, Thread, thread_at, no_monitor, no_thread, with_status, unstarted_thread, still, rest_of}
 use Rattle.std.proofs.lemmas.List.{length-map, length-replicate, length-set, get_or-map, get_or-set_same, get_or-set_other}
 
 first_fits : (r : Tables) (f : Frame) (list : Option ℕ) → ListFits r f.routine (r.depth - 1) list → 1 ≤ r.depth → FrameFits r f → StackFits r f (rest_of list [])

@@ -1,8 +1,7 @@
 -- A process whose topmost entry is known has room for what its item needs.
-use Rattle.std.proofs.Common.{◌≡◌, ◌∙◌, ℕ, ◌+◌, ◌<◌, ◌≤◌, List, ◌∷◌, length, Option, Some, None, ap, sym, subst, arith}
-use Rattle.cp_machine.proofs.Words.{ℤ, slice_index_or, vec_len, get_or-map, length-map, length-reverse, Tables, item_at, InnerFits, CallFits, Argument, Entry}
-use Rattle.cp_machine.proofs.Words.{Rest, Successor, ProcessState, State, Thread, thread_of, thread_at, no_thread, machine_of}
-use Rattle.cp_machine.specs.Fits.{EntryFits, StackFits, MachineFits, IsReserved, IsStateOf, IsBusy, HasRoom, HasCallRoom}
+use Rattle.cp_machine.proofs.Words.{◌≡◌, ◌∙◌, ℕ, ◌+◌, ◌<◌, ◌≤◌, List, ◌∷◌, length, Option, Some, None, ap, sym, subst, arith, ℤ, slice_index_or, vec_len, get_or-map}
+use Rattle.cp_machine.proofs.Words.{length-map, length-reverse, Tables, item_at, InnerFits, CallFits, Argument, Entry, Rest, Successor, ProcessState, State, Thread}
+use Rattle.cp_machine.proofs.Words.{thread_of, thread_at, no_thread, machine_of, EntryFits, StackFits, MachineFits, IsReserved, IsStateOf, IsBusy, HasRoom, HasCallRoom}
 use Rattle.cp_machine.proofs.rooms.Keeping.{frame_fits}
 
 abbrev pub thread : State → ℕ → Thread

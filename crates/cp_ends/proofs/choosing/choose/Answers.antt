@@ -1,34 +1,20 @@
 use Rattle.cp_ends.proofs.Vocabulary.{◌≡◌, ◌∙◌, ◌++◌, true, false, sym, ap, subst, IfOk, Machine, machine_of, is_pending, Shown, slots, without_output, goal_at}
 use Rattle.cp_ends.proofs.Vocabulary.{Arrival, same_key}
-use Rattle.cp_machine.proofs.CallerLemmas.{pending_is, line_within, admitted_free}
+use Rattle.cp_machine.proofs.CallerLemmas.{pending_is}
 use Rattle.cp_run.specs.declared.outcome.Turn.TheVariants.{Over, Due, Goes}
-use Rattle.cp_run.proofs.Choosing.{may_in_line, may_be_ready}
 use Rattle.cp_ends.specs.declared.end.End as code
 use Rattle.cp_ends.proofs.Arriving.{next_free, next_let_in, told_none}
+use Rattle.cp_run.proofs.DueChoices.{chosen_goes, chosen_comes, free_behind}
 use Rattle.cp_ends.proofs.choosing.choose.Goals as goal
 
 pub stretch-requires-clause-ready : goal.stretch-requires-clause-ready
-stretch-requires-clause-ready g c =
-    let e : is_pending (machine_of c.args.state.now) ≡ false = pending_is (machine_of c.args.state.now) c.pending.result false c.pending.ensures c.if-is_none.ensures in
-    may_be_ready (slots c.args.program.now c.args.limits.gates) (machine_of c.args.state.now) c.args.process e c.requires.may
+stretch-requires-clause-ready g c = (chosen_goes c.args.program.now c.args.limits.gates c.args.state.now c.args.process c.pending.result c.pending.ensures c.if-is_none.ensures c.requires.own c.requires.may).ready
 
-pub admit-requires-clause-own : goal.admit-requires-clause-own
-admit-requires-clause-own g c = (c.args.program.now, c.requires.own)
-
-pub admit-requires-clause-pid : goal.admit-requires-clause-pid
-admit-requires-clause-pid g c =
-    let e : is_pending (machine_of c.args.state.now) ≡ true = pending_is (machine_of c.args.state.now) c.pending.result true c.pending.ensures c.if-is_none.ensures in
-    line_within c.args.state.now c.args.process (may_in_line (slots c.args.program.now c.args.limits.gates) (machine_of c.args.state.now) c.args.process e c.requires.may)
-
-pub admit-requires-clause-line : goal.admit-requires-clause-line
-admit-requires-clause-line g c =
-    let e : is_pending (machine_of c.args.state.now) ≡ true = pending_is (machine_of c.args.state.now) c.pending.result true c.pending.ensures c.if-is_none.ensures in
-    may_in_line (slots c.args.program.now c.args.limits.gates) (machine_of c.args.state.now) c.args.process e c.requires.may
+pub admit-requires : goal.admit-requires
+admit-requires g c = chosen_comes c.args.program.now c.args.limits.gates c.args.state.now c.args.process c.pending.result c.pending.ensures c.if-is_none.ensures c.requires.own c.requires.may
 
 pub stretch-requires-in-Goes-clause-free : goal.stretch-requires-in-Goes-clause-free
-stretch-requires-in-Goes-clause-free g c =
-    let e : is_pending (machine_of c.args.state.now) ≡ true = pending_is (machine_of c.args.state.now) c.pending.result true c.pending.ensures c.if-is_none.ensures in
-    admitted_free (machine_of c.args.state.now) (machine_of c.admit.new.self) c.args.process (may_in_line (slots c.args.program.now c.args.limits.gates) (machine_of c.args.state.now) c.args.process e c.requires.may) c.admit.ensures.after
+stretch-requires-in-Goes-clause-free g c = free_behind c.args.program.now c.args.limits.gates c.args.state.now c.args.process c.pending.result c.pending.ensures c.if-is_none.ensures c.requires.may (machine_of c.admit.new.self) c.admit.ensures.after
 
 pub returns-then-is_none-clause-goal : goal.returns-then-is_none-clause-goal
 returns-then-is_none-clause-goal g c =

@@ -1,7 +1,5 @@
-use Rattle.cp_machine.proofs.Words.{subst, sym, HaveGateRoom, ◌≡◌, ◌∙◌, Ok, ap, machine_of, arguments_of, length, arith, component_of, called_by, HasCallRoom}
-use Rattle.cp_machine.proofs.Words.{under, rest_of, fault, outcome, ProcessState, Err, rules, ◌<◌, slice_index_or, vec_len}
-use Rattle.cp_store.specs.Arguments.{bounds_or}
-use Rattle.cp_machine.specs.Reach.{FitsNew}
+use Rattle.cp_machine.proofs.Words.{subst, sym, HaveGateRoom, ◌≡◌, ◌∙◌, Ok, ap, machine_of, arguments_of, length, arith, component_of, called_by, HasCallRoom, under}
+use Rattle.cp_machine.proofs.Words.{rest_of, fault, outcome, ProcessState, Err, rules, ◌<◌, slice_index_or, vec_len, bounds_or, FitsNew}
 use Rattle.cp_machine.proofs.CallOutcomes.{call_arguments_fail, call_component_fails, call_goes, guards_as}
 use Rattle.cp_machine.proofs.call.call.Goals as goal
 

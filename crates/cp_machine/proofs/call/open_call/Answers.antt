@@ -1,5 +1,4 @@
-use Rattle.cp_machine.proofs.Words.{subst, sym, machine_of, opened, thread_at, under, rest_of, Return, Frame, ap, length, ◌∙◌}
-use Rattle.cp_machine.specs.Reach.{FitsOwn}
+use Rattle.cp_machine.proofs.Words.{subst, sym, machine_of, opened, thread_at, under, rest_of, Return, Frame, ap, length, ◌∙◌, FitsOwn}
 use Rattle.cp_machine.proofs.parameters.NamingLemmas.{opened_fits}
 use Rattle.cp_machine.proofs.CallOutcomes.{set_within}
 use Rattle.cp_machine.specs.Memory.{frame_bound}

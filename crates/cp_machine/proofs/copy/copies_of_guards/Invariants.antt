@@ -1,5 +1,4 @@
-use Rattle.std.proofs.Common.{◌≡◌, map, take}
-use Rattle.cp_machine.specs.Machine.{monitor_of}
+use Rattle.cp_machine.proofs.Words.{◌≡◌, map, take, monitor_of}
 use Rattle.cp_machine.proofs.copy.copies_of_guards.Given as goal
 
 abbrev pub invariant-loop-guard : goal.invariant-loop-guard

@@ -1,5 +1,4 @@
-use Rattle.cp_machine.proofs.Words.{◌≡◌, ◌+◌, ◌<◌, ◌≤◌, ◌∙◌, List, ap, false, length, subst, sym, arith, slice_index_or, vec_capacity, ProcessState}
-use Rattle.cp_machine.proofs.Words.{thread_of}
+use Rattle.cp_machine.proofs.Words.{◌≡◌, ◌+◌, ◌<◌, ◌≤◌, ◌∙◌, List, ap, false, length, subst, sym, arith, slice_index_or, vec_capacity, ProcessState, thread_of}
 use Rattle.cp_machine.proofs.CopyLemmas.{AreCopied, body_kept, copied_next, status_taken, threads_same}
 use Rattle.cp_machine.proofs.copy.take_processes.Goals as goal
 use Rattle.cp_machine.proofs.copy.take_processes.Goals.{then-has, else-has}

@@ -1,5 +1,4 @@
-use Rattle.std.proofs.Common.{◌<◌, length, subst, sym}
-use Rattle.cp_machine.specs.Machine.{Machine}
+use Rattle.cp_machine.proofs.Words.{◌<◌, length, subst, sym, Machine}
 use Rattle.cp_machine.proofs.end.end_init.Goals as goal
 
 pub returns-clause-reserved : goal.returns-clause-reserved

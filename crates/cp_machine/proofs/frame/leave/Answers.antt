@@ -1,5 +1,4 @@
-use Rattle.cp_machine.proofs.Words.{◌≡◌, ◌∙◌, ap, drop, map, subst, sym, map-set, routine_at, Frame, Machine, Thread, machine_of, thread_of, thread_at}
-use Rattle.cp_machine.proofs.Words.{with_thread}
+use Rattle.cp_machine.proofs.Words.{◌≡◌, ◌∙◌, ap, drop, map, subst, sym, map-set, routine_at, Frame, Machine, Thread, machine_of, thread_of, thread_at, with_thread}
 use Rattle.cp_machine.specs.Calls.{given_up, given_up_from}
 use Rattle.cp_machine.specs.Results.{HasResult}
 use Rattle.cp_machine.proofs.ThreadLemmas.{thread_read}

@@ -1,5 +1,4 @@
-use Rattle.cp_machine.proofs.Words.{◌≡◌, ◌∷◌, ap, drop, map, sym, map-set, frame_behind, Thread, machine_of, thread_of, thread_at, with_thread, frame_opened}
-use Rattle.cp_machine.proofs.Words.{rest_of}
+use Rattle.cp_machine.proofs.Words.{◌≡◌, ◌∷◌, ap, drop, map, sym, map-set, frame_behind, Thread, machine_of, thread_of, thread_at, with_thread, frame_opened, rest_of}
 use Rattle.cp_slots.specs.Tables.{routine_view}
 use Rattle.cp_machine.proofs.ThreadLemmas.{thread_read}
 use Rattle.cp_machine.proofs.frame.open.Goals as goal

@@ -1,5 +1,4 @@
-use Rattle.cp_machine.proofs.Words.{◌≡◌, ◌∙◌, ◌<◌, arith, length, refl, subst, length-map, map-set, Monitor, machine_of, monitor_at, monitor_of, thread_of}
-use Rattle.cp_machine.specs.Fits.{IsFirstKnown}
+use Rattle.cp_machine.proofs.Words.{◌≡◌, ◌∙◌, ◌<◌, arith, length, refl, subst, length-map, map-set, Monitor, machine_of, monitor_at, monitor_of, thread_of, IsFirstKnown}
 use Rattle.cp_machine.proofs.KernelLemmas.{guard_read}
 use Rattle.cp_machine.proofs.kernel.let_first_in.Goals as goal
 

@@ -1,5 +1,4 @@
-use Rattle.cp_machine.proofs.Words.{◌≡◌, ◌∙◌, sym, ProcessState, is_delayed_at, thread_of}
-use Rattle.std.specs.Prelude.{position}
+use Rattle.cp_machine.proofs.Words.{◌≡◌, ◌∙◌, sym, ProcessState, is_delayed_at, thread_of, position}
 use Rattle.cp_machine.proofs.KernelLemmas.{position_map}
 use Rattle.cp_machine.proofs.kernel.waiter_of.Goals as goal
 

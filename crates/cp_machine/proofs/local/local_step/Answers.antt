@@ -1,6 +1,6 @@
-use Rattle.cp_machine.proofs.Words.{◌≡◌, ◌<◌, length, length-map, machine_of}
+use Rattle.cp_machine.proofs.Words.{◌<◌, length, length-map, machine_of}
 use Rattle.cp_machine.specs.declared.event.Event.TheVariants.{Local}
-use Rattle.cp_machine.proofs.LocalSteps.{own_stepped, own_same, ready_stepped, still_kept}
+use Rattle.cp_machine.proofs.LocalSteps.{own_stepped, ready_stepped}
 use Rattle.cp_machine.proofs.local.local_step.Goals as goal
 
 pub returns-then-taken-clause-own : goal.returns-then-taken-clause-own

@@ -1,6 +1,5 @@
-use Rattle.cp_machine.proofs.Words.{◌∙◌, ap, sym, Assign, If, While, Until, Rest, machine_of, under, with_stack, rest_of, assign, branch, local, outcome}
-use Rattle.cp_machine.proofs.Words.{while_do, until, act, Block, Cycle}
-use Rattle.std.proofs.lemmas.Bool.{false≢true}
+use Rattle.cp_machine.proofs.Words.{◌∙◌, ap, sym, Assign, If, While, Until, Rest, machine_of, under, with_stack, rest_of, assign, branch, local, outcome, while_do, until}
+use Rattle.cp_machine.proofs.Words.{act, Block, Cycle, false≢true}
 use Rattle.cp_machine.proofs.LocalSteps.{assign_calm, branch_calm, while_calm, until_calm, done_pending, done_same}
 use Rattle.cp_machine.proofs.frames.ReadLemmas.{taken_fits, taken_reads, taken_room}
 use Rattle.cp_machine.proofs.rooms.RoomLemmas.{is_busy}

@@ -1,5 +1,4 @@
-use Rattle.std.proofs.Common.{refl}
-use Rattle.std.proofs.lemmas.Bool.{false≢true}
+use Rattle.cp_machine.proofs.Words.{refl, false≢true}
 use Rattle.cp_machine.proofs.local.take_local.Goals as goal
 
 pub take_local_item-requires-clause-own : goal.take_local_item-requires-clause-own

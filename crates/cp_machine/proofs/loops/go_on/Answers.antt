@@ -1,5 +1,4 @@
-use Rattle.cp_machine.proofs.Words.{rest_of, number_put, origin_of, Machine, machine_of, under, with_stack, Successor, ℤ, ◌≡◌, ◌∷◌, ◌∙◌, ap, of_z, rules}
-use Rattle.cp_machine.proofs.Words.{to_z, w16}
+use Rattle.cp_machine.proofs.Words.{rest_of, number_put, origin_of, Machine, machine_of, under, with_stack, Successor, ℤ, ◌≡◌, ◌∷◌, ◌∙◌, ap, of_z, rules, to_z, w16}
 use Rattle.cp_machine.proofs.Outcomes.{replaced_has, replaced_within}
 use Rattle.cp_machine.proofs.loops.go_on.Goals as goal
 

@@ -1,6 +1,5 @@
-use Rattle.cp_machine.proofs.Words.{◌≡◌, machine_of, address_of}
+use Rattle.cp_machine.proofs.Words.{◌≡◌, machine_of, address_of, address_at}
 use Rattle.cp_store.specs.Inside as store
-use Rattle.cp_store.specs.Places.{address_at}
 use Rattle.cp_machine.proofs.frames.ReadLemmas.{own_memory, reached_in, whole_memory}
 use Rattle.cp_machine.proofs.memory.address_of.Goals as goal
 

@@ -1,7 +1,6 @@
-use Rattle.std.proofs.Common.{subst, sym}
+use Rattle.cp_machine.proofs.Words.{subst, sym, memory_of}
 use Rattle.cp_store.specs.Inside as store
 use Rattle.cp_machine.proofs.frames.ReadLemmas.{own_memory}
-use Rattle.cp_store.specs.Memory.{memory_of}
 use Rattle.cp_machine.proofs.memory.arguments_of.Goals as goal
 
 pub evaluate_arguments-requires-clause-reads : goal.evaluate_arguments-requires-clause-reads

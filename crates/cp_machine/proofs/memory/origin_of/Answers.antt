@@ -1,6 +1,5 @@
-use Rattle.cp_machine.proofs.Words.{◌≡◌, refl, machine_of, memory_at, origin_of, frame_at}
+use Rattle.cp_machine.proofs.Words.{◌≡◌, refl, machine_of, memory_at, origin_of, frame_at, origin_address}
 use Rattle.cp_store.specs.Inside as store
-use Rattle.cp_store.specs.Places.{origin_address}
 use Rattle.cp_machine.proofs.frames.ReadLemmas.{begins, named_in, own_memory, whole_memory}
 use Rattle.cp_machine.proofs.memory.origin_of.Goals as goal
 

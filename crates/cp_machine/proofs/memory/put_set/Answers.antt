@@ -1,8 +1,7 @@
-use Rattle.cp_machine.proofs.Words.{refl, ◌≡◌, ◌∙◌, ap, length, sym, map-set, with_items_is, memory_of, set_written, machine_of}
+use Rattle.cp_machine.proofs.Words.{refl, ◌≡◌, ◌∙◌, ap, length, sym, map-set, with_items_is, memory_of, set_written, machine_of, SET_CELLS}
 use Rattle.cp_machine.proofs.ThreadLemmas.{memory_put}
 use Rattle.cp_store.specs.Inside as store
 use Rattle.cp_machine.proofs.frames.ReadLemmas.{own_memory}
-use Rattle.cp_slots.specs.Inside.{SET_CELLS}
 use Rattle.cp_machine.proofs.memory.put_set.Goals as goal
 
 pub returns-clause-after : goal.returns-clause-after

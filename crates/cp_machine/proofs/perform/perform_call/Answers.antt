@@ -1,8 +1,6 @@
-use Rattle.cp_machine.proofs.Words.{Call, Start, machine_of, under, act, Rest, rest_of, subst, sym, ◌∙◌, ap, arith, length}
-use Rattle.cp_machine.specs.Calls.{call, start}
+use Rattle.cp_machine.proofs.Words.{Call, Start, machine_of, under, act, Rest, rest_of, subst, sym, ◌∙◌, ap, arith, length, call, start, CanCall, CanStart}
 use Rattle.cp_machine.proofs.rooms.RoomLemmas.{is_busy}
 use Rattle.cp_machine.proofs.TakeLemmas.{item_taken, item_call_room}
-use Rattle.cp_machine.specs.Reach.{CanCall, CanStart}
 use Rattle.cp_machine.proofs.parameters.NamingLemmas.{taken_call, taken_start}
 use Rattle.cp_machine.proofs.TakeLemmas.{guards_count, processes_count}
 use Rattle.cp_machine.proofs.perform.perform_call.Goals as goal

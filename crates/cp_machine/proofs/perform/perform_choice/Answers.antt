@@ -1,6 +1,4 @@
-use Rattle.cp_machine.proofs.Words.{ℕ, ◌<◌, length, subst, sym, ◌∙◌, ap, slice_index_or, If, Case, ResolvedArm, HasRoom, machine_of, under, act, Rest}
-use Rattle.cp_machine.proofs.Words.{rest_of}
-use Rattle.cp_machine.specs.Statements.{case_of}
+use Rattle.cp_machine.proofs.Words.{ℕ, ◌<◌, length, subst, sym, ◌∙◌, ap, slice_index_or, If, Case, ResolvedArm, HasRoom, machine_of, under, act, Rest, rest_of, case_of}
 use Rattle.cp_machine.proofs.rooms.RoomLemmas.{is_busy}
 use Rattle.cp_machine.proofs.frames.ReadLemmas.{taken_fits, taken_reads, taken_room}
 use Rattle.cp_machine.proofs.perform.perform_choice.Goals as goal

@@ -1,6 +1,4 @@
-use Rattle.std.proofs.Common.{◌≡◌, ◌∙◌, ap, sym, arith, length, vec_len, drop, true, false}
-use Rattle.std.proofs.lemmas.List.{length-reverse}
-use Rattle.cp_machine.specs.Stack.{above, from_end, is_inner, top_first}
+use Rattle.cp_machine.proofs.Words.{◌≡◌, ◌∙◌, ap, sym, arith, length, vec_len, drop, true, false, length-reverse, above, from_end, is_inner, top_first}
 use Rattle.cp_machine.proofs.StackLemmas.{end_on_top, end_below, inner_is_some}
 use Rattle.cp_machine.proofs.queue.drop_to_end.Goals as goal
 

@@ -1,6 +1,4 @@
-use Rattle.std.proofs.Common.{◌≡◌, ◌≤◌, vec_len}
-use Rattle.std.specs.Prelude.{vec_capacity}
-use Rattle.cp_machine.specs.Stack.{from_end, top_first}
+use Rattle.cp_machine.proofs.Words.{◌≡◌, ◌≤◌, vec_len, vec_capacity, from_end, top_first}
 use Rattle.cp_machine.proofs.queue.drop_to_end.Given as goal
 
 abbrev pub invariant-loop-stack : goal.invariant-loop-stack

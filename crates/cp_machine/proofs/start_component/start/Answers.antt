@@ -1,6 +1,5 @@
-use Rattle.cp_machine.proofs.Words.{◌≡◌, ◌∙◌, Ok, ap, subst, sym, machine_of, arguments_of, component_of, FitsComponent, length, arith, started, HasCallRoom}
-use Rattle.cp_machine.proofs.Words.{under, rest_of, fault, outcome, ProcessState, component_at, Err, rules, ◌<◌, slice_index_or, vec_len}
-use Rattle.cp_store.specs.Arguments.{bounds_or}
+use Rattle.cp_machine.proofs.Words.{◌≡◌, ◌∙◌, Ok, ap, subst, sym, machine_of, arguments_of, component_of, FitsComponent, length, arith, started, HasCallRoom, under}
+use Rattle.cp_machine.proofs.Words.{rest_of, fault, outcome, ProcessState, component_at, Err, rules, ◌<◌, slice_index_or, vec_len, bounds_or}
 use Rattle.cp_machine.proofs.CallOutcomes.{start_arguments_fail, start_component_fails, start_goes}
 use Rattle.cp_machine.proofs.start_component.start.Goals as goal
 

@@ -1,6 +1,5 @@
-use Rattle.cp_machine.proofs.Words.{subst, sym, AllFitComponent, machine_of, memory_at, FitsComponent, ◌<◌, length, Machine, opened, is_uninitialised}
-use Rattle.cp_machine.proofs.Words.{phase_at, thread_at, under, with_phase, parameters_bound, rest_of, local, InitEnd, Initialising, component_at, Frame, ap}
-use Rattle.cp_machine.proofs.Words.{false, true, ◌∙◌, ◌≡◌}
+use Rattle.cp_machine.proofs.Words.{subst, sym, AllFitComponent, machine_of, memory_at, FitsComponent, ◌<◌, length, Machine, opened, is_uninitialised, phase_at}
+use Rattle.cp_machine.proofs.Words.{thread_at, under, with_phase, parameters_bound, rest_of, local, InitEnd, Initialising, component_at, Frame, ap, false, true, ◌∙◌, ◌≡◌}
 use Rattle.cp_machine.proofs.parameters.NamingLemmas.{begun_fits}
 use Rattle.cp_machine.proofs.CallOutcomes.{begins_if, not_false, not_true, set_within, uninitialised_is}
 use Rattle.cp_machine.proofs.start_component.start_inside.Goals as goal

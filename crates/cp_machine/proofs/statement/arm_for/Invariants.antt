@@ -1,5 +1,4 @@
-use Rattle.std.proofs.Common.{◌≡◌, drop}
-use Rattle.cp_machine.specs.Statements.{arm_for}
+use Rattle.cp_machine.proofs.Words.{◌≡◌, drop, arm_for}
 use Rattle.cp_machine.proofs.statement.arm_for.Given as goal
 
 abbrev pub invariant-loop-arm : goal.invariant-loop-arm

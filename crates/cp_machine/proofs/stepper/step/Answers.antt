@@ -1,5 +1,5 @@
 use Rattle.cp_machine.proofs.Words.{◌≡◌, ◌<◌, length, refl, subst, true, length-map, Event, LinesFit, MachineFits, machine_of, Reaches, Stepped}
-use Rattle.cp_machine.specs.declared.event.Event.TheVariants.{Local, Kernel, Ended, Fault, OutputFull}
+use Rattle.cp_machine.specs.declared.event.Event.TheVariants.{Fault, OutputFull}
 use Rattle.cp_machine.specs.declared.event.RunError.{RunError}
 use Rattle.cp_machine.specs.Step.{succeeds}
 use Rattle.cp_machine.proofs.rooms.KeepingAct.{step_fits}
@@ -8,11 +8,9 @@ use Rattle.cp_machine.proofs.lines.StepLines.{step_lines}
 use Rattle.cp_machine.proofs.stepper.step.Goals as goal
 
 counted : (e : Event) → ((x : RunError) → e ≡ Fault x → ⊥) → (e ≡ OutputFull → ⊥) → succeeds e ≡ true
-counted Local f o = refl
-counted (Kernel k) f o = refl
-counted Ended f o = refl
 counted (Fault x) f o = absurd (f x refl)
 counted OutputFull f o = absurd (o refl)
+counted _ f o = refl
 
 pub returns-in_default : goal.returns-in_default
 returns-in_default g c =

@@ -1,4 +1,4 @@
-use Rattle.cp_machine.proofs.Words.{take_top, Rest, machine_of, thread_at, under, ◌≡◌, ◌∷◌, ◌∙◌, ap, sym}
+use Rattle.cp_machine.proofs.Words.{take_top, Rest, machine_of, thread_at, under, ◌≡◌, ◌∷◌, ◌∙◌, ap}
 use Rattle.cp_machine.proofs.TakeLemmas.{gate_room}
 use Rattle.cp_machine.proofs.stepper.take_step.Goals as goal
 

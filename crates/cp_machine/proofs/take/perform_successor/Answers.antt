@@ -1,5 +1,4 @@
-use Rattle.cp_machine.specs.Statements.{next_turn, succeeded}
-use Rattle.cp_machine.proofs.Words.{length, ◌≡◌, ◌∙◌, ap, of_z, rules, sym, to_z, w16, For, Successor, machine_of, under}
+use Rattle.cp_machine.proofs.Words.{next_turn, succeeded, length, ◌≡◌, ◌∙◌, ap, of_z, rules, sym, to_z, w16, For, Successor, machine_of, under}
 use Rattle.cp_machine.proofs.frames.ReadLemmas.{item_reads}
 use Rattle.cp_machine.proofs.rooms.RoomLemmas.{is_busy, successor_stands}
 use Rattle.cp_machine.proofs.TakeLemmas.{turn_room, turn_taken}

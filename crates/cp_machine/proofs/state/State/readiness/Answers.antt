@@ -1,4 +1,4 @@
-use Rattle.cp_machine.proofs.Words.{◌≡◌, ◌∙◌, ◌+◌, ◌<◌, ◌≤◌, ap, arith, length, sym, true, false, List, slice_index_or, filter, range_with_len, length-map}
+use Rattle.cp_machine.proofs.Words.{◌≡◌, ◌∙◌, ◌+◌, ◌<◌, ◌≤◌, ap, arith, length, sym, List, slice_index_or, filter, range_with_len, length-map}
 use Rattle.cp_machine.proofs.Words.{ProcessState, is_ready, is_ready_status, machine_of, readiness_of, thread_of}
 use Rattle.cp_machine.proofs.ListLemmas.{readiness_kept, readiness_same, several_done}
 use Rattle.cp_machine.proofs.ThreadLemmas.{thread_read}

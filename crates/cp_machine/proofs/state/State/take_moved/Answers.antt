@@ -1,5 +1,4 @@
-use Rattle.std.proofs.Common.{◌≡◌, ◌∙◌, length, sym, refl}
-use Rattle.cp_machine.specs.Machine.{machine_of}
+use Rattle.cp_machine.proofs.Words.{◌≡◌, ◌∙◌, length, sym, refl, machine_of}
 use Rattle.cp_machine.proofs.CopyLemmas.{have_room}
 use Rattle.cp_machine.proofs.LocalSteps.{own_same}
 use Rattle.cp_machine.proofs.TakeLemmas.{processes_count}
