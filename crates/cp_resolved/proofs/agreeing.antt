@@ -12,16 +12,13 @@ pub mod AgreeingTypes
 pub mod AgreeingWritten
 pub mod DifferentIndexed
 pub mod DifferentTokens
-pub mod KeptScopes
 pub mod OpeningsBodies
 pub mod Outer
 pub mod OwnNames
-pub mod ProgramNoted
 pub mod RoutinesSeen
 pub mod SameTypes
 pub mod ScopeMeasures
 pub mod ScopeVariables
 pub mod ScopesOfTrees
-pub mod ShapesWritten
 pub mod VariablesAmongNames
 pub mod WithoutFaults

@@ -11,3 +11,4 @@ pub mod FewRooms
 pub mod ModestTables
 pub mod Rooms
 pub mod RoutinesCounted
+pub mod SpentTokens

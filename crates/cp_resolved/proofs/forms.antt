@@ -11,6 +11,7 @@ pub mod HandedOver
 pub mod MadeValues
 pub mod Moved
 pub mod MovedTypes
+pub mod NamesAlone
 pub mod Operations
 pub mod Selecting
 pub mod StatementsFit

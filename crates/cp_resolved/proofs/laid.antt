@@ -2,6 +2,7 @@ pub mod Avoiding
 pub mod Calling
 pub mod Covered
 pub mod Declared
+pub mod Declaring
 pub mod Declares
 pub mod EarlierTypes
 pub mod Extends

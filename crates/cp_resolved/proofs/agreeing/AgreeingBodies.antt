@@ -20,7 +20,8 @@ use Rattle.cp_resolved.proofs.agreeing.Agreeing.{look_is, none_left, none_right,
 use Rattle.cp_resolved.proofs.agreeing.AgreeingNames.{W, heading_kept, heading_is_more, Known, IsKnown, known_moved, Agree, sees, fits, agree_same, agree_kept, agree_known, agree_returned}
 use Rattle.cp_resolved.proofs.agreeing.AgreeingTypes.{IsFew}
 use Rattle.cp_resolved.proofs.agreeing.AgreeingWritten.{each_left, each_right}
-use Rattle.cp_resolved.proofs.agreeing.AgreeingParts.{StepResult, step_then, step_same, name_result, local_kind, parts_agree, parts_stand}
+use Rattle.cp_resolved.proofs.agreeing.AgreeingParts.{StepResult, step_then, step_same, name_result, local_kind, parts_agree}
+use Rattle.cp_resolved.proofs.agreeing.VariablesAmongNames.{declares_stand, parts_declare}
 use Rattle.cp_resolved.proofs.declarations.ParametersRead.{Reads, name_read, parts_read, longer_routine}
 use Rattle.cp_resolved.proofs.agreeing.RoutinesSeen.{body_entry}
 use Rattle.cp_resolved.proofs.agreeing.AgreeingRoutines.{none_after, heading_none, heading_agrees, Announced, announced_agrees, announcing}
@@ -155,7 +156,8 @@ module _ (tokens : Tokens) (p : Program) where
       let uses : Uses j = loud_uses j (statements_loud d.scopes (routine_context owner r) (all_heard false d.scopes (routine_in k r).scope k (r.body.at ∷ ks) parts.agree) r.body.statements (Ok no_use) tt) sound in
       record {
         agree = parts.agree;
-        variables = parts_stand tokens p false spot.Other scopes.local_variable (local_kind tokens p) a (record { variables = []; scope = (meant.heading_of k r.kind).scope }) k (r.body.at ∷ ks) r.parts none small few ann.settled ann.agree tt;
+        variables = declares_stand tokens spot.Other d.scopes.shapes (routine_in k r).variables d.scopes.inner.names
+            (parts_declare tokens p false spot.Other scopes.local_variable (local_kind tokens p) a (record { variables = []; scope = (meant.heading_of k r.kind).scope }) k (r.body.at ∷ ks) r.parts none small few ann.settled ann.agree tt);
         sound = sound;
         step = subst (λ (i : Judged Use). StepResult tokens p false None s (closed_of r (Ok v) i d.scopes) k below ks) (sym (same ∙ uses.is))
             (closed_agrees s a d.scopes m below (routine_in k r).scope js ks r v uses.value fresh before ann.known ann.outer ann.more parts.more parts.outer parts.agree);

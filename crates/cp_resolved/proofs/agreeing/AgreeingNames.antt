@@ -208,10 +208,9 @@ module _ (tokens : Tokens) where
 
   -- where a type is written, a name that stands for a type is the latest type of that name
   abbrev pub IsTypeKnown : Scopes → scopes.Scope → Name → Option (Option Meaning) → Type 0
-  IsTypeKnown s m x None = Unit {0}
   IsTypeKnown s m x (Some None) = ⊥
   IsTypeKnown s m x (Some (Some (meaning.Kind v))) = TypeIs (W s.shapes) (type_named m x) v × (is_standing (type_named m x) ≡ true)
-  IsTypeKnown s m x (Some (Some c)) = Unit {0}
+  IsTypeKnown s m x _ = Unit {0}
 
   type_known_more : (s t : Scopes) (m : scopes.Scope) (x : Name) (o : Option (Option Meaning)) → More s.shapes t.shapes → IsTypeKnown s m x o → IsTypeKnown t m x o
   type_known_more s t m x (Some None) more h = h
@@ -251,8 +250,7 @@ module _ (tokens : Tokens) where
 
     pub sees_of : (s : Scopes) (m below : scopes.Scope) (x : Name) (o q : Option (Option Meaning)) → IsStacked s m below x o → IsKnown s below x q → IsKnown s m x (or_else o q)
     sees_of s m below x None q h g = is_known_moved s s below m x q (λ n d e. e) h.found h.rest g
-    sees_of s m below x (Some None) q h g = h
-    sees_of s m below x (Some (Some c)) q h g = h
+    sees_of s m below x _ q h g = h
 
     -- each visible name stands for the same
     pub sees : (b : Bool) (but : Option Name) (s : Scopes) (m below : scopes.Scope) (ks : List ℕ) → Agree b but s m below ks → (x : Name) → IsBut but x → IsKnown s m x (look x s)

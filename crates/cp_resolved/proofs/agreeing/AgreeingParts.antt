@@ -19,7 +19,7 @@ use Rattle.cp_meaning.specs.Declarations as meant
 use Rattle.cp_resolved.proofs.agreeing.Agreeing.{Appends, appends_none, appends_same, appends_then, Sound, good_sound, none_left, none_right, More, more_same, more_trans}
 use Rattle.cp_resolved.proofs.agreeing.AgreeingNames.{W, New, Agree, sees, agree_same, agree_settled, agree_added}
 use Rattle.cp_resolved.proofs.agreeing.AgreeingConstants.{NumberIs, constant_number_of}
-use Rattle.cp_resolved.proofs.agreeing.AgreeingTypes.{StandsAt, standing_at, IsFew, TypedAs}
+use Rattle.cp_resolved.proofs.agreeing.AgreeingTypes.{standing_at, IsFew, TypedAs}
 use Rattle.cp_resolved.proofs.agreeing.AgreeingWritten.{each_left, each_right, type_agrees}
 use Rattle.cp_resolved.proofs.declarations.Reserving.{named_all, all_filled, Pends, ReservedIn, AreAmong, AreFresh, AreOthers, one_reserved, all_reserved, pending_fresh, fresh_after, with_inner, NameReserved, name_reserved, NamesReserved, names_reserved}
 use Rattle.cp_resolved.proofs.agreeing.Agreeing as agreeing
@@ -292,60 +292,3 @@ module _ (tokens : Tokens) (p : Program) where
       let r : StepResult b None s t k.scope below js = part_agrees b q kind how s o below js d (none_left (part_step q s d).faults (part_steps q t ds).faults e) small.0 (each_left (IsFew tokens) (in_part d) (each_in in_part ds) few) empty h in
       step_then b None s t (part_steps q t ds).scopes k.scope (meant.parts_in kind k ds).scope below js ks r
       (parts_agree b q kind how t k below ks ds (none_right (part_step q s d).faults (part_steps q t ds).faults e) small.1 (each_right (IsFew tokens) (in_part d) (each_in in_part ds) few) r.settled r.agree)
-
-  -- ---- types of variables
-
-  abbrev pub IsVariableAt : Spot → meant.Variable → Type 0
-  IsVariableAt q v = StandsAt q v.ty
-
-  named_stand : (q : Spot) (xs : List Name) (t : Ty) → StandsAt q t → Each (IsVariableAt q) (meant.named_variables xs t)
-  named_stand q [] t h = tt
-  named_stand q (x ∷ xs) t h = (h, named_stand q xs t h)
-
-  stand_both : (q : Spot) (vs us : List meant.Variable) → Each (IsVariableAt q) vs → Each (IsVariableAt q) us → Each (IsVariableAt q) (vs ++ us)
-  stand_both q [] us h g = g
-  stand_both q (v ∷ vs) us h g = (h.0, stand_both q vs us h.1 g)
-
-  variable_stands : (b : Bool) (q : Spot) (s : Scopes) (m below : scopes.Scope) (ks : List ℕ) (g : VariableGroup) → (variable_step q s g).faults ≡ [] → IsSmallType g.variable_type → Each (IsFew tokens) (in_type g.variable_type) → s.inner.pending ≡ [] → Agree tokens p b None s m below (type_tokens g.variable_type ks) → StandsAt q (meant.type_in m g.variable_type).0
-  unfolding variable_step
-  variable_stands b q s m below ks g e small few empty h =
-      let a : Scopes = (reserve_names s g.names).scopes in
-      let t : Typed = typed a q g.variable_type in
-      let r = type_reached b s a g.names m below ks q g.variable_type (names_result b None s g.names m below (type_tokens g.variable_type ks) (none_left (reserve_names s g.names).faults (faults (t.type >>= to_variable)) e) empty h)
-      (none_first t.type to_variable (none_right (reserve_names s g.names).faults (faults (t.type >>= to_variable)) e)) small few in
-      r.typed.stands
-
-  pub variables_stand : (b : Bool) (q : Spot) (kind : Ty → scopes.Meaning) → Kind b q kind → (s : Scopes) (o : Block) (below : scopes.Scope) (ks : List ℕ) (gs : List VariableGroup) → (variable_steps q s gs).faults ≡ [] → Each (λ g. IsSmallType g.variable_type) gs → Each (IsFew tokens) (each_in (λ g. in_type g.variable_type) gs) → s.inner.pending ≡ [] → Agree tokens p b None s o.scope below (all_tokens (λ g. type_tokens g.variable_type) gs ks) →
-      Each (IsVariableAt q) o.variables → Each (IsVariableAt q) (meant.variables_in kind o gs).variables
-  unfolding variable_steps
-  variables_stand b q kind how s o below ks [] e small few empty h vs = vs
-  variables_stand b q kind how s o below ks (g ∷ gs) e small few empty h vs =
-      let t : Scopes = (variable_step q s g).scopes in
-      let js : List ℕ = all_tokens (λ (c : VariableGroup). type_tokens c.variable_type) gs ks in
-      let u : Ty × scopes.Scope = meant.type_in o.scope g.variable_type in
-      let us : List meant.Variable = meant.named_variables (meant.names_of g.names) u.0 in
-      let k : Block = record { variables = o.variables ++ us; scope = meant.with_names (meant.names_of g.names) (kind u.0) u.1 } in
-      let none : (variable_step q s g).faults ≡ [] = none_left (variable_step q s g).faults (variable_steps q t gs).faults e in
-      let one = each_left (IsFew tokens) (in_type g.variable_type) (each_in (λ (c : VariableGroup). in_type c.variable_type) gs) few in
-      let r : StepResult b None s t k.scope below js = variable_agrees b q kind how s o.scope below js g none small.0 one empty h in
-      variables_stand b q kind how t k below ks gs (none_right (variable_step q s g).faults (variable_steps q t gs).faults e) small.1 (each_right (IsFew tokens) (in_type g.variable_type) (each_in (λ (c : VariableGroup). in_type c.variable_type) gs) few) r.settled r.agree
-      (stand_both q o.variables us vs (named_stand q (meant.names_of g.names) u.0 (variable_stands b q s o.scope below js g none small.0 one empty h)))
-
-  part_stands : (b : Bool) (q : Spot) (kind : Ty → scopes.Meaning) → Kind b q kind → (s : Scopes) (o : Block) (below : scopes.Scope) (ks : List ℕ) (d : Part) → (part_step q s d).faults ≡ [] → IsSmallPart d → Each (IsFew tokens) (in_part d) → s.inner.pending ≡ [] → Agree tokens p b None s o.scope below (part_tokens d ks) →
-      Each (IsVariableAt q) o.variables → Each (IsVariableAt q) (meant.part_in kind o d).variables
-  unfolding part_step
-  part_stands b q kind how s o below ks (syntax.variables at gs) e small few empty h vs = variables_stand b q kind how s o below ks gs e small few empty h vs
-  part_stands b q kind how s o below ks _ e small few empty h vs = vs
-
-  pub parts_stand : (b : Bool) (q : Spot) (kind : Ty → scopes.Meaning) → Kind b q kind → (s : Scopes) (o : Block) (below : scopes.Scope) (ks : List ℕ) (ds : List Part) → (part_steps q s ds).faults ≡ [] → Each IsSmallPart ds → Each (IsFew tokens) (each_in in_part ds) → s.inner.pending ≡ [] → Agree tokens p b None s o.scope below (all_tokens part_tokens ds ks) →
-      Each (IsVariableAt q) o.variables → Each (IsVariableAt q) (meant.parts_in kind o ds).variables
-  unfolding part_steps
-  parts_stand b q kind how s o below ks [] e small few empty h vs = vs
-  parts_stand b q kind how s o below ks (d ∷ ds) e small few empty h vs =
-      let t : Scopes = (part_step q s d).scopes in
-      let js : List ℕ = all_tokens part_tokens ds ks in
-      let k : Block = meant.part_in kind o d in
-      let none : (part_step q s d).faults ≡ [] = none_left (part_step q s d).faults (part_steps q t ds).faults e in
-      let one = each_left (IsFew tokens) (in_part d) (each_in in_part ds) few in
-      let r : StepResult b None s t k.scope below js = part_agrees b q kind how s o below js d none small.0 one empty h in
-      parts_stand b q kind how t k below ks ds (none_right (part_step q s d).faults (part_steps q t ds).faults e) small.1 (each_right (IsFew tokens) (in_part d) (each_in in_part ds) few) r.settled r.agree (part_stands b q kind how s o below js d none small.0 one empty h vs)

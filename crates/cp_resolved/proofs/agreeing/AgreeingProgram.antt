@@ -1,5 +1,5 @@
 -- Programs that break no rule: their scopes agree at the statements of each routine and of each initial statement.
-use Rattle.std.proofs.Common.{◌≡◌, ◌≤◌, ℕ, pos, Bool, true, false, if◌then◌else◌, List, [], ◌∷◌, ◌++◌, length, Option, Some, None, Ok, Err, is_some, refl, sym, ap, subst, ◌∙◌, arith}
+use Rattle.std.proofs.Common.{◌≡◌, ◌≤◌, ℕ, pos, Bool, true, false, if◌then◌else◌, List, [], ◌∷◌, ◌++◌, length, Option, Some, None, Ok, Err, is_some, inr, refl, sym, ap, subst, ◌∙◌, arith}
 use Rattle.cp_resolved.proofs.Words.{bytes_eq, Identifier, Range, ValueType, whole, Meaning, Use, no_use, Judged, ◌>>=◌, faults, Step, Typed, typed, routine_steps, Heard}
 use Rattle.cp_resolved.proofs.Words.{Name, find, predeclared, seen_inside, in_routine, in_definition, in_program_part, each_in, enumerations_of, nothing_declared, Each}
 use Rattle.cp_resolved.proofs.Words.{IsSmallDefinition, IsSmallProgramPart, IsSmallProgram, IsFit, IsStandingVariable, IsStandingParameter, none_first, none_before}
@@ -19,18 +19,22 @@ use Rattle.cp_meaning.specs.Types as named
 use Rattle.cp_meaning.specs.Scopes as scopes
 use Rattle.cp_meaning.specs.Declarations as meant
 use Rattle.cp_meaning.specs.Systems.{SystemMeaning, system_in, Declared, definition_in, definitions_in, program_part_in, program_parts_in, declared, program_system, own_meaning, with_routines}
-use Rattle.cp_resolved.specs.Openings.{Opening, definition_openings, definitions_openings, part_openings, parts_openings, routine_openings, initial_opening, openings_of}
+use Rattle.cp_resolved.specs.Fit.{IsFitDefinition, AreFitDefinitions, IsFitPart, AreFitParts}
+use Rattle.cp_resolved.specs.Openings.{Opening, definition_openings, definitions_openings, part_openings, parts_openings, routine_openings, initial_opening, openings_of, parts_scope}
 use Rattle.cp_resolved.specs.Tokens.{AreDifferent, all_tokens, routine_tokens, definition_tokens, program_part_tokens, program_tokens}
 use Rattle.cp_resolved.specs.Typed.{Tokens, SystemThere, IsSystemParameter, RangeIs, TypeIs, predeclared_of, MeaningIs, IsMarked}
 use Rattle.cp_resolved.proofs.agreeing.Agreeing.{appends_none, none_left, none_right, AreFree}
 use Rattle.cp_resolved.proofs.agreeing.AgreeingNames.{W, IsThere, IsKnown, Agree}
 use Rattle.cp_resolved.proofs.agreeing.AgreeingTypes.{IsFew, standing_at}
 use Rattle.cp_resolved.proofs.agreeing.AgreeingWritten.{each_left, each_right}
-use Rattle.cp_resolved.proofs.agreeing.AgreeingParts.{StepResult, step_then, step_same, NamesResult, name_result, type_reached, kind_declared, constants_agree, permanent_kind, variables_agree, variables_stand}
+use Rattle.cp_resolved.proofs.agreeing.AgreeingParts.{StepResult, step_then, step_same, NamesResult, name_result, type_reached, kind_declared, constants_agree, permanent_kind, variables_agree}
 use Rattle.cp_resolved.proofs.agreeing.AgreeingRoutines.{none_after}
 use Rattle.cp_resolved.proofs.agreeing.AgreeingBodies.{all_heard, place_agreed, routines_agree}
+use Rattle.cp_resolved.proofs.statements.RoutinesNoted.{AreNoRoutines, one_more, none_inside, none_found, AreListed, listed_left, listed_right, all_listed, AreNoted, noted_both, RoutinesNoted, routines_noted, SystemNumbered, done_numbered, initial_numbered, system_noted}
+use Rattle.cp_resolved.proofs.agreeing.RoutinesSeen.{written, constants, variables}
+use Rattle.cp_resolved.proofs.frames.FrameCells.{each_both}
 use Rattle.cp_resolved.proofs.agreeing.AgreeingSystems.{agreed_append, IsNumbered, system_agrees}
-use Rattle.cp_resolved.proofs.agreeing.VariablesAmongNames.{Declares, declares_more, variables_declare, Counted, AreCounted, all_counted, last_counted}
+use Rattle.cp_resolved.proofs.agreeing.VariablesAmongNames.{Declares, declares_more, declares_stand, variables_declare, Counted, AreCounted, all_counted, last_counted}
 
 module _ (tokens : Tokens) (p : Program) where
   -- ---- system types by their numbers
@@ -44,24 +48,51 @@ module _ (tokens : Tokens) (p : Program) where
   AreNumberedDefinitions d (n ∷ ns) = IsNumberedDefinition d n.value × AreNumberedDefinitions (definition_in d n n.value) ns
 
   abbrev pub IsNumberedPart : Declared → ProgramPart → Type 0
-  IsNumberedPart d (program_constants at ds) = Unit {0}
   IsNumberedPart d (program_types at ns) = AreNumberedDefinitions d ns
-  IsNumberedPart d (program_variables at gs) = Unit {0}
+  IsNumberedPart d _ = Unit {0}
 
   abbrev pub AreNumberedParts : Declared → List ProgramPart → Type 0
   AreNumberedParts d [] = Unit {0}
   AreNumberedParts d (q ∷ qs) = IsNumberedPart d q × AreNumberedParts (program_part_in d q) qs
+
+  -- ---- no routine stands around a system type
+
+  none_definition : (d : Declared) (n : SystemDefinition) (v : Definition) → AreNoRoutines d.scope → AreNoRoutines (definition_in d n v).scope
+  none_definition d n (type_definition t) h = (tt, written AreNoRoutines one_more d.scope t h)
+  none_definition d n (system_definition y) h = (tt, h)
+
+  none_definitions : (d : Declared) (ns : List SystemDefinition) → AreNoRoutines d.scope → AreNoRoutines (definitions_in d ns).scope
+  none_definitions d [] h = h
+  none_definitions d (n ∷ ns) h = none_definitions (definition_in d n n.value) ns (none_definition d n n.value h)
+
+  none_part : (d : Declared) (q : ProgramPart) → AreNoRoutines d.scope → AreNoRoutines (program_part_in d q).scope
+  none_part d (program_constants at ds) h = constants AreNoRoutines one_more d.scope ds h
+  none_part d (program_types at ns) h = none_definitions d ns h
+  none_part d (program_variables at gs) h = variables AreNoRoutines one_more scopes.permanent_variable (λ t. tt) (record { variables = d.variables; scope = d.scope }) gs h
+
+  none_parts : (d : Declared) (qs : List ProgramPart) → AreNoRoutines d.scope → AreNoRoutines (program_parts_in d qs).scope
+  none_parts d [] h = h
+  none_parts d (q ∷ qs) h = none_parts (program_part_in d q) qs (none_part d q h)
+
+  none_predeclared : AreNoRoutines predeclared
+  none_predeclared = (tt, (tt, (tt, (tt, (tt, (tt, (tt, (tt, (tt, (tt, (tt, (tt, (tt, (tt, (tt, tt)))))))))))))))
 
   -- ---- definitions
 
   abbrev pub IsStandingSystem : SystemMeaning → Type 0
   IsStandingSystem m = Each IsStandingVariable m.variables × Each IsStandingParameter m.parameters × Each IsSystemParameter m.parameters
 
-  pub record DefinedResult (s t : Scopes) (d k : Declared) (below : scopes.Scope) (ks : List ℕ) (xs : List Place) (os : List Opening) : Type 0 where
+  abbrev pub AreNumbered : Declared → Type 0
+  AreNumbered d = Each (SystemNumbered p tokens) d.systems
+
+  pub record DefinedResult (s t : Scopes) (d k : Declared) (below : scopes.Scope) (ks : List ℕ) (xs : List Place) (os : List Opening) (F : Type 0) : Type 0 where
     pub places : AreAgreed tokens p xs os
+    -- no parameter of a system type is an array of components
+    pub fit : F
+    -- each routine and initial statement by its number
+    pub noted : AreNoRoutines d.scope → AreListed p xs os → AreNoted p xs os × (AreNumbered d → AreNumbered k)
     pub step : StepResult tokens p true None s t k.scope below ks
     pub types : Each IsStandingSystem d.systems → Each IsStandingSystem k.systems
-    pub variables : Each IsStandingVariable d.variables → Each IsStandingVariable k.variables
     pub counted : AreCounted tokens p s.shapes (length d.systems) → AreCounted tokens p t.shapes (length k.systems)
     pub declares : Declares tokens (spot.Permanent None) s.shapes d.variables s.inner.names → Declares tokens (spot.Permanent None) t.shapes k.variables t.inner.names
 
@@ -72,16 +103,12 @@ module _ (tokens : Tokens) (p : Program) where
   step_declares : (b : Bool) (s t : Scopes) (m below : scopes.Scope) (ks : List ℕ) (vs : List meant.Variable) → StepResult tokens p b None s t m below ks → Declares tokens (spot.Permanent None) s.shapes vs s.inner.names → Declares tokens (spot.Permanent None) t.shapes vs t.inner.names
   step_declares b s t m below ks vs r h = declares_more tokens (spot.Permanent None) s.shapes t.shapes r.more vs s.inner.names t.inner.names r.appends h
 
-  each_last : (ms : List SystemMeaning) (m : SystemMeaning) → Each IsStandingSystem ms → IsStandingSystem m → Each IsStandingSystem (ms ++ m ∷ [])
-  each_last [] m h g = (g, tt)
-  each_last (x ∷ ms) m h g = (h.0, each_last ms m h.1 g)
-
   counted_added : (t : Typed) (n : Identifier) (o : Option Meaning) (c : ℕ) → Counted tokens p c t.scopes.shapes → Counted tokens p c (add_one t.scopes n o).shapes
   unfolding add_one add settle
   counted_added t n o c h = h
 
   pub defined_agrees : (s a : Scopes) (d : Declared) (below : scopes.Scope) (ks : List ℕ) (n : SystemDefinition) (v : Definition) → NamesResult tokens p true None s a (n.name ∷ []) d.scope below (definition_tokens v ks) → faults (systems_of.defined a v).type ≡ [] → IsNumberedDefinition d v → IsSmallDefinition v → Each (IsFew tokens) (in_definition v) →
-      DefinedResult s (add_one (systems_of.defined a v).scopes n.name (as_declared ((systems_of.defined a v).type >>= to_kind))) d (definition_in d n v) below ks (definition_places a v) (definition_openings d v)
+      DefinedResult s (add_one (systems_of.defined a v).scopes n.name (as_declared ((systems_of.defined a v).type >>= to_kind))) d (definition_in d n v) below ks (definition_places a v) (definition_openings d v) (IsFitDefinition d v)
   unfolding systems_of.defined
   defined_agrees s a d below ks n (type_definition t) r e number small few =
       let w = type_reached tokens p true s a (n.name ∷ []) d.scope below ks spot.Definition t r e small few in
@@ -91,9 +118,10 @@ module _ (tokens : Tokens) (p : Program) where
       kind_declared tokens p true s n.name (typed a spot.Definition t) (meant.type_in d.scope t).1 below ks (meant.type_in d.scope t).0 w.value w.is w.typed.belongs (standing_at spot.Definition (meant.type_in d.scope t).0 w.typed.stands) w.fresh.0 w.outer w.more w.appends w.agree in
       record {
         places = tt;
+        fit = tt;
+        noted = λ around listed. (tt, λ i. i);
         step = step;
         types = λ h. h;
-        variables = λ h. h;
         counted = λ h. step_counted true s u k below ks (length d.systems) step h;
         declares = λ h. step_declares true s u k below ks d.variables step h;
       }
@@ -108,17 +136,20 @@ module _ (tokens : Tokens) (p : Program) where
       (ap (λ (ds : Names). is_some (checker.find n.name.name ds)) w.closed.names ∙ r.reserved.pends n.name.name r.reserved.all.0) (w.closed.outer ∙ r.outer) (λ k f i. w.closed.more k f (ap (shape_in k) r.shapes ∙ i)) (appends_none s.inner.names t.scopes.inner.names (w.closed.names ∙ r.reserved.names)) w.closed.agree in
       record {
         places = w.places;
+        fit = w.fit;
+        noted = λ around listed.
+            (let x = system_noted p tokens (enter true a) (seen_inside d.scope) ks c y w.inside small few (λ z q. none_found z q (parts_scope (seen_inside d.scope) y) (none_inside d.scope y around)) listed in
+            (x.0, λ h. each_both (SystemNumbered p tokens) d.systems (system_in (seen_inside d.scope) y ∷ []) h (x.1, tt)));
         step = step;
-        types = λ h. each_last d.systems (system_in (seen_inside d.scope) y) h (w.variables, w.parameters, w.handed);
-        variables = λ h. h;
+        types = λ h. each_both IsStandingSystem d.systems (system_in (seen_inside d.scope) y ∷ []) h ((w.variables, w.parameters, w.handed), tt);
         counted = last_counted tokens p s.shapes u.shapes d.systems (system_in (seen_inside d.scope) y) step.more (counted_added t n.name (as_declared (t.type >>= to_kind)) c w.counted);
         declares = λ h. step_declares true s u k below ks d.variables step h;
       }
 
   pub definitions_agree : (s : Scopes) (d : Declared) (below : scopes.Scope) (ks : List ℕ) (ns : List SystemDefinition) → (definition_steps s ns).faults ≡ [] → AreNumberedDefinitions d ns → Each (λ n. IsSmallDefinition n.value) ns → Each (IsFew tokens) (each_in (λ n. in_definition n.value) ns) → s.inner.pending ≡ [] → Agree tokens p true None s d.scope below (all_tokens (λ n. definition_tokens n.value) ns ks) →
-      DefinedResult s (definition_steps s ns).scopes d (definitions_in d ns) below ks (definitions_places s ns) (definitions_openings d ns)
+      DefinedResult s (definition_steps s ns).scopes d (definitions_in d ns) below ks (definitions_places s ns) (definitions_openings d ns) (AreFitDefinitions d ns)
   unfolding definition_steps definition_step
-  definitions_agree s d below ks [] e number small few empty h = record { places = tt; step = step_same tokens p true None s d.scope below ks empty h; types = λ i. i; variables = λ i. i; counted = λ i. i; declares = λ i. i }
+  definitions_agree s d below ks [] e number small few empty h = record { places = tt; fit = tt; noted = λ around listed. (tt, λ i. i); step = step_same tokens p true None s d.scope below ks empty h; types = λ i. i; counted = λ i. i; declares = λ i. i }
   definitions_agree s d below ks (n ∷ ns) e number small few empty h =
       let a : Scopes = (reserve_name s n.name).scopes in
       let x : Typed = systems_of.defined a n.value in
@@ -131,9 +162,13 @@ module _ (tokens : Tokens) (p : Program) where
       let rest = definitions_agree t k below ks ns (none_right ((reserve_name s n.name).faults ++ faults (x.type >>= to_kind)) (definition_steps t ns).faults e) number.1 small.1 (each_right (IsFew tokens) (in_definition n.value) (each_in (λ (c : SystemDefinition). in_definition c.value) ns) few) one.step.settled one.step.agree in
       record {
         places = agreed_append tokens p (definition_places a n.value) (definitions_places t ns) (definition_openings d n.value) (definitions_openings k ns) one.places rest.places;
+        fit = (one.fit, rest.fit);
+        noted = λ around listed.
+            (let own = one.noted around (listed_left p tokens (definition_places a n.value) (definitions_places t ns) (definition_openings d n.value) (definitions_openings k ns) one.places listed) in
+            let others = rest.noted (none_definition d n n.value around) (listed_right p tokens (definition_places a n.value) (definitions_places t ns) (definition_openings d n.value) (definitions_openings k ns) one.places listed) in
+            (noted_both p tokens (definition_places a n.value) (definitions_places t ns) (definition_openings d n.value) (definitions_openings k ns) one.places own.0 others.0, λ i. others.1 (own.1 i)));
         step = step_then tokens p true None s t (definition_steps t ns).scopes k.scope (definitions_in k ns).scope below js ks one.step rest.step;
         types = λ i. rest.types (one.types i);
-        variables = λ i. rest.variables (one.variables i);
         counted = λ i. rest.counted (one.counted i);
         declares = λ i. rest.declares (one.declares i);
       }
@@ -141,15 +176,16 @@ module _ (tokens : Tokens) (p : Program) where
   -- ---- parts of the program
 
   pub part_agrees : (s : Scopes) (d : Declared) (below : scopes.Scope) (ks : List ℕ) (q : ProgramPart) → (program_part_step s q).faults ≡ [] → IsNumberedPart d q → IsSmallProgramPart q → Each (IsFew tokens) (in_program_part q) → s.inner.pending ≡ [] → Agree tokens p true None s d.scope below (program_part_tokens q ks) →
-      DefinedResult s (program_part_step s q).scopes d (program_part_in d q) below ks (part_places s q) (part_openings d q)
+      DefinedResult s (program_part_step s q).scopes d (program_part_in d q) below ks (part_places s q) (part_openings d q) (IsFitPart d q)
   unfolding program_part_step
   part_agrees s d below ks (program_constants at ds) e number small few empty h =
       let step = constants_agree tokens p true s d.scope below ks ds e small empty h in
       record {
         places = tt;
+        fit = tt;
+        noted = λ around listed. (tt, λ i. i);
         step = step;
         types = λ i. i;
-        variables = λ i. i;
         counted = λ i. step_counted true s (constant_steps s ds).scopes (meant.constants_in d.scope ds) below ks (length d.systems) step i;
         declares = λ i. step_declares true s (constant_steps s ds).scopes (meant.constants_in d.scope ds) below ks d.variables step i;
       }
@@ -159,17 +195,18 @@ module _ (tokens : Tokens) (p : Program) where
       let step = variables_agree tokens p true (spot.Permanent None) scopes.permanent_variable (permanent_kind tokens p true None) s o below ks gs e small few empty h in
       record {
         places = tt;
+        fit = tt;
+        noted = λ around listed. (tt, λ i. i);
         step = step;
         types = λ i. i;
-        variables = variables_stand tokens p true (spot.Permanent None) scopes.permanent_variable (permanent_kind tokens p true None) s o below ks gs e small few empty h;
         counted = λ i. step_counted true s (variable_steps (spot.Permanent None) s gs).scopes (meant.variables_in scopes.permanent_variable o gs).scope below ks (length d.systems) step i;
         declares = variables_declare tokens p true (spot.Permanent None) scopes.permanent_variable (permanent_kind tokens p true None) s o below ks gs e small few empty h;
       }
 
   pub parts_agree : (s : Scopes) (d : Declared) (below : scopes.Scope) (ks : List ℕ) (qs : List ProgramPart) → (program_part_steps s qs).faults ≡ [] → AreNumberedParts d qs → Each IsSmallProgramPart qs → Each (IsFew tokens) (each_in in_program_part qs) → s.inner.pending ≡ [] → Agree tokens p true None s d.scope below (all_tokens program_part_tokens qs ks) →
-      DefinedResult s (program_part_steps s qs).scopes d (program_parts_in d qs) below ks (parts_places s qs) (parts_openings d qs)
+      DefinedResult s (program_part_steps s qs).scopes d (program_parts_in d qs) below ks (parts_places s qs) (parts_openings d qs) (AreFitParts d qs)
   unfolding program_part_steps
-  parts_agree s d below ks [] e number small few empty h = record { places = tt; step = step_same tokens p true None s d.scope below ks empty h; types = λ i. i; variables = λ i. i; counted = λ i. i; declares = λ i. i }
+  parts_agree s d below ks [] e number small few empty h = record { places = tt; fit = tt; noted = λ around listed. (tt, λ i. i); step = step_same tokens p true None s d.scope below ks empty h; types = λ i. i; counted = λ i. i; declares = λ i. i }
   parts_agree s d below ks (q ∷ qs) e number small few empty h =
       let t : Scopes = (program_part_step s q).scopes in
       let js : List ℕ = all_tokens program_part_tokens qs ks in
@@ -178,9 +215,13 @@ module _ (tokens : Tokens) (p : Program) where
       let rest = parts_agree t k below ks qs (none_right (program_part_step s q).faults (program_part_steps t qs).faults e) number.1 small.1 (each_right (IsFew tokens) (in_program_part q) (each_in in_program_part qs) few) one.step.settled one.step.agree in
       record {
         places = agreed_append tokens p (part_places s q) (parts_places t qs) (part_openings d q) (parts_openings k qs) one.places rest.places;
+        fit = (one.fit, rest.fit);
+        noted = λ around listed.
+            (let own = one.noted around (listed_left p tokens (part_places s q) (parts_places t qs) (part_openings d q) (parts_openings k qs) one.places listed) in
+            let others = rest.noted (none_part d q around) (listed_right p tokens (part_places s q) (parts_places t qs) (part_openings d q) (parts_openings k qs) one.places listed) in
+            (noted_both p tokens (part_places s q) (parts_places t qs) (part_openings d q) (parts_openings k qs) one.places own.0 others.0, λ i. others.1 (own.1 i)));
         step = step_then tokens p true None s t (program_part_steps t qs).scopes k.scope (program_parts_in k qs).scope below js ks one.step rest.step;
         types = λ i. rest.types (one.types i);
-        variables = λ i. rest.variables (one.variables i);
         counted = λ i. rest.counted (one.counted i);
         declares = λ i. rest.declares (one.declares i);
       }
@@ -344,6 +385,10 @@ module _ (tokens : Tokens) (p : Program) where
 
   pub record ProgramResult : Type 0 where
     pub places : AreAgreed tokens p (places_of p) (openings_of p)
+    pub fit : AreFitParts nothing_declared p.parts
+    pub noted : AreNoted p (places_of p) (openings_of p)
+    pub systems : AreNumbered (declared p)
+    pub own : SystemNumbered p tokens (own_meaning (declared p) p)
     pub types : Each IsStandingSystem (declared p).systems
     pub variables : Each IsStandingVariable (declared p).variables
     -- by what the checker has at the end
@@ -363,15 +408,31 @@ module _ (tokens : Tokens) (p : Program) where
       let js : List ℕ = all_tokens routine_tokens p.routines (p.period ∷ []) in
       let parts = parts_agree start nothing_declared predeclared js p.parts (none_left a.faults b.faults sound) number small.0 (each_left (IsFew tokens) (each_in in_program_part p.parts) (each_in in_routine p.routines) few) start_settled (start_agrees (program_tokens p) different) in
       let k : scopes.Scope = (declared p).scope in
-      let routines = routines_agree tokens p None a.scopes k predeclared (p.period ∷ []) (program_system p) p.routines (none_right a.faults b.faults sound) small.1 (each_right (IsFew tokens) (each_in in_program_part p.parts) (each_in in_routine p.routines) few) parts.step.settled (agree_plain a.scopes k predeclared js parts.step.agree) in
+      let none_last : b.faults ≡ [] = none_right a.faults b.faults sound in
+      let others = each_right (IsFew tokens) (each_in in_program_part p.parts) (each_in in_routine p.routines) few in
+      let plain = agree_plain a.scopes k predeclared js parts.step.agree in
+      let routines = routines_agree tokens p None a.scopes k predeclared (p.period ∷ []) (program_system p) p.routines none_last small.1 others parts.step.settled plain in
       let last : Opening = initial_opening (program_system p) (own_meaning (declared p) p) in
       let place : Place = record { scopes = d.scopes; context = program_context } in
+      let xs : List Place = parts_places start p.parts in
+      let ys : List Place = routine_places None a.scopes p.routines in
+      let os : List Opening = parts_openings nothing_declared p.parts in
+      let qs : List Opening = routine_openings (program_system p) k p.routines in
+      let w = parts.noted none_predeclared (listed_left p tokens xs (ys ++ place ∷ []) os (qs ++ last ∷ []) parts.places (all_listed p)) in
+      let rest = listed_right p tokens xs (ys ++ place ∷ []) os (qs ++ last ∷ []) parts.places (all_listed p) in
+      let z : RoutinesNoted p tokens None a.scopes k (program_system p) p.routines =
+      routines_noted p tokens None a.scopes k predeclared (p.period ∷ []) (program_system p) p.routines none_last small.1 others parts.step.settled plain (listed_left p tokens ys (place ∷ []) qs (last ∷ []) routines.places rest)
+      (λ y r f. absurd (none_found y r k (none_parts nothing_declared p.parts none_predeclared) f)) in
       record {
-        places = agreed_append tokens p (parts_places start p.parts) (routine_places None a.scopes p.routines ++ place ∷ []) (parts_openings nothing_declared p.parts) (routine_openings (program_system p) k p.routines ++ last ∷ []) parts.places
-            (agreed_append tokens p (routine_places None a.scopes p.routines) (place ∷ []) (routine_openings (program_system p) k p.routines) (last ∷ []) routines.places
+        places = agreed_append tokens p xs (ys ++ place ∷ []) os (qs ++ last ∷ []) parts.places
+            (agreed_append tokens p ys (place ∷ []) qs (last ∷ []) routines.places
             (place_agreed tokens p d.scopes program_context (with_routines k p.routines) predeclared (p.period ∷ []) last refl (ap faults (sym (none_after d.faults j none)) ∙ none) tt tt tt (λ z i. absurd (cc)) routines.step.agree, tt));
+        fit = parts.fit;
+        noted = noted_both p tokens xs (ys ++ place ∷ []) os (qs ++ last ∷ []) parts.places w.0 (noted_both p tokens ys (place ∷ []) qs (last ∷ []) routines.places z.noted ((λ y r f. inr (z.done y r f)), tt));
+        systems = w.1 tt;
+        own = done_numbered p tokens None b.scopes.shapes (own_meaning (declared p) p) (λ process. refl) z.done (initial_numbered p tokens place (program_system p) (own_meaning (declared p) p) refl (listed_right p tokens ys (place ∷ []) qs (last ∷ []) routines.places rest).0);
         types = parts.types tt;
-        variables = parts.variables tt;
+        variables = declares_stand tokens (spot.Permanent None) a.scopes.shapes (declared p).variables a.scopes.inner.names (parts.declares tt);
         heard = all_heard tokens p false d.scopes (with_routines k p.routines) predeclared (p.period ∷ []) routines.step.agree;
         counted = all_counted tokens p a.scopes.shapes b.scopes.shapes (program_system p) routines.step.more (parts.counted (λ k lt. absurd (omega (arith, lt))));
         declares = declares_more tokens (spot.Permanent None) a.scopes.shapes b.scopes.shapes routines.step.more (declared p).variables a.scopes.inner.names b.scopes.inner.names routines.step.appends (parts.declares tt);

@@ -24,16 +24,21 @@ use Rattle.cp_meaning.specs.Scopes as scopes
 use Rattle.cp_meaning.specs.Declarations as meant
 use Rattle.cp_resolved.specs.Judging.{Place, parts_scopes, initial_place, routine_places, system_places, AreAgreed}
 use Rattle.cp_resolved.specs.Typed.{Tokens, SystemThere, IsValueParameter, IsSystemParameter, Written, TypeIs, IsHanded, AreParameters, HeadingIs, RoutineIs}
-use Rattle.cp_resolved.proofs.agreeing.Agreeing.{Good, good_then, good_sound, none_left, none_right, look_entered, inner_look, More, more_same, more_trans, with_more, with_there, with_other, free_others, appends_none}
+use Rattle.cp_resolved.specs.Standing.{is_indexed}
+use Rattle.cp_resolved.proofs.frames.LeastCells.{right_true}
+use Rattle.cp_resolved.specs.Small.{IsParameter, AreParameters as HaveFit}
+use Rattle.cp_resolved.proofs.agreeing.Agreeing.{Good, Sound, good_then, good_sound, none_left, none_right, look_entered, inner_look, More, more_same, more_trans, with_more, with_there, with_other, free_others, appends_none}
 use Rattle.cp_resolved.proofs.agreeing.AgreeingNames.{W, HeadingThere, heading_kept, heading_more, heading_is_more, parameters_more, AreStarts, New, Known, IsKnown, is_known_moved, IsStacked, AreEntries, Agree, sees, sees_of, fit_of, agree_returned}
 use Rattle.cp_resolved.proofs.agreeing.AgreeingTypes.{Held, held_named, IsFew, KindOf, type_named}
 use Rattle.cp_resolved.proofs.agreeing.AgreeingWritten.{each_left, each_right}
 use Rattle.cp_resolved.proofs.agreeing.AgreeingParameters.{free_handed, copies, parameters_both, copies_are, names_read, shapes_added}
+use Rattle.cp_resolved.proofs.declarations.ValueParameters.{groups_values}
+use Rattle.cp_resolved.proofs.counts.FewReferences.{each_weaker}
 use Rattle.cp_resolved.proofs.declarations.ParametersRead.{parts_read, longer_read}
-use Rattle.cp_resolved.proofs.agreeing.AgreeingParts.{standing_may, StepResult, step_then, step_same, names_result, all_declared, permanent_kind, parts_agree, parts_stand}
+use Rattle.cp_resolved.proofs.agreeing.AgreeingParts.{standing_may, NamesResult, StepResult, step_then, step_same, names_result, all_declared, permanent_kind, parts_agree}
 use Rattle.cp_resolved.proofs.agreeing.AgreeingRoutines.{none_after, AreRead}
 use Rattle.cp_resolved.proofs.agreeing.AgreeingBodies.{Uses, loud_uses, all_heard, place_agreed, RoutinesResult, routines_agree}
-use Rattle.cp_resolved.proofs.agreeing.VariablesAmongNames.{Declares, declares_more, parts_declare, Counted, closed_counted}
+use Rattle.cp_resolved.proofs.agreeing.VariablesAmongNames.{Declares, declares_more, declares_stand, parts_declare, Counted, closed_counted}
 use Rattle.cp_resolved.proofs.declarations.Reserving.{AreFresh, pending_fresh}
 
 pub agreed_append : (tokens : Tokens) (p : Program) (xs ys : List Place) (os qs : List Opening) → AreAgreed tokens p xs os → AreAgreed tokens p ys qs → AreAgreed tokens p (xs ++ ys) (os ++ qs)
@@ -59,20 +64,9 @@ module _ (tokens : Tokens) (p : Program) where
   component_good at system_kind.Process system_kind.Monitor P v h = h
   component_good at _ _ P v h = tt
 
-  admitted_good : (at : ℕ) (o : SystemKind) (h : Holding) (P : ValueType → Type 0) (v : ValueType) → P v → Good P (systems_of.admitted at o h v)
-  admitted_good at o holds.Plain P v k = k
-  admitted_good at o (holds.Component j) P v k = component_good at o j P v k
-  admitted_good at o _ P v k = tt
-
-  parameter_good : (o : SystemKind) (s : Scopes) (m : scopes.Scope) (g : Group) → IsKnown tokens s m g.type_name.name (look g.type_name.name s) → Good (KindOf tokens s.shapes (meant.type_named m g.type_name.name)) (systems_of.parameter_type o s g)
-  unfolding systems_of.parameter_type
-  parameter_good o s m g h =
-      let K : ValueType → Type 0 = KindOf tokens s.shapes (meant.type_named m g.type_name.name) in
-      good_then K K (typing.type_named s g.type_name.at g.type_name.name) (systems_of.admitted_in s g.type_name.at o) (type_named tokens s m g.type_name.at g.type_name.name h) (λ v k. admitted_good g.type_name.at o (typing.holding s v) K v k)
-
   -- a type that a parameter may have
   record HandedType (ss : Shapes) (t : Ty) (v : ValueType) : Type 0 where
-    pub belongs : TypeIs (W tokens ss) t v
+    pub kind : KindOf tokens ss t v
     pub handed : IsHanded false t
 
   element_handed : (t : Ty) → is_element t ≡ true → (t ≡ named.queue_type → ⊥) → IsHanded false t
@@ -85,9 +79,9 @@ module _ (tokens : Tokens) (p : Program) where
       let queue : v ≡ types.Queue = subst (λ (u : Ty). TypeIs (W tokens s.shapes) u v) q i in
       (let bad : holds.Queue ≡ holds.Component j = sym (ap (typing.holding s) queue) ∙ e in cc)
 
-  admitted_handed : (at : ℕ) (o : SystemKind) (s : Scopes) (t : Ty) (v : ValueType) (h : Holding) → typing.holding s v ≡ h → TypeIs (W tokens s.shapes) t v → Held h t → Good (HandedType s.shapes t) (systems_of.admitted at o h v)
-  admitted_handed at o s t v holds.Plain e i k = record { belongs = i; handed = free_handed false t (k.free refl) }
-  admitted_handed at o s t v (holds.Component j) e i k = component_good at o j (HandedType s.shapes t) v (record { belongs = i; handed = element_handed t (k.element tt) (no_queue s t v j i e) })
+  admitted_handed : (at : ℕ) (o : SystemKind) (s : Scopes) (t : Ty) (v : ValueType) (h : Holding) → typing.holding s v ≡ h → KindOf tokens s.shapes t v → Held h t → Good (HandedType s.shapes t) (systems_of.admitted at o h v)
+  admitted_handed at o s t v holds.Plain e i k = record { kind = i; handed = free_handed false t (k.free refl) }
+  admitted_handed at o s t v (holds.Component j) e i k = component_good at o j (HandedType s.shapes t) v (record { kind = i; handed = element_handed t (k.element tt) (no_queue s t v j i.belongs e) })
   admitted_handed at o s t v _ e i k = tt
 
   parameter_handed : (o : SystemKind) (s : Scopes) (m : scopes.Scope) (g : Group) → IsKnown tokens s m g.type_name.name (look g.type_name.name s) → Good (HandedType s.shapes (meant.type_named m g.type_name.name)) (systems_of.parameter_type o s g)
@@ -95,7 +89,23 @@ module _ (tokens : Tokens) (p : Program) where
   parameter_handed o s m g h =
       let t : Ty = meant.type_named m g.type_name.name in
       good_then (KindOf tokens s.shapes t) (HandedType s.shapes t) (typing.type_named s g.type_name.at g.type_name.name) (systems_of.admitted_in s g.type_name.at o) (type_named tokens s m g.type_name.at g.type_name.name h)
-      (λ v k. admitted_handed g.type_name.at o s t v (typing.holding s v) refl k.belongs (held_named (W tokens s.shapes) s t v refl k.belongs k.standing))
+      (λ v k. admitted_handed g.type_name.at o s t v (typing.holding s v) refl k (held_named (W tokens s.shapes) s t v refl k.belongs k.standing))
+
+  -- a group of parameters, after its names are reserved
+  record GroupTyped (o : SystemKind) (s : Scopes) (m below : scopes.Scope) (ks : List ℕ) (g : Group) : Type 0 where
+    pub reserved : NamesResult tokens p false None s (reserve_names s g.names).scopes g.names m below ks
+    pub type : Sound (HandedType (reserve_names s g.names).scopes.shapes (meant.type_named m g.type_name.name)) (systems_of.parameter_type o (reserve_names s g.names).scopes g)
+
+  group_typed : (o : SystemKind) (s : Scopes) (m below : scopes.Scope) (ks : List ℕ) (g : Group) → (systems_of.group_step o s g).faults ≡ [] → s.inner.pending ≡ [] → Agree tokens p false None s m below ks → GroupTyped o s m below ks g
+  unfolding systems_of.group_step
+  group_typed o s m below ks g e empty h =
+      let a : Scopes = (reserve_names s g.names).scopes in
+      let j : Judged ValueType = systems_of.parameter_type o a g in
+      let r = names_result tokens p false None s g.names m below ks (none_left (reserve_names s g.names).faults (faults (j >>= systems_of.to_parameter)) e) empty h in
+      record {
+        reserved = r;
+        type = good_sound (HandedType a.shapes (meant.type_named m g.type_name.name)) j (parameter_handed o a m g (sees tokens p false None a m below ks r.agree g.type_name.name tt)) (none_first j systems_of.to_parameter (none_right (reserve_names s g.names).faults (faults (j >>= systems_of.to_parameter)) e));
+      }
 
   parameter_new : (ss : Shapes) (u : Scopes) (n : Name) (t : Ty) (v : ValueType) → u.shapes ≡ ss → KindOf tokens ss t v → New tokens u n (meaning.Parameter v) (scopes.permanent_variable t)
   parameter_new ss u n t v e h = record { means = λ r. (subst (λ us. TypeIs (W tokens us) t v) (sym e) h.belongs, standing_may t h.standing); marked = tt; there = tt; fit = h.standing }
@@ -105,13 +115,13 @@ module _ (tokens : Tokens) (p : Program) where
   unfolding systems_of.group_step
   group_agrees o s m below ks g e empty h =
       let a : Scopes = (reserve_names s g.names).scopes in
-      let j : Judged ValueType = systems_of.parameter_type o a g in
       let t : Ty = meant.type_named m g.type_name.name in
-      let r = names_result tokens p false None s g.names m below ks (none_left (reserve_names s g.names).faults (faults (j >>= systems_of.to_parameter)) e) empty h in
-      let v = good_sound (KindOf tokens a.shapes t) j (parameter_good o a m g (sees tokens p false None a m below ks r.agree g.type_name.name tt)) (none_first j systems_of.to_parameter (none_right (reserve_names s g.names).faults (faults (j >>= systems_of.to_parameter)) e)) in
+      let x : GroupTyped o s m below ks g = group_typed o s m below ks g e empty h in
+      let r = x.reserved in
+      let v = x.type in
       subst (λ (i : Judged ValueType). StepResult tokens p false None s (add_all a g.names (as_declared (i >>= systems_of.to_parameter))) (meant.with_names (meant.names_of g.names) (scopes.permanent_variable t) m) below ks) (sym v.is)
       (all_declared tokens p false None s a g.names m below ks (meaning.Parameter v.value) (scopes.permanent_variable t) (pending_fresh a.inner g.names a.inner.pending r.reserved.pends r.reserved.all) r.reserved.others (λ i. absurd (cc))
-      (λ u i n. parameter_new a.shapes u n t v.value i v.holds) r.outer (λ k d i. ap (shape_in k) r.shapes ∙ i) (appends_none s.inner.names a.inner.names r.reserved.names) r.agree)
+      (λ u i n. parameter_new a.shapes u n t v.value i v.holds.kind) r.outer (λ k d i. ap (shape_in k) r.shapes ∙ i) (appends_none s.inner.names a.inner.names r.reserved.names) r.agree)
 
   groups_agree : (o : SystemKind) (s : Scopes) (h : meant.Heading) (below : scopes.Scope) (ks : List ℕ) (gs : List Group) → (systems_of.group_steps o s gs).faults ≡ [] → s.inner.pending ≡ [] → Agree tokens p false None s h.scope below ks →
       StepResult tokens p false None s (systems_of.group_steps o s gs).scopes (meant.with_groups scopes.permanent_variable h gs).scope below ks
@@ -126,35 +136,15 @@ module _ (tokens : Tokens) (p : Program) where
 
   -- ---- types of parameters
 
-  named_stand : (xs : List Name) (t : Ty) (b : Bool) → is_standing t ≡ true → Each IsStandingParameter (meant.parameters_named xs t b)
-  named_stand [] t b h = tt
-  named_stand (x ∷ xs) t b h = (h, named_stand xs t b h)
+  handed_stands : (t : Ty) → IsHanded false t → is_standing t ≡ true
+  handed_stands named.queue_type h = refl
+  handed_stands (named.component_of n) h = refl
+  handed_stands (named.array_over q named.queue_type) h = absurd (let bad : false ≡ true = right_true (is_indexed q named.queue_type) false h in cc)
+  handed_stands (named.array_over q (named.component_of n)) h = absurd (let bad : false ≡ true = right_true (is_indexed q (named.component_of n)) false h in cc)
+  handed_stands _ h = h
 
-  stand_both : (qs rs : List meant.Parameter) → Each IsStandingParameter qs → Each IsStandingParameter rs → Each IsStandingParameter (qs ++ rs)
-  stand_both [] rs h g = g
-  stand_both (q ∷ qs) rs h g = (h.0, stand_both qs rs h.1 g)
-
-  group_stands : (o : SystemKind) (s : Scopes) (m below : scopes.Scope) (ks : List ℕ) (g : Group) → (systems_of.group_step o s g).faults ≡ [] → s.inner.pending ≡ [] → Agree tokens p false None s m below ks → is_standing (meant.type_named m g.type_name.name) ≡ true
-  unfolding systems_of.group_step
-  group_stands o s m below ks g e empty h =
-      let a : Scopes = (reserve_names s g.names).scopes in
-      let j : Judged ValueType = systems_of.parameter_type o a g in
-      let t : Ty = meant.type_named m g.type_name.name in
-      let r = names_result tokens p false None s g.names m below ks (none_left (reserve_names s g.names).faults (faults (j >>= systems_of.to_parameter)) e) empty h in
-      let v = good_sound (KindOf tokens a.shapes t) j (parameter_good o a m g (sees tokens p false None a m below ks r.agree g.type_name.name tt)) (none_first j systems_of.to_parameter (none_right (reserve_names s g.names).faults (faults (j >>= systems_of.to_parameter)) e)) in
-      v.holds.standing
-
-  groups_stand : (o : SystemKind) (s : Scopes) (h : meant.Heading) (below : scopes.Scope) (ks : List ℕ) (gs : List Group) → (systems_of.group_steps o s gs).faults ≡ [] → s.inner.pending ≡ [] → Agree tokens p false None s h.scope below ks → Each IsStandingParameter h.parameters → Each IsStandingParameter (meant.with_groups scopes.permanent_variable h gs).parameters
-  unfolding systems_of.group_steps
-  groups_stand o s h below ks [] e empty agree qs = qs
-  groups_stand o s h below ks (g ∷ gs) e empty agree qs =
-      let t : Scopes = (systems_of.group_step o s g).scopes in
-      let k : meant.Heading = meant.with_group scopes.permanent_variable false h g in
-      let none : (systems_of.group_step o s g).faults ≡ [] = none_left (systems_of.group_step o s g).faults (systems_of.group_steps o t gs).faults e in
-      let r = group_agrees o s h.scope below ks g none empty agree in
-      let u : Ty = meant.type_named h.scope g.type_name.name in
-      groups_stand o t k below ks gs (none_right (systems_of.group_step o s g).faults (systems_of.group_steps o t gs).faults e) r.settled r.agree
-      (stand_both h.parameters (meant.parameters_named (meant.names_of g.names) u false) qs (named_stand (meant.names_of g.names) u false (group_stands o s h.scope below ks g none empty agree)))
+  handed_parameter : (q : meant.Parameter) → IsSystemParameter q → IsStandingParameter q
+  handed_parameter q h = handed_stands q.ty (subst (λ (b : Bool). IsHanded b q.ty) h.0 h.1)
 
   -- ---- parameters as the checker keeps them
 
@@ -163,17 +153,17 @@ module _ (tokens : Tokens) (p : Program) where
   unfolding systems_of.group_step add_all settle
   group_read o s m below ks g qs e empty h read =
       let a : Scopes = (reserve_names s g.names).scopes in
-      let j : Judged ValueType = systems_of.parameter_type o a g in
       let t : Ty = meant.type_named m g.type_name.name in
-      let r = names_result tokens p false None s g.names m below ks (none_left (reserve_names s g.names).faults (faults (j >>= systems_of.to_parameter)) e) empty h in
-      let v = good_sound (HandedType a.shapes t) j (parameter_handed o a m g (sees tokens p false None a m below ks r.agree g.type_name.name tt)) (none_first j systems_of.to_parameter (none_right (reserve_names s g.names).faults (faults (j >>= systems_of.to_parameter)) e)) in
+      let x : GroupTyped o s m below ks g = group_typed o s m below ks g e empty h in
+      let r = x.reserved in
+      let v = x.type in
       let b : check_parameter.Parameter = record { is_var = false; value_type = v.value } in
       let before : AreParameters (W tokens a.shapes) (parameters_in a.inner.names) qs =
       subst (λ (ns : Names). AreParameters (W tokens a.shapes) (parameters_in ns) qs) (sym r.reserved.names) (subst (λ (ss : Shapes). AreParameters (W tokens ss) (parameters_in s.inner.names) qs) (sym r.shapes) read) in
       let fresh : AreFresh g.names a.inner.names = pending_fresh a.inner g.names a.inner.pending r.reserved.pends r.reserved.all in
       let all : AreParameters (W tokens a.shapes) (parameters_in (add_names a g.names (Some (meaning.Parameter v.value))).inner.names) (qs ++ meant.parameters_named (meant.names_of g.names) t false) =
       subst (λ (as' : List check_parameter.Parameter). AreParameters (W tokens a.shapes) as' (qs ++ meant.parameters_named (meant.names_of g.names) t false)) (sym (names_read a g.names (meaning.Parameter v.value) b refl fresh r.reserved.others))
-      (parameters_both (W tokens a.shapes) (parameters_in a.inner.names) (copies b g.names) qs (meant.parameters_named (meant.names_of g.names) t false) before (copies_are (W tokens a.shapes) b t false g.names refl v.holds.belongs v.holds.handed)) in
+      (parameters_both (W tokens a.shapes) (parameters_in a.inner.names) (copies b g.names) qs (meant.parameters_named (meant.names_of g.names) t false) before (copies_are (W tokens a.shapes) b t false g.names refl v.holds.kind.belongs v.holds.handed)) in
       subst (λ (i : Judged ValueType). AreRead tokens p (add_all a g.names (as_declared (i >>= systems_of.to_parameter))) (qs ++ meant.parameters_named (meant.names_of g.names) t false)) (sym v.is)
       (subst (λ (ss : Shapes). AreParameters (W tokens ss) (parameters_in (add_names a g.names (Some (meaning.Parameter v.value))).inner.names) (qs ++ meant.parameters_named (meant.names_of g.names) t false)) (sym (shapes_added a g.names (Some (meaning.Parameter v.value)))) all)
 
@@ -187,6 +177,23 @@ module _ (tokens : Tokens) (p : Program) where
       let none : (systems_of.group_step o s g).faults ≡ [] = none_left (systems_of.group_step o s g).faults (systems_of.group_steps o t gs).faults e in
       let r = group_agrees o s h.scope below ks g none empty agree in
       groups_read o t k below ks gs (none_right (systems_of.group_step o s g).faults (systems_of.group_steps o t gs).faults e) r.settled r.agree (group_read o s h.scope below ks g h.parameters none empty agree read)
+
+  -- ---- no parameter is an array of components
+
+  handed_fits : (t : Ty) → IsHanded false t → IsParameter t
+  handed_fits (named.array_over q (named.component_of n)) h = absurd (let bad : false ≡ true = right_true (is_indexed q (named.component_of n)) false h in cc)
+  handed_fits (named.array_over q t) h = refl
+  handed_fits _ h = tt
+
+  groups_fit : (o : SystemKind) (s : Scopes) (h : meant.Heading) (below : scopes.Scope) (ks : List ℕ) (gs : List Group) → (systems_of.group_steps o s gs).faults ≡ [] → s.inner.pending ≡ [] → Agree tokens p false None s h.scope below ks → HaveFit h gs
+  unfolding systems_of.group_steps
+  groups_fit o s h below ks [] e empty agree = tt
+  groups_fit o s h below ks (g ∷ gs) e empty agree =
+      let t : Scopes = (systems_of.group_step o s g).scopes in
+      let k : meant.Heading = meant.with_group scopes.permanent_variable false h g in
+      let none : (systems_of.group_step o s g).faults ≡ [] = none_left (systems_of.group_step o s g).faults (systems_of.group_steps o t gs).faults e in
+      let r = group_agrees o s h.scope below ks g none empty agree in
+      (handed_fits (meant.type_named h.scope g.type_name.name) (group_typed o s h.scope below ks g none empty agree).type.holds.handed, groups_fit o t k below ks gs (none_right (systems_of.group_step o s g).faults (systems_of.group_steps o t gs).faults e) r.settled r.agree)
 
   -- ---- into a system type
 
@@ -215,7 +222,7 @@ module _ (tokens : Tokens) (p : Program) where
     pub places : AreAgreed tokens p (system_places s y) (system_openings n m y)
     pub step : StepResult tokens p false None s (inside s y).scopes (system_in m y).scope m (y.at ∷ ks)
     pub variables : Each IsStandingVariable (system_in m y).variables
-    pub parameters : Each IsStandingParameter (system_in m y).parameters
+    pub fit : HaveFit (record { parameters = []; scope = m }) y.parameters
     pub read : AreRead tokens p (inside s y).scopes (system_in m y).parameters
     pub declares : Declares tokens (spot.Permanent (Some y.kind)) (inside s y).scopes.shapes (system_in m y).variables (inside s y).scopes.inner.names
     pub uses : Uses (systems_of.opened s y).uses
@@ -238,6 +245,8 @@ module _ (tokens : Tokens) (p : Program) where
       let hs : scopes.Scope = (meant.with_groups scopes.permanent_variable (record { parameters = []; scope = m }) y.parameters).scope in
       let o : Block = record { variables = []; scope = hs } in
       let parts = parts_agree tokens p false (spot.Permanent (Some y.kind)) scopes.permanent_variable (permanent_kind tokens p false (Some y.kind)) a.scopes o m rs y.parts (none_left b.faults c.faults (none_right a.faults (b.faults ++ c.faults) none)) small.0 (each_left (IsFew tokens) (each_in in_part y.parts) (each_in in_routine y.routines) few) first.settled first.agree in
+      let declared : Declares tokens (spot.Permanent (Some y.kind)) b.scopes.shapes (system_in m y).variables b.scopes.inner.names =
+      parts_declare tokens p false (spot.Permanent (Some y.kind)) scopes.permanent_variable (permanent_kind tokens p false (Some y.kind)) a.scopes o m rs y.parts (none_left b.faults c.faults (none_right a.faults (b.faults ++ c.faults) none)) small.0 (each_left (IsFew tokens) (each_in in_part y.parts) (each_in in_routine y.routines) few) first.settled first.agree tt in
       let ps : scopes.Scope = parts_scope m y in
       let all : RoutinesResult tokens p (Some y.kind) b.scopes ps m (y.at ∷ ks) n y.routines =
       routines_agree tokens p (Some y.kind) b.scopes ps m (y.at ∷ ks) n y.routines (none_right b.faults c.faults (none_right a.faults (b.faults ++ c.faults) none)) small.1 (each_right (IsFew tokens) (each_in in_part y.parts) (each_in in_routine y.routines) few) parts.settled parts.agree in
@@ -252,15 +261,13 @@ module _ (tokens : Tokens) (p : Program) where
         begins = parts.agree;
         settled = parts.settled;
         none = none_right b.faults c.faults (none_right a.faults (b.faults ++ c.faults) none);
-        parameters = groups_stand y.kind s (record { parameters = []; scope = m }) m (system_tokens y ks) y.parameters (none_left a.faults (b.faults ++ c.faults) none) empty h tt;
+        fit = groups_fit y.kind s (record { parameters = []; scope = m }) m (system_tokens y ks) y.parameters (none_left a.faults (b.faults ++ c.faults) none) empty h;
         read =
             (let before = groups_read y.kind s (record { parameters = []; scope = m }) m (system_tokens y ks) y.parameters (none_left a.faults (b.faults ++ c.faults) none) empty h first_read in
             subst (λ (as' : List check_parameter.Parameter). AreParameters (W tokens c.scopes.shapes) as' (system_in m y).parameters) (sym (all.read ∙ longer_read a.scopes.inner b.scopes.inner (parts_read (spot.Permanent (Some y.kind)) a.scopes y.parts)))
             (parameters_more tokens a.scopes.shapes c.scopes.shapes (more_trans a.scopes.shapes b.scopes.shapes c.scopes.shapes parts.more all.step.more) (parameters_in a.scopes.inner.names) (system_in m y).parameters before));
-        variables = parts_stand tokens p false (spot.Permanent (Some y.kind)) scopes.permanent_variable (permanent_kind tokens p false (Some y.kind)) a.scopes o m rs y.parts (none_left b.faults c.faults (none_right a.faults (b.faults ++ c.faults) none)) small.0 (each_left (IsFew tokens) (each_in in_part y.parts) (each_in in_routine y.routines) few) first.settled first.agree tt;
-        declares =
-            (let before = parts_declare tokens p false (spot.Permanent (Some y.kind)) scopes.permanent_variable (permanent_kind tokens p false (Some y.kind)) a.scopes o m rs y.parts (none_left b.faults c.faults (none_right a.faults (b.faults ++ c.faults) none)) small.0 (each_left (IsFew tokens) (each_in in_part y.parts) (each_in in_routine y.routines) few) first.settled first.agree tt in
-            declares_more tokens (spot.Permanent (Some y.kind)) b.scopes.shapes c.scopes.shapes all.step.more (system_in m y).variables b.scopes.inner.names c.scopes.inner.names all.step.appends before);
+        variables = declares_stand tokens (spot.Permanent (Some y.kind)) b.scopes.shapes (system_in m y).variables b.scopes.inner.names declared;
+        declares = declares_more tokens (spot.Permanent (Some y.kind)) b.scopes.shapes c.scopes.shapes all.step.more (system_in m y).variables b.scopes.inner.names c.scopes.inner.names all.step.appends declared;
         uses = record { value = uses.value; is = subst (λ (i : Judged Use). i ≡ Ok uses.value) (sym same) uses.is };
       }
 
@@ -307,20 +314,6 @@ module _ (tokens : Tokens) (p : Program) where
         where
           other_entry : nat_eq (tokens.systems k) y.at ≡ false → member_at (tokens.systems k) x s ≡ Some (Some (meaning.Routine n))
           other_entry at = ap (as_member x) (sym (with_other s.shapes y.at (tokens.systems k) d h.free.0 (λ j. (let bad : true ≡ false = sym ((Decides-eqb (tokens.systems k) y.at).1 j) ∙ at in absurd cc)))) ∙ there
-
-  values_named : (xs : List Name) (t : Ty) → Each IsValueParameter (meant.parameters_named xs t false)
-  values_named [] t = tt
-  values_named (x ∷ xs) t = (refl, values_named xs t)
-
-  values_both : (qs rs : List meant.Parameter) → Each IsValueParameter qs → Each IsValueParameter rs → Each IsValueParameter (qs ++ rs)
-  values_both [] rs h g = g
-  values_both (q ∷ qs) rs h g = (h.0, values_both qs rs h.1 g)
-
-  groups_values : (h : meant.Heading) (gs : List Group) → Each IsValueParameter h.parameters → Each IsValueParameter (meant.with_groups scopes.permanent_variable h gs).parameters
-  groups_values h [] qs = qs
-  groups_values h (g ∷ gs) qs =
-      let t : Ty = meant.type_named h.scope g.type_name.name in
-      groups_values (meant.with_group scopes.permanent_variable false h g) gs (values_both h.parameters (meant.parameters_named (meant.names_of g.names) t false) qs (values_named (meant.names_of g.names) t))
 
   closed_starts : (s t : Scopes) (c : ℕ) (around : scopes.Scope) (y : System) (m : Scope) (census' : Census) (need : ℕ) → IsNumbered c around y → shape_in y.at s.shapes ≡ None → t.shapes ≡ with_shape s.shapes y.at (system_shape m (system_heading s) census' need) → AreRead tokens p s (system_in around y).parameters → AreStarts tokens p s → AreStarts tokens p t
   closed_starts s t c around y m census' need i free is read h k e = go (nat_eq (tokens.systems k) y.at) refl
@@ -383,9 +376,11 @@ module _ (tokens : Tokens) (p : Program) where
   system_handed w (a ∷ as') [] h g = tt
 
   pub record SystemResult (s : Scopes) (m below : scopes.Scope) (ks : List ℕ) (n : ℕ) (y : System) (t : Typed) : Type 0 where
+    pub inside : InsideResult (enter true s) (seen_inside m) ks n y
     pub places : AreAgreed tokens p (system_places (enter true s) y) (system_openings n (seen_inside m) y)
     pub variables : Each IsStandingVariable (system_in (seen_inside m) y).variables
     pub parameters : Each IsStandingParameter (system_in (seen_inside m) y).parameters
+    pub fit : HaveFit (record { parameters = []; scope = seen_inside m }) y.parameters
     pub counted : Counted tokens p n t.scopes.shapes
     pub handed : Each IsSystemParameter (system_in (seen_inside m) y).parameters
     pub is : t.type ≡ Ok (types.Component y.kind y.at)
@@ -398,12 +393,15 @@ module _ (tokens : Tokens) (p : Program) where
       let a : Scopes = enter true s in
       let o : Opened = systems_of.opened a y in
       let r : InsideResult a (seen_inside m) ks n y = inside_agrees a (seen_inside m) ks n y (none_first o.uses (systems_of.to_component y.kind y.at) e) small few refl (entered_agrees s m below (system_tokens y ks) h) tt in
+      let handed : Each IsSystemParameter (system_in (seen_inside m) y).parameters = system_handed (W tokens (inside a y).scopes.shapes) (parameters_in (inside a y).scopes.inner.names) (system_in (seen_inside m) y).parameters r.read (groups_values (record { parameters = []; scope = seen_inside m }) y.parameters tt) in
       record {
+        inside = r;
         places = r.places;
         variables = r.variables;
-        parameters = r.parameters;
+        parameters = each_weaker IsSystemParameter IsStandingParameter handed_parameter (system_in (seen_inside m) y).parameters handed;
+        fit = r.fit;
         counted = closed_counted tokens p n (seen_inside m) y o.scopes (systems_of.use_of o.uses) i.token i.meaning r.step.agree.free.0 r.declares;
-        handed = system_handed (W tokens (inside a y).scopes.shapes) (parameters_in (inside a y).scopes.inner.names) (system_in (seen_inside m) y).parameters r.read (groups_values (record { parameters = []; scope = seen_inside m }) y.parameters tt);
+        handed = handed;
         is = ap (λ (j : Judged Use). j >>= systems_of.to_component y.kind y.at) r.uses.is;
         closed = closed_agrees s o.scopes m below (system_tokens y ks) ks n y (systems_of.use_of o.uses) i h r.step.agree r.step.outer r.step.more r.read;
       }

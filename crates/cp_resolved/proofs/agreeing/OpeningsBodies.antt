@@ -16,9 +16,8 @@ module _ (P : Statements → Type 0) where
   OfDefinition (system_definition y) = OfSystem y
 
   abbrev pub OfPart : ProgramPart → Type 0
-  OfPart (program_constants at ds) = Unit {0}
   OfPart (program_types at ds) = Each (λ d. OfDefinition d.value) ds
-  OfPart (program_variables at gs) = Unit {0}
+  OfPart _ = Unit {0}
 
   abbrev pub OfOpening : Opening → Type 0
   OfOpening o = P o.meaning.body

@@ -15,7 +15,7 @@ use Rattle.cp_meaning.specs.Scopes as scopes
 use Rattle.cp_meaning.specs.Declarations as meant
 use Rattle.cp_resolved.proofs.agreeing.Agreeing.{Appends, none_left, none_right, More, more_trans, with_more, with_there}
 use Rattle.cp_resolved.proofs.agreeing.AgreeingNames.{type_more, Agree}
-use Rattle.cp_resolved.proofs.agreeing.AgreeingTypes.{IsFew, TypedAs}
+use Rattle.cp_resolved.proofs.agreeing.AgreeingTypes.{IsFew, StandsAt, TypedAs}
 use Rattle.cp_resolved.proofs.agreeing.AgreeingWritten.{each_left, each_right}
 use Rattle.cp_resolved.proofs.agreeing.AgreeingParameters.{shapes_added}
 use Rattle.cp_resolved.proofs.agreeing.AgreeingParts.{StepResult, names_result, all_named, constants_agree, type_reached, types_agree, Kind, variable_agrees, part_agrees}
@@ -79,6 +79,11 @@ module _ (tokens : Tokens) where
   declares_named : (q : Spot) (ss : Shapes) (ns : List Identifier) (t : Ty) (v : ValueType) → TypedAs tokens ss q t v → Declares q ss (meant.named_variables (meant.names_of ns) t) (named_all ns (Some (meaning.Variable v)))
   declares_named q ss [] t v h = tt
   declares_named q ss (n ∷ ns) t v h = record { before = []; value_type = v; after = named_all ns (Some (meaning.Variable v)); is = refl; belongs = h; rest = declares_named q ss ns t v h }
+
+  -- so their types are as it is wanted where they are declared
+  pub declares_stand : (q : Spot) (ss : Shapes) (vs : List Variable) (ds : Names) → Declares q ss vs ds → Each (λ (v : Variable). StandsAt q v.ty) vs
+  declares_stand q ss [] ds h = tt
+  declares_stand q ss (v ∷ vs) ds h = (h.belongs.stands, declares_stand q ss vs h.after h.rest)
 
   module _ (p : Program) where
     -- ---- variables

@@ -6,7 +6,7 @@ use Rattle.cp_tree.specs.declared.declaration.SystemKind.TheVariants as system_k
 use Rattle.cp_layout.specs.LaidComponents.{Listing, nothing_listed, contents_least, next_kind, with_component, again_and_again, contained_by, system_by, listed_below, program_listed}
 use Rattle.cp_resolved.proofs.names.Entries.{there, past_there}
 use Rattle.cp_resolved.proofs.systems.OwnedParts.{contained_of, all_contained, AreLow}
-use Rattle.cp_resolved.proofs.components.Subtrees.{low_left, low_right}
+use Rattle.cp_resolved.proofs.agreeing.AgreeingWritten.{each_left, each_right}
 use Rattle.cp_resolved.proofs.frames.EncodedCells.{less as before}
 
 -- ---- one component after the other
@@ -68,8 +68,8 @@ module _ (p : Program) (ts : Compounds) (ss : List System) (o : Owned) (last : �
     variables_same above [] c h = refl
     variables_same above (v ∷ vs) c h =
         contained_append one (contained_of v.ty) (all_contained vs) c
-        ∙ ap (contained_by one (all_contained vs)) (variable_same above v.name v.ty c (low_left bound (contained_of v.ty) (all_contained vs) h))
-        ∙ variables_same above vs (steps c (listed_variable inner above v.name v.ty)) (low_right bound (contained_of v.ty) (all_contained vs) h)
+        ∙ ap (contained_by one (all_contained vs)) (variable_same above v.name v.ty c (each_left (λ (q : Contained). q.system < bound) (contained_of v.ty) (all_contained vs) h))
+        ∙ variables_same above vs (steps c (listed_variable inner above v.name v.ty)) (each_right (λ (q : Contained). q.system < bound) (contained_of v.ty) (all_contained vs) h)
         ∙ sym (steps_append c (listed_variable inner above v.name v.ty) (listed_variables inner above vs))
 
   -- ---- all components

@@ -44,13 +44,11 @@ map_there f (z ∷ xs) (suc n) x e = map_there f xs n x e
 
 abbrev process_made : SystemKind → (component initial : ℕ) → List Process
 process_made system_kind.Process n i = process_at n i ∷ []
-process_made system_kind.Monitor n i = []
-process_made system_kind.Class n i = []
+process_made _ n i = []
 
 abbrev monitor_made : SystemKind → ℕ
 monitor_made system_kind.Monitor = 1
-monitor_made system_kind.Process = 0
-monitor_made system_kind.Class = 0
+monitor_made _ = 0
 
 record Steps (c d : Listing) (k : SystemKind) (initial : ℕ) (image : List ℤ) (system : ℕ) : Type 0 where
   components : d.components ≡ c.components ++ component_with (next_kind c k initial).0 (length c.permanents) system ∷ []
@@ -150,8 +148,7 @@ module _ (p : Program) where
 
     abbrev named_made : SystemKind → ℕ → List named.Process
     named_made system_kind.Process n = unstarted_process n ∷ []
-    named_made system_kind.Monitor n = []
-    named_made system_kind.Class n = []
+    named_made _ n = []
 
     made_first : (k : SystemKind) (n : ℕ) (rs : List named.Process) → process_first k n rs ≡ named_made k n ++ rs
     made_first system_kind.Process n rs = refl

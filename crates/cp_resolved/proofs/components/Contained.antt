@@ -9,6 +9,7 @@ use Rattle.cp_resolved.proofs.components.ComponentsStand.{map_there}
 use Rattle.cp_resolved.proofs.names.Entries.{entry_at, still_there}
 use Rattle.cp_resolved.proofs.systems.OwnedParts.{contained_of, all_contained, AreLow, count_after, FirstIs, contained_append}
 use Rattle.cp_resolved.proofs.components.Subtrees.{Subtree, subtree_of, listed_even, elements_even, variables_counted, system_counted}
+use Rattle.cp_resolved.proofs.agreeing.AgreeingWritten.{each_left, each_right}
 
 -- ---- paths
 
@@ -48,22 +49,11 @@ skipped (x ∷ xs) ys i = let e : suc (length xs) + i ≡ suc (length xs + i) = 
 
 low_right : (s : ℕ) (before : List Variable) (w : Variable) (after vs : List Variable) → vs ≡ before ++ w ∷ after → AreLow s (all_contained vs) → AreLow s (contained_of w.ty)
 low_right s before w after vs e h =
-    left (contained_of w.ty) (all_contained after) (right (all_contained before) (all_contained (w ∷ after)) (subst (AreLow s) (ap all_contained e ∙ contained_append before (w ∷ after)) h))
-  where
-    right : (cs ds : List Contained) → AreLow s (cs ++ ds) → AreLow s ds
-    right [] ds g = g
-    right (c ∷ cs) ds g = right cs ds g.1
-
-    left : (cs ds : List Contained) → AreLow s (cs ++ ds) → AreLow s cs
-    left [] ds g = tt
-    left (c ∷ cs) ds g = (g.0, left cs ds g.1)
+    let low : Contained → Type 0 = λ c. c.system < s in
+    each_left low (contained_of w.ty) (all_contained after) (each_right low (all_contained before) (all_contained (w ∷ after)) (subst (AreLow s) (ap all_contained e ∙ contained_append before (w ∷ after)) h))
 
 low_before : (s : ℕ) (before : List Variable) (w : Variable) (after vs : List Variable) → vs ≡ before ++ w ∷ after → AreLow s (all_contained vs) → AreLow s (all_contained before)
-low_before s before w after vs e h = left (all_contained before) (all_contained (w ∷ after)) (subst (AreLow s) (ap all_contained e ∙ contained_append before (w ∷ after)) h)
-  where
-    left : (cs ds : List Contained) → AreLow s (cs ++ ds) → AreLow s cs
-    left [] ds g = tt
-    left (c ∷ cs) ds g = (g.0, left cs ds g.1)
+low_before s before w after vs e h = each_left (λ (c : Contained). c.system < s) (all_contained before) (all_contained (w ∷ after)) (subst (AreLow s) (ap all_contained e ∙ contained_append before (w ∷ after)) h)
 
 listed_append : (inner : ℕ → Path → List Listed) (above : Path) (vs ws : List Variable) → listed_variables inner above (vs ++ ws) ≡ listed_variables inner above vs ++ listed_variables inner above ws
 listed_append inner above [] ws = refl

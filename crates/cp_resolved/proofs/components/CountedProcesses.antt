@@ -17,8 +17,7 @@ use Rattle.cp_resolved.proofs.systems.OwnedParts.{contained_of, all_contained, A
 
 abbrev pub process_weight : SystemKind → ℕ
 process_weight system_kind.Process = 1
-process_weight system_kind.Monitor = 0
-process_weight system_kind.Class = 0
+process_weight _ = 0
 
 -- whether a component of a system type is a process
 abbrev pub weight_by : Tokens → ℕ → ℕ

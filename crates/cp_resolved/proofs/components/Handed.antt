@@ -1,106 +1,39 @@
 -- Nothing is handed over to the program: it has no parameters, and the first process is its own.
-use Rattle.cp_resolved.proofs.Words.{◌≡◌, ℕ, ◌+◌, Bool, true, false, if◌then◌else◌, ℤ, List, [], ◌∷◌, length, Option, Some, None, slice_get, refl, ap, ◌∙◌, Identifier}
-use Rattle.cp_resolved.proofs.Words.{SystemKind, Component, ComponentParameter, CellBase, CellType, Contained, Layer, Owned, System, nothing_laid, as_integer, Compounds}
-use Rattle.cp_resolved.proofs.Words.{Fields, no_fields, named_type, with_constant, enumerated, enumeration_base, simple_type, written_type, field_groups, field_group}
+use Rattle.cp_resolved.proofs.Words.{◌≡◌, ℕ, ℤ, List, [], ◌∷◌, length, Option, Some, None, slice_get, refl, ap, ◌∙◌, Identifier}
+use Rattle.cp_resolved.proofs.Words.{SystemKind, Component, ComponentParameter, CellType, Contained, Layer, Owned, System, nothing_laid, Compounds}
+use Rattle.cp_resolved.proofs.Words.{written_type}
 use Rattle.cp_tree.specs.declared.declaration.SystemKind.TheVariants as system_kind
 use Rattle.cp_tree.specs.Syntax as syntax
-use Rattle.cp_tree.specs.Syntax.{ConstantDefinition, TypeDefinition, VariableGroup, Part, Group, ParameterGroup, RoutineKind, Simple, TypeTerm, FieldGroup, FieldGroups, Body, Routine, Definition, SystemDefinition, ProgramPart, Program}
-use Rattle.cp_symbols.specs.declared.names.LayoutMeaning.TheVariants as meaning
+use Rattle.cp_tree.specs.Syntax.{ConstantDefinition, TypeDefinition, VariableGroup, Part, RoutineKind, TypeTerm, Body, Routine, Definition, SystemDefinition, ProgramPart, Program}
 use Rattle.cp_layout.specs.LaidComponents.{Listing, nothing_listed, contents_least, process_at, next_kind, component_with, with_component, program_listed}
-use Rattle.cp_layout.specs.LaidDeclarations.{Parameters, constant, constants, type_definition, type_definitions, components_of, variable_with, variable, variables_of, variable_group, variables, local, locals_of, local_group, local_variables, local_part, local_parts, constant_parameter, constant_parameters_of, constant_group, constant_groups, var_parameter, var_parameters_of, var_group, parameter_group, parameter_groups, heading, body, opened, with_heading, with_new_frame, heading_with, routine, routines, system, definition, system_definition, system_definitions, program_part, program_parts, program}
+use Rattle.cp_layout.specs.LaidDeclarations.{constants, type_definition, type_definitions, components_of, variable_with, variable, variables_of, variable_group, variables, local_parts, heading, body, opened, with_heading, with_new_frame, heading_with, routine, routines, system, definition, system_definition, system_definitions, program_part, program_parts, program}
 use Rattle.cp_resolved.proofs.names.Entries.{still_there}
+use Rattle.cp_resolved.proofs.laid.Declaring.{TypeSteps, FrameSteps, plain_types, type_leads, constants_lead, definitions_lead, local_parts_lead, heading_leads}
 use Rattle.cp_resolved.proofs.laid.Grown.{statements_grew}
 use Rattle.cp_resolved.proofs.components.Listing.{program_keeps}
 
 -- ---- what types and routines leave of the permanent cells
 
-pub enumerated_owned : (l : Layer) (b : CellBase) (n : ℕ) (is : List Identifier) → (enumerated l b n is).owned ≡ l.owned
-unfolding enumerated
-enumerated_owned l b n [] = refl
-enumerated_owned l b n (i ∷ is) = enumerated_owned (with_constant l i.name (meaning.Constant b (as_integer n))) b (n + 1) is
+owned_types : TypeSteps (λ l m. m.owned ≡ l.owned) (λ l. Unit {0}) (λ l t. Unit {0}) (λ l r. Unit {0})
+owned_types = plain_types (λ l m. m.owned ≡ l.owned) (λ l. refl) (λ l k m h i. i ∙ h) (λ l x b z. refl) (λ l r t. refl) (λ l r. refl) (λ l x b z. refl) (λ l x t. refl)
 
-pub simple_owned : (l : Layer) (s : Simple) → (simple_type l s).1.owned ≡ l.owned
-unfolding simple_type
-simple_owned l (syntax.enumeration at is) = enumerated_owned l (enumeration_base (length l.constants) (length is)) 0 is
-simple_owned l _ = refl
+owned_frames : FrameSteps (λ l m. m.owned ≡ l.owned) (λ l. Unit {0})
+owned_frames = record { local_cells = λ l x t n. refl; reference = λ l ps x t n. refl; result = λ l t n. refl }
 
-mutual
-  unfolding written_type field_groups field_group
-
-  pub written_owned : (l : Layer) (t : TypeTerm) → (written_type l t).1.owned ≡ l.owned
-  written_owned l (syntax.simple at s) = simple_owned l s
-  written_owned l (syntax.array_of at s t) = written_owned (simple_type l s).1 t ∙ simple_owned l s
-  written_owned l (syntax.set_type at s) = simple_owned l s
-  written_owned l (syntax.record_of at gs b) = groups_owned l no_fields gs
-
-  groups_owned : (l : Layer) (r : Fields) (gs : FieldGroups) → (field_groups l r gs).1.owned ≡ l.owned
-  groups_owned l r syntax.no_fields = refl
-  groups_owned l r (syntax.more_fields g gs) = groups_owned (field_group l r g).1 (field_group l r g).0 gs ∙ group_owned l r g
-
-  group_owned : (l : Layer) (r : Fields) (g : FieldGroup) → (field_group l r g).1.owned ≡ l.owned
-  group_owned l r (syntax.fields is t) = written_owned l t
+pub written_owned : (l : Layer) (t : TypeTerm) → (written_type l t).1.owned ≡ l.owned
+written_owned l t = (type_leads owned_types l t tt).0
 
 pub constants_owned : (l : Layer) (ds : List ConstantDefinition) → (constants l ds).owned ≡ l.owned
-unfolding constants
-constants_owned l [] = refl
-constants_owned l (d ∷ ds) = constants_owned (constant l d) ds
+constants_owned l ds = constants_lead owned_types l ds tt
 
 pub definitions_owned : (l : Layer) (ds : List TypeDefinition) → (type_definitions l ds).owned ≡ l.owned
-unfolding type_definitions
-definitions_owned l [] = refl
-definitions_owned l (d ∷ ds) = definitions_owned (type_definition l d) ds ∙ written_owned l d.value
-
-pub locals_owned : (l : Layer) (t : CellType) (is : List Identifier) → (locals_of l t is).owned ≡ l.owned
-unfolding locals_of
-locals_owned l t [] = refl
-locals_owned l t (i ∷ is) = locals_owned (local l i.name t) t is
-
-pub local_variables_owned : (l : Layer) (gs : List VariableGroup) → (local_variables l gs).owned ≡ l.owned
-unfolding local_variables
-local_variables_owned l [] = refl
-local_variables_owned l (g ∷ gs) = local_variables_owned (local_group l g) gs ∙ locals_owned (written_type l g.variable_type).1 (written_type l g.variable_type).0 g.names ∙ written_owned l g.variable_type
-
-pub local_part_owned : (l : Layer) (p : Part) → (local_part l p).owned ≡ l.owned
-local_part_owned l (syntax.constants at ds) = constants_owned l ds
-local_part_owned l (syntax.types at ds) = definitions_owned l ds
-local_part_owned l (syntax.variables at gs) = local_variables_owned l gs
+definitions_owned l ds = definitions_lead owned_types l ds tt
 
 pub local_parts_owned : (l : Layer) (ps : List Part) → (local_parts l ps).owned ≡ l.owned
-unfolding local_parts
-local_parts_owned l [] = refl
-local_parts_owned l (p ∷ ps) = local_parts_owned (local_part l p) ps ∙ local_part_owned l p
-
-pub constant_parameters_owned : (l : Layer) (ps : Parameters) (t : CellType) (is : List Identifier) → (constant_parameters_of l ps t is).1.owned ≡ l.owned
-unfolding constant_parameters_of
-constant_parameters_owned l ps t [] = refl
-constant_parameters_owned l ps t (i ∷ is) = constant_parameters_owned (constant_parameter l ps i.name t).1 (constant_parameter l ps i.name t).0 t is
-
-pub constant_groups_owned : (l : Layer) (ps : Parameters) (gs : List Group) → (constant_groups l ps gs).1.owned ≡ l.owned
-unfolding constant_groups
-constant_groups_owned l ps [] = refl
-constant_groups_owned l ps (g ∷ gs) = constant_groups_owned (constant_group l ps g).1 (constant_group l ps g).0 gs ∙ constant_parameters_owned l ps (named_type l g.type_name.name) g.names
-
-pub var_parameters_owned : (l : Layer) (ps : Parameters) (t : CellType) (is : List Identifier) → (var_parameters_of l ps t is).1.owned ≡ l.owned
-unfolding var_parameters_of
-var_parameters_owned l ps t [] = refl
-var_parameters_owned l ps t (i ∷ is) = var_parameters_owned (var_parameter l ps i.name t).1 (var_parameter l ps i.name t).0 t is
-
-parameter_group_owned : (l : Layer) (ps : Parameters) (g : ParameterGroup) → (parameter_group l ps g).1.owned ≡ l.owned
-parameter_group_owned l ps g = go g.is_var
-  where
-    go : (b : Bool) → (if b then var_group l ps g.group else constant_group l ps g.group).1.owned ≡ l.owned
-    go true = var_parameters_owned l ps (named_type l g.group.type_name.name) g.group.names
-    go false = constant_parameters_owned l ps (named_type l g.group.type_name.name) g.group.names
-
-pub parameter_groups_owned : (l : Layer) (ps : Parameters) (gs : List ParameterGroup) → (parameter_groups l ps gs).1.owned ≡ l.owned
-unfolding parameter_groups
-parameter_groups_owned l ps [] = refl
-parameter_groups_owned l ps (g ∷ gs) = parameter_groups_owned (parameter_group l ps g).1 (parameter_group l ps g).0 gs ∙ parameter_group_owned l ps g
+local_parts_owned l ps = local_parts_lead owned_types owned_frames l ps tt
 
 pub heading_owned : (l : Layer) (x : List ℕ) (k : RoutineKind) → (heading l x k).1.owned ≡ l.owned
-unfolding heading
-heading_owned l x (syntax.procedure gs) = parameter_groups_owned l [] gs
-heading_owned l x (syntax.function gs i) = constant_groups_owned l [] gs
+heading_owned l x k = heading_leads owned_types owned_frames l x k tt
 
 pub body_owned : (l : Layer) (b : Body) → (body l b).owned ≡ l.owned
 body_owned l b = ap (λ (j : Layer). j.owned) (statements_grew l b.statements).1

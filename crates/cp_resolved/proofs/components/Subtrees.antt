@@ -5,6 +5,7 @@ use Rattle.cp_resolved.proofs.Words.{length_of_range, Variable, system_of, Path,
 use Rattle.cp_resolved.proofs.names.Entries.{there}
 use Rattle.cp_resolved.proofs.frames.EncodedCells.{times_stopped}
 use Rattle.cp_resolved.proofs.systems.OwnedParts.{contained_of, all_contained, AreLow, count_after}
+use Rattle.cp_resolved.proofs.agreeing.AgreeingWritten.{each_left, each_right}
 
 pub either_place : {A : Type 0} (xs ys : List A) (n : ℕ) (x : A) → slice_get (xs ++ ys) n ≡ Some x → (slice_get xs n ≡ Some x) ⊎ ((m : ℕ) × (n ≡ length xs + m) × (slice_get ys m ≡ Some x))
 either_place [] ys n x e = inr (n, (let z : n ≡ 0 + n = omega arith in z), e)
@@ -14,14 +15,6 @@ either_place (y ∷ xs) ys (suc n) x e = go (either_place xs ys n x e)
     go : (slice_get xs n ≡ Some x) ⊎ ((m : ℕ) × (n ≡ length xs + m) × (slice_get ys m ≡ Some x)) → (slice_get xs n ≡ Some x) ⊎ ((m : ℕ) × (suc n ≡ suc (length xs) + m) × (slice_get ys m ≡ Some x))
     go (inl f) = inl f
     go (inr f) = let p = f.1 in inr (f.0, omega (arith, p), f.2)
-
-pub low_left : (s : ℕ) (cs ds : List Contained) → AreLow s (cs ++ ds) → AreLow s cs
-low_left s [] ds h = tt
-low_left s (c ∷ cs) ds h = (h.0, low_left s cs ds h.1)
-
-pub low_right : (s : ℕ) (cs ds : List Contained) → AreLow s (cs ++ ds) → AreLow s ds
-low_right s [] ds h = h
-low_right s (c ∷ cs) ds h = low_right s cs ds h.1
 
 module _ (p : Program) (low : (k : ℕ) → AreLow k (all_contained (system_of p k).variables)) where
   abbrev variables_at : ℕ → List Variable
@@ -81,8 +74,8 @@ module _ (p : Program) (low : (k : ℕ) → AreLow k (all_contained (system_of p
     variables_sub : (above : Path) (vs : List Variable) (n : ℕ) (x : Listed) → AreLow bound (all_contained vs) → slice_get (listed_variables inner above vs) n ≡ Some x → Subtree (listed_variables inner above vs) n x
     variables_sub above [] n x h e = absurd (none-some x e)
     variables_sub above (v ∷ vs) n x h e =
-        sub_either (listed_variable inner above v.name v.ty) (listed_variables inner above vs) n x (λ m f. variable_sub above v.name v.ty m x (low_left bound (contained_of v.ty) (all_contained vs) h) f)
-        (λ m f. variables_sub above vs m x (low_right bound (contained_of v.ty) (all_contained vs) h) f) e
+        sub_either (listed_variable inner above v.name v.ty) (listed_variables inner above vs) n x (λ m f. variable_sub above v.name v.ty m x (each_left (λ (c : Contained). c.system < bound) (contained_of v.ty) (all_contained vs) h) f)
+        (λ m f. variables_sub above vs m x (each_right (λ (c : Contained). c.system < bound) (contained_of v.ty) (all_contained vs) h) f) e
 
   listed_sub : (depth k : ℕ) → k < depth → (path : Path) (n : ℕ) (x : Listed) → slice_get (listed p depth k path) n ≡ Some x → Subtree (listed p depth k path) n x
   listed_sub zero k lt path n x e = absurd (omega (arith, lt))
@@ -124,8 +117,8 @@ module _ (p : Program) (low : (k : ℕ) → AreLow k (all_contained (system_of p
     variables_even a b (v ∷ vs) h =
         let l = length-append (listed_variable inner a v.name v.ty) (listed_variables inner a vs) in
         let m = length-append (listed_variable inner b v.name v.ty) (listed_variables inner b vs) in
-        let c = variable_even a b v.name v.name v.ty (low_left bound (contained_of v.ty) (all_contained vs) h) in
-        let d = variables_even a b vs (low_right bound (contained_of v.ty) (all_contained vs) h) in
+        let c = variable_even a b v.name v.name v.ty (each_left (λ (c : Contained). c.system < bound) (contained_of v.ty) (all_contained vs) h) in
+        let d = variables_even a b vs (each_right (λ (c : Contained). c.system < bound) (contained_of v.ty) (all_contained vs) h) in
         omega (arith, l, m, c, d)
 
   pub listed_even : (depth k : ℕ) → k < depth → (a b : Path) → length (listed p depth k a) ≡ length (listed p depth k b)
@@ -155,8 +148,8 @@ module _ (p : Program) (low : (k : ℕ) → AreLow k (all_contained (system_of p
       pub variables_counted : (above : Path) (vs : List Variable) (n m : ℕ) → AreLow bound (all_contained vs) → n ≡ min m most → count_after ss n (all_contained vs) ≡ min (m + length (listed_variables inner above vs)) most
       variables_counted above [] n m h e = omega (arith, e)
       variables_counted above (v ∷ vs) n m h e =
-          let a = variable_counted above v.name v.ty n m (low_left bound (contained_of v.ty) (all_contained vs) h) e in
-          let b = variables_counted above vs (count_after ss n (contained_of v.ty)) (m + length (listed_variable inner above v.name v.ty)) (low_right bound (contained_of v.ty) (all_contained vs) h) a in
+          let a = variable_counted above v.name v.ty n m (each_left (λ (c : Contained). c.system < bound) (contained_of v.ty) (all_contained vs) h) e in
+          let b = variables_counted above vs (count_after ss n (contained_of v.ty)) (m + length (listed_variable inner above v.name v.ty)) (each_right (λ (c : Contained). c.system < bound) (contained_of v.ty) (all_contained vs) h) a in
           let l = length-append (listed_variable inner above v.name v.ty) (listed_variables inner above vs) in
           let c = after_append n (contained_of v.ty) (all_contained vs) in
           omega (arith, b, l, c)

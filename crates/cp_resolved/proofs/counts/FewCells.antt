@@ -3,10 +3,7 @@ use Rattle.cp_resolved.proofs.Words.{◌≡◌, ◌*◌, ◌≤◌, ℤ, pos, ne
 use Rattle.cp_resolved.proofs.Words.{or_left, or_right, ◌+ℤ◌, ◌-ℤ◌, int_le, int_lt, ◌||◌, is_bounded, are_few, is_indexed, is_free, are_free, is_element, is_standing}
 use Rattle.cp_meaning.specs.Types.{Range, Ty, array_over, record_with, FieldTypes, no_field_types, more_field_types, is_within, all_characters, natural_of, length_of_range}
 use Rattle.cp_resolved.proofs.frames.LeastCells.{right_true as right_of}
-
-pub left_of : (a b : Bool) → (a && b) ≡ true → a ≡ true
-left_of true b h = refl
-left_of false b h = h
+pub use Rattle.cp_resolved.proofs.frames.LeastCells.{left_true as left_of}
 
 -- ---- ranges
 

@@ -53,22 +53,17 @@ one_bounded k c image system number few h = go k
     count x = length-append c.components (x ∷ [])
 
     go : (k : SystemKind) → IsBounded (with_component (next_kind c k number).1 (next_kind c k number).0 image system)
-    go system_kind.Class =
-        let x : Component = component_with (next_kind c system_kind.Class number).0 (length c.permanents) system in
-        let n = count x in
-        let p = h.parts in
-        record { permanents = more x; parts = omega (arith, n, p); some = h.some }
-    go system_kind.Monitor =
-        let x : Component = component_with (next_kind c system_kind.Monitor number).0 (length c.permanents) system in
-        let n = count x in
-        let p = h.parts in
-        record { permanents = more x; parts = omega (arith, n, p); some = h.some }
     go system_kind.Process =
         let x : Component = component_with (next_kind c system_kind.Process number).0 (length c.permanents) system in
         let n = count x in
         let p = h.parts in
         let m = length-append c.processes (process_at (length c.components) number ∷ []) in
         record { permanents = more x; parts = omega (arith, n, p, m); some = omega (arith, m) }
+    go s =
+        let x : Component = component_with (next_kind c s number).0 (length c.permanents) system in
+        let n = count x in
+        let p = h.parts in
+        record { permanents = more x; parts = omega (arith, n, p); some = h.some }
 
 first_bounded : (image : List ℤ) (system number : ℕ) → length image ≤ 8192 * 20000 → IsBounded (with_component (next_kind nothing_listed system_kind.Process number).1 (next_kind nothing_listed system_kind.Process number).0 image system)
 first_bounded image system number few = record { permanents = omega (arith, few); parts = omega arith; some = omega arith }

@@ -141,11 +141,7 @@ module _ (ts : Compounds) where
 
   cell_filled : (l : Layer) (ps : Parameters) (x : List ℕ) (t : CellType) → IsSmall (system_parameter l ps x t).1 → Filled 1 0 l (system_parameter l ps x t).1
   cell_filled l ps x (types.System k) h = let e = one_more l.owned.contents content.Component in omega (arith, e)
-  cell_filled l ps x (types.Ordinal r) h = let few : length (least ts (types.Ordinal r)) ≤ 8192 = h.0 in let e = one_more l.owned.contents (content.Variable (types.Ordinal r)) in omega (arith, few, e)
-  cell_filled l ps x types.Queue h = let few : length (least ts types.Queue) ≤ 8192 = h.0 in let e = one_more l.owned.contents (content.Variable types.Queue) in omega (arith, few, e)
-  cell_filled l ps x (types.Set r) h = let few : length (least ts (types.Set r)) ≤ 8192 = h.0 in let e = one_more l.owned.contents (content.Variable (types.Set r)) in omega (arith, few, e)
-  cell_filled l ps x (types.Array n) h = let few : length (least ts (types.Array n)) ≤ 8192 = h.0 in let e = one_more l.owned.contents (content.Variable (types.Array n)) in omega (arith, few, e)
-  cell_filled l ps x (types.Record n) h = let few : length (least ts (types.Record n)) ≤ 8192 = h.0 in let e = one_more l.owned.contents (content.Variable (types.Record n)) in omega (arith, few, e)
+  cell_filled l ps x t h = let few : length (least ts t) ≤ 8192 = h.0 in let e = one_more l.owned.contents (content.Variable t) in omega (arith, few, e)
 
   parameters_filled : (l : Layer) (ps : Parameters) (t : CellType) (is : List Identifier) → IsSmall (system_parameters_of l ps t is).1 → Filled (length is) 0 l (system_parameters_of l ps t is).1
   unfolding system_parameters_of

@@ -1,20 +1,22 @@
 -- A program has no more items than tokens: each statement and each call of a function is one, and `repeat` is two.
 use Rattle.std.proofs.Common.{◌≡◌, ℕ, ◌+◌, ◌≤◌, Bool, List, [], ◌∷◌, length, max, Option, Some, None, slice_index, refl, ap, arith}
-use Rattle.cp_resolved.proofs.Words.{Kind, Sign, Direction, FunctionResult, written_type}
+use Rattle.cp_resolved.proofs.Words.{Kind, Sign, Direction, FunctionResult}
 use Rattle.cp_text.specs.declared.token.Kind.TheVariants as kind
 use Rattle.cp_text.specs.declared.token.Mark.TheVariants as mark
 use Rattle.cp_tree.specs.Syntax as syntax
-use Rattle.cp_tree.specs.Spelling.{put_identifier, put_constant_definition, put_variable_group, put_part, put_group, put_body, put_routine_kind, put_routine, put_system, put_definition, put_system_definition, put_program_part, spell, put_optional, put_behind, put_all, put_separated, put_sign, put_constant, put_expression, put_sum, put_terms, put_term, put_factors, put_factor, put_arguments, put_expressions, put_more_expressions, put_designator, put_selectors, put_selector, put_start, put_statement, put_statements, put_more_statements, put_arms, put_more_arms, put_arm, relation_mark, direction_mark}
-use Rattle.cp_tree.proofs.Grows.{grows_all, grows_type, grows_constant_definition, grows_variable_group, grows_part, grows_group, grows_parameters, grows_routine_kind, grows_optional, grows_constant, grows_separated, grows_arguments, grows_more_expressions}
+use Rattle.cp_tree.specs.Spelling.{put_identifier, put_part, put_body, put_routine_kind, put_routine, spell, put_optional, put_behind, put_all, put_separated, put_sign, put_constant, put_expression, put_sum, put_terms, put_term, put_factors, put_factor, put_arguments, put_expressions, put_more_expressions, put_designator, put_selectors, put_selector, put_start, put_statement, put_statements, put_more_statements, put_arms, put_more_arms, put_arm, relation_mark, direction_mark}
+use Rattle.cp_tree.proofs.Grows.{grows_all, grows_part, grows_routine_kind, grows_optional, grows_constant, grows_separated, grows_arguments, grows_more_expressions}
 use Rattle.cp_slots.specs.Code as code
 use Rattle.cp_slots.specs.Code.{SetExpression, ComponentPlace, Argument, Arm, Action, Item}
 use Rattle.cp_layout.specs.Values.{Value, Designated, a_routine, an_entry, a_standard, added as values_added, multiplied as values_multiplied, ordinal_of}
 use Rattle.cp_layout.specs.Layers.{Layer, Pending, settled_all, settled, without_pending, added, with_cell, with_room, call_need, need_of, result_of, again, need_inside, pending_need, nothing_laid}
 use Rattle.cp_layout.specs.LaidExpressions.{begun, counted, function_as, named_as, signed, name_at, expression, sum, more_terms, term, more_factors, factor, elements, first_value, arguments_from, designator, selectors, selector, arguments}
 use Rattle.cp_layout.specs.LaidStatements.{Target, target_of, assignment, arms_need, origin_of, low_of, high_of, is_down, assigned, performed, procedure, standard, Callee, a_standard_procedure, a_procedure, no_callee, callee_of, invoked_as, invoked, blocked, cycled, chosen, while_item, until_item, token_of, repeated, selected, for_item, initial_of, begun_component, Placed, placed_of, started_as, started, starts, statements, statement, arms, one_arm}
-use Rattle.cp_layout.specs.LaidDeclarations.{constants, variables, body, Parameters, heading, heading_with, with_heading, with_new_frame, opened, local_parts, permanent_parts, routine, routines, initial_statement, system_groups, entered, system, definition, system_definition, system_definitions, program_part, program_parts, program}
-use Rattle.cp_resolved.proofs.laid.Declares.{Declares, type_declares, constants_declare, variables_declare, permanent_parts_declare, local_parts_declare, heading_declares, system_groups_declare}
+use Rattle.cp_layout.specs.LaidDeclarations.{body, Parameters, heading, heading_with, with_heading, with_new_frame, opened, local_parts, routine, routines, initial_statement, program}
+use Rattle.cp_resolved.proofs.laid.Declares.{Declares, local_parts_declare, heading_declares}
+use Rattle.cp_resolved.specs.Begun.{all_begun}
 use Rattle.cp_resolved.proofs.counts.FewReferences.{one_more}
+use Rattle.cp_resolved.proofs.counts.SpentTokens.{each_any, program_spent}
 
 -- the items so far, with those that are to come
 abbrev pub count : Layer → ℕ
@@ -410,80 +412,28 @@ routine_few l r rest =
     let i = grows_optional mark.Entry r.is_entry (put_identifier r.name (put_routine_kind r.kind (kind.Mark mark.Semicolon ∷ inside))) in
     omega (arith, c, d, e, f, g, i)
 
-routines_few : (l : Layer) (rs : List syntax.Routine) (rest : List Kind) → count (routines l rs) + length rest ≤ count l + length (put_all put_routine rs rest)
-unfolding routines
-routines_few l [] rest = omega arith
-routines_few l (r ∷ rs) rest =
-    let a = routine_few l r (put_all put_routine rs rest) in
-    let b = routines_few (routine l r) rs rest in
-    omega (arith, a, b)
+-- out of this many tokens
+abbrev Within : ℕ → ℕ → Layer → Type 0
+Within total n l = count l + n ≤ total
 
-initial_few : (l : Layer) (ps : Parameters) (b : syntax.Body) (rest : List Kind) → count (initial_statement l ps b) + length rest ≤ count l + length (put_body b rest)
-initial_few l ps b rest = body_few (with_heading (with_new_frame l) (heading_with [] ps None)) b rest
+module _ (total : ℕ) where
+  lower : (high low : ℕ) (l : Layer) → low ≤ high → Within total high l → Within total low l
+  lower high low l le h = omega (arith, le, h)
 
-system_few : (l : Layer) (y : syntax.System) (rest : List Kind) → count (system l y).1 + length rest ≤ count l + length (put_system y rest)
-unfolding system
-system_few l y rest =
-    let b : List Kind = put_body y.body rest in
-    let rs : List Kind = put_all put_routine y.routines b in
-    let inside : List Kind = put_all put_part y.parts rs in
-    let o : Layer = (entered l).1 in
-    let x = system_groups o [] y.parameters in
-    let p : Layer = permanent_parts x.1 y.parts in
-    let k : Layer = routines p y.routines in
-    let c = declared_same o x.1 (system_groups_declare o [] y.parameters) in
-    let d = declared_same x.1 p (permanent_parts_declare x.1 y.parts) in
-    let e = routines_few p y.routines b in
-    let f = initial_few k x.0 y.body rest in
-    let g = grows_all put_part grows_part y.parts rs in
-    let i = grows_optional mark.Semicolon y.has_semicolon inside in
-    let j = grows_parameters put_group grows_group y.parameters (put_optional mark.Semicolon y.has_semicolon inside) in
-    omega (arith, c, d, e, f, g, i, j)
+  same : (n : ℕ) (l m : Layer) → m.items ≡ l.items → m.pending ≡ l.pending → m.routines ≡ l.routines → Within total n l → Within total n m
+  same n l m i p r h =
+      let a = ap (λ (is : List Item). length is) i in
+      let b = ap (λ (ps : List Pending). length ps) p in
+      omega (arith, a, b, h)
 
-definition_few : (l : Layer) (v : syntax.Definition) (rest : List Kind) → count (definition l v).1 + length rest ≤ count l + length (put_definition v rest)
-definition_few l (syntax.type_definition t) rest =
-    let a = declared_same l (written_type l t).1 (type_declares l t) in
-    let b = grows_type t rest in
-    omega (arith, a, b)
-definition_few l (syntax.system_definition y) rest = system_few l y rest
+  routine_within : (l : Layer) (r : syntax.Routine) (rest : List Kind) → Unit {0} → Within total (length (put_routine r rest)) l → Within total (length rest) (routine l r)
+  routine_within l r rest s h = let a = routine_few l r rest in omega (arith, a, h)
 
-definitions_few : (l : Layer) (ds : List syntax.SystemDefinition) (rest : List Kind) → count (system_definitions l ds) + length rest ≤ count l + length (put_all put_system_definition ds rest)
-unfolding system_definitions
-definitions_few l [] rest = omega arith
-definitions_few l (d ∷ ds) rest =
-    let after : List Kind = put_all put_system_definition ds rest in
-    let a = definition_few l d.value (kind.Mark mark.Semicolon ∷ after) in
-    let b = definitions_few (system_definition l d) ds rest in
-    omega (arith, a, b)
+  initial_within : (l : Layer) (ps : Parameters) (b : syntax.Body) (rest : List Kind) → Within total (length (put_body b rest)) l → Within total (length rest) (initial_statement l ps b)
+  initial_within l ps b rest h = let a = body_few (with_heading (with_new_frame l) (heading_with [] ps None)) b rest in omega (arith, a, h)
 
-part_few : (l : Layer) (q : syntax.ProgramPart) (rest : List Kind) → count (program_part l q) + length rest ≤ count l + length (put_program_part q rest)
-part_few l (syntax.program_constants at ds) rest =
-    let a = declared_same l (constants l ds) (constants_declare l ds) in
-    let b = grows_all put_constant_definition grows_constant_definition ds rest in
-    omega (arith, a, b)
-part_few l (syntax.program_types at ds) rest = let a = definitions_few l ds rest in omega (arith, a)
-part_few l (syntax.program_variables at gs) rest =
-    let a = declared_same l (variables l gs) (variables_declare l gs) in
-    let b = grows_all put_variable_group grows_variable_group gs rest in
-    omega (arith, a, b)
-
-parts_few : (l : Layer) (qs : List syntax.ProgramPart) (rest : List Kind) → count (program_parts l qs) + length rest ≤ count l + length (put_all put_program_part qs rest)
-unfolding program_parts
-parts_few l [] rest = omega arith
-parts_few l (q ∷ qs) rest =
-    let a = part_few l q (put_all put_program_part qs rest) in
-    let b = parts_few (program_part l q) qs rest in
-    omega (arith, a, b)
-
-pub program_few : (lines : List ℕ) (p : syntax.Program) → length (program (nothing_laid lines) p).items ≤ length (spell p)
-unfolding program
-program_few lines p =
-    let l : Layer = nothing_laid lines in
-    let period : List Kind = kind.Mark mark.Period ∷ [] in
-    let last : List Kind = put_body p.body period in
-    let k : Layer = program_parts l p.parts in
-    let m : Layer = routines k p.routines in
-    let a = parts_few l p.parts (put_all put_routine p.routines last) in
-    let b = routines_few k p.routines last in
-    let c = initial_few m [] p.body period in
-    omega (arith, a, b, c)
+pub program_few : (t : syntax.Tree) → length (program (nothing_laid t.lines) t.program).items ≤ length (spell t.program)
+program_few t =
+    let total : ℕ = length (spell t.program) in
+    let few : Within total 0 (program (nothing_laid t.lines) t.program) = program_spent (Within total) (λ (l : Layer). Unit {0}) (lower total) (same total) (routine_within total) (initial_within total) t (each_any (all_begun t)) (omega arith) in
+    omega (arith, few)

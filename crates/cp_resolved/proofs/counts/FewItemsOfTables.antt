@@ -11,6 +11,6 @@ pub few_items_law : FewItemsLaw
 few_items_law t tree is read =
     let items : length (map item_seen t.items) ≡ length (program (nothing_laid tree.lines) tree.program).items = ap (λ (js : List Item). length js) (ap (λ (p : PlainTables). p.items) is ∙ laid_items tree) in
     let same = seen_length t.items in
-    let few = program_few tree.lines tree.program in
+    let few = program_few tree in
     let tokens = read_few tree.program read in
     omega (arith, items, same, few, tokens)

@@ -1,24 +1,24 @@
 -- The cells of open calls stay few, where the variables have few: each routine calls earlier ones alone, and each of its cells stands for a token.
-use Rattle.std.proofs.Common.{◌≡◌, ℕ, ◌+◌, ◌*◌, ◌≤◌, List, [], ◌∷◌, ◌++◌, length, Option, Some, None, slice_get, refl, sym, ap, subst, ◌∙◌, arith, length-append}
-use Rattle.cp_resolved.proofs.Words.{Kind, Process, Action, RoutineView, room_for, room_from, with_count, statements, written_type, Each}
+use Rattle.std.proofs.Common.{◌≡◌, ℕ, ◌+◌, ◌*◌, ◌≤◌, List, [], ◌∷◌, length, Option, Some, None, slice_get, refl, sym, ap, subst, ◌∙◌, arith, length-append}
+use Rattle.cp_resolved.proofs.Words.{Kind, Process, Action, RoutineView, room_for, room_from, with_count, statements, Each}
 use Rattle.cp_text.specs.declared.token.Kind.TheVariants as kind
 use Rattle.cp_text.specs.declared.token.Mark.TheVariants as mark
 use Rattle.cp_tree.specs.Syntax as syntax
-use Rattle.cp_tree.specs.Spelling.{put_optional, put_all, put_identifier, put_constant_definition, put_variable_group, put_part, put_group, put_body, put_routine_kind, put_routine, put_system, put_definition, put_system_definition, put_program_part, spell}
-use Rattle.cp_tree.proofs.Grows.{grows_all, grows_optional, grows_type, grows_constant_definition, grows_variable_group, grows_part, grows_group, grows_parameters, grows_body, grows_routine, grows_definition, grows_program_part}
+use Rattle.cp_tree.specs.Spelling.{put_all, put_identifier, put_part, put_body, put_routine_kind, put_routine, spell}
+use Rattle.cp_tree.proofs.Grows.{grows_optional, grows_body, grows_routine}
 use Rattle.cp_layout.specs.Layers.{Layer, frame_with, with_cell, with_room, settled, without_pending, added, routine_of, nothing_laid}
-use Rattle.cp_layout.specs.LaidDeclarations.{constants, variables, Parameters, body, heading, heading_with, with_heading, with_new_frame, opened, local_parts, permanent_parts, routine, routines, initial_statement, system_groups, entered, system, definition, system_definition, system_definitions, program_part, program_parts, program}
-use Rattle.cp_resolved.specs.Begun.{routine_begun, routines_begun, initial_begun, parameters_of, system_begun, definition_begun, definitions_begun, part_begun, program_parts_begun, all_begun}
-use Rattle.cp_resolved.proofs.agreeing.AgreeingWritten.{each_left, each_right}
-use Rattle.cp_resolved.proofs.laid.Declares.{Declares, type_declares, constants_declare, variables_declare, permanent_parts_declare, local_parts_declare, heading_declares, system_groups_declare}
+use Rattle.cp_layout.specs.LaidDeclarations.{Parameters, body, heading, heading_with, with_heading, with_new_frame, opened, local_parts, routine, routines, initial_statement, program}
+use Rattle.cp_resolved.specs.Begun.{routine_begun, all_begun}
+use Rattle.cp_resolved.proofs.laid.Declares.{local_parts_declare, heading_declares}
 use Rattle.cp_resolved.proofs.counts.FewItems.{count, added_one, settled_same, body_few}
 use Rattle.cp_resolved.proofs.counts.FewLocals.{heading_extended, parts_extended}
 use Rattle.cp_resolved.proofs.counts.FewReferences.{each_entry, each_weaker}
 use Rattle.cp_resolved.proofs.laid.Grown.{settled_grew}
 use Rattle.cp_resolved.proofs.counts.Rooms.{Room}
+use Rattle.cp_resolved.proofs.counts.SpentTokens.{program_spent}
 use Rattle.cp_resolved.proofs.laid.SettledItems.{all_frame}
 use Rattle.cp_resolved.proofs.names.SmallNames.{SmallNames, earlier}
-use Rattle.cp_resolved.proofs.laid.Walked.{statements_walked}
+use Rattle.cp_resolved.proofs.laid.Walked.{any_calls, any_items, any_lists, never, statements_walked}
 use Rattle.cp_resolved.proofs.frames.FrameCells.{each_both as each_append}
 
 -- ---- statements
@@ -95,8 +95,8 @@ body_level total high l b rest h room image =
     let items : ℕ = count l in
     let cells : ℕ = length l.frame.image in
     let f : Within total high cells items x.1 =
-    statements_walked (Within total high cells items) (within_call total high cells items) (within_count total high cells items) (within_room total high cells items) (within_added total high cells items) (within_settled total high cells items) l b.statements
-    (record { routines = h; frame = room; image = omega arith }) in
+    statements_walked (any_calls (Within total high cells items) (within_count total high cells items) (within_call total high cells items)) (any_items (Within total high cells items) (within_room total high cells items) (within_added total high cells items))
+    (any_lists (Within total high cells items) (within_added total high cells items) (within_settled total high cells items)) l b.statements (record { routines = h; frame = room; image = omega arith }) never in
     let few = body_few l b rest in
     let le = grows_body b rest in
     let a : x.1.frame.room + 8192 * high ≤ 8192 * total = f.frame in
@@ -106,18 +106,19 @@ body_level total high l b rest h room image =
 
 -- ---- declarations
 
-lower : (total high low : ℕ) (l : Layer) → low ≤ high → Level total high l → Level total low l
-lower total high low l le h = each_weaker (Fits total high) (Fits total low) (λ r e. omega (arith, e, le)) l.routines h
-
-declared_level : (total low : ℕ) (l m : Layer) → Declares l m → Level total low l → Level total low m
-declared_level total low l m h g = subst (λ (rs : List RoutineView). Each (Fits total low) rs) (sym (ap (λ (j : Layer). j.routines) h.same)) g
-
-abbrev AllSmall : List Layer → Type 0
-AllSmall ls = Each SmallNames ls
+-- with this many tokens still to come, of all
+abbrev Levels : (total low : ℕ) → Layer → Type 0
+Levels total low l = (low ≤ total) × Level total low l
 
 module _ (total : ℕ) where
-  routine_level : (l : Layer) (r : syntax.Routine) (rest : List Kind) → SmallNames (routine_begun l r) → length (put_routine r rest) ≤ total → Level total (length (put_routine r rest)) l → Level total (length rest) (routine l r)
-  routine_level l r rest s le h =
+  lower : (high low : ℕ) (l : Layer) → low ≤ high → Levels total high l → Levels total low l
+  lower high low l le h = (let a = h.0 in omega (arith, le, a), each_weaker (Fits total high) (Fits total low) (λ r e. omega (arith, e, le)) l.routines h.1)
+
+  same : (n : ℕ) (l m : Layer) → m.items ≡ l.items → m.pending ≡ l.pending → m.routines ≡ l.routines → Levels total n l → Levels total n m
+  same n l m i p r h = (h.0, subst (Each (Fits total n)) (sym r) h.1)
+
+  routine_levels : (l : Layer) (r : syntax.Routine) (rest : List Kind) → SmallNames (routine_begun l r) → Levels total (length (put_routine r rest)) l → Levels total (length rest) (routine l r)
+  routine_levels l r rest s h =
       let last : List Kind = kind.Mark mark.Semicolon ∷ rest in
       let b : List Kind = put_body r.body last in
       let inside : List Kind = put_all put_part r.parts b in
@@ -126,98 +127,26 @@ module _ (total : ℕ) where
       let g = heading x r.name.name r.kind in
       let k : Layer = with_heading g.1 g.0 in
       let m : Layer = local_parts k r.parts in
-      let e = heading_extended x r.name.name r.kind (kind.Mark mark.Semicolon ∷ inside) (earlier k m (local_parts_declare k r.parts) s) in
-      let f = parts_extended k r.parts b s in
-      let a = e.image in
-      let c = f.image in
+      let e = heading_extended x r.name.name r.kind (kind.Mark mark.Semicolon ∷ inside) in
+      let f = parts_extended k r.parts b in
+      let a = e.image (earlier k m (local_parts_declare k r.parts) s) in
+      let c = f.image s in
       let room : m.frame.room ≡ 0 = f.room ∙ e.room in
       let n = grows_optional mark.Entry r.is_entry (put_identifier r.name (put_routine_kind r.kind (kind.Mark mark.Semicolon ∷ inside))) in
-      let d : Level total high m = declared_level total high k m (local_parts_declare k r.parts) (declared_level total high x g.1 (heading_declares x r.name.name r.kind) h) in
-      lower total (length last) (length rest) (body m r.body) (omega arith) (body_level total high m r.body last d (omega (arith, room, le)) (omega (arith, a, c, n)))
+      let j = grows_routine r rest in
+      let le = h.0 in
+      let begun : m.routines ≡ l.routines = ap (λ (z : Layer). z.routines) (local_parts_declare k r.parts).same ∙ ap (λ (z : Layer). z.routines) (heading_declares x r.name.name r.kind).same in
+      let d : Level total (length last) (body m r.body) = body_level total high m r.body last (subst (Each (Fits total high)) (sym begun) h.1) (omega (arith, room, le)) (omega (arith, a, c, n)) in
+      (omega (arith, j, le), each_weaker (Fits total (length last)) (Fits total (length rest)) (λ v i. omega (arith, i)) (body m r.body).routines d)
 
-  routines_level : (l : Layer) (rs : List syntax.Routine) (rest : List Kind) → AllSmall (routines_begun l rs) → length (put_all put_routine rs rest) ≤ total → Level total (length (put_all put_routine rs rest)) l → Level total (length rest) (routines l rs)
-  unfolding routines
-  routines_level l [] rest s le h = h
-  routines_level l (r ∷ rs) rest s le h =
-      let after : List Kind = put_all put_routine rs rest in
-      let a = grows_routine r after in
-      routines_level (routine l r) rs rest s.1 (omega (arith, a, le)) (routine_level l r after s.0 le h)
-
-  initial_level : (l : Layer) (ps : Parameters) (b : syntax.Body) (rest : List Kind) → length (put_body b rest) ≤ total → Level total (length (put_body b rest)) l → Level total (length rest) (initial_statement l ps b)
-  initial_level l ps b rest le h = body_level total (length (put_body b rest)) (with_heading (with_new_frame l) (heading_with [] ps None)) b rest h (omega (arith, le)) (omega arith)
-
-  system_level : (l : Layer) (y : syntax.System) (rest : List Kind) → AllSmall (definition_begun l (syntax.system_definition y)) → length (put_system y rest) ≤ total → Level total (length (put_system y rest)) l → Level total (length rest) (system l y).1
-  unfolding system
-  system_level l y rest s le h =
-      let b : List Kind = put_body y.body rest in
-      let rs : List Kind = put_all put_routine y.routines b in
-      let inside : List Kind = put_all put_part y.parts rs in
-      let o : Layer = (entered l).1 in
-      let x = system_groups o [] y.parameters in
-      let p : Layer = permanent_parts x.1 y.parts in
-      let k : Layer = routines p y.routines in
-      let g = grows_all put_part grows_part y.parts rs in
-      let i = grows_optional mark.Semicolon y.has_semicolon inside in
-      let j = grows_parameters put_group grows_group y.parameters (put_optional mark.Semicolon y.has_semicolon inside) in
-      let n = grows_all put_routine grows_routine y.routines b in
-      let high : ℕ = length (put_system y rest) in
-      let small : AllSmall (routines_begun p y.routines) = each_left SmallNames (routines_begun p y.routines) (initial_begun (system_begun l y) (parameters_of l y) ∷ []) s in
-      let d : Level total high p = declared_level total high x.1 p (permanent_parts_declare x.1 y.parts) (declared_level total high o x.1 (system_groups_declare o [] y.parameters) h) in
-      let e : Level total (length b) k = routines_level p y.routines b small (omega (arith, g, i, j, le)) (lower total high (length rs) p (omega (arith, g, i, j)) d) in
-      initial_level k x.0 y.body rest (omega (arith, g, i, j, n, le)) e
-
-  definition_level : (l : Layer) (v : syntax.Definition) (rest : List Kind) → AllSmall (definition_begun l v) → length (put_definition v rest) ≤ total → Level total (length (put_definition v rest)) l → Level total (length rest) (definition l v).1
-  definition_level l (syntax.type_definition t) rest s le h = declared_level total (length rest) l (written_type l t).1 (type_declares l t) (lower total (length (put_definition (syntax.type_definition t) rest)) (length rest) l (grows_type t rest) h)
-  definition_level l (syntax.system_definition y) rest s le h = system_level l y rest s le h
-
-  definitions_level : (l : Layer) (ds : List syntax.SystemDefinition) (rest : List Kind) → AllSmall (definitions_begun l ds) → length (put_all put_system_definition ds rest) ≤ total → Level total (length (put_all put_system_definition ds rest)) l → Level total (length rest) (system_definitions l ds)
-  unfolding system_definitions
-  definitions_level l [] rest s le h = h
-  definitions_level l (d ∷ ds) rest s le h =
-      let after : List Kind = put_all put_system_definition ds rest in
-      let next : List Kind = kind.Mark mark.Semicolon ∷ after in
-      let high : ℕ = length (put_all put_system_definition (d ∷ ds) rest) in
-      let others : List Layer = definitions_begun (system_definition l d) ds in
-      let a = grows_definition d.value next in
-      let e : Level total (length next) (definition l d.value).1 = definition_level l d.value next (each_left SmallNames (definition_begun l d.value) others s) (omega (arith, le)) (lower total high (length (put_definition d.value next)) l (omega arith) h) in
-      definitions_level (system_definition l d) ds rest (each_right SmallNames (definition_begun l d.value) others s) (omega (arith, a, le)) (lower total (length next) (length after) (definition l d.value).1 (omega arith) e)
-
-  part_level : (l : Layer) (q : syntax.ProgramPart) (rest : List Kind) → AllSmall (part_begun l q) → length (put_program_part q rest) ≤ total → Level total (length (put_program_part q rest)) l → Level total (length rest) (program_part l q)
-  part_level l (syntax.program_constants at ds) rest s le h =
-      let b = grows_all put_constant_definition grows_constant_definition ds rest in
-      declared_level total (length rest) l (constants l ds) (constants_declare l ds) (lower total (length (put_program_part (syntax.program_constants at ds) rest)) (length rest) l (omega (arith, b)) h)
-  part_level l (syntax.program_types at ds) rest s le h = definitions_level l ds rest s (omega (arith, le)) (lower total (length (put_program_part (syntax.program_types at ds) rest)) (length (put_all put_system_definition ds rest)) l (omega arith) h)
-  part_level l (syntax.program_variables at gs) rest s le h =
-      let b = grows_all put_variable_group grows_variable_group gs rest in
-      declared_level total (length rest) l (variables l gs) (variables_declare l gs) (lower total (length (put_program_part (syntax.program_variables at gs) rest)) (length rest) l (omega (arith, b)) h)
-
-  parts_level : (l : Layer) (qs : List syntax.ProgramPart) (rest : List Kind) → AllSmall (program_parts_begun l qs) → length (put_all put_program_part qs rest) ≤ total → Level total (length (put_all put_program_part qs rest)) l → Level total (length rest) (program_parts l qs)
-  unfolding program_parts
-  parts_level l [] rest s le h = h
-  parts_level l (q ∷ qs) rest s le h =
-      let after : List Kind = put_all put_program_part qs rest in
-      let others : List Layer = program_parts_begun (program_part l q) qs in
-      let a = grows_program_part q after in
-      parts_level (program_part l q) qs rest (each_right SmallNames (part_begun l q) others s) (omega (arith, a, le)) (part_level l q after (each_left SmallNames (part_begun l q) others s) le h)
+  initial_levels : (l : Layer) (ps : Parameters) (b : syntax.Body) (rest : List Kind) → Levels total (length (put_body b rest)) l → Levels total (length rest) (initial_statement l ps b)
+  initial_levels l ps b rest h =
+      let le = h.0 in
+      let a = grows_body b rest in
+      (omega (arith, a, le), body_level total (length (put_body b rest)) (with_heading (with_new_frame l) (heading_with [] ps None)) b rest h.1 (omega (arith, le)) (omega arith))
 
 pub program_level : (t : syntax.Tree) → Each SmallNames (all_begun t) → Level (length (spell t.program)) 0 (program (nothing_laid t.lines) t.program)
-unfolding program
-program_level t s =
-    let p : syntax.Program = t.program in
-    let total : ℕ = length (spell p) in
-    let l : Layer = nothing_laid t.lines in
-    let period : List Kind = kind.Mark mark.Period ∷ [] in
-    let last : List Kind = put_body p.body period in
-    let rs : List Kind = put_all put_routine p.routines last in
-    let k : Layer = program_parts l p.parts in
-    let m : Layer = routines k p.routines in
-    let a = grows_all put_program_part grows_program_part p.parts rs in
-    let b = grows_all put_routine grows_routine p.routines last in
-    let own : List Layer = initial_begun m [] ∷ [] in
-    let later : AllSmall (routines_begun k p.routines ++ own) = each_right SmallNames (program_parts_begun l p.parts) (routines_begun k p.routines ++ own) s in
-    let e : Level total (length rs) k = parts_level total l p.parts rs (each_left SmallNames (program_parts_begun l p.parts) (routines_begun k p.routines ++ own) s) (omega arith) tt in
-    let f : Level total (length last) m = routines_level total k p.routines last (each_left SmallNames (routines_begun k p.routines) own later) (omega (arith, a)) e in
-    lower total (length period) 0 (initial_statement m [] p.body) (omega arith) (initial_level total m [] p.body period (omega (arith, a, b)) f)
+program_level t s = let n : ℕ = length (spell t.program) in (program_spent (Levels n) SmallNames (lower n) (same n) (routine_levels n) (initial_levels n) t s (omega arith, tt)).1
 
 -- ---- what all processes need
 

@@ -1,22 +1,23 @@
 -- In a tree that was read and breaks no rule, parameters have names of their own, and no parameter of a routine is a component.
-use Rattle.cp_resolved.proofs.Words.{◌≡◌, ℕ, zero, suc, false, true, List, [], ◌∷◌, ◌++◌, Option, Some, None, Ok, Err, slice_get, refl, inr, Identifier, SystemKind}
-use Rattle.cp_resolved.proofs.Words.{ValueType, Meaning, Judged, faults, Scopes, add, settle, enter, add_around, keep, start, Spot, reserve_name, reserve_names}
-use Rattle.cp_resolved.proofs.Words.{add_names, add_all, part_steps, declarations, routine_step, routine_steps, Name, same_name, Ty, component_of, names_of, Parameter}
-use Rattle.cp_resolved.proofs.Words.{declared, own_meaning, Place, places_of, AreAgreed, tokens_of, Opening, openings_of, meaning_in, initial_meaning, Each, is_free}
-use Rattle.cp_resolved.proofs.Words.{IsFreeParameter, Tokens, no_left, no_right, no_first, none_before, inside_sound, defined_sound, declarations_sound, parts_sound}
+use Rattle.cp_resolved.proofs.Words.{◌≡◌, ℕ, false, true, List, [], ◌∷◌, ◌++◌, Option, Some, None, Ok, Err, Identifier, SystemKind}
+use Rattle.cp_resolved.proofs.Words.{ValueType, Meaning, Judged, faults, Scopes, settle, enter, add_around, keep, start, Spot, reserve_name, reserve_names}
+use Rattle.cp_resolved.proofs.Words.{add_all, part_steps, declarations, routine_step, routine_steps, Name, same_name, Ty, component_of, names_of, Parameter}
+use Rattle.cp_resolved.proofs.Words.{Each, is_free}
+use Rattle.cp_resolved.proofs.Words.{IsFreeParameter, no_left, no_right, no_first, none_before, inside_sound, defined_sound, declarations_sound, parts_sound}
 use Rattle.cp_tree.specs.Syntax.{Group, ParameterGroup, RoutineKind, procedure, function, Routine, System, Definition, type_definition, system_definition, SystemDefinition, Part, ProgramPart, program_types, Program}
 use Rattle.cp_check.specs.declared.types.Spot.TheVariants as spot
 use Rattle.cp_check.specs.Headings as headings
 use Rattle.cp_check.specs.Headings.{Headed, after_faults, written, ruled, heading, announced, announced_of}
 use Rattle.cp_check.specs.Routines as routines
 use Rattle.cp_check.specs.Systems as systems
-use Rattle.cp_lawful.proofs.Kept.{Keeps, same, after, names_reserved, names_added, all_added}
+use Rattle.cp_lawful.proofs.Kept.{Keeps, same, after, names_reserved, all_added}
 use Rattle.cp_lawful.proofs.Told.{none_after}
 use Rattle.cp_resolved.specs.BodiesFormed.{DistinctLaw}
 use Rattle.cp_resolved.specs.Distinct.{IsOther, AreDistinct, all_names, part_names, kind_names, parameter_names, AreApart, IsDistinctRoutine, IsDistinctSystem, IsDistinctDefinition, IsDistinctPart, IsNoComponent, AreValues}
-use Rattle.cp_resolved.proofs.declarations.OnceRoutines.{IsKnown, known_named}
-use Rattle.cp_resolved.proofs.declarations.OtherNames.{stays_known, names_other, together_distinct, parts_other}
-use Rattle.cp_resolved.proofs.agreeing.ScopesOfTrees.{scopes_law}
+use Rattle.cp_resolved.proofs.declarations.OnceRoutines.{IsKnown}
+use Rattle.cp_resolved.proofs.declarations.OtherNames.{names_known, stays_known, names_other, together_distinct, parts_other}
+use Rattle.cp_resolved.proofs.Words.{Tree, IsRead, IsAccepted, RoutineMeaning, meaning_at, sym, subst}
+use Rattle.cp_resolved.proofs.statements.CalleesKnown.{At, at_number}
 use Rattle.cp_resolved.proofs.frames.FrameCells.{each_both}
 
 -- ---- names that are declared between two scopes
@@ -54,13 +55,6 @@ then_declares s t u xs ys a b =
       known = each_both (λ (x : Name). IsKnown x u.inner.names) xs ys (all_stay t u b.keeps xs a.known) b.known;
       keeps = after s t u a.keeps b.keeps;
     }
-
-names_known : (s : Scopes) (ns : List Identifier) (m : Option Meaning) → AllKnown (names_of ns) (add_names s ns m)
-unfolding add_names add
-names_known s [] m = tt
-names_known s (n ∷ ns) m =
-    let t : Scopes = add s n.name m in
-    (stays_known n.name t (add_names t ns m) (names_added t ns m) (known_named s.inner n.name n.name m (inr refl)), names_known t ns m)
 
 -- names of one group
 group_declares : (s : Scopes) (ns : List Identifier) (m : Option Meaning) → (reserve_names s ns).faults ≡ [] → Declares s (add_all (reserve_names s ns).scopes ns m) (names_of ns)
@@ -174,16 +168,15 @@ all_values : (qs : List Parameter) → Each IsFreeParameter qs → AreValues qs
 all_values [] h = tt
 all_values (q ∷ qs) h = (no_component q.ty h.0, all_values qs h.1)
 
-values_at : (tokens : Tokens) (p : Program) (xs : List Place) (os : List Opening) (n : ℕ) → AreAgreed tokens p xs os → AreValues (meaning_in (initial_meaning (own_meaning (declared p) p)) (slice_get os n)).parameters
-values_at tokens p xs [] n h = tt
-values_at tokens p [] (o ∷ os) n h = absurd h
-values_at tokens p (x ∷ xs) (o ∷ os) zero h = all_values o.meaning.parameters h.0.parameters
-values_at tokens p (x ∷ xs) (o ∷ os) (suc n) h = values_at tokens p xs os n h.1
+values_at : (t : Tree) → IsRead t.program → IsAccepted t → (n : ℕ) → AreValues (meaning_at t.program n).parameters
+values_at t read accepted n =
+    let a : At t n = at_number t read accepted n in
+    subst (λ (m : RoutineMeaning). AreValues m.parameters) (sym a.means) (all_values a.opening.meaning.parameters a.agreed.parameters)
 
 pub accepted_distinct : DistinctLaw
 accepted_distinct t read accepted =
     record {
       parts = parts_distinct start t.program.parts (parts_sound t accepted);
       routines = own_distinct t.program (declarations_sound t accepted);
-      values = λ n. values_at (tokens_of t.program) t.program (places_of t.program) (openings_of t.program) n (scopes_law t read accepted).places;
+      values = values_at t read accepted;
     }

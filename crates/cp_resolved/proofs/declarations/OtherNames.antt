@@ -1,23 +1,26 @@
 -- What is declared without a fault has none of the names that are known before it, and names that are declared together are different.
-use Rattle.std.proofs.Common.{◌≡◌, ℕ, ◌+◌, Bool, true, false, ◌||◌, if◌then◌else◌, List, [], ◌∷◌, ◌++◌, Some, is_some, pos, refl, sym, ap, ◌∙◌, inl, inr}
-use Rattle.cp_resolved.proofs.Words.{◌⊎◌, bytes_eq, bytes_eq-Decides, Identifier, CheckFault, C2, ValueType, Judged, both, ◌>>=◌, faults, Spot, no_left, no_right}
+use Rattle.std.proofs.Common.{◌≡◌, ℕ, ◌+◌, Bool, true, false, ◌||◌, if◌then◌else◌, List, [], ◌∷◌, ◌++◌, Option, Some, is_some, subst, pos, refl, sym, ap, ◌∙◌, inl, inr}
+use Rattle.cp_resolved.proofs.Words.{◌⊎◌, bytes_eq, bytes_eq-Decides, Identifier, C2, ValueType, Judged, both, ◌>>=◌, faults, Spot, no_left, no_right}
+use Rattle.cp_resolved.proofs.Words.{Meaning, Each}
 use Rattle.cp_resolved.proofs.Words.{no_first, Name, same_name, names_of, IsOther, AreDistinct, all_names, simple_names, type_names, groups_names, part_names}
 use Rattle.cp_tree.specs.Syntax.{Simple, enumeration, TypeTerm, simple, array_of, set_type, record_of, FieldGroups, no_fields, more_fields, fields, ConstantDefinition, TypeDefinition, VariableGroup, Part, constants, types, variables}
 use Rattle.cp_scope.specs.declared.fault.CheckFault.TheVariants as check_fault
 use Rattle.cp_scope.specs.declared.types.Base.{Base}
 use Rattle.cp_scope.specs.declared.types.Meaning.TheVariants as meaning
-use Rattle.cp_scope.specs.Scopes.{Scope, new_scope, Scopes, find, is_among, is_declared, is_declared_in, with_pending, add, reserve}
+use Rattle.cp_scope.specs.Scopes.{Scope, new_scope, Scopes, find, is_among, is_declared, is_declared_in, with_pending, add, reserve, Names}
 use Rattle.cp_check.specs.declared.types.Spot.TheVariants as spot
-use Rattle.cp_check.specs.Records.{Fields, sound_of, sound, reserve_fields}
-use Rattle.cp_check.specs.Types.{Step, nothing, member, members, unless_type, base_of, simple_typed, arrayed, to_array, set_of, simple_at, shaped, recorded, to_record, typed, groups_typed, group_typed}
-use Rattle.cp_check.specs.Declarations.{reserve_name, reserve_names, to_kind, to_variable, constant_step, constant_steps, type_step, type_steps, variable_step, variable_steps, part_step, part_steps}
-use Rattle.cp_lawful.proofs.Kept.{Keeps, added, name_reserved, names_reserved, constants_kept, type_kept, types_kept, variable_kept, part_kept}
+use Rattle.cp_check.specs.Records.{Fields, sound, reserve_fields}
+use Rattle.cp_check.specs.Types.{Step, nothing, member, members, base_of, simple_typed, arrayed, to_array, set_of, simple_at, shaped, recorded, to_record, typed, groups_typed, group_typed}
+use Rattle.cp_check.specs.Declarations.{reserve_name, reserve_names, add_names, to_kind, to_variable, constant_step, constant_steps, type_step, type_steps, variable_step, variable_steps, part_step, part_steps}
+use Rattle.cp_lawful.proofs.Classes.{reserved_names, reserved_new}
+use Rattle.cp_lawful.proofs.Kept.{Keeps, names_added, added, name_reserved, names_reserved, constants_kept, type_kept, types_kept, variable_kept, part_kept}
 use Rattle.cp_resolved.proofs.agreeing.Agreeing.{none_of_both}
-use Rattle.cp_resolved.proofs.declarations.OnceRoutines.{IsKnown, still_known}
+use Rattle.cp_resolved.proofs.declarations.OnceRoutines.{IsKnown, still_known, known_named}
 use Rattle.cp_resolved.proofs.names.PermanentNames.{left_true as or_first}
 use Rattle.cp_meaning.proofs.Good.{or_right as or_second}
 use Rattle.cp_resolved.proofs.frames.FrameCells.{each_both}
-use Rattle.cp_resolved.proofs.declarations.OwnVariables.{among_before as among_more, among_last}
+use Rattle.cp_resolved.proofs.declarations.Reserving.{last_among, stays_one}
+use Rattle.cp_resolved.proofs.declarations.StillVisible.{no_faults, no_field_faults}
 
 -- ---- names that are being declared
 
@@ -34,8 +37,8 @@ pending_taken c n x h = go (is_among n c.pending) refl h
     go : (b : Bool) → is_among n c.pending ≡ b → (is_declared_in c x ≡ true) ⊎ (x ≡ n) → is_declared_in (if b then c else record { names = c.names; pending = c.pending ++ n ∷ []; is_sealed = c.is_sealed }) x ≡ true
     go true e (inl d) = d
     go true e (inr i) = or_second (is_some (find x c.names)) (is_among x c.pending) (ap (λ y. is_among y c.pending) i ∙ e)
-    go false e (inl d) = or_grows (is_some (find x c.names)) (is_among x c.pending) (is_among x (c.pending ++ n ∷ [])) (among_more x n c.pending) d
-    go false e (inr i) = or_second (is_some (find x c.names)) (is_among x (c.pending ++ n ∷ [])) (ap (λ y. is_among y (c.pending ++ n ∷ [])) i ∙ among_last n c.pending)
+    go false e (inl d) = or_grows (is_some (find x c.names)) (is_among x c.pending) (is_among x (c.pending ++ n ∷ [])) (stays_one x n c.pending) d
+    go false e (inr i) = or_second (is_some (find x c.names)) (is_among x (c.pending ++ n ∷ [])) (ap (λ y. is_among y (c.pending ++ n ∷ [])) i ∙ last_among n c.pending)
 
 name_taken : (s : Scopes) (n : Identifier) (x : Name) → (IsTaken x s) ⊎ (x ≡ n.name) → IsTaken x (reserve_name s n).scopes
 unfolding reserve_name reserve
@@ -76,6 +79,26 @@ together_distinct s (n ∷ ns) h =
     let rest : (reserve_names t ns).faults ≡ [] = no_right (reserve_name s n).faults _ h in
     (taken_others t n.name ns rest (name_taken s n n.name (inr refl)), together_distinct t ns rest)
 
+abbrev pub AllKnown : List Name → Names → Type 0
+AllKnown xs ds = Each (λ x. IsKnown x ds) xs
+
+abbrev pub AllNew : List Name → Names → Type 0
+AllNew xs ds = Each (λ x. is_some (find x ds) ≡ false) xs
+
+pub names_new : (s : Scopes) (ns : List Identifier) → (reserve_names s ns).faults ≡ [] → AllNew (names_of ns) s.inner.names
+unfolding reserve_names
+names_new s [] h = tt
+names_new s (n ∷ ns) h =
+    let t : Scopes = (reserve_name s n).scopes in
+    (reserved_new s n (no_left (reserve_name s n).faults _ h), subst (AllNew (names_of ns)) (reserved_names s n) (names_new t ns (no_right (reserve_name s n).faults _ h)))
+
+pub names_known : (s : Scopes) (ns : List Identifier) (m : Option Meaning) → AllKnown (names_of ns) (add_names s ns m).inner.names
+unfolding add_names add
+names_known s [] m = tt
+names_known s (n ∷ ns) m =
+    let t : Scopes = add s n.name m in
+    (still_known n.name t.inner.names (add_names t ns m).inner.names (λ v f. (names_added t ns m).names n.name v f) (known_named s.inner n.name n.name m (inr refl)), names_known t ns m)
+
 -- ---- names that are known
 
 module _ (x : Name) where
@@ -115,22 +138,14 @@ module _ (x : Name) where
       let one = member_other s b k i (no_left (member s b k i).faults _ h) known in
       (one.0, members_other (member s b k i).scopes b (k + 1) is (no_right (member s b k i).faults _ h) one.1)
 
-  unless_none : (fs : List CheckFault) (v : ValueType) → faults (unless_type fs v) ≡ [] → fs ≡ []
-  unless_none [] v h = refl
-  unless_none (f ∷ fs) v h = h
-
   simple_other : (s : Scopes) (p : Spot) (t : Simple) → faults (simple_typed s p t).type ≡ [] → IsHere s → IsOther x (simple_names t)
   unfolding simple_typed
-  simple_other s p (enumeration at is) h known = members_other s (base_of at is) 0 is (unless_none (members s (base_of at is) 0 is).faults _ h) known
+  simple_other s p (enumeration at is) h known = members_other s (base_of at is) 0 is (no_faults (members s (base_of at is) 0 is).faults _ h) known
   simple_other s p _ h known = tt
 
   simple_stays : (s : Scopes) (p : Spot) (t : Simple) → IsHere s → IsHere (simple_typed s p t).scopes
   unfolding typed
   simple_stays s p t h = stays_known s (simple_typed s p t).scopes (type_kept s p (simple 0 t)) h
-
-  sound_none : (fs : List CheckFault) (f : Scope) → faults (sound_of fs f) ≡ [] → fs ≡ []
-  sound_none [] f h = refl
-  sound_none (e ∷ es) f h = h
 
   mutual
     unfolding typed
@@ -146,7 +161,7 @@ module _ (x : Name) where
     type_other s p (set_type at t) h known = simple_other s spot.Base t (no_first (simple_typed s spot.Base t).type (set_of at (simple_at t)) h) known
     type_other s p (record_of at gs b) h known =
         let f : Fields = groups_typed new_scope s gs in
-        groups_other new_scope s gs (sound_none f.faults f.fields (no_first (sound f) (shaped f.scopes at) (no_first (recorded at f) (to_record at) h))) known
+        groups_other new_scope s gs (no_field_faults f.faults f.fields (no_first (sound f) (shaped f.scopes at) (no_first (recorded at f) (to_record at) h))) known
 
     groups_other : (f : Scope) (s : Scopes) (gs : FieldGroups) → (groups_typed f s gs).faults ≡ [] → IsHere s → IsOther x (groups_names gs)
     groups_other f s no_fields h known = tt

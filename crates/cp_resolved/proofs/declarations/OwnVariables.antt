@@ -1,83 +1,27 @@
 -- The parameters and variables of each system type that breaks no rule have different names, and each is visible where its initial statement stands.
-use Rattle.std.proofs.Common.{◌≡◌, ℕ, zero, suc, Bool, true, false, if◌then◌else◌, List, [], ◌∷◌, ◌++◌, Some, None, is_some, slice_get, refl, sym, ap, subst, ◌∙◌, append_assoc, append-nil}
-use Rattle.cp_resolved.proofs.Words.{Identifier, SystemKind, C2, faults, Spot, faults_of, declarations, routine_steps, Step, nothing, Typed, typed, Name, same_name, Ty}
+use Rattle.std.proofs.Common.{◌≡◌, ℕ, zero, suc, Bool, true, false, if◌then◌else◌, List, [], ◌∷◌, ◌++◌, Option, Some, None, slice_get, refl, sym, ap, subst, ◌∙◌, append_assoc, append-nil}
+use Rattle.cp_resolved.proofs.Words.{SystemKind, faults, Spot, faults_of, declarations, routine_steps, Step, Typed, typed, Name, same_name, Ty}
 use Rattle.cp_resolved.proofs.Words.{parameter_variables, IsOther, AreDistinct, nothing_declared, AreDifferent, AreDeclared, system_variables, look, Each}
 use Rattle.cp_tree.specs.Syntax as syntax
-use Rattle.cp_scope.specs.declared.fault.CheckFault.TheVariants as check_fault
-use Rattle.cp_scope.specs.Scopes as checked
-use Rattle.cp_scope.specs.Scopes.{Names, Scopes, is_among, is_declared, with_pending, reserve, settle, enter, start}
+use Rattle.cp_scope.specs.declared.types.Meaning as check_meaning
+use Rattle.cp_scope.specs.Scopes.{Names, Scopes, settle, enter, start}
 use Rattle.cp_check.specs.declared.types.Spot.TheVariants as spot
 use Rattle.cp_check.specs.Declarations.{to_variable, reserve_name, reserve_names, add_all, variable_step, variable_steps, part_step, part_steps}
 use Rattle.cp_check.specs.Systems as systems
-use Rattle.cp_lawful.proofs.Kept.{Keeps, same, names_reserved, constants_kept, types_kept, variable_kept, system_group_kept, definitions_kept}
-use Rattle.cp_lawful.proofs.Once.{no_left, no_right, no_first, or_right, inside_sound, defined_sound, declarations_sound}
+use Rattle.cp_lawful.proofs.Kept.{Keeps, same, after, names_reserved, all_added, constants_kept, types_kept, variable_kept, definitions_kept}
+use Rattle.cp_lawful.proofs.Once.{no_left, no_right, no_first, inside_sound, defined_sound, declarations_sound}
 use Rattle.cp_meaning.specs.Scopes.{Meaning, permanent_variable, Scope, find, seen_inside}
 use Rattle.cp_meaning.specs.Declarations.{Variable, Block, Heading, names_of, named_variables, parameters_named, type_in, with_names, variables_in, part_in, parts_in, type_named, with_group, with_groups}
 use Rattle.cp_meaning.specs.Systems.{SystemMeaning, system_in, with_routines, Declared, definition_in, definitions_in, program_part_in, program_parts_in, declared, own_meaning, or_own, system_of}
 use Rattle.cp_resolved.proofs.counts.FewReferences.{each_weaker}
-use Rattle.cp_resolved.proofs.frames.FrameCells.{itself, same_is, none_both, each_both}
+use Rattle.cp_resolved.proofs.frames.FrameCells.{itself, none_both, each_both}
 use Rattle.cp_resolved.proofs.frames.FramesBegun.{variables_append, named_parameters}
-use Rattle.cp_resolved.proofs.declarations.OnceOfTrees.{AllKnown, AllNew, names_new, names_known}
+use Rattle.cp_resolved.proofs.declarations.OtherNames.{AllKnown, AllNew, names_new, names_known, together_distinct}
 use Rattle.cp_resolved.proofs.declarations.OnceRoutines.{IsKnown, known_other}
 use Rattle.cp_resolved.proofs.declarations.StillVisible.{Stays, kept_known, constants_stay, types_stay, written_stays, routines_stay, definitions_stay}
 use Rattle.cp_resolved.proofs.frames.SeatsOfProgram.{definitions_keep_variables as same_variables}
 
 -- ---- names of one declaration
-
-pub among_last : (n : Name) (ms : List Name) → is_among n (ms ++ n ∷ []) ≡ true
-among_last n [] = ap (λ (b : Bool). if b then true else false) (itself n)
-among_last n (m ∷ ms) = go (same_name n m) (among_last n ms)
-  where
-    go : (b : Bool) → is_among n (ms ++ n ∷ []) ≡ true → (if b then true else is_among n (ms ++ n ∷ [])) ≡ true
-    go true rest = refl
-    go false rest = rest
-
-pub among_before : (x n : Name) (ms : List Name) → is_among x ms ≡ true → is_among x (ms ++ n ∷ []) ≡ true
-among_before x n [] h = absurd (let bad : false ≡ true = h in cc)
-among_before x n (m ∷ ms) h = go (same_name x m) h (among_before x n ms)
-  where
-    go : (b : Bool) → (if b then true else is_among x ms) ≡ true → (is_among x ms ≡ true → is_among x (ms ++ n ∷ []) ≡ true) → (if b then true else is_among x (ms ++ n ∷ [])) ≡ true
-    go true e rest = refl
-    go false e rest = rest e
-
-among_other : (x n : Name) (ms : List Name) → is_among x ms ≡ true → is_among n ms ≡ false → same_name x n ≡ false
-among_other x n ms f g = go (same_name x n) refl
-  where
-    go : (b : Bool) → same_name x n ≡ b → b ≡ false
-    go true e = absurd (let bad : true ≡ false = sym f ∙ ap (λ y. is_among y ms) (same_is x n e) ∙ g in cc)
-    go false e = refl
-
--- a name that is being declared
-record IsReserved (s t : Scopes) (n : Name) : Type 0 where
-  other : is_among n s.inner.pending ≡ false
-  now : is_among n t.inner.pending ≡ true
-  still : (x : Name) → is_among x s.inner.pending ≡ true → is_among x t.inner.pending ≡ true
-
-name_reserved : (s : Scopes) (n : Identifier) → (reserve_name s n).faults ≡ [] → IsReserved s (reserve_name s n).scopes n.name
-unfolding reserve_name reserve
-name_reserved s n h = go (is_declared s n.name) refl h
-  where
-    after : Scopes
-    after = record { outer = s.outer; inner = with_pending s.inner n.name; shapes = s.shapes }
-
-    fresh : (b : Bool) → is_among n.name s.inner.pending ≡ b → b ≡ false →
-        IsReserved s (record { outer = s.outer; inner = (if b then s.inner else record { names = s.inner.names; pending = s.inner.pending ++ n.name ∷ []; is_sealed = s.inner.is_sealed }); shapes = s.shapes }) n.name
-    fresh true e f = absurd (let bad : true ≡ false = f in cc)
-    fresh false e f = record { other = e; now = among_last n.name s.inner.pending; still = λ x g. among_before x n.name s.inner.pending g }
-
-    go : (b : Bool) → is_declared s n.name ≡ b → (let t : Step = (if b then record { faults = check_fault.Rule n.at C2 ∷ []; scopes = s } else nothing after) in t.faults) ≡ [] → IsReserved s (let t : Step = (if b then record { faults = check_fault.Rule n.at C2 ∷ []; scopes = s } else nothing after) in t.scopes) n.name
-    go true e f = absurd (let bad : check_fault.Rule n.at C2 ∷ [] ≡ [] = f in cc)
-    go false e f = fresh (is_among n.name s.inner.pending) refl (or_right (is_some (checked.find n.name s.inner.names)) (is_among n.name s.inner.pending) e)
-
--- the names of a declaration are different, and none of them is being declared before
-pub names_different : (s : Scopes) (ns : List Identifier) → (reserve_names s ns).faults ≡ [] → ((x : Name) → is_among x s.inner.pending ≡ true → IsOther x (names_of ns)) × AreDistinct (names_of ns)
-unfolding reserve_names
-names_different s [] h = ((λ x f. tt), tt)
-names_different s (n ∷ ns) h =
-    let t : Scopes = (reserve_name s n).scopes in
-    let one : IsReserved s t n.name = name_reserved s n (no_left (reserve_name s n).faults _ h) in
-    let rest = names_different t ns (no_right (reserve_name s n).faults _ h) in
-    ((λ x f. (among_other x n.name s.inner.pending f one.other, rest.0 x (one.still x f))), (rest.0 n.name one.now, rest.1))
 
 known_others : (x : Name) (xs : List Name) (ds : Names) → IsKnown x ds → AllNew xs ds → IsOther x xs
 known_others x [] ds known new = tt
@@ -147,7 +91,7 @@ module _ (m : Ty → Meaning) where
       let y : Ty × Scope = type_in c g.variable_type in
       let named : (reserve_names s g.names).faults ≡ [] = no_left (reserve_names s g.names).faults _ h in
       let written : Stays s c y.1 = written_stays s a c p g.variable_type (names_reserved s g.names) (no_first u.type to_variable (no_right (reserve_names s g.names).faults _ h)) in
-      names_held s (variable_step p s g).scopes y.1 vs (names_of g.names) y.0 (variable_kept p s g) (names_new s g.names named) (names_known u.scopes g.names _) (names_different s g.names named).1 (held_stay s s c y.1 vs (same s) written held)
+      names_held s (variable_step p s g).scopes y.1 vs (names_of g.names) y.0 (variable_kept p s g) (names_new s g.names named) (names_known u.scopes g.names _) (together_distinct s g.names named) (held_stay s s c y.1 vs (same s) written held)
 
   pub variables_held : (pre : List Variable) (p : Spot) (s : Scopes) (b : Block) (gs : List syntax.VariableGroup) → (variable_steps p s gs).faults ≡ [] → AreHeld s b.scope (pre ++ b.variables) → AreHeld (variable_steps p s gs).scopes (variables_in m b gs).scope (pre ++ (variables_in m b gs).variables)
   unfolding variable_steps
@@ -171,23 +115,26 @@ module _ (m : Ty → Meaning) where
   parts_held pre p s b [] h held = held
   parts_held pre p s b (d ∷ ds) h held = parts_held pre p (part_step p s d).scopes (part_in m b d) ds (no_right (part_step p s d).faults _ h) (part_held pre p s b d (no_left (part_step p s d).faults _ h) held)
 
-  -- ---- parameters of a system type
+  -- ---- parameters
 
-  parameters_held : (k : SystemKind) (s : Scopes) (j : Heading) (g : syntax.Group) → (systems.group_step k s g).faults ≡ [] → AreHeld s j.scope (parameter_variables j.parameters) → AreHeld (systems.group_step k s g).scopes (with_group m false j g).scope (parameter_variables (with_group m false j g).parameters)
-  unfolding systems.group_step add_all settle
-  parameters_held k s j g h held =
+  -- of one group; their types declare nothing
+  pub parameters_held : (is_var : Bool) (s : Scopes) (j : Heading) (g : syntax.Group) (o : Option check_meaning.Meaning) → (reserve_names s g.names).faults ≡ [] → AreHeld s j.scope (parameter_variables j.parameters) → AreHeld (add_all (reserve_names s g.names).scopes g.names o) (with_group m is_var j g).scope (parameter_variables (with_group m is_var j g).parameters)
+  unfolding add_all settle
+  parameters_held is_var s j g o named held =
       let u : Ty = type_named j.scope g.type_name.name in
       let xs : List Name = names_of g.names in
-      let t : Scopes = (systems.group_step k s g).scopes in
-      let named : (reserve_names s g.names).faults ≡ [] = no_left (reserve_names s g.names).faults _ h in
-      let e : parameter_variables (j.parameters ++ parameters_named xs u false) ≡ parameter_variables j.parameters ++ named_variables xs u = variables_append j.parameters (parameters_named xs u false) ∙ ap (λ us. parameter_variables j.parameters ++ us) (named_parameters xs u false) in
+      let a : Scopes = (reserve_names s g.names).scopes in
+      let t : Scopes = add_all a g.names o in
+      let e : parameter_variables (j.parameters ++ parameters_named xs u is_var) ≡ parameter_variables j.parameters ++ named_variables xs u = variables_append j.parameters (parameters_named xs u is_var) ∙ ap (λ us. parameter_variables j.parameters ++ us) (named_parameters xs u is_var) in
       subst (AreHeld t (with_names xs (m u) j.scope)) (sym e)
-      (names_held s t j.scope (parameter_variables j.parameters) xs u (system_group_kept k s g) (names_new s g.names named) (names_known (reserve_names s g.names).scopes g.names _) (names_different s g.names named).1 held)
+      (names_held s t j.scope (parameter_variables j.parameters) xs u (after s a t (names_reserved s g.names) (all_added a g.names o)) (names_new s g.names named) (names_known a g.names o) (together_distinct s g.names named) held)
 
   groups_held : (k : SystemKind) (s : Scopes) (j : Heading) (gs : List syntax.Group) → (systems.group_steps k s gs).faults ≡ [] → AreHeld s j.scope (parameter_variables j.parameters) → AreHeld (systems.group_steps k s gs).scopes (with_groups m j gs).scope (parameter_variables (with_groups m j gs).parameters)
-  unfolding systems.group_steps
+  unfolding systems.group_steps systems.group_step
   groups_held k s j [] h held = held
-  groups_held k s j (g ∷ gs) h held = groups_held k (systems.group_step k s g).scopes (with_group m false j g) gs (no_right (systems.group_step k s g).faults _ h) (parameters_held k s j g (no_left (systems.group_step k s g).faults _ h) held)
+  groups_held k s j (g ∷ gs) h held =
+      groups_held k (systems.group_step k s g).scopes (with_group m false j g) gs (no_right (systems.group_step k s g).faults _ h)
+      (parameters_held false s j g _ (no_left (reserve_names s g.names).faults _ (no_left (systems.group_step k s g).faults _ h)) held)
 
 -- ---- system types
 

@@ -17,14 +17,11 @@ use Rattle.cp_resolved.proofs.agreeing.AgreeingParameters.{read_both}
 
 -- neither a parameter nor a routine
 abbrev pub IsDeclared : Option Meaning → Type 0
-IsDeclared None = Unit {0}
-IsDeclared (Some (meaning.Constant b z)) = Unit {0}
-IsDeclared (Some (meaning.Kind v)) = Unit {0}
-IsDeclared (Some (meaning.Variable v)) = Unit {0}
 IsDeclared (Some (meaning.Parameter v)) = ⊥
 IsDeclared (Some (meaning.Reference v)) = ⊥
 IsDeclared (Some (meaning.Routine n)) = ⊥
 IsDeclared (Some (meaning.Predeclared q)) = ⊥
+IsDeclared _ = Unit {0}
 
 abbrev pub AreDeclared : Names → Type 0
 AreDeclared [] = Unit {0}

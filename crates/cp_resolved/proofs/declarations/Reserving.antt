@@ -82,7 +82,7 @@ pends_one c n fresh h x e = go (is_among x c.pending) (bytes_eq x n) refl refl (
     go false true i j k = ap (λ y. is_some (find y c.names)) (is_itself x n j) ∙ fresh
     go false false i j k = absurd (let bad : false ≡ true = k in cc)
 
-stays_one : (x n : List ℕ) (ms : List (List ℕ)) → is_among x ms ≡ true → is_among x (ms ++ n ∷ []) ≡ true
+pub stays_one : (x n : List ℕ) (ms : List (List ℕ)) → is_among x ms ≡ true → is_among x (ms ++ n ∷ []) ≡ true
 stays_one x n ms h = among_last x n ms ∙ ap (λ b. b || bytes_eq x n) h
 
 or_true : (a : Bool) → (a || true) ≡ true

@@ -2,8 +2,8 @@
 -- and where the tree was read, none of them has queues or components.
 use Rattle.std.proofs.Common.{◌≡◌, ℕ, zero, suc, Bool, true, false, List, [], ◌∷◌, ◌++◌, length, Option, Some, None, Ok, slice_get, sym, ap, subst, ◌∙◌, append-nil}
 use Rattle.cp_resolved.proofs.Words.{SystemKind, ValueType, no_use, ◌>>=◌, faults, Scopes, enter, start, Step, as_declared, reserve_name, reserve_names, part_steps}
-use Rattle.cp_resolved.proofs.Words.{faults_of, declarations, IsAccepted, Name, Ty, local_variable, seen_inside, parameter_variables, nothing_declared, AreDeclared}
-use Rattle.cp_resolved.proofs.Words.{routine_variables, Place, AreAgreed, places_of, tokens_of, IsRead, initial_meaning, Each, IsFreeVariable, IsFreeParameter, Tokens}
+use Rattle.cp_resolved.proofs.Words.{faults_of, declarations, IsAccepted, local_variable, seen_inside, parameter_variables, nothing_declared, AreDeclared}
+use Rattle.cp_resolved.proofs.Words.{routine_variables, IsRead, initial_meaning, Each, IsFreeVariable, IsFreeParameter}
 use Rattle.cp_tree.specs.Syntax.{Group, ParameterGroup, RoutineKind, procedure, function, Routine, Definition, type_definition, system_definition, SystemDefinition, ProgramPart, program_types, Program, Tree}
 use Rattle.cp_check.specs.declared.types.Spot.TheVariants as spot
 use Rattle.cp_check.specs.Headings as headings
@@ -14,33 +14,30 @@ use Rattle.cp_check.specs.Statements.{statements}
 use Rattle.cp_check.specs.Systems as systems
 use Rattle.cp_lawful.proofs.Once.{inside_sound, defined_sound, parts_sound, declarations_sound, no_first as none_first, none_before}
 use Rattle.cp_meaning.specs.Scopes as scopes
-use Rattle.cp_meaning.specs.Declarations.{Variable, Parameter, Heading, RoutineMeaning, names_of, type_named, parameters_named, with_group, with_groups, with_parameter_groups, heading_of, routine_in}
+use Rattle.cp_scope.specs.Scopes.{Names}
+use Rattle.cp_resolved.proofs.Words.{AreDifferent, Block}
+use Rattle.cp_meaning.specs.Declarations.{Variable, Parameter, parts_in, Heading, RoutineMeaning, with_group, with_groups, with_parameter_groups, heading_of, routine_in}
 use Rattle.cp_meaning.specs.Systems.{system_in, Declared, definition_in, program_part_in, declared, program_system, own_meaning}
 use Rattle.cp_resolved.specs.Openings.{Opening, with_routine, parts_scope, routine_openings, initial_opening, definition_openings, definitions_openings, part_openings, parts_openings, openings_of, meaning_in, meaning_at}
 use Rattle.cp_resolved.proofs.agreeing.Agreeing.{none_left, none_right}
 use Rattle.cp_resolved.proofs.agreeing.AgreeingRoutines.{none_after}
-use Rattle.cp_resolved.proofs.declarations.DeclaredVariables.{Seen, none_seen, seen_stays, group_seen, parts_seen}
-use Rattle.cp_resolved.proofs.frames.FramesBegun.{variables_append, named_parameters}
-use Rattle.cp_resolved.proofs.agreeing.ScopesOfTrees.{scopes_law}
-use Rattle.cp_resolved.proofs.declarations.HiddenByNone.{stays_same}
+use Rattle.cp_resolved.proofs.declarations.OnceRoutines.{IsKnown}
+use Rattle.cp_resolved.proofs.declarations.OwnVariables.{AreHeld, held_declared, parts_held, parameters_held}
+use Rattle.cp_resolved.proofs.declarations.StillVisible.{stays_same}
+use Rattle.cp_resolved.proofs.statements.CalleesKnown.{At, at_number}
 use Rattle.cp_resolved.proofs.frames.FrameCells.{each_both}
 use Rattle.cp_resolved.proofs.sound.OwnCalls.{announced_names}
 
 -- ---- headings
 
 abbrev AreSeen : Scopes → Heading → Type 0
-AreSeen s h = Seen local_variable s h.scope (parameter_variables h.parameters)
+AreSeen s h = AreHeld local_variable s h.scope (parameter_variables h.parameters)
 
 group_seen_in : (is_var : Bool) (s : Scopes) (h : Heading) (g : Group) → (headings.group_step is_var s g).faults ≡ [] → AreSeen s h → AreSeen (headings.group_step is_var s g).scopes (with_group local_variable is_var h g)
 unfolding headings.group_step
 group_seen_in is_var s h g none i =
-    let a : Scopes = (reserve_names s g.names).scopes in
-    let t : Ty = type_named h.scope g.type_name.name in
-    let xs : List Name = names_of g.names in
-    let k : Heading = with_group local_variable is_var h g in
-    let j = headings.parameter_type a g >>= headings.to_parameter is_var in
-    subst (Seen local_variable (headings.group_step is_var s g).scopes k.scope) (sym (variables_append h.parameters (parameters_named xs t is_var) ∙ ap (λ (vs : List Variable). parameter_variables h.parameters ++ vs) (named_parameters xs t is_var)))
-    (group_seen local_variable s g.names (as_declared j) t h.scope (parameter_variables h.parameters) (none_left (reserve_names s g.names).faults (faults j) none) i)
+    let j = headings.parameter_type (reserve_names s g.names).scopes g >>= headings.to_parameter is_var in
+    parameters_held local_variable is_var s h g (as_declared j) (none_left (reserve_names s g.names).faults (faults j) none) i
 
 groups_seen : (s : Scopes) (h : Heading) (gs : List Group) → (headings.group_steps s gs).faults ≡ [] → AreSeen s h → AreSeen (headings.group_steps s gs).scopes (with_groups local_variable h gs)
 unfolding headings.group_steps
@@ -59,10 +56,10 @@ parameters_seen s h (g ∷ gs) none i =
 
 written_seen : (s : Scopes) (m : scopes.Scope) (k : RoutineKind) → faults (written s k).result ≡ [] → AreSeen (written s k).scopes (heading_of m k)
 unfolding headings.written
-written_seen s m (procedure gs) none = parameters_seen s (record { parameters = []; scope = m }) gs (none_before {A = Option ValueType} (headings.parameter_steps s gs).faults (Ok None) none) (none_seen local_variable s m)
+written_seen s m (procedure gs) none = parameters_seen s (record { parameters = []; scope = m }) gs (none_before {A = Option ValueType} (headings.parameter_steps s gs).faults (Ok None) none) (tt, tt)
 written_seen s m (function gs i) none =
     let d : Step = headings.group_steps s gs in
-    groups_seen s (record { parameters = []; scope = m }) gs (none_before d.faults (headings.result_type d.scopes i) none) (none_seen local_variable s m)
+    groups_seen s (record { parameters = []; scope = m }) gs (none_before d.faults (headings.result_type d.scopes i) none) (tt, tt)
 
 -- ---- routines
 
@@ -83,8 +80,11 @@ routine_declared owner s m r none =
     let second : faults (after_faults d.faults w.result) ≡ [] = none_first (after_faults d.faults w.result) (headings.ruled owner r) first in
     let third : faults w.result ≡ [] = ap faults (sym (none_after d.faults w.result second)) ∙ second in
     let fourth : b.faults ≡ [] = none_before b.faults (statements b.scopes (routine_context owner r) (Ok no_use) r.body.statements) (none_right (faults hd.result) (faults (routines.opened owner r a).uses) none) in
-    let before : Seen local_variable a h.scope qs = seen_stays local_variable w.scopes a h.scope h.scope qs (stays_same w.scopes a h.scope (announced_names r hd.result w.scopes)) (written_seen (enter false d.scopes) (with_routine m r) r.kind third) in
-    (parts_seen local_variable spot.Other a qs (record { variables = []; scope = h.scope }) r.parts fourth (subst (Seen local_variable a h.scope) (sym (append-nil qs)) before)).declared
+    let before : AreHeld local_variable a h.scope qs =
+    subst (λ (ds : Names). AreDifferent qs × Each (λ (v : Variable). (scopes.find v.name h.scope ≡ Some (local_variable v.ty)) × IsKnown v.name ds) qs) (sym (announced_names r hd.result w.scopes)) (written_seen (enter false d.scopes) (with_routine m r) r.kind third) in
+    let block : Block = parts_in local_variable (record { variables = []; scope = h.scope }) r.parts in
+    held_declared local_variable b.scopes block.scope block.scope (qs ++ block.variables) (stays_same b.scopes block.scope)
+    (parts_held local_variable qs spot.Other a (record { variables = []; scope = h.scope }) r.parts fourth (subst (AreHeld local_variable a h.scope) (sym (append-nil qs)) before))
 
 -- ---- the program
 
@@ -161,11 +161,7 @@ both_free : (qs : List Parameter) (vs : List Variable) → Each IsFreeParameter 
 both_free [] vs h g = g
 both_free (q ∷ qs) vs h g = (h.0, both_free qs vs h.1 g)
 
-all_free : (tokens : Tokens) (p : Program) (xs : List Place) (os : List Opening) → AreAgreed tokens p xs os → Each (λ (o : Opening). HasFree o.meaning) os
-all_free tokens p [] [] h = tt
-all_free tokens p (x ∷ xs) (o ∷ os) h = (both_free o.meaning.parameters o.meaning.variables h.0.parameters h.0.variables, all_free tokens p xs os h.1)
-all_free tokens p _ _ h = absurd h
-
 pub accepted_free : (t : Tree) → IsRead t.program → IsAccepted t → (n : ℕ) → Each IsFreeVariable (routine_variables (meaning_at t.program n))
 accepted_free t read accepted n =
-    meaning_holds HasFree (initial_meaning (own_meaning (declared t.program) t.program)) (openings_of t.program) n (all_free (tokens_of t.program) t.program (places_of t.program) (openings_of t.program) (scopes_law t read accepted).places) tt
+    let a : At t n = at_number t read accepted n in
+    subst HasFree (sym a.means) (both_free a.opening.meaning.parameters a.opening.meaning.variables a.agreed.parameters a.agreed.variables)

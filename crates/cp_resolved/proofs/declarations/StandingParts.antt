@@ -1,8 +1,8 @@
 -- Parts of variables whose types stand: ordinals are within their bases, and no variable has both ordinals and queues.
-use Rattle.std.proofs.Common.{◌≡◌, ℕ, ◌+◌, ◌*◌, ℤ, Bool, true, false, ◌&&◌, if◌then◌else◌, List, [], ◌∷◌, Option, Some, None, inl, inr, refl, sym, ap, subst, arith, ◌∙◌}
-use Rattle.std.specs.Prelude.{◌⊎◌, int_le, nat_lt}
-use Rattle.cp_resolved.proofs.Words.{Name, same_name, range_of_base, cells_of, cells_in, is_bounded, are_few, is_indexed, is_free, are_free, is_standing}
-use Rattle.cp_meaning.specs.Types.{Range, Ty, ordinal, queue_type, array_over, record_with, component_of, FieldTypes, no_field_types, more_field_types, length_of_range, is_within}
+use Rattle.std.proofs.Common.{◌≡◌, ℕ, ◌+◌, ◌*◌, ℤ, Bool, true, false, ◌&&◌, if◌then◌else◌, List, [], ◌∷◌, Option, Some, None, refl, ap, subst, arith, ◌∙◌}
+use Rattle.std.specs.Prelude.{int_le, nat_lt}
+use Rattle.cp_resolved.proofs.Words.{Name, same_name, range_of_base, cells_of, cells_in, is_bounded, are_few, is_indexed, is_free, are_free}
+use Rattle.cp_meaning.specs.Types.{Range, Ty, ordinal, array_over, record_with, FieldTypes, no_field_types, more_field_types, length_of_range, is_within}
 use Rattle.cp_meaning.specs.Values.{Choice, the_field, the_element, number_value}
 use Rattle.cp_resolved.specs.Encoded.{Chosen, further_chosen, field_chosen, one_chosen, then_chosen, chosen_at, HasType}
 use Rattle.cp_resolved.proofs.names.Alike.{same_inside as some_same}
@@ -70,44 +70,3 @@ free_part t (i ∷ cs) c f h = go (one_chosen t i) refl h (λ u d g k. free_part
     go : (o : Option Chosen) → one_chosen t i ≡ o → then_chosen o (λ u. chosen_at u cs) ≡ Some c → ((u : Ty) (d : Chosen) → is_free u ≡ true → chosen_at u cs ≡ Some d → is_free d.1 ≡ true) → is_free c.1 ≡ true
     go None e g rest = absurd (no_part c g)
     go (Some d) e g rest = let k = further_some d.0 (chosen_at d.1 cs) c g in subst (λ (u : Ty). is_free u ≡ true) k.same (rest d.1 k.part (one_free t i d f e) k.is)
-
--- ---- what has no ordinals
-
-abbrev NoOrdinal : Ty → Type 0
-NoOrdinal t = (cs : List Choice) (o : ℕ) (q : Range) → chosen_at t cs ≡ Some (o, ordinal q) → ⊥
-
-queue_alone : NoOrdinal queue_type
-queue_alone [] o q h = let bad : queue_type ≡ ordinal q = ap (λ (d : Chosen). d.1) (some_same (0, queue_type) (o, ordinal q) h) in absurd cc
-queue_alone (i ∷ cs) o q h = no_part (o, ordinal q) h
-
-component_alone : (n : ℕ) → NoOrdinal (component_of n)
-component_alone n [] o q h = let bad : component_of n ≡ ordinal q = ap (λ (d : Chosen). d.1) (some_same (0, component_of n) (o, ordinal q) h) in absurd cc
-component_alone n (i ∷ cs) o q h = no_part (o, ordinal q) h
-
-array_alone : (r : Range) (t : Ty) → NoOrdinal t → NoOrdinal (array_over r t)
-array_alone r t none [] o q h = let bad : array_over r t ≡ ordinal q = ap (λ (d : Chosen). d.1) (some_same (0, array_over r t) (o, ordinal q) h) in absurd cc
-array_alone r t none (the_field x ∷ cs) o q h = no_part (o, ordinal q) h
-array_alone r t none (the_element n ∷ cs) o q h = go (one_chosen (array_over r t) (the_element n)) refl h
-  where
-    go : (p : Option Chosen) → one_chosen (array_over r t) (the_element n) ≡ p → then_chosen p (λ u. chosen_at u cs) ≡ Some (o, ordinal q) → ⊥
-    go None e g = no_part (o, ordinal q) g
-    go (Some d) e g =
-        let k = further_some d.0 (chosen_at d.1 cs) (o, ordinal q) g in
-        none cs k.part.0 q (subst (λ (u : Ty). chosen_at u cs ≡ Some (k.part.0, ordinal q)) (sym (element_is n r t d e)) (k.is ∙ ap (λ (u : Ty). Some (k.part.0, u)) k.same))
-
-free_or : (t : Ty) → is_standing t ≡ true → (is_free t ≡ true) ⊎ NoOrdinal t
-free_or queue_type h = inr queue_alone
-free_or (component_of n) h = inr (component_alone n)
-free_or (array_over r queue_type) h = inr (array_alone r queue_type queue_alone)
-free_or (array_over r (component_of n)) h = inr (array_alone r (component_of n) (component_alone n))
-free_or _ h = inl h
-
--- ---- variables
-
--- no variable has both ordinals and queues
-pub unqueued : (t : Ty) (cs ds : List Choice) (o j : ℕ) (q : Range) → is_standing t ≡ true → chosen_at t cs ≡ Some (o, ordinal q) → chosen_at t ds ≡ Some (j, queue_type) → ⊥
-unqueued t cs ds o j q h e g = go (free_or t h)
-  where
-    go : (is_free t ≡ true) ⊎ NoOrdinal t → ⊥
-    go (inl f) = let bad : false ≡ true = free_part t ds (j, queue_type) f g in absurd cc
-    go (inr none) = none cs o q e

@@ -1,6 +1,6 @@
 -- What is declared without a fault has a name that is new, so each name that was declared before it in the same scope stands for what it did.
-use Rattle.std.proofs.Common.{◌≡◌, ℕ, suc, ◌+◌, Bool, true, false, if◌then◌else◌, List, [], ◌∷◌, ◌++◌, Option, Some, Ok, Err, is_some, pos, refl, ap, ◌∙◌, inl}
-use Rattle.cp_resolved.proofs.Words.{Identifier, SystemKind, CheckFault, C2, ValueType, Judged, both, faults, ◌>>=◌, Scopes, is_among, is_declared, add, new_scope, Spot}
+use Rattle.std.proofs.Common.{◌≡◌, ℕ, suc, ◌+◌, Bool, true, false, if◌then◌else◌, List, [], ◌∷◌, ◌++◌, Option, Some, is_some, pos, refl, ap, ◌∙◌, inl}
+use Rattle.cp_resolved.proofs.Words.{Identifier, SystemKind, CheckFault, C2, ValueType, both, faults, ◌>>=◌, Scopes, is_among, is_declared, add, new_scope, Spot}
 use Rattle.cp_resolved.proofs.Words.{routine_step, routine_steps, Step, nothing, Typed, typed, reserved_new, no_left, no_right, no_first, or_left, Name, with_routines}
 use Rattle.cp_resolved.proofs.Words.{Declared, definition_in, definitions_in, to_kind, reserve_name, constant_step, constant_steps, type_step, type_steps}
 use Rattle.cp_tree.specs.Syntax as syntax
@@ -16,6 +16,7 @@ use Rattle.cp_lawful.proofs.Kept.{Keeps, added, name_reserved, type_kept, consta
 use Rattle.cp_meaning.specs.Types.{Base, Ty, enumerated}
 use Rattle.cp_meaning.specs.Scopes.{Meaning, constant_meaning, type_meaning, routine_meaning, Scope, find}
 use Rattle.cp_meaning.specs.Declarations.{names_of, constant_of, with_constants, simple_in, type_in, fields_in, constants_in, types_in}
+use Rattle.cp_resolved.proofs.agreeing.Agreeing.{none_of_both}
 use Rattle.cp_resolved.proofs.declarations.OnceRoutines.{IsKnown, still_known, known_other, routine_new, routine_known}
 
 -- each name that the checker has in its innermost scope stands for the same in two scopes
@@ -80,16 +81,6 @@ pub no_field_faults : (fs : List CheckFault) (f : checked.Scope) → faults (sou
 no_field_faults [] f h = refl
 no_field_faults (e ∷ es) f h = h
 
-both_first : {A B : Type 0} (i : Judged A) (j : Judged B) → faults (both i j) ≡ [] → faults i ≡ []
-both_first (Ok a) j h = refl
-both_first (Err fs) (Ok b) h = h
-both_first (Err fs) (Err gs) h = no_left fs gs h
-
-both_second : {A B : Type 0} (i : Judged A) (j : Judged B) → faults (both i j) ≡ [] → faults j ≡ []
-both_second i (Ok b) h = refl
-both_second (Ok a) (Err gs) h = h
-both_second (Err fs) (Err gs) h = no_right fs gs h
-
 simple_stays : (s : Scopes) (c : Scope) (p : Spot) (t : syntax.Simple) → faults (typing.simple_typed s p t).type ≡ [] → Stays s c (simple_in c t).1
 unfolding typing.simple_typed
 simple_stays s c p (syntax.enumeration at is) h = members_stay s (typing.base_of at is) 0 is c (enumerated at (names_of is)) 0 (no_faults _ _ h)
@@ -103,9 +94,9 @@ mutual
   type_stays s c p (syntax.array_of at i e) h =
       let u : Typed = typing.simple_typed s spot.Other i in
       let v : Typed = typed u.scopes spot.Element e in
-      let none : faults (both u.type v.type) ≡ [] = no_first (both u.type v.type) (typing.arrayed v.scopes p at) (no_first (both u.type v.type >>= typing.arrayed v.scopes p at) (typing.to_array at) h) in
+      let none = none_of_both u.type v.type (no_first (both u.type v.type) (typing.arrayed v.scopes p at) (no_first (both u.type v.type >>= typing.arrayed v.scopes p at) (typing.to_array at) h)) in
       let d : Scope = (simple_in c i).1 in
-      stays_then s u.scopes c d (type_in d e).1 (type_kept s spot.Other (syntax.simple at i)) (simple_stays s c spot.Other i (both_first u.type v.type none)) (type_stays u.scopes d spot.Element e (both_second u.type v.type none))
+      stays_then s u.scopes c d (type_in d e).1 (type_kept s spot.Other (syntax.simple at i)) (simple_stays s c spot.Other i none.0) (type_stays u.scopes d spot.Element e none.1)
   type_stays s c p (syntax.set_type at b) h = simple_stays s c spot.Base b (no_first (typing.simple_typed s spot.Base b).type (typing.set_of at (typing.simple_at b)) h)
   type_stays s c p (syntax.record_of at gs b) h =
       let f : Fields = typing.groups_typed new_scope s gs in

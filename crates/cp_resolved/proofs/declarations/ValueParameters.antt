@@ -12,7 +12,7 @@ named_values : (xs : List Name) (t : Ty) → Each IsValueParameter (parameters_n
 named_values [] t = tt
 named_values (x ∷ xs) t = (refl, named_values xs t)
 
-groups_values : (h : Heading) (gs : List Group) → Each IsValueParameter h.parameters → Each IsValueParameter (with_groups permanent_variable h gs).parameters
+pub groups_values : (h : Heading) (gs : List Group) → Each IsValueParameter h.parameters → Each IsValueParameter (with_groups permanent_variable h gs).parameters
 groups_values h [] i = i
 groups_values h (g ∷ gs) i = groups_values (with_group permanent_variable false h g) gs (each_both IsValueParameter h.parameters (parameters_named (names_of g.names) (type_named h.scope g.type_name.name) false) i (named_values (names_of g.names) (type_named h.scope g.type_name.name)))
 

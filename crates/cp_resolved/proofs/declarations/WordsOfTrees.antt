@@ -1,5 +1,5 @@
 -- No name that is visible where the statements of a program that was read begin has the code 0 at its front.
-use Rattle.std.proofs.Common.{ℕ, zero, suc, pos, Bool, true, false, if◌then◌else◌, List, [], ◌∷◌, ◌++◌, length, slice_get}
+use Rattle.std.proofs.Common.{ℕ, suc, pos, Bool, true, false, if◌then◌else◌, List, [], ◌∷◌, ◌++◌, length}
 use Rattle.cp_resolved.proofs.Words.{Kind, Identifier, Name, nothing_declared, IsWord, AreWords, IsRead, initial_meaning, Each, IsSmallPart}
 use Rattle.cp_text.specs.declared.token.Kind.TheVariants as kind
 use Rattle.cp_text.specs.declared.token.Mark.TheVariants as mark
@@ -9,8 +9,11 @@ use Rattle.cp_meaning.specs.Types.{Base, Ty, enumerated}
 use Rattle.cp_meaning.specs.Scopes.{Meaning, constant_meaning, type_meaning, local_variable, permanent_variable, Scope, is_seen, seen_inside}
 use Rattle.cp_meaning.specs.Declarations.{names_of, with_constants, simple_in, type_in, fields_in, Block, constant_of, constants_in, types_in, named_variables, with_names, variables_in, part_in, parts_in, Heading, with_group, with_groups, with_parameter_groups, heading_of, routine_in, type_named}
 use Rattle.cp_meaning.specs.Systems.{with_routines, system_in, Declared, definition_in, definitions_in, program_part_in, program_parts_in, declared, program_system, own_meaning}
-use Rattle.cp_resolved.specs.Openings.{Opening, with_routine, routine_openings, parts_scope, initial_opening, definition_openings, definitions_openings, part_openings, parts_openings, openings_of, meaning_in, meaning_at}
+use Rattle.cp_resolved.specs.Openings.{Opening, with_routine, routine_openings, parts_scope, initial_opening, definition_openings, definitions_openings, part_openings, parts_openings, openings_of, meaning_at}
 use Rattle.cp_resolved.proofs.declarations.SmallPrograms.{parameters_after, each_small, group_after, parameter_group_after, kind_after, routine_small, definition_small, program_part_small}
+use Rattle.cp_resolved.proofs.Words.{RoutineMeaning}
+use Rattle.cp_resolved.proofs.declarations.RoutineVariables.{meaning_holds}
+use Rattle.cp_resolved.proofs.frames.FrameCells.{each_both}
 use Rattle.cp_resolved.proofs.declarations.SmallTexts.{read_scanned}
 use Rattle.cp_resolved.proofs.declarations.SmallTokens.{AreScanned, names_small, optional_small, constant_small, simple_small, type_small, part_small}
 
@@ -150,10 +153,6 @@ routine_words s r rest e w =
 abbrev AreWordsOf : Opening → Type 0
 AreWordsOf o = AreWords o.meaning.scope
 
-openings_both : (xs ys : List Opening) → Each AreWordsOf xs → Each AreWordsOf ys → Each AreWordsOf (xs ++ ys)
-openings_both [] ys h g = g
-openings_both (x ∷ xs) ys h g = (h.0, openings_both xs ys h.1 g)
-
 -- the openings, and what is visible after all
 record RoutinesWords (owner : ℕ) (s : Scope) (rs : List Routine) : Type 0 where
   pub openings : Each AreWordsOf (routine_openings owner s rs)
@@ -187,7 +186,7 @@ system_words owner s y rest e w =
     let u : AreScanned parts = optional_small mark.Semicolon y.has_semicolon parts (parameters_after put_group group_after y.parameters after e.1) in
     let b : AreWords (parts_scope s y) = parts_words permanent_variable (record { variables = []; scope = h.scope }) y.parts routines u (parameters_words permanent_variable (record { parameters = []; scope = s }) y.parameters after e.1 w) in
     let r : RoutinesWords owner (parts_scope s y) y.routines = routines_words owner (parts_scope s y) y.routines last (each_small put_part IsSmallPart part_small y.parts routines u).1 b in
-    openings_both (routine_openings owner (parts_scope s y) y.routines) (initial_opening owner (system_in s y) ∷ []) r.openings (r.scope, tt)
+    each_both AreWordsOf (routine_openings owner (parts_scope s y) y.routines) (initial_opening owner (system_in s y) ∷ []) r.openings (r.scope, tt)
 
 -- ---- the program
 
@@ -206,7 +205,7 @@ definitions_words d (n ∷ ns) rest e w =
     let c : Declared = definition_in d n n.value in
     let one : DefinedWords (definition_openings d n.value) c = definition_words d n n.value after e.0 e.1.1 w in
     let more : DefinedWords (definitions_openings c ns) (definitions_in c ns) = definitions_words c ns rest (definition_small n.value after e.1.1).1.1 one.scope in
-    record { openings = openings_both (definition_openings d n.value) (definitions_openings c ns) one.openings more.openings; scope = more.scope }
+    record { openings = each_both AreWordsOf (definition_openings d n.value) (definitions_openings c ns) one.openings more.openings; scope = more.scope }
 
 program_part_words : (d : Declared) (q : ProgramPart) (rest : List Kind) → AreScanned (put_program_part q rest) → AreWords d.scope → DefinedWords (part_openings d q) (program_part_in d q)
 program_part_words d (program_constants at ds) rest e w = record { openings = tt; scope = constant_words d.scope ds rest e.1 w }
@@ -220,7 +219,7 @@ program_parts_words d (q ∷ qs) rest e w =
     let c : Declared = program_part_in d q in
     let one : DefinedWords (part_openings d q) c = program_part_words d q after e w in
     let more : DefinedWords (parts_openings c qs) (program_parts_in c qs) = program_parts_words c qs rest (program_part_small q after e).1 one.scope in
-    record { openings = openings_both (part_openings d q) (parts_openings c qs) one.openings more.openings; scope = more.scope }
+    record { openings = each_both AreWordsOf (part_openings d q) (parts_openings c qs) one.openings more.openings; scope = more.scope }
 
 record ProgramWords (p : Program) : Type 0 where
   pub openings : Each AreWordsOf (openings_of p)
@@ -235,16 +234,11 @@ program_words p e =
     let rs : RoutinesWords (program_system p) d.scope p.routines = routines_words (program_system p) d.scope p.routines last (each_small put_program_part _ program_part_small p.parts routines e).1 ps.scope in
     let own : Opening = initial_opening (program_system p) (own_meaning d p) in
     record {
-      openings = openings_both (parts_openings nothing_declared p.parts) (routine_openings (program_system p) d.scope p.routines ++ own ∷ []) ps.openings (openings_both (routine_openings (program_system p) d.scope p.routines) (own ∷ []) rs.openings (rs.scope, tt));
+      openings = each_both AreWordsOf (parts_openings nothing_declared p.parts) (routine_openings (program_system p) d.scope p.routines ++ own ∷ []) ps.openings (each_both AreWordsOf (routine_openings (program_system p) d.scope p.routines) (own ∷ []) rs.openings (rs.scope, tt));
       own = rs.scope;
     }
-
-words_at : (p : Program) (os : List Opening) (n : ℕ) → Each AreWordsOf os → AreWords (own_meaning (declared p) p).scope → AreWords (meaning_in (initial_meaning (own_meaning (declared p) p)) (slice_get os n)).scope
-words_at p [] n h w = w
-words_at p (o ∷ os) zero h w = h.0
-words_at p (o ∷ os) (suc n) h w = words_at p os n h.1 w
 
 pub read_words : (p : Program) → IsRead p → (n : ℕ) → AreWords (meaning_at p n).scope
 read_words p h n =
     let w : ProgramWords p = program_words p (read_scanned p h) in
-    words_at p (openings_of p) n w.openings w.own
+    meaning_holds (λ (m : RoutineMeaning). AreWords m.scope) (initial_meaning (own_meaning (declared p) p)) (openings_of p) n w.openings w.own

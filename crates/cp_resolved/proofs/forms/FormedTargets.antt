@@ -1,6 +1,7 @@
 -- What is assigned to, and what an assigned value is, where no rule is broken.
-use Rattle.std.proofs.Common.{◌≡◌, ℕ, Bool, true, false, if◌then◌else◌, Option, Some, None, Ok, refl, sym, ap, subst, ◌∙◌}
+use Rattle.std.proofs.Common.{◌≡◌, ℕ, Bool, true, false, if◌then◌else◌, [], ◌∷◌, Option, Some, None, Ok, Err, refl, sym, ap, subst, ◌∙◌}
 use Rattle.cp_resolved.proofs.Words.{Decides-eqb, Identifier, ValueType, Meaning, ◌>>=◌, Context, OperandUse, Predeclared, Named, is_assignable, expression}
+use Rattle.cp_resolved.proofs.Words.{CheckFault, Judged, Use, Operand, Target, agree}
 use Rattle.cp_resolved.proofs.Words.{designator, PlaceOrigin, Permanent, Name, result_name, Ty, natural_of, find, last_field, result_type, IsTarget, Here}
 use Rattle.cp_resolved.proofs.Words.{frame_here, system_here, cells_of, is_own, is_parameter, AssignedBy, IsBare, HasResult, system_of}
 use Rattle.cp_tree.specs.Syntax.{Designator, designator as name_with, Selectors, no_selectors, more_selectors}
@@ -25,7 +26,7 @@ use Rattle.cp_resolved.proofs.forms.HandedOver.{Fits, IsWhole}
 use Rattle.cp_resolved.proofs.forms.Typing.{formed}
 use Rattle.cp_resolved.proofs.forms.TypingNames.{IsPlainMeaning, Holds, written, NamedIs}
 use Rattle.cp_resolved.proofs.forms.UsedNames.{IsVariableMeaning, known_is, other_bare}
-use Rattle.cp_resolved.proofs.agreeing.WithoutFaults.{ok_same, Then, then_of}
+use Rattle.cp_resolved.proofs.agreeing.WithoutFaults.{ok_same, Then, then_of, if_of}
 
 -- ---- values
 
@@ -83,6 +84,28 @@ begun_first h x (Some (scopes.local_variable t)) q r e = record { origin = (fram
 begun_first h x (Some (scopes.routine_meaning f)) q r e = result_first h (is_own h x) q (named.ordinal r) e
 begun_first h x y q r e = absurd (cc)
 
+-- ---- what is assigned to
+
+pub aimed_is : (at : ℕ) (t x : Target) → statements.aimed at t ≡ Ok x → t ≡ x
+aimed_is at (target.Assignable v) x e = ok_same (target.Assignable v) x e
+aimed_is at (target.Fixed o) x e = ok_same (target.Fixed o) x e
+aimed_is at target.Kind x e = absurd (cc)
+
+pub record Assigns (t : Target) (o : Operand) (u r : Use) : Type 0 where
+  pub value_type : ValueType
+  pub is : t ≡ target.Assignable value_type
+  pub fits : agree value_type o.value_type ≡ true
+  pub uses : u ≡ r
+
+pub either_refused : (A : Type 0) (b : Bool) (f g : CheckFault) (r : A) → (if b then (let j : Judged A = Err (f ∷ []) in j) else Err (g ∷ [])) ≡ Ok r → ⊥
+either_refused A true f g r e = cc
+either_refused A false f g r e = cc
+
+pub assigns : (at : ℕ) (t : Target) (o : Operand) (u r : Use) → statements.assigned at t o u ≡ Ok r → Assigns t o u r
+assigns at (target.Assignable v) o u r e = (let x = if_of (agree v o.value_type) u r _ [] e in record { value_type = v; is = refl; fits = x.0; uses = x.1 })
+assigns at (target.Fixed (Some v)) o u r e = absurd (either_refused Use (agree v o.value_type) _ _ r e)
+assigns at x o u r e = absurd (cc)
+
 module _ (tokens : Tokens) (s : Scopes) (h : Here) (w : Context) (agrees : ScopesAgree tokens s h) where
   abbrev W : Written
   W = written tokens s h
@@ -128,7 +151,7 @@ module _ (tokens : Tokens) (s : Scopes) (h : Here) (w : Context) (agrees : Scope
   routine_target (Some (scopes.routine_meaning r)) d n x k b c = (b, c)
   routine_target _ d n x k b c = absurd k
 
-  routine_begun : (m : Option scopes.Meaning) (n : Name) (x : ℕ) → RoutineIs W (heading_at x s) n h.scope m → begun_form h n m ≡ result_begun h (is_own h n)
+  pub routine_begun : (m : Option scopes.Meaning) (n : Name) (x : ℕ) → RoutineIs W (heading_at x s) n h.scope m → begun_form h n m ≡ result_begun h (is_own h n)
   routine_begun (Some (scopes.routine_meaning r)) n x k = refl
   routine_begun _ n x k = absurd k
 
@@ -196,14 +219,14 @@ module _ (tokens : Tokens) (s : Scopes) (h : Here) (w : Context) (agrees : Scope
       go place.Assignable j y = subst (λ z. TargetFormed i ss z o) (same_type u v y) (variable_target i ss x u o k (free_place tokens s h w agrees u (ap is_assignable j)))
       go x j y = absurd (cc)
 
-  no_entry : (n : ℕ) (v : ValueType) → target_of s w (name.Entry n) ≡ target.Assignable v → ⊥
+  pub no_entry : (n : ℕ) (v : ValueType) → target_of s w (name.Entry n) ≡ target.Assignable v → ⊥
   no_entry n v e = go (heading_at n s).result e
     where
       go : (o : Option ValueType) → statements.result_target s w n false o ≡ target.Assignable v → ⊥
       go None x = cc
       go (Some u) x = cc
 
-  no_standard : (q : Predeclared) (v : ValueType) → target_of s w (name.Predeclared q) ≡ target.Assignable v → ⊥
+  pub no_standard : (q : Predeclared) (v : ValueType) → target_of s w (name.Predeclared q) ≡ target.Assignable v → ⊥
   no_standard q v e = go (operations.is_function q) e
     where
       go : (b : Bool) → (if b then target.Fixed None else target.Kind) ≡ target.Assignable v → ⊥
@@ -218,7 +241,7 @@ module _ (tokens : Tokens) (s : Scopes) (h : Here) (w : Context) (agrees : Scope
   begun_target own i c (name.Predeclared q) v same is k e = absurd (no_standard q v e)
   begun_target own i c x v same is k e = absurd (cc)
 
-  only : (o : Option Designated) → o ≡ then_form o (λ a. Some a)
+  pub only : (o : Option Designated) → o ≡ then_form o (λ a. Some a)
   only None = refl
   only (Some a) = refl
 
@@ -232,11 +255,11 @@ module _ (tokens : Tokens) (s : Scopes) (h : Here) (w : Context) (agrees : Scope
       (own_target i n v (own n o.routine) (begun_routine i t.value n t.is (ap (λ (d : check_designated.DesignatedName). d.named) one ∙ same)) k o.result)
   bare_target own i (more_selectors x ss) c n v none same is k e = absurd (cc)
 
-  no_selector : (i : Identifier) (ss : Selectors) → IsBare (name_with i ss) → ss ≡ no_selectors
+  pub no_selector : (i : Identifier) (ss : Selectors) → IsBare (name_with i ss) → ss ≡ no_selectors
   no_selector i no_selectors b = refl
   no_selector i (more_selectors x ss) b = absurd b
 
-  routine_no_variable : (n : Name) (x : ℕ) (m : Option scopes.Meaning) → RoutineIs W (heading_at x s) n h.scope m → IsVariableMeaning m → ⊥
+  pub routine_no_variable : (n : Name) (x : ℕ) (m : Option scopes.Meaning) → RoutineIs W (heading_at x s) n h.scope m → IsVariableMeaning m → ⊥
   routine_no_variable n x (Some (scopes.local_variable t)) k v = k
   routine_no_variable n x (Some (scopes.permanent_variable t)) k v = k
   routine_no_variable n x _ k v = v

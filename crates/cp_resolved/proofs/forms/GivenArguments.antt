@@ -1,6 +1,6 @@
 -- Arguments that break no rule can be handed over to the parameters of what is called or started.
 use Rattle.std.proofs.Common.{◌≡◌, ℕ, suc, ◌+◌, Bool, true, false, ◌&&◌, if◌then◌else◌, List, [], ◌∷◌, ◌++◌, length, Option, Some, None, Ok, slice_get, refl, sym, ap, subst, ◌∙◌, arith}
-use Rattle.cp_resolved.proofs.Words.{nat_eq, not, Decides-eqb, Expression, Expressions, no_expressions, more_expressions, Designator, CheckFault, Use, both_uses, Judged}
+use Rattle.cp_resolved.proofs.Words.{nat_eq, not, Decides-eqb, Expression, Expressions, no_expressions, more_expressions, Designator, CheckFault, Use, both_uses, Judged, ValueType}
 use Rattle.cp_resolved.proofs.Words.{both, ◌>>=◌, Scopes, heading_at, body_at, Context, Operand, OperandUse, is_assignable, is_function, expression, arguments, is_var_at}
 use Rattle.cp_resolved.proofs.Words.{Ty, natural_of, Parameter, RoutineMeaning, routine_called, Here, cells_of, is_free, ValueGiven, PlaceGiven, GivenBy, C5, C6, C7}
 use Rattle.cp_resolved.proofs.Words.{as_ordinal, as_set, as_place, as_component, Formed, place_form, loaded_form, expression_form, CanGive, CanGiveAll, CallFormed}
@@ -10,12 +10,13 @@ use Rattle.cp_check.specs.declared.operand.OperandUse.TheVariants as place
 use Rattle.cp_check.specs.Calls as calls
 use Rattle.cp_check.specs.Calls.{fits, all_fit, fit_faults, fault, variable_faults, all_variable_faults, assignable_faults, unless}
 use Rattle.cp_check.specs.Expressions as expressions
+use Rattle.cp_check.specs.Statements as statements
 use Rattle.cp_slots.specs.Code as code
 use Rattle.cp_meaning.specs.Types as named
 use Rattle.cp_resolved.specs.Typed.{Tokens, Written, IsHanded, ParameterIs, AreParameters, HeadingIs, ScopesAgree, Expressed, HasForm, IsSmallExpression, AreSmallExpressions}
 use Rattle.cp_resolved.proofs.agreeing.Agreeing.{none_left, none_right}
 use Rattle.cp_resolved.proofs.agreeing.AgreeingParts.{free_plain}
-use Rattle.cp_resolved.proofs.forms.AssignableForms.{VariableForm, HasVariable, expression_held}
+use Rattle.cp_resolved.proofs.forms.AssignableForms.{VariableForm, expression_held}
 use Rattle.cp_resolved.proofs.forms.HandedOver.{types_same, Fits, IsWhole, fitting}
 use Rattle.cp_resolved.proofs.forms.MovedTypes.{type_moved}
 use Rattle.cp_resolved.proofs.forms.Typing.{formed}
@@ -116,7 +117,7 @@ module _ (tokens : Tokens) (s : Scopes) (h : Here) (w : Context) (agrees : Scope
       subst (λ (j : Judged Operand). HasForm W j (expression_form h e)) (subst (λ (c : Bool). expression s w c e ≡ Ok o) none is) (expression_typed tokens s h w agrees e small)
 
   variable_expressed : (e : Expression) (o : Operand) (b : Bool) → IsSmallExpression e → expression s w b e ≡ Ok o → is_assignable o.place ≡ true → VariableForm W o.value_type (expression_form h e)
-  variable_expressed e o b small is free = subst (λ (j : Judged Operand). HasVariable W j (expression_form h e)) is (expression_held tokens s h w agrees b e small) free
+  variable_expressed e o b small is free = expression_held tokens s h w agrees b e o small is free
 
   no_function : (p : OperandUse) → is_assignable p ≡ true → is_function p ≡ false
   no_function place.Function e = absurd (cc)
@@ -227,3 +228,12 @@ module _ (tokens : Tokens) (s : Scopes) (h : Here) (w : Context) (agrees : Scope
       let p : Passed n os = called_passed at name_at b n os u r is in
       record { routine = m; called = same; arguments = all_given (heading_at n s).parameters m.parameters es os i.1 small (x p.fit.many) p.fit.fit p.variables }
   call_given at name_at b n os u r d es None same i small x is = absurd i
+
+  -- the arguments of a procedure, whatever is known of its parameters
+  pub procedure_arguments : (as' : List check_parameter.Parameter) (v : Option ValueType) (k : ℕ) (es : Expressions) (os : List Operand) → arguments s w (statements.as_many as' k v) 0 es ≡ Ok os → length as' ≡ length os → AreArguments as' es os
+  procedure_arguments as' (Some v) k es os is many = plain_arguments as' 0 es os is many
+  procedure_arguments as' None k es os is many = go (nat_eq (length as') k) is
+    where
+      go : (b : Bool) → arguments s w (if b then as' else []) 0 es ≡ Ok os → AreArguments as' es os
+      go true i = var_arguments as' es os i many
+      go false i = plain_arguments as' 0 es os i many

@@ -18,7 +18,7 @@ use Rattle.cp_resolved.specs.Compiled.{Formed, Designated as FormDesignated, the
 use Rattle.cp_resolved.specs.Typed.{Tokens, Written, ScopesAgree, Expressed, HasForm, IsSmallExpression, IsSmallSum, AreSmallTerms, IsSmallTerm, AreSmallFactors, IsSmallFactor, AreSmallExpressions, AreSmallSelectors}
 use Rattle.cp_resolved.proofs.forms.Typing.{OrdinalForm, ordinal_found, a_set}
 use Rattle.cp_resolved.proofs.forms.TypingOperations.{HasPartForm, agreed_form, first_form as one_form, sign_form, negated_form, group_form, added_form, multiplied_form, related_form}
-use Rattle.cp_resolved.proofs.forms.TypingNames.{written, HasDesignated, begun_typed, field_selected, index_selected, known_selected, last_or, last_same}
+use Rattle.cp_resolved.proofs.forms.TypingNames.{written, NamedIs, HasDesignated, begun_typed, field_selected, index_selected, known_selected, last_or, last_same}
 use Rattle.cp_resolved.proofs.forms.TypingValues.{AreArguments, name_typed, constant_typed}
 use Rattle.cp_resolved.proofs.frames.LeastCells.{right_true as second_true}
 use Rattle.cp_resolved.proofs.counts.FewCells.{left_of as first_true}
@@ -162,3 +162,7 @@ module _ (tokens : Tokens) (s : Scopes) (h : Here) (w : Context) (agrees : Scope
   -- what a designator stands for
   pub designator_typed : (i : Identifier) (ss : Selectors) → AreSmallSelectors ss → HasDesignated tokens s h i.name (find i.name h.scope) (last_field ss) (designator s w (name_with i ss)) (designator_form h (name_with i ss))
   designator_typed i ss m = designator_found i ss (selectors_typed i.name (find i.name h.scope) ss m None (names.begun s i) (begun_form h i.name (find i.name h.scope)) (begun_typed tokens s h agrees i))
+
+  -- a name with selectors that is judged without a fault
+  pub designator_named : (i : Identifier) (ss : Selectors) (c : check_designated.DesignatedName) → AreSmallSelectors ss → designator s w (name_with i ss) ≡ Ok c → NamedIs tokens s h i.name (find i.name h.scope) (last_field ss) c.named (designator_form h (name_with i ss))
+  designator_named i ss c m is = subst (λ (j : Judged check_designated.DesignatedName). HasDesignated tokens s h i.name (find i.name h.scope) (last_field ss) j (designator_form h (name_with i ss))) is (designator_typed i ss m)

@@ -91,14 +91,13 @@ module _ (tokens : Tokens) (s : Scopes) (h : Here) where
     pub heading : HeadingIs written (heading_at n s) (routine_meant h.program h.scope i m x)
 
   abbrev pub NamedIs : Name → Option scopes.Meaning → Option Name → Named → Option Designated → Type 0
-  NamedIs i m x name.Nothing d = Unit {0}
   NamedIs i m x (name.Constant b) d = (z : ℤ) × ConstantIs tokens b z m
   NamedIs i m x (name.Variable v) d = Holds written m x v d
   NamedIs i m x (name.Parameter v) d = Holds written m x v d
-  NamedIs i m x name.Kind d = Unit {0}
   NamedIs i m x (name.Routine n) d = RoutineIs written (heading_at n s) i h.scope m
   NamedIs i m x (name.Entry n) d = IsCalled n i m x
   NamedIs i m x (name.Predeclared q) d = StandardIs q m
+  NamedIs i m x _ d = Unit {0}
 
   abbrev pub HasDesignated : Name → Option scopes.Meaning → Option Name → Judged check_designated.DesignatedName → Option Designated → Type 0
   HasDesignated i m x (Ok d) o = NamedIs i m x d.named o

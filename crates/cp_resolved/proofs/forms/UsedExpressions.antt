@@ -1,11 +1,10 @@
--- Expressions that break no rule use names as the rules want it, and the arguments of their function calls fit the parameters.
+-- Expressions that break no rule use names as the rules want it, and each function call in them is allowed and has arguments that fit the parameters.
 use Rattle.std.proofs.Common.{◌≡◌, ℕ, ◌+◌, ℤ, Bool, true, false, ◌&&◌, if◌then◌else◌, List, [], ◌∷◌, ◌++◌, Option, Some, None, Ok, refl, sym, ap, subst, ◌∙◌}
-use Rattle.cp_resolved.proofs.Words.{Identifier, Sign, C5, ValueType, Predeclared, Use, values_of, Judged, broken, both, ◌>>=◌, Context, Operand, Named}
+use Rattle.cp_resolved.proofs.Words.{Identifier, C5, ValueType, Predeclared, Use, values_of, Judged, broken, both, ◌>>=◌, Context, Operand, Named}
 use Rattle.cp_resolved.proofs.Words.{value, is_function, Name, Ty, find, RoutineMeaning, routine_called, Item, function_call, CallsFormed, Designated}
 use Rattle.cp_resolved.proofs.Words.{a_variable, a_component, designator_form, CanGiveAll, CallFormed, Here}
 use Rattle.cp_tree.specs.Syntax.{Expression, alone, related, Sum, sum, Terms, no_terms, more_terms as terms_more, Term, term, Factors, no_factors, more_factors as factors_more, Factor, named as factor_named, group, negated, set_of, Expressions, no_expressions, more_expressions, Designator, designator as name_with, Selectors, no_selectors, more_selectors, field, index}
 use Rattle.cp_scope.specs.declared.types.Base as check_base
-use Rattle.cp_scope.specs.declared.types.ValueType.TheVariants as types
 use Rattle.cp_scope.specs.Scopes.{Heading, Scopes, heading_at}
 use Rattle.cp_check.specs.declared.operand.OperandUse.TheVariants as place
 use Rattle.cp_check.specs.declared.operand.DesignatedName as check_designated
@@ -22,12 +21,14 @@ use Rattle.cp_meaning.specs.Lifting.{last_field, is_call_meant, own_call, expres
 use Rattle.cp_resolved.specs.Typed.{Tokens, IsOrdinalResult, HeadingIs, ResultIs, RoutineIs, ConstantIs, StandardIs, ScopesAgree, IsSmallExpression, IsSmallSum, AreSmallTerms, IsSmallTerm, AreSmallFactors, IsSmallFactor, AreSmallExpressions, AreSmallSelectors}
 use Rattle.cp_resolved.specs.Used.{IsBare, AreNone, IsOne, IsFunction, HasResult, AreFormed, UsedAs, IsUsed, SumUsed, TermsUsed, TermUsed, FactorsUsed, FactorUsed, AreUsed, SelectorsUsed}
 use Rattle.cp_resolved.proofs.forms.GivenArguments.{plain_arguments, call_given}
-use Rattle.cp_resolved.proofs.forms.TypingNames.{Holds, written, IsCalled, NamedIs, HasDesignated}
+use Rattle.cp_resolved.proofs.forms.NamesAlone.{none_given, agreed_some, name_only, never, NameParts, name_parts, sum_only, term_only}
+use Rattle.cp_resolved.proofs.forms.TypingNames.{Holds, written, IsCalled, NamedIs}
 use Rattle.cp_resolved.proofs.forms.TypingValues.{IsValue, held_value, own_called}
-use Rattle.cp_resolved.proofs.forms.TypingExpressions.{designator_typed}
-use Rattle.cp_resolved.proofs.forms.UsedNames.{IsVariableMeaning, other_bare, EntryUsed, entry_used}
+use Rattle.cp_resolved.proofs.forms.TypingExpressions.{designator_named}
+use Rattle.cp_resolved.proofs.forms.UsedNames.{IsVariableMeaning, other_bare, EntryUsed, entry_used, known_is}
+use Rattle.cp_resolved.proofs.statements.CallsJudged.{Reached, Below, first_below, second_below, AreBelow, OptionBelow, added_below, multiplied_below, signed_below, related_below, negated_below, constructed_below, ValueSaid, value_said}
+use Rattle.cp_resolved.proofs.statements.ExpressionsJudged.{AllSaid, said_both, own_said, selected_uses}
 use Rattle.cp_resolved.proofs.agreeing.WithoutFaults.{ok_same, Then, then_of, both_of}
-use Rattle.cp_resolved.proofs.frames.LeastCells.{right_true as second_true}
 
 -- ---- what is called
 
@@ -44,11 +45,6 @@ arguments_formed : (h : Here) (qs : List meant.Parameter) (es : Expressions) →
 arguments_formed h [] no_expressions g = tt
 arguments_formed h (q ∷ qs) (more_expressions e es) g = ((g.0.given.form, g.0.given.formed), arguments_formed h qs es g.1)
 arguments_formed h _ _ g = absurd g
-
-none_given : (s : Scopes) (w : Context) (es : Expressions) → arguments s w [] 0 es ≡ Ok [] → AreNone es
-unfolding expression
-none_given s w no_expressions is = tt
-none_given s w (more_expressions e es) is = absurd (let t = then_of (both (expression s w false e) (arguments s w [] (0 + 1) es)) expressions.before [] is in let bad : t.value.0 ∷ t.value.1 ≡ [] = ok_same (t.value.0 ∷ t.value.1) [] t.rest in cc)
 
 none_after : (s : Scopes) (w : Context) (k : ℕ) (es : Expressions) → arguments s w [] k es ≡ Ok [] → AreNone es
 unfolding expression
@@ -85,71 +81,6 @@ applied_one at p os u r is = go (operations.is_function p) is
     go : (b : Bool) → (if b then operations.applied_all at p os u else broken at C5) ≡ Ok r → Single os
     go true i = inner os i
     go false i = absurd (cc)
-
--- ---- names and terms that stand alone
-
-pub agreed_some : (at : ℕ) (j : Judged (Option Operand)) (p : Operand) → (j >>= operations.agreed at) ≡ Ok p → j ≡ Ok (Some p)
-agreed_some at (Ok (Some o)) p e = ap (λ (z : Operand). Ok (Some z)) (ok_same o p e)
-agreed_some at x p e = absurd (cc)
-
-no_more : (v b : Bool) → b ≡ false → (v && b) ≡ true → ⊥
-no_more v b e i = (let bad : false ≡ true = sym e ∙ second_true v b i in cc)
-
-first_of : (v b : Bool) → (v && b) ≡ true → v ≡ true
-first_of true b i = refl
-first_of false b i = absurd (cc)
-
-some_same : (a b : Operand) → (let j : Judged (Option Operand) = Ok (Some a) in j) ≡ Ok (Some b) → a ≡ b
-some_same a b e = cc
-
-pub name_only : (v : Bool) (es : Expressions) (p : Operand) → (v ≡ true → is_function p.place ≡ false) → (v && has_none es) ≡ true → (es ≡ no_expressions) × (is_function p.place ≡ false)
-name_only v no_expressions p only i = (refl, only (first_of v true i))
-name_only v (more_expressions e es) p only i = absurd (no_more v false refl i)
-
-pub never : (p : Operand) → false ≡ true → is_function p.place ≡ false
-never p i = absurd (cc)
-
-module _ (s : Scopes) (w : Context) where
-  -- a name alone or with its arguments
-  pub record NameParts (d : Designator) (es : Expressions) (at : ℕ) (p : Operand) : Type 0 where
-    pub value : check_designated.DesignatedName
-    pub is : designator s w d ≡ Ok value
-    pub operands : List Operand
-    pub arguments : arguments s w [] 0 es ≡ Ok operands
-    pub rest : calls.value_named s w at value operands value.named ≡ Ok p
-
-  pub name_parts : (b : Bool) (d : Designator) (es : Expressions) (at : ℕ) (p : Operand) → (b ≡ true → (es ≡ no_expressions) × (is_function p.place ≡ false)) → expressions.named_value s w b at (designator s w d) (arguments s w [] 0 es) ≡ Ok p → NameParts d es at p
-  unfolding calls.value_of expression
-  name_parts false d es at p only is =
-      let t : Then (both (designator s w d) (arguments s w [] 0 es)) (calls.value_of s w at) p = then_of (both (designator s w d) (arguments s w [] 0 es)) (calls.value_of s w at) p is in
-      let q = both_of (designator s w d) (arguments s w [] 0 es) t.value t.is in
-      record { value = t.value.0; is = q.first; operands = t.value.1; arguments = q.second; rest = t.rest }
-  name_parts true d es at p only is =
-      let t : Then (designator s w d) (calls.variable_of s w at) p = then_of (designator s w d) (calls.variable_of s w at) p is in
-      let k : (es ≡ no_expressions) × (is_function p.place ≡ false) = only refl in
-      record { value = t.value; is = t.is; operands = []; arguments = subst (λ (fs : Expressions). arguments s w [] 0 fs ≡ Ok []) (sym k.0) none; rest = go t.value (calls.is_other_function s w t.value.named) k.1 t.rest }
-    where
-      none : arguments s w [] 0 no_expressions ≡ Ok []
-      none = refl
-
-      go : (c : check_designated.DesignatedName) (b : Bool) → is_function p.place ≡ false → (if b then Ok (calls.placed at types.Queue place.Function c.uses) else calls.value_of s w at (c, [])) ≡ Ok p → calls.value_named s w at c [] c.named ≡ Ok p
-      go c true k z = absurd (let one : calls.placed at types.Queue place.Function c.uses ≡ p = ok_same (calls.placed at types.Queue place.Function c.uses) p z in let bad : true ≡ false = ap (λ (x : Operand). is_function x.place) one ∙ k in cc)
-      go c false k z = z
-
-  -- a term alone is the whole sum
-  pub sum_only : (at : ℕ) (v : Bool) (o : Option Sign) (ts : Terms) (q : Judged Operand) (a p : Operand) → q ≡ Ok a → (v ≡ true → is_function p.place ≡ false) → more_terms s w at (q >>= expressions.signed at o) ts ≡ Ok (Some p) → (v && (is_unsigned o && has_no_terms ts)) ≡ true → is_function a.place ≡ false
-  unfolding expression
-  sum_only at v None no_terms q a p x only is i =
-      let one : a ≡ p = some_same a p (sym (ap (λ (z : Judged Operand). z >>= expressions.signed at None) x) ∙ is) in
-      ap (λ (z : Operand). is_function z.place) one ∙ only (first_of v true i)
-  sum_only at v _ _ q a p x only is i = absurd (no_more v false refl i)
-
-  pub term_only : (at : ℕ) (v : Bool) (fs : Factors) (q : Judged Operand) (a p : Operand) → q ≡ Ok a → (v ≡ true → is_function p.place ≡ false) → more_factors s w at (q >>= expressions.some_operand) fs ≡ Ok (Some p) → (v && has_no_factors fs) ≡ true → is_function a.place ≡ false
-  unfolding expression
-  term_only at v no_factors q a p x only is i =
-      let one : a ≡ p = some_same a p (sym (ap (λ (z : Judged Operand). z >>= expressions.some_operand) x) ∙ is) in
-      ap (λ (z : Operand). is_function z.place) one ∙ only (first_of v true i)
-  term_only at v (factors_more m f fs) q a p x only is i = absurd (no_more v false refl i)
 
 module _ (tokens : Tokens) (s : Scopes) (h : Here) (w : Context) (agrees : ScopesAgree tokens s h) where
   -- ---- calls of functions
@@ -244,125 +175,124 @@ module _ (tokens : Tokens) (s : Scopes) (h : Here) (w : Context) (agrees : Scope
 
   -- ---- expressions
 
-  -- the first part of a sum or a term, and those after it
-  record Walked (j : Judged (Option Operand)) (U : Type 0) : Type 0 where
-    pub value : Option Operand
-    pub is : j ≡ Ok value
-    pub rest : U
+  -- f: whether anything may wait at all
+  module _ (f : Bool) where
+    -- the arguments of each function call fit, and each is one that the rules allow
+    abbrev pub CallsFine : List Item → Type 0
+    CallsFine is = CallsFormed h is × AllSaid s w f h.scope is
 
-  -- what selectors begin with is judged without a fault
-  record Begun (j : Judged check_designated.DesignatedName) : Type 0 where
-    pub value : check_designated.DesignatedName
-    pub is : j ≡ Ok value
+    pub fine_both : (xs ys : List Item) → CallsFine xs → CallsFine ys → CallsFine (xs ++ ys)
+    fine_both xs ys x y = (calls_both h xs ys x.0 y.0, said_both s w f h.scope xs ys x.1 y.1)
 
-  selectors_first : (ss : Selectors) (j : Judged check_designated.DesignatedName) (d : check_designated.DesignatedName) → selectors s w j ss ≡ Ok d → Begun j
-  unfolding expression
-  selectors_first no_selectors j d is = record { value = d; is = is }
-  selectors_first (more_selectors (field i) ss) j d is =
-      let k : Begun (j >>= names.selected s i) = selectors_first ss (j >>= names.selected s i) d is in
-      let t : Then j (names.selected s i) k.value = then_of j (names.selected s i) k.value k.is in
-      record { value = t.value; is = t.is }
-  selectors_first (more_selectors (index e) ss) j d is =
-      let k : Begun (both j (expression s w false e) >>= expressions.at_index s) = selectors_first ss (both j (expression s w false e) >>= expressions.at_index s) d is in
-      let t : Then (both j (expression s w false e)) (expressions.at_index s) k.value = then_of (both j (expression s w false e)) (expressions.at_index s) k.value k.is in
-      record { value = t.value.0; is = (both_of j (expression s w false e) t.value t.is).first }
+    option_ok : (a b : Option Operand) → (let j : Judged (Option Operand) = Ok a in j) ≡ Ok b → a ≡ b
+    option_ok a b e = cc
 
-  record Chosen (j : Judged check_designated.DesignatedName) (e : Expression) : Type 0 where
-    pub operand : Operand
-    pub is : expression s w false e ≡ Ok operand
+    mutual
+      unfolding expression
 
-  chosen_index : (j : Judged check_designated.DesignatedName) (e : Expression) → Begun (both j (expression s w false e) >>= expressions.at_index s) → Chosen j e
-  chosen_index j e k =
-      let t : Then (both j (expression s w false e)) (expressions.at_index s) k.value = then_of (both j (expression s w false e)) (expressions.at_index s) k.value k.is in
-      record { operand = t.value.1; is = (both_of j (expression s w false e) t.value t.is).second }
+      -- v: in the place of a `var` argument, which is no function
+      pub expression_used : (v : Bool) (e : Expression) → IsSmallExpression e → (p : Operand) → (v ≡ true → is_function p.place ≡ false) → Below f p.uses → expression s w v e ≡ Ok p → IsUsed h e × CallsFine (expression_calls h.scope e)
+      expression_used v (alone at a) m p only low is = sum_used v a m p only low is
+      expression_used v (related at a r b) m p only low is =
+          let t : Then (both (sum_value s w false a) (sum_value s w false b)) (operations.related at r) p = then_of (both (sum_value s w false a) (sum_value s w false b)) (operations.related at r) p is in
+          let q = both_of (sum_value s w false a) (sum_value s w false b) t.value t.is in
+          let k = related_below f at r t.value p t.rest low in
+          let x = sum_used false a m.0 t.value.0 (never t.value.0) k.0 q.first in
+          let y = sum_used false b m.1 t.value.1 (never t.value.1) k.1 q.second in
+          ((x.0, y.0), fine_both (sum_calls h.scope a) (sum_calls h.scope b) x.1 y.1)
 
-  mutual
+      sum_used : (v : Bool) (a : Sum) → IsSmallSum a → (p : Operand) → (v ≡ true → is_function p.place ≡ false) → Below f p.uses → sum_value s w v a ≡ Ok p → SumUsed h a × CallsFine (sum_calls h.scope a)
+      sum_used v (sum at o t ts) m p only low is =
+          let b : Bool = v && (is_unsigned o && has_no_terms ts) in
+          let all : more_terms s w at (term_value s w b t >>= expressions.signed at o) ts ≡ Ok (Some p) = agreed_some at (more_terms s w at (term_value s w b t >>= expressions.signed at o) ts) p is in
+          let rest = terms_used at ts m.1 (term_value s w b t >>= expressions.signed at o) (Some p) low all in
+          let one : Then (term_value s w b t) (expressions.signed at o) rest.value = then_of (term_value s w b t) (expressions.signed at o) rest.value rest.is in
+          let below : Below f one.value.uses = signed_below f at o one.value (subst (OptionBelow f) (sym (option_ok (operations.signed at o one.value) rest.value one.rest)) rest.below) in
+          let x = term_used b t m.0 one.value (sum_only s w at v o ts (term_value s w b t) one.value p one.is only all) below one.is in
+          ((x.0, rest.rest.0), fine_both (term_calls h.scope t) (terms_calls h.scope ts) x.1 rest.rest.1)
+
+      terms_used : (at : ℕ) (ts : Terms) → AreSmallTerms ts → (j : Judged (Option Operand)) (r : Option Operand) → OptionBelow f r → more_terms s w at j ts ≡ Ok r → Reached (OptionBelow f) j (TermsUsed h ts × CallsFine (terms_calls h.scope ts))
+      terms_used at no_terms m j r low is = record { value = r; is = is; below = low; rest = (tt, (tt, tt)) }
+      terms_used at (terms_more a t ts) m j r low is =
+          let rest = terms_used at ts m.1 (both j (term_value s w false t) >>= expressions.added at a) r low is in
+          let k : Then (both j (term_value s w false t)) (expressions.added at a) rest.value = then_of (both j (term_value s w false t)) (expressions.added at a) rest.value rest.is in
+          let q = both_of j (term_value s w false t) k.value k.is in
+          let below = added_below f at a k.value.0 k.value.1 (subst (OptionBelow f) (sym (option_ok (operations.added at a k.value.0 k.value.1) rest.value k.rest)) rest.below) in
+          let x = term_used false t m.0 k.value.1 (never k.value.1) below.1 q.second in
+          record { value = k.value.0; is = q.first; below = below.0; rest = ((x.0, rest.rest.0), fine_both (term_calls h.scope t) (terms_calls h.scope ts) x.1 rest.rest.1) }
+
+      term_used : (v : Bool) (t : Term) → IsSmallTerm t → (p : Operand) → (v ≡ true → is_function p.place ≡ false) → Below f p.uses → term_value s w v t ≡ Ok p → TermUsed h t × CallsFine (term_calls h.scope t)
+      term_used v (term at g fs) m p only low is =
+          let b : Bool = v && has_no_factors fs in
+          let all : more_factors s w at (factor s w b g >>= expressions.some_operand) fs ≡ Ok (Some p) = agreed_some at (more_factors s w at (factor s w b g >>= expressions.some_operand) fs) p is in
+          let rest = factors_used at fs m.1 (factor s w b g >>= expressions.some_operand) (Some p) low all in
+          let one : Then (factor s w b g) expressions.some_operand rest.value = then_of (factor s w b g) expressions.some_operand rest.value rest.is in
+          let below : Below f one.value.uses = subst (OptionBelow f) (sym (option_ok (Some one.value) rest.value one.rest)) rest.below in
+          let x = factor_used b g m.0 one.value (term_only s w at v fs (factor s w b g) one.value p one.is only all) below one.is in
+          ((x.0, rest.rest.0), fine_both (factor_calls h.scope g) (factors_calls h.scope fs) x.1 rest.rest.1)
+
+      factors_used : (at : ℕ) (fs : Factors) → AreSmallFactors fs → (j : Judged (Option Operand)) (r : Option Operand) → OptionBelow f r → more_factors s w at j fs ≡ Ok r → Reached (OptionBelow f) j (FactorsUsed h fs × CallsFine (factors_calls h.scope fs))
+      factors_used at no_factors m j r low is = record { value = r; is = is; below = low; rest = (tt, (tt, tt)) }
+      factors_used at (factors_more o g fs) m j r low is =
+          let rest = factors_used at fs m.1 (both j (factor s w false g) >>= expressions.multiplied at o) r low is in
+          let k : Then (both j (factor s w false g)) (expressions.multiplied at o) rest.value = then_of (both j (factor s w false g)) (expressions.multiplied at o) rest.value rest.is in
+          let q = both_of j (factor s w false g) k.value k.is in
+          let below = multiplied_below f at o k.value.0 k.value.1 (subst (OptionBelow f) (sym (option_ok (operations.multiplied at o k.value.0 k.value.1) rest.value k.rest)) rest.below) in
+          let x = factor_used false g m.0 k.value.1 (never k.value.1) below.1 q.second in
+          record { value = k.value.0; is = q.first; below = below.0; rest = ((x.0, rest.rest.0), fine_both (factor_calls h.scope g) (factors_calls h.scope fs) x.1 rest.rest.1) }
+
+      factor_used : (v : Bool) (g : Factor) → IsSmallFactor g → (p : Operand) → (v ≡ true → is_function p.place ≡ false) → Below f p.uses → factor s w v g ≡ Ok p → FactorUsed h g × CallsFine (factor_calls h.scope g)
+      factor_used v (factor_named at (name_with i ss) es) m p only low is =
+          let d : Designator = name_with i ss in
+          let call : Bool = is_call_meant (find i.name h.scope) (last_field ss) in
+          let k : NameParts s w d es at p = name_parts s w (v && has_none es) d es at p (name_only v es p only) is in
+          let q : ValueSaid s w f k.value.named k.value k.operands = value_said s w f at k.value k.operands k.value.named p k.rest low in
+          let t : Then (selectors s w (names.begun s i) ss) (names.known i.at) k.value = then_of (selectors s w (names.begun s i) ss) (names.known i.at) k.value k.is in
+          let x = selectors_used ss m.0 (names.begun s i) t.value (subst (λ (c : check_designated.DesignatedName). Below f c.uses) (sym (known_is s w i.at t.value k.value t.rest)) q.first) t.is in
+          let y = arguments_used 0 es m.1 k.operands q.others k.arguments in
+          let typed = designator_named tokens s h w agrees i ss k.value m.0 k.is in
+          let z = value_used at i ss es k.value k.value.named k.operands (designator_form h d) p refl typed m.0 m.1 k.is k.arguments k.rest in
+          let own : AllSaid s w f h.scope (own_call call at d es) = own_said s w f h.scope call at d es (λ e. record { small = m.0; value = k.value; is = k.is; kind = q.kind; called = q.called; result = q.result; call = e }) in
+          ((x.rest.0, y.0, z.0), fine_both (selectors_calls h.scope ss ++ expressions_calls h.scope es) (own_call call at d es) (fine_both (selectors_calls h.scope ss) (expressions_calls h.scope es) x.rest.1 y.1) (z.1, own))
+      factor_used v (group at e) m p only low is =
+          let t : Then (expression s w false e) (expressions.to_group at) p = then_of (expression s w false e) (expressions.to_group at) p is in
+          expression_used false e m t.value (never t.value) (subst (λ (o : Operand). Below f o.uses) (sym (ok_same (expressions.grouped at t.value) p t.rest)) low) t.is
+      factor_used v (negated at g) m p only low is =
+          let t : Then (factor s w false g) (operations.negated at) p = then_of (factor s w false g) (operations.negated at) p is in
+          factor_used false g m t.value (never t.value) (negated_below f at t.value p t.rest low) t.is
+      factor_used v (set_of at es) m p only low is =
+          let t : Then (arguments s w [] 0 es) (expressions.constructed at) p = then_of (arguments s w [] 0 es) (expressions.constructed at) p is in
+          arguments_used 0 es m t.value (constructed_below f at t.value p t.rest low) t.is
+      factor_used v _ m p only low is = (tt, (tt, tt))
+
+      -- where no parameter is said to be `var`
+      pub arguments_used : (k : ℕ) (es : Expressions) → AreSmallExpressions es → (os : List Operand) → AreBelow f os → arguments s w [] k es ≡ Ok os → AreUsed h es × CallsFine (expressions_calls h.scope es)
+      arguments_used k no_expressions m os low is = (tt, (tt, tt))
+      arguments_used k (more_expressions e es) m os low is =
+          let t : Then (both (expression s w false e) (arguments s w [] (k + 1) es)) expressions.before os = then_of (both (expression s w false e) (arguments s w [] (k + 1) es)) expressions.before os is in
+          let q = both_of (expression s w false e) (arguments s w [] (k + 1) es) t.value t.is in
+          let all : AreBelow f (t.value.0 ∷ t.value.1) = subst (AreBelow f) (sym (ok_same (t.value.0 ∷ t.value.1) os t.rest)) low in
+          let x = expression_used false e m.0 t.value.0 (never t.value.0) all.0 q.first in
+          let y = arguments_used (k + 1) es m.1 t.value.1 all.1 q.second in
+          ((x.0, y.0), fine_both (expression_calls h.scope e) (expressions_calls h.scope es) x.1 y.1)
+
+      selectors_used : (ss : Selectors) → AreSmallSelectors ss → (j : Judged check_designated.DesignatedName) (d : check_designated.DesignatedName) → Below f d.uses → selectors s w j ss ≡ Ok d → Reached (λ (c : check_designated.DesignatedName). Below f c.uses) j (SelectorsUsed h ss × CallsFine (selectors_calls h.scope ss))
+      selectors_used no_selectors m j d low is = record { value = d; is = is; below = low; rest = (tt, (tt, tt)) }
+      selectors_used (more_selectors (field i) ss) m j d low is =
+          let r = selectors_used ss m.1 (j >>= names.selected s i) d low is in
+          let t : Then j (names.selected s i) r.value = then_of j (names.selected s i) r.value r.is in
+          record { value = t.value; is = t.is; below = subst (Below f) (sym (selected_uses s w f h.scope i t.value r.value (names.type_of t.value.named) t.rest)) r.below; rest = ((tt, r.rest.0), r.rest.1) }
+      selectors_used (more_selectors (index e) ss) m j d low is =
+          let r = selectors_used ss m.1 (both j (expression s w false e) >>= expressions.at_index s) d low is in
+          let t : Then (both j (expression s w false e)) (expressions.at_index s) r.value = then_of (both j (expression s w false e)) (expressions.at_index s) r.value r.is in
+          let q = both_of j (expression s w false e) t.value t.is in
+          let all = subst (λ (z : check_designated.DesignatedName). Below f z.uses) (sym (ok_same (names.indexed s t.value.0 t.value.1) r.value t.rest)) r.below in
+          let x = expression_used false e m.0 t.value.1 (never t.value.1) (second_below f t.value.0.uses t.value.1.uses all) q.second in
+          record { value = t.value.0; is = q.first; below = first_below f t.value.0.uses t.value.1.uses all; rest = ((x.0, r.rest.0), fine_both (expression_calls h.scope e) (selectors_calls h.scope ss) x.1 r.rest.1) }
+
+    pub designator_used : (i : Identifier) (ss : Selectors) → AreSmallSelectors ss → (d : check_designated.DesignatedName) → Below f d.uses → designator s w (name_with i ss) ≡ Ok d → SelectorsUsed h ss × CallsFine (selectors_calls h.scope ss)
     unfolding expression
-
-    -- v: in the place of a `var` argument, which is no function
-    pub expression_used : (v : Bool) (e : Expression) → IsSmallExpression e → (p : Operand) → (v ≡ true → is_function p.place ≡ false) → expression s w v e ≡ Ok p → IsUsed h e × CallsFormed h (expression_calls h.scope e)
-    expression_used v (alone at a) m p only is = sum_used v a m p only is
-    expression_used v (related at a r b) m p only is =
-        let t : Then (both (sum_value s w false a) (sum_value s w false b)) (operations.related at r) p = then_of (both (sum_value s w false a) (sum_value s w false b)) (operations.related at r) p is in
-        let q = both_of (sum_value s w false a) (sum_value s w false b) t.value t.is in
-        let x = sum_used false a m.0 t.value.0 (never t.value.0) q.first in
-        let y = sum_used false b m.1 t.value.1 (never t.value.1) q.second in
-        ((x.0, y.0), calls_both h (sum_calls h.scope a) (sum_calls h.scope b) x.1 y.1)
-
-    sum_used : (v : Bool) (a : Sum) → IsSmallSum a → (p : Operand) → (v ≡ true → is_function p.place ≡ false) → sum_value s w v a ≡ Ok p → SumUsed h a × CallsFormed h (sum_calls h.scope a)
-    sum_used v (sum at o t ts) m p only is =
-        let b : Bool = v && (is_unsigned o && has_no_terms ts) in
-        let all : more_terms s w at (term_value s w b t >>= expressions.signed at o) ts ≡ Ok (Some p) = agreed_some at (more_terms s w at (term_value s w b t >>= expressions.signed at o) ts) p is in
-        let rest = terms_used at ts m.1 (term_value s w b t >>= expressions.signed at o) (Some p) all in
-        let one : Then (term_value s w b t) (expressions.signed at o) rest.value = then_of (term_value s w b t) (expressions.signed at o) rest.value rest.is in
-        let x = term_used b t m.0 one.value (sum_only s w at v o ts (term_value s w b t) one.value p one.is only all) one.is in
-        ((x.0, rest.rest.0), calls_both h (term_calls h.scope t) (terms_calls h.scope ts) x.1 rest.rest.1)
-
-    terms_used : (at : ℕ) (ts : Terms) → AreSmallTerms ts → (j : Judged (Option Operand)) (r : Option Operand) → more_terms s w at j ts ≡ Ok r → Walked j (TermsUsed h ts × CallsFormed h (terms_calls h.scope ts))
-    terms_used at no_terms m j r is = record { value = r; is = is; rest = (tt, tt) }
-    terms_used at (terms_more a t ts) m j r is =
-        let rest = terms_used at ts m.1 (both j (term_value s w false t) >>= expressions.added at a) r is in
-        let k : Then (both j (term_value s w false t)) (expressions.added at a) rest.value = then_of (both j (term_value s w false t)) (expressions.added at a) rest.value rest.is in
-        let q = both_of j (term_value s w false t) k.value k.is in
-        let x = term_used false t m.0 k.value.1 (never k.value.1) q.second in
-        record { value = k.value.0; is = q.first; rest = ((x.0, rest.rest.0), calls_both h (term_calls h.scope t) (terms_calls h.scope ts) x.1 rest.rest.1) }
-
-    term_used : (v : Bool) (t : Term) → IsSmallTerm t → (p : Operand) → (v ≡ true → is_function p.place ≡ false) → term_value s w v t ≡ Ok p → TermUsed h t × CallsFormed h (term_calls h.scope t)
-    term_used v (term at f fs) m p only is =
-        let b : Bool = v && has_no_factors fs in
-        let all : more_factors s w at (factor s w b f >>= expressions.some_operand) fs ≡ Ok (Some p) = agreed_some at (more_factors s w at (factor s w b f >>= expressions.some_operand) fs) p is in
-        let rest = factors_used at fs m.1 (factor s w b f >>= expressions.some_operand) (Some p) all in
-        let one : Then (factor s w b f) expressions.some_operand rest.value = then_of (factor s w b f) expressions.some_operand rest.value rest.is in
-        let x = factor_used b f m.0 one.value (term_only s w at v fs (factor s w b f) one.value p one.is only all) one.is in
-        ((x.0, rest.rest.0), calls_both h (factor_calls h.scope f) (factors_calls h.scope fs) x.1 rest.rest.1)
-
-    factors_used : (at : ℕ) (fs : Factors) → AreSmallFactors fs → (j : Judged (Option Operand)) (r : Option Operand) → more_factors s w at j fs ≡ Ok r → Walked j (FactorsUsed h fs × CallsFormed h (factors_calls h.scope fs))
-    factors_used at no_factors m j r is = record { value = r; is = is; rest = (tt, tt) }
-    factors_used at (factors_more o f fs) m j r is =
-        let rest = factors_used at fs m.1 (both j (factor s w false f) >>= expressions.multiplied at o) r is in
-        let k : Then (both j (factor s w false f)) (expressions.multiplied at o) rest.value = then_of (both j (factor s w false f)) (expressions.multiplied at o) rest.value rest.is in
-        let q = both_of j (factor s w false f) k.value k.is in
-        let x = factor_used false f m.0 k.value.1 (never k.value.1) q.second in
-        record { value = k.value.0; is = q.first; rest = ((x.0, rest.rest.0), calls_both h (factor_calls h.scope f) (factors_calls h.scope fs) x.1 rest.rest.1) }
-
-    factor_used : (v : Bool) (f : Factor) → IsSmallFactor f → (p : Operand) → (v ≡ true → is_function p.place ≡ false) → factor s w v f ≡ Ok p → FactorUsed h f × CallsFormed h (factor_calls h.scope f)
-    factor_used v (factor_named at (name_with i ss) es) m p only is =
-        let d : Designator = name_with i ss in
-        let k : NameParts s w d es at p = name_parts s w (v && has_none es) d es at p (name_only v es p only) is in
-        let t : Then (selectors s w (names.begun s i) ss) (names.known i.at) k.value = then_of (selectors s w (names.begun s i) ss) (names.known i.at) k.value k.is in
-        let x = selectors_used ss m.0 (names.begun s i) t.value t.is in
-        let y = arguments_used 0 es m.1 k.operands k.arguments in
-        let typed : NamedIs tokens s h i.name (find i.name h.scope) (last_field ss) k.value.named (designator_form h d) = subst (λ (j : Judged check_designated.DesignatedName). HasDesignated tokens s h i.name (find i.name h.scope) (last_field ss) j (designator_form h d)) k.is (designator_typed tokens s h w agrees i ss m.0) in
-        let z = value_used at i ss es k.value k.value.named k.operands (designator_form h d) p refl typed m.0 m.1 k.is k.arguments k.rest in
-        ((x.0, y.0, z.0), calls_both h (selectors_calls h.scope ss ++ expressions_calls h.scope es) (own_call (is_call_meant (find i.name h.scope) (last_field ss)) at d es) (calls_both h (selectors_calls h.scope ss) (expressions_calls h.scope es) x.1 y.1) z.1)
-    factor_used v (group at e) m p only is =
-        let t : Then (expression s w false e) (expressions.to_group at) p = then_of (expression s w false e) (expressions.to_group at) p is in
-        expression_used false e m t.value (never t.value) t.is
-    factor_used v (negated at f) m p only is =
-        let t : Then (factor s w false f) (operations.negated at) p = then_of (factor s w false f) (operations.negated at) p is in
-        factor_used false f m t.value (never t.value) t.is
-    factor_used v (set_of at es) m p only is =
-        let t : Then (arguments s w [] 0 es) (expressions.constructed at) p = then_of (arguments s w [] 0 es) (expressions.constructed at) p is in
-        arguments_used 0 es m t.value t.is
-    factor_used v _ m p only is = (tt, tt)
-
-    -- where no parameter is said to be `var`
-    pub arguments_used : (k : ℕ) (es : Expressions) → AreSmallExpressions es → (os : List Operand) → arguments s w [] k es ≡ Ok os → AreUsed h es × CallsFormed h (expressions_calls h.scope es)
-    arguments_used k no_expressions m os is = (tt, tt)
-    arguments_used k (more_expressions e es) m os is =
-        let t : Then (both (expression s w false e) (arguments s w [] (k + 1) es)) expressions.before os = then_of (both (expression s w false e) (arguments s w [] (k + 1) es)) expressions.before os is in
-        let q = both_of (expression s w false e) (arguments s w [] (k + 1) es) t.value t.is in
-        let x = expression_used false e m.0 t.value.0 (never t.value.0) q.first in
-        let y = arguments_used (k + 1) es m.1 t.value.1 q.second in
-        ((x.0, y.0), calls_both h (expression_calls h.scope e) (expressions_calls h.scope es) x.1 y.1)
-
-    pub selectors_used : (ss : Selectors) → AreSmallSelectors ss → (j : Judged check_designated.DesignatedName) (d : check_designated.DesignatedName) → selectors s w j ss ≡ Ok d → SelectorsUsed h ss × CallsFormed h (selectors_calls h.scope ss)
-    selectors_used no_selectors m j d is = (tt, tt)
-    selectors_used (more_selectors (field i) ss) m j d is =
-        let x = selectors_used ss m.1 (j >>= names.selected s i) d is in
-        ((tt, x.0), x.1)
-    selectors_used (more_selectors (index e) ss) m j d is =
-        let x = selectors_used ss m.1 (both j (expression s w false e) >>= expressions.at_index s) d is in
-        let k : Chosen j e = chosen_index j e (selectors_first ss (both j (expression s w false e) >>= expressions.at_index s) d is) in
-        let y = expression_used false e m.0 k.operand (never k.operand) k.is in
-        ((y.0, x.0), calls_both h (expression_calls h.scope e) (selectors_calls h.scope ss) y.1 x.1)
+    designator_used i ss m d low is =
+        let t : Then (selectors s w (names.begun s i) ss) (names.known i.at) d = then_of (selectors s w (names.begun s i) ss) (names.known i.at) d is in
+        let r = selectors_used ss m (names.begun s i) t.value (subst (λ (z : check_designated.DesignatedName). Below f z.uses) (sym (known_is s w i.at t.value d t.rest)) low) t.is in
+        r.rest

@@ -1,6 +1,6 @@
 -- The cells with which a variable begins are those of the least value of its type, and as many as are counted for it.
 use Rattle.std.proofs.Common.{◌≡◌, ℕ, zero, suc, ◌+◌, ◌*◌, ◌<◌, ◌==◌, ℤ, Bool, true, false, if◌then◌else◌, List, [], ◌∷◌, ◌++◌, length, Some, slice_get, refl, sym, ap, subst, ◌∙◌, arith, append_assoc, append-nil, length-append}
-use Rattle.cp_resolved.proofs.Words.{min, eqb-true, eqb-false, slice_get_within, CellType, Ty, FieldTypes, length_of_range, least_fields}
+use Rattle.cp_resolved.proofs.Words.{Each, min, eqb-true, eqb-false, slice_get_within, CellType, Ty, FieldTypes, length_of_range, least_fields}
 use Rattle.cp_symbols.specs.declared.kinds.CellType.TheVariants as types
 use Rattle.cp_symbols.specs.Kinds as symbol_kinds
 use Rattle.cp_layout.specs.Kinds as kinds
@@ -23,8 +23,7 @@ IsBelow n (types.Record m) = m < n
 IsBelow n v = Unit {0}
 
 abbrev pub AreBelow : ℕ → List Field → Type 0
-AreBelow n [] = Unit {0}
-AreBelow n (f ∷ fs) = IsBelow n f.value_type × AreBelow n fs
+AreBelow n fs = Each (λ (f : Field). IsBelow n f.value_type) fs
 
 abbrev pub HoldsBelow : ℕ → Compound → Type 0
 HoldsBelow n (array a) = IsBelow n a.element

@@ -67,19 +67,27 @@ look_each P x t (v ∷ vs) h e = go (same_name x v.name) refl e (look_each P x t
 
 -- ---- cells
 
--- the cells with which the variables begin, and how many they are
+-- the cells with which the variables begin
 abbrev pub images : List Variable → List ℤ
 images [] = []
 images (v ∷ vs) = encode (least v.ty) ++ images vs
 
-abbrev pub total : List Variable → ℕ
-total [] = 0
-total (v ∷ vs) = cells_of v.ty + total vs
+-- what variables weigh, in all and before one of them
+module _ (w : Ty → ℕ) where
+  abbrev pub weight : List Variable → ℕ
+  weight [] = 0
+  weight (v ∷ vs) = w v.ty + weight vs
 
--- how many cells are before a variable
+  abbrev pub weight_before : Name → List Variable → ℕ
+  weight_before x [] = 0
+  weight_before x (v ∷ vs) = if same_name x v.name then 0 else w v.ty + weight_before x vs
+
+-- how many cells they have, and how many are before a variable
+abbrev pub total : List Variable → ℕ
+total vs = weight cells_of vs
+
 abbrev pub cells_before : Name → List Variable → ℕ
-cells_before x [] = 0
-cells_before x (v ∷ vs) = if same_name x v.name then 0 else cells_of v.ty + cells_before x vs
+cells_before x vs = weight_before cells_of x vs
 
 pub images_length : (vs : List Variable) → Each IsFreeVariable vs → length (images vs) ≡ total vs
 images_length [] h = refl
@@ -92,48 +100,53 @@ pub images_append : (vs ws : List Variable) → images (vs ++ ws) ≡ images vs 
 images_append [] ws = refl
 images_append (v ∷ vs) ws = ap (λ ys. encode (least v.ty) ++ ys) (images_append vs ws) ∙ sym (append_assoc (encode (least v.ty)) (images vs) (images ws))
 
-pub before_left : (x : Name) (t : Ty) (vs ws : List Variable) → look x vs ≡ Some t → cells_before x (vs ++ ws) ≡ cells_before x vs
-before_left x t [] ws h = absurd (none-some t h)
-before_left x t (v ∷ vs) ws h = go (same_name x v.name) h (before_left x t vs ws)
-  where
-    go : (b : Bool) → (if b then Some v.ty else look x vs) ≡ Some t → (look x vs ≡ Some t → cells_before x (vs ++ ws) ≡ cells_before x vs) → (if b then 0 else cells_of v.ty + cells_before x (vs ++ ws)) ≡ (if b then 0 else cells_of v.ty + cells_before x vs)
-    go true e rest = refl
-    go false e rest = ap (λ n. cells_of v.ty + n) (rest e)
+-- ---- which of them are before others, and apart
 
-pub before_right : (x : Name) (vs ws : List Variable) → look x vs ≡ None → cells_before x (vs ++ ws) ≡ total vs + cells_before x ws
-before_right x [] ws h = omega arith
-before_right x (v ∷ vs) ws h = go (same_name x v.name) h (before_right x vs ws)
-  where
-    go : (b : Bool) → (if b then Some v.ty else look x vs) ≡ None → (look x vs ≡ None → cells_before x (vs ++ ws) ≡ total vs + cells_before x ws) → (if b then 0 else cells_of v.ty + cells_before x (vs ++ ws)) ≡ cells_of v.ty + total vs + cells_before x ws
-    go true e rest = absurd (none-some v.ty (sym e))
-    go false e rest = let f = rest e in omega (arith, f)
+module _ (w : Ty → ℕ) where
+  pub weight_append : (vs ws : List Variable) → weight w (vs ++ ws) ≡ weight w vs + weight w ws
+  weight_append [] ws = omega arith
+  weight_append (v ∷ vs) ws = let e = weight_append vs ws in omega (arith, e)
 
-pub before_inside : (x : Name) (t : Ty) (vs : List Variable) → look x vs ≡ Some t → cells_before x vs + cells_of t ≤ total vs
-before_inside x t [] h = absurd (none-some t h)
-before_inside x t (v ∷ vs) h = go (same_name x v.name) h (before_inside x t vs)
-  where
-    go : (b : Bool) → (if b then Some v.ty else look x vs) ≡ Some t → (look x vs ≡ Some t → cells_before x vs + cells_of t ≤ total vs) → (if b then 0 else cells_of v.ty + cells_before x vs) + cells_of t ≤ cells_of v.ty + total vs
-    go true e rest = let f = ap cells_of (same_Some v.ty t e) in omega (arith, f)
-    go false e rest = let f = rest e in omega (arith, f)
+  pub before_left : (x : Name) (t : Ty) (vs ws : List Variable) → look x vs ≡ Some t → weight_before w x (vs ++ ws) ≡ weight_before w x vs
+  before_left x t [] ws h = absurd (none-some t h)
+  before_left x t (v ∷ vs) ws h = go (same_name x v.name) h (before_left x t vs ws)
+    where
+      go : (b : Bool) → (if b then Some v.ty else look x vs) ≡ Some t → (look x vs ≡ Some t → weight_before w x (vs ++ ws) ≡ weight_before w x vs) → (if b then 0 else w v.ty + weight_before w x (vs ++ ws)) ≡ (if b then 0 else w v.ty + weight_before w x vs)
+      go true e rest = refl
+      go false e rest = ap (λ n. w v.ty + n) (rest e)
 
--- ---- which of them are apart
+  pub before_right : (x : Name) (vs ws : List Variable) → look x vs ≡ None → weight_before w x (vs ++ ws) ≡ weight w vs + weight_before w x ws
+  before_right x [] ws h = omega arith
+  before_right x (v ∷ vs) ws h = go (same_name x v.name) h (before_right x vs ws)
+    where
+      go : (b : Bool) → (if b then Some v.ty else look x vs) ≡ None → (look x vs ≡ None → weight_before w x (vs ++ ws) ≡ weight w vs + weight_before w x ws) → (if b then 0 else w v.ty + weight_before w x (vs ++ ws)) ≡ w v.ty + weight w vs + weight_before w x ws
+      go true e rest = absurd (none-some v.ty (sym e))
+      go false e rest = let f = rest e in omega (arith, f)
 
-pub before_apart : (x y : Name) (t u : Ty) (vs : List Variable) → same_name x y ≡ false → look x vs ≡ Some t → look y vs ≡ Some u → (cells_before x vs + cells_of t ≤ cells_before y vs) ⊎ (cells_before y vs + cells_of u ≤ cells_before x vs)
-before_apart x y t u [] o h i = absurd (none-some t h)
-before_apart x y t u (v ∷ vs) o h i = go (same_name x v.name) (same_name y v.name) refl refl h i (before_apart x y t u vs o)
-  where
-    go : (b c : Bool) → same_name x v.name ≡ b → same_name y v.name ≡ c → (if b then Some v.ty else look x vs) ≡ Some t → (if c then Some v.ty else look y vs) ≡ Some u →
-        (look x vs ≡ Some t → look y vs ≡ Some u → (cells_before x vs + cells_of t ≤ cells_before y vs) ⊎ (cells_before y vs + cells_of u ≤ cells_before x vs)) →
-        ((if b then 0 else cells_of v.ty + cells_before x vs) + cells_of t ≤ (if c then 0 else cells_of v.ty + cells_before y vs)) ⊎ ((if c then 0 else cells_of v.ty + cells_before y vs) + cells_of u ≤ (if b then 0 else cells_of v.ty + cells_before x vs))
-    go true true p q e f rest = absurd (let bad : true ≡ false = sym (itself x) ∙ subst (λ z. same_name x z ≡ false) (same_is y v.name q ∙ sym (same_is x v.name p)) o in cc)
-    go true false p q e f rest = let g = ap cells_of (same_Some v.ty t e) in inl (omega (arith, g))
-    go false true p q e f rest = let g = ap cells_of (same_Some v.ty u f) in inr (omega (arith, g))
-    go false false p q e f rest = further (rest e f)
-      where
-        further : (cells_before x vs + cells_of t ≤ cells_before y vs) ⊎ (cells_before y vs + cells_of u ≤ cells_before x vs) →
-            (cells_of v.ty + cells_before x vs + cells_of t ≤ cells_of v.ty + cells_before y vs) ⊎ (cells_of v.ty + cells_before y vs + cells_of u ≤ cells_of v.ty + cells_before x vs)
-        further (inl k) = inl (omega (arith, k))
-        further (inr k) = inr (omega (arith, k))
+  pub before_inside : (x : Name) (t : Ty) (vs : List Variable) → look x vs ≡ Some t → weight_before w x vs + w t ≤ weight w vs
+  before_inside x t [] h = absurd (none-some t h)
+  before_inside x t (v ∷ vs) h = go (same_name x v.name) h (before_inside x t vs)
+    where
+      go : (b : Bool) → (if b then Some v.ty else look x vs) ≡ Some t → (look x vs ≡ Some t → weight_before w x vs + w t ≤ weight w vs) → (if b then 0 else w v.ty + weight_before w x vs) + w t ≤ w v.ty + weight w vs
+      go true e rest = let f = ap w (same_Some v.ty t e) in omega (arith, f)
+      go false e rest = let f = rest e in omega (arith, f)
+
+  pub before_apart : (x y : Name) (t u : Ty) (vs : List Variable) → same_name x y ≡ false → look x vs ≡ Some t → look y vs ≡ Some u → (weight_before w x vs + w t ≤ weight_before w y vs) ⊎ (weight_before w y vs + w u ≤ weight_before w x vs)
+  before_apart x y t u [] o h i = absurd (none-some t h)
+  before_apart x y t u (v ∷ vs) o h i = go (same_name x v.name) (same_name y v.name) refl refl h i (before_apart x y t u vs o)
+    where
+      go : (b c : Bool) → same_name x v.name ≡ b → same_name y v.name ≡ c → (if b then Some v.ty else look x vs) ≡ Some t → (if c then Some v.ty else look y vs) ≡ Some u →
+          (look x vs ≡ Some t → look y vs ≡ Some u → (weight_before w x vs + w t ≤ weight_before w y vs) ⊎ (weight_before w y vs + w u ≤ weight_before w x vs)) →
+          ((if b then 0 else w v.ty + weight_before w x vs) + w t ≤ (if c then 0 else w v.ty + weight_before w y vs)) ⊎ ((if c then 0 else w v.ty + weight_before w y vs) + w u ≤ (if b then 0 else w v.ty + weight_before w x vs))
+      go true true p q e f rest = absurd (let bad : true ≡ false = sym (itself x) ∙ subst (λ z. same_name x z ≡ false) (same_is y v.name q ∙ sym (same_is x v.name p)) o in cc)
+      go true false p q e f rest = let g = ap w (same_Some v.ty t e) in inl (omega (arith, g))
+      go false true p q e f rest = let g = ap w (same_Some v.ty u f) in inr (omega (arith, g))
+      go false false p q e f rest = further (rest e f)
+        where
+          further : (weight_before w x vs + w t ≤ weight_before w y vs) ⊎ (weight_before w y vs + w u ≤ weight_before w x vs) →
+              (w v.ty + weight_before w x vs + w t ≤ w v.ty + weight_before w y vs) ⊎ (w v.ty + weight_before w y vs + w u ≤ w v.ty + weight_before w x vs)
+          further (inl k) = inl (omega (arith, k))
+          further (inr k) = inr (omega (arith, k))
 
 -- ---- cells that stand among others
 

@@ -66,9 +66,9 @@ module _ (k : Numbering) (ts : Compounds) (counted : Counted ts) (m : RoutineMea
   slot_before (Some u) (Some r) s t e =
       let there : look result_name (first ++ result_variables (Some u)) ≡ Some u = look_right result_name first (result_variables (Some u)) no_first ∙ result_found u [] in
       let none : cells_before result_name (result_variables (Some u)) ≡ 0 = ap (λ b. if b then 0 else cells_of u + 0) (itself result_name) in
-      let after : cells_before result_name (first ++ result_variables (Some u)) ≡ total first + cells_before result_name (result_variables (Some u)) = before_right result_name first (result_variables (Some u)) no_first in
+      let after : cells_before result_name (first ++ result_variables (Some u)) ≡ total first + cells_before result_name (result_variables (Some u)) = before_right cells_of result_name first (result_variables (Some u)) no_first in
       let zero_more : total first ≡ total first + cells_before result_name (result_variables (Some u)) = omega (arith, none) in
-      s ∙ zero_more ∙ sym after ∙ sym (before_left result_name u (first ++ result_variables (Some u)) m.variables there)
+      s ∙ zero_more ∙ sym after ∙ sym (before_left cells_of result_name u (first ++ result_variables (Some u)) m.variables there)
 
 -- ---- the frame
 

@@ -180,12 +180,12 @@ module _ (k : Numbering) (p : syntax.Program) (m : RoutineMeaning) (l : Layer) (
 
       pub inside_all : (x : Name) (t : Ty) (c : Case x t) → place x t c + cells_of t ≤ length l.frame.image + length cs
       inside_all x t (inl e) = let a = before_all e.at cs e.among in let b = one_cell t e.ordinal in omega (arith, a, b)
-      inside_all x t (inr e) = let a = before_inside x t all e in omega (arith, a, image_total)
+      inside_all x t (inr e) = let a = before_inside cells_of x t all e in omega (arith, a, image_total)
 
       pub apart_all : (x y : Name) (t u : Ty) → same_name x y ≡ false → (c : Case x t) (d : Case y u) → (place x t c + cells_of t ≤ place y u d) ⊎ (place y u d + cells_of u ≤ place x t c)
-      apart_all x y t u o (inr e) (inr g) = before_apart x y t u all o e g
-      apart_all x y t u o (inl e) (inr g) = inr (let a = before_inside y u all g in omega (arith, a, image_total))
-      apart_all x y t u o (inr e) (inl g) = inl (let a = before_inside x t all e in omega (arith, a, image_total))
+      apart_all x y t u o (inr e) (inr g) = before_apart cells_of x y t u all o e g
+      apart_all x y t u o (inl e) (inr g) = inr (let a = before_inside cells_of y u all g in omega (arith, a, image_total))
+      apart_all x y t u o (inr e) (inl g) = inl (let a = before_inside cells_of x t all e in omega (arith, a, image_total))
       apart_all x y t u o (inl e) (inl g) = go (differ (calls_before e.at cs) (calls_before g.at cs) (λ s. never (before_other e.at g.at cs apart e.among g.among s)))
         where
           never : e.at ≡ g.at → ⊥

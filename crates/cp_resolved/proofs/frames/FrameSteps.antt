@@ -15,7 +15,7 @@ use Rattle.cp_resolved.proofs.frames.Cells.{cells_same}
 use Rattle.cp_resolved.proofs.names.Entries.{still_there}
 use Rattle.cp_resolved.proofs.laid.Extends.{Longer}
 use Rattle.cp_resolved.proofs.frames.FrameCells.{look_left, look_right, each_both, images, total, cells_before, images_length, images_append, before_left, before_right, extents, number_among, extents_append, number_left, number_right, extents_length, same_is}
-use Rattle.cp_resolved.proofs.frames.FrameKept.{constants_cells, definitions_cells, type_cells, frame_same}
+use Rattle.cp_resolved.proofs.frames.FrameKept.{cells, constants_cells, definitions_cells, type_cells, frame_same}
 use Rattle.cp_resolved.proofs.names.KeptNames as kept
 use Rattle.cp_resolved.proofs.frames.LeastCells.{least_laid}
 use Rattle.cp_resolved.proofs.names.PermanentNames.{found_cases}
@@ -79,7 +79,7 @@ abbrev pub AreLying : (vs rs : List Variable) → Names → Type 0
 AreLying vs rs ns = (x : Name) (o : PlaceOrigin) (v : CellType) → find x ns ≡ Some (meaning.Variable o v) → Lies vs rs x o
 
 pub lies_more : (vs rs ws qs : List Variable) (x : Name) (o : PlaceOrigin) → Lies vs rs x o → Lies (vs ++ ws) (rs ++ qs) x o
-lies_more vs rs ws qs x (origin.Local n) h = (h.0, look_left x h.0 vs ws h.1, h.2 ∙ sym (before_left x h.0 vs ws h.1))
+lies_more vs rs ws qs x (origin.Local n) h = (h.0, look_left x h.0 vs ws h.1, h.2 ∙ sym (before_left cells_of x h.0 vs ws h.1))
 lies_more vs rs ws qs x (origin.Reference n) h = (h.0, look_left x h.0 rs qs h.1, h.2 ∙ sym (number_left x h.0 rs qs h.1))
 lies_more vs rs ws qs x (origin.Permanent n) h = tt
 
@@ -114,35 +114,17 @@ pub record Frames (l : Layer) (vs rs : List Variable) : Type 0 where
 
 -- ---- constants and types
 
+same_framed : (l m : Layer) (vs rs : List Variable) → cells m ≡ cells l → AreLying vs rs m.names → Frames l vs rs → Frames m vs rs
+same_framed l m vs rs e lying h = record { free = h.free; image = ap (λ f. f.image) (frame_same l m e) ∙ h.image; extents = ap (λ f. f.extents) (frame_same l m e) ∙ h.extents; lying = lying }
+
 pub constants_framed : (l : Layer) (ds : List syntax.ConstantDefinition) (vs rs : List Variable) → Frames l vs rs → Frames (constants l ds) vs rs
-constants_framed l ds vs rs h =
-    let same = frame_same l (constants l ds) (constants_cells l ds) in
-    record {
-      free = h.free;
-      image = ap (λ f. f.image) same ∙ h.image;
-      extents = ap (λ f. f.extents) same ∙ h.extents;
-      lying = kept.constants_keep (AreLying vs rs) IsNoVariable (lying_added vs rs) (λ b z. tt) (λ v. tt) l ds h.lying;
-    }
+constants_framed l ds vs rs h = same_framed l (constants l ds) vs rs (constants_cells l ds) (kept.constants_keep (AreLying vs rs) IsNoVariable (lying_added vs rs) (λ b z. tt) (λ v. tt) l ds h.lying) h
 
 pub definitions_framed : (l : Layer) (ds : List syntax.TypeDefinition) (vs rs : List Variable) → Frames l vs rs → Frames (type_definitions l ds) vs rs
-definitions_framed l ds vs rs h =
-    let same = frame_same l (type_definitions l ds) (definitions_cells l ds) in
-    record {
-      free = h.free;
-      image = ap (λ f. f.image) same ∙ h.image;
-      extents = ap (λ f. f.extents) same ∙ h.extents;
-      lying = kept.definitions_keep (AreLying vs rs) IsNoVariable (lying_added vs rs) (λ b z. tt) (λ v. tt) l ds h.lying;
-    }
+definitions_framed l ds vs rs h = same_framed l (type_definitions l ds) vs rs (definitions_cells l ds) (kept.definitions_keep (AreLying vs rs) IsNoVariable (lying_added vs rs) (λ b z. tt) (λ v. tt) l ds h.lying) h
 
 pub type_framed : (l : Layer) (t : syntax.TypeTerm) (vs rs : List Variable) → Frames l vs rs → Frames (written_type l t).1 vs rs
-type_framed l t vs rs h =
-    let same = frame_same l (written_type l t).1 (type_cells l t) in
-    record {
-      free = h.free;
-      image = ap (λ f. f.image) same ∙ h.image;
-      extents = ap (λ f. f.extents) same ∙ h.extents;
-      lying = kept.type_keep (AreLying vs rs) IsNoVariable (lying_added vs rs) (λ b z. tt) (λ v. tt) l t h.lying;
-    }
+type_framed l t vs rs h = same_framed l (written_type l t).1 vs rs (type_cells l t) (kept.type_keep (AreLying vs rs) IsNoVariable (lying_added vs rs) (λ b z. tt) (λ v. tt) l t h.lying) h
 
 -- ---- one more variable
 
@@ -173,7 +155,7 @@ module _ (k : Numbering) where
       let first : look y (one_variable x t ∷ []) ≡ Some t = ap (λ b. if b then Some t else None) turned in
       let none : cells_before y (one_variable x t ∷ []) ≡ 0 = ap (λ b. if b then 0 else cells_of t + 0) turned in
       let long : length l.frame.image ≡ total vs = ap (λ zs. length zs) h.image ∙ images_length vs h.free in
-      let place = before_right y vs (one_variable x t ∷ []) absent in
+      let place = before_right cells_of y vs (one_variable x t ∷ []) absent in
       (t, look_right y vs (one_variable x t ∷ []) absent ∙ first, omega (arith, long, place, none))
 
   pub local_framed : (l : Layer) (x : Name) (t : Ty) (v : CellType) (vs rs : List Variable) → TypeIs k l.types t v → Counted l.types → IsNew vs (one_variable x t) → Frames l vs rs → Frames (local l x v) (vs ++ one_variable x t ∷ []) rs

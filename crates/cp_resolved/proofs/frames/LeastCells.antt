@@ -17,7 +17,7 @@ use Rattle.cp_resolved.proofs.frames.Cells.{capped, count_same, one_more, cells_
 use Rattle.cp_resolved.proofs.systems.Sizes.{Counted, fields_cells, cells_more, times_more as times_apart}
 use Rattle.cp_layout.proofs.Least.{compound_inside as below_at, compound_outside as below_past}
 
-left_true : (a b : Bool) → (a && b) ≡ true → a ≡ true
+pub left_true : (a b : Bool) → (a && b) ≡ true → a ≡ true
 left_true true b h = refl
 left_true false b h = absurd (let bad : false ≡ true = h in cc)
 

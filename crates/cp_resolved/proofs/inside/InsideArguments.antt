@@ -8,6 +8,7 @@ use Rattle.cp_resolved.proofs.Words.{Formed, place_form, cells_of, Here, AreHeld
 use Rattle.cp_meaning.specs.Types as named
 use Rattle.cp_resolved.specs.Headed.{IsNoComponent, NumberedBy, AreNumbered, HandedBy, AreHanded}
 use Rattle.cp_resolved.proofs.inside.InsideExpressions.{VariablesFit, held_first, held_rest, expression_fits}
+use Rattle.cp_resolved.proofs.declarations.StandingParts.{both_of as both}
 use Rattle.cp_resolved.proofs.inside.InsideForms.{FormFits}
 use Rattle.cp_resolved.proofs.inside.InsidePlaces.{PlaceFits, has_place}
 use Rattle.cp_resolved.proofs.inside.PlainActions.{component_in, argument_in, arguments_in, follows_in, binds_in, PlainNames, PlainOne, PlainHands, PlainNone}
@@ -65,9 +66,6 @@ module _ (t : Tables) (h : Here) (r : RoutineView) (P : ℕ → Type 0) where
       let a : nat_lt next count ≡ true = (let le : next + 1 ≤ count = e.1 in search (rules, le)) in
       let b : (slot == next) ≡ true = (let w : slot ≡ next = e.0 in search (rules, w)) in
       ap (λ c. if c && slot == next then Some (next + 1) else None) a ∙ ap (λ c. if c then Some (next + 1) else None) b
-
-  both : (a b : Bool) → a ≡ true → b ≡ true → (a && b) ≡ true
-  both a b e i = ap (λ x. x && b) e ∙ i
 
   scalar_gives : (callee : RoutineView) (extent slot : ℕ) (q : named.Range) (c : code.OrdinalExpression) (low high : ℤ) → expression_in r c ≡ true → slot + 1 ≤ extent → Gives callee extent slot false (named.ordinal q) (code.scalar c low high)
   scalar_gives callee extent slot q c low high i le =

@@ -59,15 +59,7 @@ module _ (C : code.ComponentPlace → ℕ → Type 0) (h : Here) (r : RoutineVie
   permanent_fits : (x : Name) (t : Ty) → scopes.find x h.scope ≡ Some (scopes.permanent_variable t) → Designates (permanent_begun h x t)
   permanent_fits x (named.component_of k) e = v.component x k e
   permanent_fits x (named.array_over q (named.component_of k)) e = v.components x q k e
-  permanent_fits x (named.ordinal q) e = v.permanent x (named.ordinal q) e refl
-  permanent_fits x named.queue_type e = v.permanent x named.queue_type e refl
-  permanent_fits x (named.set_over q) e = v.permanent x (named.set_over q) e refl
-  permanent_fits x (named.record_with us) e = v.permanent x (named.record_with us) e refl
-  permanent_fits x (named.array_over q (named.ordinal s)) e = v.permanent x (named.array_over q (named.ordinal s)) e refl
-  permanent_fits x (named.array_over q named.queue_type) e = v.permanent x (named.array_over q named.queue_type) e refl
-  permanent_fits x (named.array_over q (named.set_over s)) e = v.permanent x (named.array_over q (named.set_over s)) e refl
-  permanent_fits x (named.array_over q (named.array_over s t)) e = v.permanent x (named.array_over q (named.array_over s t)) e refl
-  permanent_fits x (named.array_over q (named.record_with us)) e = v.permanent x (named.array_over q (named.record_with us)) e refl
+  permanent_fits x t e = v.permanent x t e refl
 
   result_fits : (x : Name) (y : syntax.Routine) (b : Bool) (d : Designated) → scopes.find x h.scope ≡ Some (scopes.routine_meaning y) → is_own h x ≡ b → result_begun h b ≡ Some d → Designates d
   result_fits x y true d e o g = designates_as _ d g (v.result x y e o)

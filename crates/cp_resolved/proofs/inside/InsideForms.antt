@@ -1,5 +1,5 @@
 -- Operations on forms that are inside give forms that are inside.
-use Rattle.std.proofs.Common.{◌≡◌, ℕ, ℤ, Bool, true, false, ◌&&◌, if◌then◌else◌, Option, Some, None, refl, ap, subst, ◌∙◌, arith}
+use Rattle.std.proofs.Common.{◌≡◌, ℕ, ℤ, Bool, true, false, ◌&&◌, if◌then◌else◌, Option, Some, None, refl, subst, arith}
 use Rattle.cp_resolved.proofs.Words.{Sign, Relation, Addition, Multiplication, RoutineView, Ty, is_within, all_integers, Standard, range_of_base, cells_of, Here}
 use Rattle.cp_tree.specs.declared.constant.Sign.TheVariants as sign
 use Rattle.cp_tree.specs.declared.expression.Relation.TheVariants as relation
@@ -10,6 +10,7 @@ use Rattle.cp_meaning.specs.Types as named
 use Rattle.cp_meaning.specs.Scopes as scopes
 use Rattle.cp_resolved.specs.Compiled.{Form, as_ordinal, as_set, as_place, as_component, Formed, integer_form, is_integer, is_boolean, loaded_form, Designated, a_variable, some_components, a_component, valued_form, constant_form, compared_forms, added_ordinals, added_forms, multiplied_ordinals, multiplied_forms, signed_ordinal, signed_form, not_form_of, not_form, applied_ordinal, applied_place, applied_form_of, applied_form, with_member_form}
 use Rattle.cp_resolved.proofs.names.Alike.{same_inside}
+use Rattle.cp_resolved.proofs.declarations.StandingParts.{both_of as both_in}
 use Rattle.cp_resolved.proofs.inside.InsidePlaces.{PlaceFits, has_place}
 use Rattle.cp_resolved.proofs.inside.PlainInside.{expression_in, set_in}
 
@@ -36,9 +37,6 @@ module _ (C : code.ComponentPlace → ℕ → Type 0) (here : Here) (r : Routine
 
   pub fits_as : (x z : Formed) → Some x ≡ Some z → ValueFits x → ValueFits z
   fits_as x z e h = subst ValueFits (same_inside x z e) h
-
-  pub both_in : (a b : Bool) → a ≡ true → b ≡ true → (a && b) ≡ true
-  both_in a b h i = ap (λ x. x && b) h ∙ i
 
   -- ---- variables
 

@@ -12,6 +12,7 @@ use Rattle.cp_resolved.specs.Headed.{IsNoComponent, AreNumbered, AreHanded}
 use Rattle.cp_resolved.specs.Meant.{IsCell, IsQueue, IsCounter, Assigns, Calls, Starts, Means}
 use Rattle.cp_resolved.proofs.inside.InsideArguments.{ParametersFit, Leads, given_inside, given_binds, given_plain, given_handed}
 use Rattle.cp_resolved.proofs.inside.InsideExpressions.{VariablesFit, begun_fits, expression_fits, designated_fits}
+use Rattle.cp_resolved.proofs.declarations.StandingParts.{both_of as both}
 use Rattle.cp_resolved.proofs.inside.InsideForms.{FormFits}
 use Rattle.cp_resolved.proofs.inside.InsidePlaces.{HasCells, PlaceFits, has_place}
 use Rattle.cp_resolved.proofs.inside.PlainActions.{component_in, arguments_in, binds_in, action_in, PlainNames, PlainStays, PlainHands, PlainActionNames}
@@ -47,9 +48,6 @@ AssignedIn r (code.copy_cells p q size) = (has size (place_in r q) ≡ true) × 
 AssignedIn r a = Unit {0}
 
 module _ (t : Tables) (h : Here) (r : RoutineView) (P : ℕ → Type 0) (v : VariablesFit (Leads t h r P) h r) (cells : (x : Name) (u : Ty) → look x (frame_here h).variables ≡ Some u → cell_named (frame_here h) x + cells_of u ≤ length r.image) (callees : (number : ℕ) → number < length t.routines → CalleeFits t h number) (starts : (k : ℕ) → P k → StartFits t h k) where
-  both : (a b : Bool) → a ≡ true → b ≡ true → (a && b) ≡ true
-  both a b e i = ap (λ x. x && b) e ∙ i
-
   cell_inside : (c : code.OrdinalExpression) → IsCell h c → expression_in r c ≡ true
   cell_inside c m = (expression_fits (Leads t h r P) h r v m.expression _ m.held m.formed).0
 

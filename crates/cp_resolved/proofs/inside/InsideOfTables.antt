@@ -61,11 +61,7 @@ module _ (r : RoutineView) where
   parameter_fits : (f : FrameLayout) (m : RoutineMeaning) (q : Parameter) (b : Bool) (u : Ty) → FrameIs f r m → (b ≡ true → look q.name f.references ≡ Some u) → (b ≡ false → look q.name f.variables ≡ Some u) → SlotFits r (length r.image) (cell_named f q.name) b u
   parameter_fits f m q true u i e g = (i.numbered q.name u (e refl)).1
   parameter_fits f m q false (named.component_of k) i e g = tt
-  parameter_fits f m q false (named.ordinal s) i e g = i.cells q.name (named.ordinal s) (g refl)
-  parameter_fits f m q false named.queue_type i e g = i.cells q.name named.queue_type (g refl)
-  parameter_fits f m q false (named.set_over s) i e g = i.cells q.name (named.set_over s) (g refl)
-  parameter_fits f m q false (named.array_over s w) i e g = i.cells q.name (named.array_over s w) (g refl)
-  parameter_fits f m q false (named.record_with us) i e g = i.cells q.name (named.record_with us) (g refl)
+  parameter_fits f m q false t i e g = i.cells q.name t (g refl)
 
   parameters_fit : (f : FrameLayout) (m : RoutineMeaning) (qs : List Parameter) → FrameIs f r m → ParametersAre f qs → ParametersFit r (length r.image) (cell_named f) qs
   parameters_fit f m [] i h = tt
@@ -74,11 +70,7 @@ module _ (r : RoutineView) where
   -- and so have those of a system type, where none is a `var` parameter
   entrance_fits : (extent : ℕ) (s : SystemLayout) (x : Name) (u : Ty) → ((y : Name) (w : Ty) → look y s.variables ≡ Some w → s.slots y + cells_of w ≤ extent) → SystemParameterIs s u x → SlotFits r extent (s.slots x) false u
   entrance_fits extent s x (named.component_of k) c h = tt
-  entrance_fits extent s x (named.ordinal q) c h = c x (named.ordinal q) h
-  entrance_fits extent s x named.queue_type c h = c x named.queue_type h
-  entrance_fits extent s x (named.set_over q) c h = c x (named.set_over q) h
-  entrance_fits extent s x (named.array_over q w) c h = c x (named.array_over q w) h
-  entrance_fits extent s x (named.record_with us) c h = c x (named.record_with us) h
+  entrance_fits extent s x t c h = c x t h
 
   entrances_fit : (extent : ℕ) (s : SystemLayout) (qs : List Parameter) → ((y : Name) (w : Ty) → look y s.variables ≡ Some w → s.slots y + cells_of w ≤ extent) → SystemParametersAre s qs → Each (λ (q : Parameter). q.is_var ≡ false) qs → ParametersFit r extent s.slots qs
   entrances_fit extent s [] c h v = tt

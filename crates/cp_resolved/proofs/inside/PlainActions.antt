@@ -17,10 +17,8 @@ use Rattle.cp_resolved.proofs.inside.PlainInside.{expression_in, set_in, place_i
 -- ---- inside
 
 abbrev pub component_in : RoutineView → code.ComponentPlace → Bool
-component_in r code.own = true
-component_in r (code.contained n) = true
 component_in r (code.element first low high stride e) = expression_in r e
-component_in r (code.parameter slot) = true
+component_in r _ = true
 
 abbrev pub argument_in : (caller callee : RoutineView) → (extent slot : ℕ) → code.ArgumentValue → Bool
 argument_in r callee extent slot (code.scalar e low high) = expression_in r e && is_within slot 1 extent
@@ -35,33 +33,28 @@ arguments_in r callee extent (x ∷ xs) = argument_in r callee extent x.slot x.v
 
 abbrev pub follows_in : code.ArgumentValue → (count slot next : ℕ) → Option ℕ
 follows_in (code.reference p) count slot next = if nat_lt next count && slot == next then Some (next + 1) else None
-follows_in (code.scalar e low high) count slot next = Some next
-follows_in (code.set e low high) count slot next = Some next
-follows_in (code.copy p size) count slot next = Some next
-follows_in (code.component_of c) count slot next = Some next
+follows_in _ count slot next = Some next
 
 abbrev pub binds_in : (count next : ℕ) → List code.Argument → Bool
 binds_in count next [] = next == count
 binds_in count next (x ∷ xs) = binds_on (follows_in x.value count x.slot next) (λ further. binds_in count further xs)
 
 abbrev pub action_in : Tables → RoutineView → code.Action → Bool
-action_in t r code.nothing = true
 action_in t r (code.assign p e low high) = expression_in r e && has 1 (place_in r p)
 action_in t r (code.assign_set p e low high) = set_in r e && has SET_CELLS (place_in r p)
 action_in t r (code.copy_cells p q size) = has size (place_in r q) && has size (place_in r p)
-action_in t r (code.block list) = true
 action_in t r (code.choose e list other) = expression_in r e
 action_in t r (code.select e arms) = expression_in r e
 action_in t r (code.while_do e list again) = expression_in r e
 action_in t r (code.until e list again) = expression_in r e
 action_in t r (code.for_do variable low high from to down list) = has 1 (room_from r variable) && (expression_in r from && expression_in r to)
-action_in t r (code.cycle list) = true
 action_in t r (code.call callee part is_entry xs result) =
     component_in r part && (arguments_in r (routine_at t callee) (length (routine_at t callee).image) xs && (binds_in (length (routine_at t callee).extents) 0 xs && result_inside r (routine_at t callee) result))
 action_in t r (code.start part callee xs) = component_in r part && (arguments_in r (routine_at t callee) (routine_at t callee).own xs && binds_in (length (routine_at t callee).extents) 0 xs)
 action_in t r (code.delay p) = has 1 (place_in r p)
 action_in t r (code.continue_at p) = has 1 (place_in r p)
 action_in t r (code.display e kind) = expression_in r e
+action_in t r _ = true
 
 component_views : (r : RoutineView) (c : code_component.ComponentPlace) → component_inside r c ≡ component_in r (code.component_seen c)
 component_views r (component.Element first low high stride e) = expression_views r e.value
@@ -119,10 +112,7 @@ PlainNames t system (code.parameter slot) named = (number : ℕ) × (number < pa
 abbrev pub PlainOne : Tables → (system started : ℕ) → code.ArgumentValue → (slot next : ℕ) → (ℕ → Type 0) → Type 0
 PlainOne t system started (code.component_of c) slot next others =
     (next < parameter_count t started) × (slot ≡ (parameter_at t started next).slot) × PlainNames t system c (parameter_at t started next).system × others (next + 1)
-PlainOne t system started (code.scalar e low high) slot next others = others next
-PlainOne t system started (code.set e low high) slot next others = others next
-PlainOne t system started (code.copy p size) slot next others = others next
-PlainOne t system started (code.reference p) slot next others = others next
+PlainOne t system started _ slot next others = others next
 
 abbrev pub PlainHands : Tables → (system started : ℕ) → (next : ℕ) → List code.Argument → Type 0
 PlainHands t system started next [] = next ≡ parameter_count t started
@@ -130,10 +120,7 @@ PlainHands t system started next (x ∷ xs) = PlainOne t system started x.value 
 
 abbrev pub IsNoComponent : code.ArgumentValue → Type 0
 IsNoComponent (code.component_of c) = ⊥
-IsNoComponent (code.scalar e low high) = Unit {0}
-IsNoComponent (code.set e low high) = Unit {0}
-IsNoComponent (code.copy p size) = Unit {0}
-IsNoComponent (code.reference p) = Unit {0}
+IsNoComponent _ = Unit {0}
 
 abbrev pub PlainNone : List code.Argument → Type 0
 PlainNone [] = Unit {0}
@@ -146,20 +133,7 @@ PlainStays false c = c ≡ code.own
 abbrev pub PlainActionNames : Tables → (system : ℕ) → code.Action → Type 0
 PlainActionNames t system (code.call callee part is_entry xs result) = PlainNames t system part (routine_at t callee).system × PlainStays is_entry part × PlainNone xs
 PlainActionNames t system (code.start part callee xs) = PlainNames t system part (routine_at t callee).system × PlainHands t system (routine_at t callee).system 0 xs × ((routine_at t callee).references ≡ 0)
-PlainActionNames t system code.nothing = Unit {0}
-PlainActionNames t system (code.assign p e low high) = Unit {0}
-PlainActionNames t system (code.assign_set p e low high) = Unit {0}
-PlainActionNames t system (code.copy_cells p q size) = Unit {0}
-PlainActionNames t system (code.block list) = Unit {0}
-PlainActionNames t system (code.choose e list other) = Unit {0}
-PlainActionNames t system (code.select e arms) = Unit {0}
-PlainActionNames t system (code.while_do e list again) = Unit {0}
-PlainActionNames t system (code.until e list again) = Unit {0}
-PlainActionNames t system (code.for_do v low high from to down list) = Unit {0}
-PlainActionNames t system (code.cycle list) = Unit {0}
-PlainActionNames t system (code.delay p) = Unit {0}
-PlainActionNames t system (code.continue_at p) = Unit {0}
-PlainActionNames t system (code.display e kind) = Unit {0}
+PlainActionNames t system _ = Unit {0}
 
 module _ (t : Tables) where
   names_seen : (system : ℕ) (c : code_component.ComponentPlace) (named : ℕ) → PlainNames t system (code.component_seen c) named → Names t system c named

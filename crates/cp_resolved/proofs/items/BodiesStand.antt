@@ -22,9 +22,8 @@ use Rattle.cp_resolved.proofs.frames.FrameCells.{itself}
 -- ---- temporary names are variables of the frame
 
 abbrev second : List ℕ → ℕ
-second [] = 0
-second (c ∷ []) = 0
 second (c ∷ at ∷ cs) = at
+second _ = 0
 
 other_temporary : (n at : ℕ) → (n == at) ≡ false → same_name (temporary at) (temporary n) ≡ false
 other_temporary n at h = go (same_name (temporary at) (temporary n)) refl

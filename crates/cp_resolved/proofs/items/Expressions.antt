@@ -76,8 +76,7 @@ Parts n (a_component c k) = k ≡ n
 -- a component's routine is not named in the middle
 abbrev pub NoEntry : Designated → syntax.Selectors → Type 0
 NoEntry (a_variable p t) ss = Unit {0}
-NoEntry (some_components first r k) ss = last_field ss ≡ None
-NoEntry (a_component c k) ss = last_field ss ≡ None
+NoEntry _ ss = last_field ss ≡ None
 
 pub no_entry : (d : Designated) (ss : syntax.Selectors) → last_field ss ≡ None → NoEntry d ss
 no_entry (a_variable p t) ss e = tt

@@ -1,10 +1,11 @@
 -- The items that are laid out of a statement mean something: the calls in it, and its own item.
 use Rattle.std.proofs.Common.{◌≡◌, ℕ, List, [], ◌∷◌, ◌++◌, length, Option, Some, refl, sym, ap, subst, ◌∙◌, append-nil, append_assoc}
 use Rattle.cp_slots.specs.Code as code
-use Rattle.cp_resolved.proofs.Words.{Layer, Pending, added, without_pending, settled_all, temporary, Item, function_call, Here, Ground, Calls, Means}
+use Rattle.cp_resolved.proofs.Words.{Each, Layer, Pending, added, without_pending, settled_all, temporary, Item, function_call, Here, Ground, Calls, Means}
 use Rattle.cp_resolved.proofs.items.Going.{CallPending, PendingAre, Goes}
 use Rattle.cp_resolved.proofs.laid.Kept.{Kept}
 use Rattle.cp_resolved.proofs.laid.SettledItems.{made, ended}
+use Rattle.cp_resolved.proofs.frames.FrameCells.{each_both}
 
 -- an item of the routine of this number
 pub record IsMeant (h : Here) (n : ℕ) (i : code.Item) : Type 0 where
@@ -12,12 +13,7 @@ pub record IsMeant (h : Here) (n : ℕ) (i : code.Item) : Type 0 where
   pub routine : i.routine ≡ n
 
 abbrev pub AreMeant : Here → ℕ → List code.Item → Type 0
-AreMeant h n [] = Unit {0}
-AreMeant h n (i ∷ is) = IsMeant h n i × AreMeant h n is
-
-meant_both : (h : Here) (n : ℕ) (is js : List code.Item) → AreMeant h n is → AreMeant h n js → AreMeant h n (is ++ js)
-meant_both h n [] js a b = b
-meant_both h n (i ∷ is) js a b = (a.0, meant_both h n is js a.1 b)
+AreMeant h n is = Each (IsMeant h n) is
 
 -- the items of a state after those of an earlier one
 pub record NewItems (h : Here) (l m : Layer) : Type 0 where
@@ -35,18 +31,13 @@ both_new h l m o a b =
       new = a.new ++ b.new;
       same = b.same ∙ ap (λ is. is ++ b.new) a.same ∙ append_assoc l.items a.new b.new;
       routines = b.routines ∙ a.routines;
-      meant = meant_both h (length l.routines) a.new b.new a.meant (subst (λ n. AreMeant h n b.new) (ap (λ rs. length rs) a.routines) b.meant);
+      meant = each_both (IsMeant h (length l.routines)) a.new b.new a.meant (subst (λ n. AreMeant h n b.new) (ap (λ rs. length rs) a.routines) b.meant);
     }
 
 -- ---- what is to come
 
 abbrev AllMean : Here → List Pending → Type 0
-AllMean h [] = Unit {0}
-AllMean h (p ∷ ps) = Means h p.action × AllMean h ps
-
-all_both : (h : Here) (ps qs : List Pending) → AllMean h ps → AllMean h qs → AllMean h (ps ++ qs)
-all_both h [] qs a b = b
-all_both h (p ∷ ps) qs a b = (a.0, all_both h ps qs a.1 b)
+AllMean h ps = Each (λ (p : Pending). Means h p.action) ps
 
 pending_mean : (lines : List ℕ) (h : Here) (ps : List Pending) (is : List Item) → PendingAre lines h ps is → AllMean h ps
 pending_mean lines h [] [] a = tt
@@ -69,6 +60,6 @@ ended_new g h l m is at a need next none s i x =
     let j : Layer = added m at a need in
     let z : Layer = without_pending j in
     let own : Pending = record { action = a; line = _; need = need } in
-    let ps : AllMean h j.pending = all_both h m.pending (own ∷ []) (subst (AllMean h) (sym (i.pending ∙ ap (λ ps. ps ++ i.new) none)) (pending_mean g.lines h i.new is i.stand)) (x, tt) in
+    let ps : AllMean h j.pending = each_both (λ (p : Pending). Means h p.action) m.pending (own ∷ []) (subst (AllMean h) (sym (i.pending ∙ ap (λ ps. ps ++ i.new) none)) (pending_mean g.lines h i.new is i.stand)) (x, tt) in
     let n : NewItems h z (ended g h m at a need next).1 = all_new h z j.pending next ps in
     both_new h l z (ended g h m at a need next).1 (record { new = []; same = ap (λ (k : Layer). k.items) s ∙ sym (append-nil l.items); routines = ap (λ (k : Layer). k.routines) s; meant = tt }) n

@@ -1,18 +1,20 @@
 -- What the calls in an expression need: each is an item whose callee is there, and the frame that is laid out has room for it.
-use Rattle.std.proofs.Common.{◌≡◌, ℕ, ◌+◌, ◌*◌, ◌<◌, ◌≤◌, Bool, true, false, List, [], ◌∷◌, ◌++◌, length, Option, Some, None, slice_get, slice_index, refl, sym, ap, subst, ◌∙◌, ◌⊎◌, inl, inr, append_assoc, append-nil, arith, length-append}
-use Rattle.cp_resolved.proofs.Words.{slice_get_within, FunctionResult, plus, RoutineView}
+use Rattle.std.proofs.Common.{◌≡◌, ℕ, ◌+◌, ◌*◌, ◌<◌, ◌≤◌, Bool, List, [], ◌∷◌, ◌++◌, length, Option, Some, None, slice_get, slice_index, refl, sym, ap, subst, ◌∙◌, ◌⊎◌, inl, inr, append_assoc, append-nil, arith, length-append}
+use Rattle.cp_resolved.proofs.Words.{Each, slice_get_within, plus, RoutineView}
 use Rattle.cp_tree.specs.Syntax as syntax
 use Rattle.cp_slots.specs.Code as code
-use Rattle.cp_slots.specs.Code.{SetExpression, ComponentPlace, Argument, Arm, Action, Item}
-use Rattle.cp_layout.specs.Values.{Value, Designated, a_routine, an_entry, a_standard, ordinal_of, multiplied, added}
+use Rattle.cp_slots.specs.Code.{ComponentPlace, Argument, Arm, Action, Item}
+use Rattle.cp_layout.specs.Values.{Designated, a_routine, an_entry, ordinal_of}
 use Rattle.cp_layout.specs.Layers as layers
-use Rattle.cp_layout.specs.Layers.{Layer, Frame, Pending, with_cell, with_room, frame_with, body_of, call_need, need_of, need_inside, item_need, result_of}
-use Rattle.cp_layout.specs.LaidExpressions.{expression, sum, more_terms, term, more_factors, factor, elements, first_value, arguments_from, designator, selectors, selector, begun, signed, element_selected, with_count, counted, called, function_as, named_as}
+use Rattle.cp_layout.specs.Layers.{Layer, Frame, Pending, with_cell, with_room, frame_with, body_of, call_need, need_of, need_inside, item_need}
+use Rattle.cp_layout.specs.LaidExpressions.{expression, designator, selectors, selector, begun, element_selected, with_count}
 use Rattle.cp_resolved.proofs.names.Entries.{not_there, past_there}
 use Rattle.cp_resolved.proofs.laid.Fitting.{ListFits, list_longer, need_longer}
 use Rattle.cp_resolved.proofs.laid.Grown.{Grew, grew_trans, kept_grew}
 use Rattle.cp_resolved.proofs.laid.Kept.{Kept, kept_trans, expression_kept, selector_kept}
 use Rattle.cp_resolved.proofs.laid.Named.{Named, DesignatedIn, begun_there, field_there, element_there}
+use Rattle.cp_resolved.proofs.laid.Walked.{IsCallee, CallSteps, never, expression_walked}
+use Rattle.cp_resolved.proofs.frames.FrameCells.{each_both}
 
 -- ---- what an action needs
 
@@ -65,8 +67,7 @@ pub record PendingFits (l : Layer) (routine : ℕ) (p : Pending) : Type 0 where
   pub bound : p.need ≤ 2 * length l.items + 2
 
 abbrev pub AllFit : Layer → (routine : ℕ) → List Pending → Type 0
-AllFit l routine [] = Unit {0}
-AllFit l routine (p ∷ ps) = PendingFits l routine p × AllFit l routine ps
+AllFit l routine ps = Each (PendingFits l routine) ps
 
 -- ---- kept while the tables grow
 
@@ -150,10 +151,6 @@ all_onward l m r (p ∷ ps) o h =
     let e : length m.items ≡ length l.items + length o.grew.0 = ap (λ (is : List Item). length is) (onward_items l m o) ∙ length-append l.items o.grew.0 in
     (record { action = action_onward l m r p.need p.need p.action (omega arith) o h.0.action; plain = h.0.plain; bound = omega (arith, b, e) }, all_onward l m r ps o h.1)
 
-pub all_append : (l : Layer) (r : ℕ) (ps qs : List Pending) → AllFit l r ps → AllFit l r qs → AllFit l r (ps ++ qs)
-all_append l r [] qs h g = g
-all_append l r (p ∷ ps) qs h g = (h.0, all_append l r ps qs h.1 g)
-
 -- ---- what an expression does
 
 pub record Ran (l m : Layer) : Type 0 where
@@ -184,7 +181,7 @@ ran_trans l k m h i =
       arguments = o.arguments;
       more = h.more ++ i.more;
       pending = i.pending ∙ ap (λ (ps : List Pending). ps ++ i.more) h.pending ∙ append_assoc l.pending h.more i.more;
-      calls = all_append m (length l.routines) h.more i.more (all_onward k m (length l.routines) h.more (ran_onward k m i) h.calls) (subst (λ r. AllFit m r i.more) e i.calls);
+      calls = each_both (PendingFits m (length l.routines)) h.more i.more (all_onward k m (length l.routines) h.more (ran_onward k m i) h.calls) (subst (λ r. AllFit m r i.more) e i.calls);
     }
 
 -- ---- what stands while an expression is laid out
@@ -212,7 +209,7 @@ need_bounded is r n (Some at) g h =
 pub designated_kept : (l m : Layer) (d : Designated) → Kept l m → DesignatedIn l d → DesignatedIn m d
 designated_kept l m d h g = subst (λ (j : Layer). DesignatedIn j d) (sym h) g
 
-designated_back : (l m : Layer) (d : Designated) → Kept l m → DesignatedIn m d → DesignatedIn l d
+pub designated_back : (l m : Layer) (d : Designated) → Kept l m → DesignatedIn m d → DesignatedIn l d
 designated_back l m d h g = subst (λ (j : Layer). DesignatedIn j d) h g
 
 -- ---- one call
@@ -265,30 +262,15 @@ call_step l at r a count fits plain le c g =
 cell_ran : (l : Layer) → Ran l (with_cell l)
 cell_ran l = record { kept = refl; extents = refl; room = omega arith; reference_room = omega arith; arguments = omega arith; more = []; pending = sym (append-nil l.pending); calls = tt }
 
-pub count_ran : (l : Layer) (n : ℕ) → Ran l (with_count l n)
+count_ran : (l : Layer) (n : ℕ) → Ran l (with_count l n)
 count_ran l n = record { kept = refl; extents = refl; room = omega arith; reference_room = omega arith; arguments = omega arith; more = []; pending = sym (append-nil l.pending); calls = tt }
 
-called_ran : (l : Layer) (at : ℕ) (c : ComponentPlace) (b : Bool) (r : ℕ) (x : FunctionResult) (as' : List Argument) → r ≤ length l.routines → length as' ≤ l.arguments → Ground l → Ran l (called l at c b r x as').1
-called_ran l at c b r x as' le n g =
+called_ran : (l : Layer) (at : ℕ) (c : ComponentPlace) (b : Bool) (r : ℕ) (as' : List Argument) → r ≤ length l.routines → length as' ≤ l.arguments → Ground l
+    → Ran l (layers.added (with_room (with_cell l) r) at (code.call r c b as' (Some (length l.frame.image))) (call_need (with_cell l) r))
+called_ran l at c b r as' le n g =
     let k : Layer = with_cell l in
-    ran_trans l k (called l at c b r x as').1 (cell_ran l) (call_step k at r (code.call r c b as' (Some (length l.frame.image))) (length as') (λ m routine need h. h) tt le n (ground_kept l k refl g))
-
-function_ran : (l : Layer) (at : ℕ) (c : ComponentPlace) (b : Bool) (r : ℕ) (o : Option FunctionResult) (arguments : Layer → ℕ → List Argument × Layer)
-    → ((m : Layer) (k : ℕ) → Ground m → Ran m (arguments m k).1) → r ≤ length l.routines → Ground l → Ran l (function_as l at c b r o arguments).1
-function_ran l at c b r None arguments h le g = ran_same l
-function_ran l at c b r (Some x) arguments h le g =
-    let y : List Argument × Layer = arguments l r in
-    let m : Layer = (counted y).1 in
-    let q : Ran l m = ran_trans l y.1 m (h l r g) (count_ran y.1 (length y.0)) in
-    let e : length m.routines ≡ length l.routines = ap (λ (j : Layer). length j.routines) q.kept in
-    ran_trans l m (called m at c b r x y.0).1 q (called_ran m at c b r x y.0 (omega (arith, le, e)) (omega arith) (ground_kept l m q.kept g))
-
-named_ran : (l : Layer) (at : ℕ) (d : Designated) (first : Layer → Value × Layer) (arguments : Layer → ℕ → List Argument × Layer)
-    → ((m : Layer) → Ground m → Ran m (first m).1) → ((m : Layer) (k : ℕ) → Ground m → Ran m (arguments m k).1) → DesignatedIn l d → Ground l → Ran l (named_as l at d first arguments).1
-named_ran l at (a_routine r) first arguments f h d g = function_ran l at code.own false r (result_of l r) arguments h d g
-named_ran l at (an_entry c r) first arguments f h d g = function_ran l at c true r (result_of l r) arguments h (omega (arith, d)) g
-named_ran l at (a_standard s) first arguments f h d g = f l g
-named_ran l at _ first arguments f h d g = ran_same l
+    let a : Action = code.call r c b as' (Some (length l.frame.image)) in
+    ran_trans l k (layers.added (with_room k r) at a (call_need k r)) (cell_ran l) (call_step k at r a (length as') (λ m routine need h. h) tt le n (ground_kept l k refl g))
 
 -- ---- designators
 
@@ -317,58 +299,21 @@ designator_there l (syntax.designator i ss) n = selectors_there l (begun l i.nam
 pub then_ran : (l k m : Layer) → Ran l k → (Ground k → Ran k m) → Ground l → Ran l m
 then_ran l k m h f g = ran_trans l k m h (f (ground_kept l k h.kept g))
 
-mutual
-  unfolding expression sum more_terms term more_factors factor elements first_value arguments_from designator selectors selector
+callee_is : (l : Layer) (d : Designated) → DesignatedIn l d → IsCallee (λ r. r ≤ length l.routines) d
+callee_is l (a_routine r) h = h
+callee_is l (an_entry c r) h = omega arith
+callee_is l _ h = tt
 
-  pub expression_ran : (l : Layer) (e : syntax.Expression) → Ground l → Ran l (expression l e).1
-  expression_ran l (syntax.alone at a) g = sum_ran l a g
-  expression_ran l (syntax.related at a r b) g = then_ran l (sum l a).1 (sum (sum l a).1 b).1 (sum_ran l a g) (sum_ran (sum l a).1 b) g
+pub still_below : (l m : Layer) (r : ℕ) → Ran l m → r ≤ length l.routines → r ≤ length m.routines
+still_below l m r h le = let e : length m.routines ≡ length l.routines = ap (λ (j : Layer). length j.routines) h.kept in omega (arith, e, le)
 
-  sum_ran : (l : Layer) (s : syntax.Sum) → Ground l → Ran l (sum l s).1
-  sum_ran l (syntax.sum at o t ts) g = then_ran l (term l t).1 (more_terms (term l t).1 (signed o (term l t).0) ts).1 (term_ran l t g) (more_terms_ran (term l t).1 (signed o (term l t).0) ts) g
+pub ran_calls : (l : Layer) → Ground l → CallSteps (Ran l) (λ r. r ≤ length l.routines) ⊥ (λ x. ⊥)
+ran_calls l g =
+    record {
+      callee = λ m d h b. callee_is l (designator m d).0 (designated_back l m (designator m d).0 h.kept (designator_there m d (named_kept l m h.kept g.named)));
+      counts = λ m k h. ran_trans l m (with_count m k) h (count_ran m k);
+      call = λ m r at c b as' i e h. ran_trans l m (layers.added (with_room (with_cell m) r) at (code.call r c b as' (Some (length m.frame.image))) (call_need (with_cell m) r)) h (called_ran m at c b r as' (still_below l m r h i) e (ground_kept l m h.kept g));
+    }
 
-  more_terms_ran : (l : Layer) (v : Value) (ts : syntax.Terms) → Ground l → Ran l (more_terms l v ts).1
-  more_terms_ran l v syntax.no_terms g = ran_same l
-  more_terms_ran l v (syntax.more_terms a t ts) g = then_ran l (term l t).1 (more_terms (term l t).1 (added a v (term l t).0) ts).1 (term_ran l t g) (more_terms_ran (term l t).1 (added a v (term l t).0) ts) g
-
-  term_ran : (l : Layer) (t : syntax.Term) → Ground l → Ran l (term l t).1
-  term_ran l (syntax.term at f fs) g = then_ran l (factor l f).1 (more_factors (factor l f).1 (factor l f).0 fs).1 (factor_ran l f g) (more_factors_ran (factor l f).1 (factor l f).0 fs) g
-
-  more_factors_ran : (l : Layer) (v : Value) (fs : syntax.Factors) → Ground l → Ran l (more_factors l v fs).1
-  more_factors_ran l v syntax.no_factors g = ran_same l
-  more_factors_ran l v (syntax.more_factors a f fs) g = then_ran l (factor l f).1 (more_factors (factor l f).1 (multiplied a v (factor l f).0) fs).1 (factor_ran l f g) (more_factors_ran (factor l f).1 (multiplied a v (factor l f).0) fs) g
-
-  factor_ran : (l : Layer) (f : syntax.Factor) → Ground l → Ran l (factor l f).1
-  factor_ran l (syntax.named at d es) g =
-      let x : Designated × Layer = designator l d in
-      let q : Ran l x.1 = designator_ran l d g in
-      ran_trans l x.1 (named_as x.1 at x.0 (λ n. first_value n es) (λ n r. arguments_from n r 0 es)).1 q
-      (named_ran x.1 at x.0 (λ n. first_value n es) (λ n r. arguments_from n r 0 es) (λ n. first_ran n es) (λ n r. arguments_ran n r 0 es) (designated_kept l x.1 x.0 q.kept (designator_there l d g.named)) (ground_kept l x.1 q.kept g))
-  factor_ran l (syntax.group at e) g = expression_ran l e g
-  factor_ran l (syntax.negated at f) g = factor_ran l f g
-  factor_ran l (syntax.set_of at es) g = elements_ran l code.empty_set es g
-  factor_ran l _ g = ran_same l
-
-  elements_ran : (l : Layer) (s : SetExpression) (es : syntax.Expressions) → Ground l → Ran l (elements l s es).1
-  elements_ran l s syntax.no_expressions g = ran_same l
-  elements_ran l s (syntax.more_expressions e es) g =
-      then_ran l (expression l e).1 (elements (expression l e).1 (code.with_element s (ordinal_of (expression l e).0)) es).1 (expression_ran l e g) (elements_ran (expression l e).1 (code.with_element s (ordinal_of (expression l e).0)) es) g
-
-  pub first_ran : (l : Layer) (es : syntax.Expressions) → Ground l → Ran l (first_value l es).1
-  first_ran l syntax.no_expressions g = ran_same l
-  first_ran l (syntax.more_expressions e es) g = expression_ran l e g
-
-  pub arguments_ran : (l : Layer) (r n : ℕ) (es : syntax.Expressions) → Ground l → Ran l (arguments_from l r n es).1
-  arguments_ran l r n syntax.no_expressions g = ran_same l
-  arguments_ran l r n (syntax.more_expressions e es) g = then_ran l (expression l e).1 (arguments_from (expression l e).1 r (n + 1) es).1 (expression_ran l e g) (arguments_ran (expression l e).1 r (n + 1) es) g
-
-  pub designator_ran : (l : Layer) (d : syntax.Designator) → Ground l → Ran l (designator l d).1
-  designator_ran l (syntax.designator i ss) g = selectors_ran l (begun l i.name) ss g
-
-  selectors_ran : (l : Layer) (d : Designated) (ss : syntax.Selectors) → Ground l → Ran l (selectors l d ss).1
-  selectors_ran l d syntax.no_selectors g = ran_same l
-  selectors_ran l d (syntax.more_selectors s ss) g = then_ran l (selector l d s).1 (selectors (selector l d s).1 (selector l d s).0 ss).1 (selector_ran l d s g) (selectors_ran (selector l d s).1 (selector l d s).0 ss) g
-
-  selector_ran : (l : Layer) (d : Designated) (s : syntax.Selector) → Ground l → Ran l (selector l d s).1
-  selector_ran l d (syntax.field i) g = ran_same l
-  selector_ran l d (syntax.index e) g = expression_ran l e g
+pub expression_ran : (l : Layer) (e : syntax.Expression) → Ground l → Ran l (expression l e).1
+expression_ran l e g = expression_walked (ran_calls l g) l e (ran_same l) never

@@ -1,21 +1,22 @@
 -- All statements: their items have what they need.
-use Rattle.std.proofs.Common.{◌≡◌, ℕ, ◌+◌, ◌*◌, ◌<◌, ◌≤◌, max, Bool, false, List, [], ◌∷◌, length, Option, Some, None, slice_index, refl, sym, ap, subst, arith}
+use Rattle.std.proofs.Common.{◌≡◌, ℕ, ◌+◌, ◌*◌, ◌≤◌, max, List, [], ◌∷◌, length, Option, None, slice_index, refl, ap, arith}
 use Rattle.cp_resolved.proofs.Words.{Direction, CellType, PredeclaredRoutine, Layer, Pending, settled, added, again, need_of, need_inside, call_need, with_room}
 use Rattle.cp_tree.specs.Syntax as syntax
 use Rattle.cp_symbols.specs.declared.kinds.CellType.TheVariants as types
 use Rattle.cp_symbols.specs.declared.names.PredeclaredRoutine.TheVariants as predeclared
 use Rattle.cp_slots.specs.Code as code
-use Rattle.cp_slots.specs.Code.{Action, Arm, Argument, ComponentPlace, Place}
-use Rattle.cp_layout.specs.Values.{Value, Designated, a_component, a_routine, an_entry, ordinal_of}
-use Rattle.cp_layout.specs.LaidExpressions.{expression, designator, first_value, arguments, arguments_from, counted, name_at}
-use Rattle.cp_layout.specs.LaidStatements.{target_of, assignment, assigned_as, assigned, invoked, invoked_as, Callee, a_standard_procedure, a_procedure, no_callee, callee_of, performed, standard, procedure, chosen, selected, arms_need, while_item, until_item, for_item, blocked, cycled, repeated, Placed, placed_of, begun_component, started_as, started, starts, initial_of, statement, statements, arms, one_arm, token_of}
-use Rattle.cp_resolved.proofs.laid.Calling.{ActionFits, ArmsFit, IsNoLoop, Onward, onward_trans, onward_items, onward_routines, action_onward, Ran, ran_trans, then_ran, count_ran, call_step, Ground, ground_kept, designated_kept, expression_ran, first_ran, arguments_ran, designator_ran, designator_there}
+use Rattle.cp_slots.specs.Code.{Action, Arm, Place}
+use Rattle.cp_layout.specs.Values.{Value, Designated, a_component, ordinal_of}
+use Rattle.cp_layout.specs.LaidExpressions.{expression, designator}
+use Rattle.cp_layout.specs.LaidStatements.{assigned_as, assigned, invoked, performed, chosen, selected, arms_need, while_item, until_item, for_item, blocked, cycled, repeated, placed_of, started, starts, statement, statements, arms, one_arm, token_of}
+use Rattle.cp_resolved.proofs.laid.Calling.{ActionFits, ArmsFit, CallFits, IsNoLoop, Onward, onward_trans, onward_items, onward_routines, action_onward, Ran, ran_same, ran_trans, then_ran, call_step, Ground, ground_kept, designated_kept, designated_back, expression_ran, ran_calls, still_below, designator_there}
 use Rattle.cp_resolved.proofs.laid.Fitted.{Result, moved, alone, own_settled, loop_settled, inside_bounded, list_kept, onward_same, plain_settled as own_item}
 use Rattle.cp_resolved.proofs.laid.Fitting.{ListFits, list_longer, need_longer}
 use Rattle.cp_resolved.proofs.laid.Grown.{kept_grew}
 use Rattle.cp_resolved.proofs.laid.Kept.{Kept}
-use Rattle.cp_resolved.proofs.laid.Named.{DesignatedIn, initial_below}
+use Rattle.cp_resolved.proofs.laid.Named.{Named, DesignatedIn, initial_below}
 use Rattle.cp_resolved.proofs.laid.Settled.{Fitted}
+use Rattle.cp_resolved.proofs.laid.Walked.{IsBegun, ItemSteps, never, assigned_walked, invoked_walked, started_walked}
 
 -- ---- own items
 
@@ -39,85 +40,28 @@ assigned_fits : (l m : Layer) (r : ℕ) (p : Place) (v : Value) (t : CellType) �
 assigned_fits l m r p v (types.Ordinal q) = (tt, tt)
 assigned_fits l m r p v _ = (tt, tt)
 
-assigned_ran : (l : Layer) (at : ℕ) (d : syntax.Designator) (e : syntax.Expression) → Ground l → Ran l (assigned l at d e)
-unfolding assigned
-assigned_ran l at d e g =
-    let x = designator l d in
-    let y = expression x.1 e in
-    let t = target_of x.1 x.0 in
-    let h = assigned_fits y.1 y.1 (length y.1.routines) t.place y.0 t.value_type in
-    ran_trans l y.1 (assigned l at d e) (then_ran l x.1 y.1 (designator_ran l d g) (expression_ran x.1 e) g) (added_ran y.1 at (assignment y.1 t y.0) 0 h.0 h.1 (omega arith))
-
 performed_fits : (m : Layer) (r : ℕ) (p : PredeclaredRoutine) (v : Value) → ActionFits m r 0 (performed p v) × IsNoLoop (performed p v)
 performed_fits m r predeclared.Delay v = (tt, tt)
 performed_fits m r _ v = (tt, tt)
 
-standard_ran : (l : Layer) (at : ℕ) (p : PredeclaredRoutine) (es : syntax.Expressions) → Ground l → Ran l (standard l at p es)
-unfolding standard
-standard_ran l at p es g =
-    let x = first_value l es in
-    let h = performed_fits x.1 (length x.1.routines) p x.0 in
-    ran_trans l x.1 (standard l at p es) (first_ran l es g) (added_ran x.1 at (performed p x.0) 0 h.0 h.1 (omega arith))
+begun_is : (l m : Layer) (d : Designated) → Named m → DesignatedIn m d → length m.routines ≡ length l.routines → IsBegun (λ r. r ≤ length l.routines) m (placed_of d)
+begun_is l m (a_component c k) n h e = let lt = initial_below m k n h in omega (arith, lt, e)
+begun_is l m _ n h e = tt
 
--- arguments, and the call that they are for
-handed_ran : (l : Layer) (at r : ℕ) (es : syntax.Expressions) (a : List Argument → Action) → ((m : Layer) (routine need : ℕ) (as' : List Argument) → ActionFits m routine need (a as') ≡ ActionFits m routine need (code.call r code.own false as' None)) → ((as' : List Argument) → IsNoLoop (a as'))
-    → r ≤ length l.routines → Ground l → Ran l (let x = arguments l r es in added (with_room x.1 r) at (a x.0) (call_need x.1 r))
-unfolding arguments
-handed_ran l at r es a fits plain le g =
-    let y : List Argument × Layer = arguments_from l r 0 es in
-    let m : Layer = (counted y).1 in
-    let q : Ran l m = ran_trans l y.1 m (arguments_ran l r 0 es g) (count_ran y.1 (length y.0)) in
-    let e : length m.routines ≡ length l.routines = ap (λ (j : Layer). length j.routines) q.kept in
-    ran_trans l m (added (with_room m r) at (a y.0) (call_need m r)) q (call_step m at r (a y.0) (length y.0) (λ k routine need h. subst (λ T. T) (sym (fits k routine need y.0)) h) (plain y.0) (omega (arith, le, e)) (omega arith) (ground_kept l m q.kept g))
-
-procedure_ran : (l : Layer) (at : ℕ) (c : ComponentPlace) (b : Bool) (r : ℕ) (es : syntax.Expressions) → r ≤ length l.routines → Ground l → Ran l (procedure l at c b r es)
-unfolding procedure
-procedure_ran l at c b r es le g = handed_ran l at r es (λ as'. code.call r c b as' None) (λ m routine need as'. refl) (λ as'. tt) le g
-
-begun_ran : (l : Layer) (at : ℕ) (c : ComponentPlace) (r : ℕ) (es : syntax.Expressions) → r ≤ length l.routines → Ground l → Ran l (begun_component l at c r es)
-unfolding begun_component
-begun_ran l at c r es le g = handed_ran l at r es (λ as'. code.start c r as') (λ m routine need as'. refl) (λ as'. tt) le g
-
-abbrev CalleeIn : Layer → Callee → Type 0
-CalleeIn l (a_procedure c b r) = r ≤ length l.routines
-CalleeIn l (a_standard_procedure p) = Unit {0}
-CalleeIn l no_callee = Unit {0}
-
-callee_there : (l : Layer) (d : Designated) → DesignatedIn l d → CalleeIn l (callee_of d)
-callee_there l (a_routine r) h = h
-callee_there l (an_entry c r) h = omega arith
-callee_there l _ h = tt
-
-invoked_as_ran : (l : Layer) (at : ℕ) (c : Callee) (es : syntax.Expressions) → CalleeIn l c → Ground l → Ran l (invoked_as l at c es)
-invoked_as_ran l at (a_standard_procedure p) es h g = standard_ran l at p es g
-invoked_as_ran l at (a_procedure c b r) es h g = procedure_ran l at c b r es h g
-invoked_as_ran l at no_callee es h g = added_ran l at code.nothing 0 tt tt (omega arith)
-
-invoked_ran : (l : Layer) (at : ℕ) (d : syntax.Designator) (es : syntax.Expressions) → Ground l → Ran l (invoked l at d es)
-unfolding invoked
-invoked_ran l at d es g =
-    let x = designator l d in
-    let q : Ran l x.1 = designator_ran l d g in
-    ran_trans l x.1 (invoked l at d es) q (invoked_as_ran x.1 at (callee_of x.0) es (callee_there x.1 x.0 (designated_kept l x.1 x.0 q.kept (designator_there l d g.named))) (ground_kept l x.1 q.kept g))
-
-abbrev PlacedIn : Layer → Option Placed → Type 0
-PlacedIn l None = Unit {0}
-PlacedIn l (Some p) = p.1 < length l.systems
-
-placed_there : (l : Layer) (d : Designated) → DesignatedIn l d → PlacedIn l (placed_of d)
-placed_there l (a_component c k) h = h
-placed_there l _ h = tt
-
-started_as_ran : (l : Layer) (at : ℕ) (o : Option Placed) (es : syntax.Expressions) → PlacedIn l o → Ground l → Ran l (started_as l at o es)
-started_as_ran l at None es h g = added_ran l at code.nothing 0 tt tt (omega arith)
-started_as_ran l at (Some p) es h g = let lt = initial_below l p.1 g.named h in begun_ran l at p.0 (initial_of l p.1) es (omega (arith, lt)) g
-
-started_ran : (l : Layer) (t : syntax.Start) → Ground l → Ran l (started l t)
-unfolding started
-started_ran l t g =
-    let x = designator l t.target in
-    let q : Ran l x.1 = designator_ran l t.target g in
-    ran_trans l x.1 (started l t) q (started_as_ran x.1 (name_at t.target) (placed_of x.0) t.arguments (placed_there x.1 x.0 (designated_kept l x.1 x.0 q.kept (designator_there l t.target g.named))) (ground_kept l x.1 q.kept g))
+ran_items : (l : Layer) → Ground l → ItemSteps (Ran l) (λ r. r ≤ length l.routines)
+ran_items l g =
+    record {
+      nothing = λ m at h. ran_trans l m (added m at code.nothing 0) h (added_ran m at code.nothing 0 tt tt (omega arith));
+      assigns = λ m at p v t h. (let f = assigned_fits m m (length m.routines) p v t in ran_trans l m (added m at (assigned_as m p v t) 0) h (added_ran m at (assigned_as m p v t) 0 f.0 f.1 (omega arith)));
+      performs = λ m at q v h. (let f = performed_fits m (length m.routines) q v in ran_trans l m (added m at (performed q v) 0) h (added_ran m at (performed q v) 0 f.0 f.1 (omega arith)));
+      invokes = λ m r at c b as' i e h. call m r at (code.call r c b as' None) (length as') h (λ k routine need f. f) tt i e;
+      begins = λ m d h i. begun_is l (designator m d).1 (designator m d).0 (ground_kept l (designator m d).1 i.kept g).named
+          (designated_kept l (designator m d).1 (designator m d).0 i.kept (designated_back l m (designator m d).0 h.kept (designator_there m d (ground_kept l m h.kept g).named))) (ap (λ (j : Layer). length j.routines) i.kept);
+      start = λ m r at c as' i e h. call m r at (code.start c r as') (length as') h (λ k routine need f. f) tt i e;
+    }
+  where
+    call : (m : Layer) (r at : ℕ) (a : Action) (count : ℕ) → Ran l m → ((k : Layer) (routine need : ℕ) → CallFits k routine need r count → ActionFits k routine need a) → IsNoLoop a → r ≤ length l.routines → count ≤ m.arguments → Ran l (added (with_room m r) at a (call_need m r))
+    call m r at a count h fits plain le e = ran_trans l m (added (with_room m r) at a (call_need m r)) h (call_step m at r a count fits plain (still_below l m r h le) e (ground_kept l m h.kept g))
 
 -- ---- items with lists inside
 
@@ -229,7 +173,7 @@ starts_fitted l [] next f = record { onward = onward_same l; fitted = f }
 starts_fitted l (t ∷ ts) next f =
     let x : Option ℕ × Layer = starts l ts next in
     let r : Result l x = starts_fitted l ts next f in
-    then_result l x (settled (started x.1 t) x.0) r (own_item x.1 (started x.1 t) x.0 r.fitted (started_ran x.1 t r.fitted.ground))
+    then_result l x (settled (started x.1 t) x.0) r (own_item x.1 (started x.1 t) x.0 r.fitted (started_walked (ran_calls x.1 r.fitted.ground) (ran_items x.1 r.fitted.ground) x.1 t (ran_same x.1) never))
 
 repeated_fitted : (l : Layer) (at : ℕ) (x : Option ℕ × Layer) (e : syntax.Expression) (next : Option ℕ) → Fitted l next → Result l x → Result l (repeated x.1 at x.0 e next)
 repeated_fitted l at x e next f r =
@@ -250,8 +194,8 @@ mutual
 
   pub statement_fitted : (l : Layer) (t : syntax.Statement) (next : Option ℕ) → Fitted l next → Result l (statement l t next)
   statement_fitted l (syntax.empty at) next f = own_item l (added l at code.nothing 0) next f (added_ran l at code.nothing 0 tt tt (omega arith))
-  statement_fitted l (syntax.assign at d e) next f = own_item l (assigned l at d e) next f (assigned_ran l at d e f.ground)
-  statement_fitted l (syntax.invoke at d es) next f = own_item l (invoked l at d es) next f (invoked_ran l at d es f.ground)
+  statement_fitted l (syntax.assign at d e) next f = own_item l (assigned l at d e) next f (assigned_walked (ran_calls l f.ground) (ran_items l f.ground) l at d e (ran_same l) never)
+  statement_fitted l (syntax.invoke at d es) next f = own_item l (invoked l at d es) next f (invoked_walked (ran_calls l f.ground) (ran_items l f.ground) l at d es (ran_same l) never)
   statement_fitted l (syntax.block at ts) next f =
       let x : Option ℕ × Layer = statements l ts in
       let r : Result l x = statements_fitted l ts (alone l next f) in

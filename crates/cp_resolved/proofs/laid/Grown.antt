@@ -1,13 +1,11 @@
 -- What a statement leaves of the state: it appends items, and keeps names, types, headings and routines.
-use Rattle.std.proofs.Common.{◌≡◌, ℕ, Bool, List, [], ◌∷◌, ◌++◌, length, Option, Some, None, ap, sym, ◌∙◌, refl, append_assoc}
-use Rattle.cp_resolved.proofs.Words.{max, Direction, PredeclaredRoutine, Layer, Pending, with_item, settled_all, settled, without_pending, added, need_of}
+use Rattle.std.proofs.Common.{◌≡◌, ℕ, List, [], ◌∷◌, ◌++◌, length, Option, ap, sym, ◌∙◌, refl, append_assoc}
+use Rattle.cp_resolved.proofs.Words.{max, Layer, Action, Pending, with_item, settled_all, settled, without_pending, added, need_of, with_cell, with_room, with_count, statements}
 use Rattle.std.proofs.lemmas.List.{append-nil}
 use Rattle.cp_tree.specs.Syntax as syntax
-use Rattle.cp_slots.specs.Code as code
-use Rattle.cp_slots.specs.Code.{ComponentPlace, Arm, Item}
-use Rattle.cp_layout.specs.LaidExpressions.{expression, designator, first_value, arguments, arguments_from, name_at}
-use Rattle.cp_layout.specs.LaidStatements.{assigned, invoked, invoked_as, Callee, a_standard_procedure, a_procedure, no_callee, callee_of, standard, procedure, chosen, selected, while_item, until_item, for_item, blocked, cycled, repeated, Placed, placed_of, begun_component, started_as, started, starts, initial_of, statement, statements, arms, one_arm, token_of}
-use Rattle.cp_resolved.proofs.laid.Kept.{Kept, kept_trans, expression_kept, designator_kept, first_kept, arguments_kept}
+use Rattle.cp_slots.specs.Code.{Item}
+use Rattle.cp_resolved.proofs.laid.Kept.{Kept}
+use Rattle.cp_resolved.proofs.laid.Walked.{CallSteps, ItemSteps, ListSteps, any_calls, any_items, any_lists, never, statements_walked}
 
 abbrev pub with_more : Layer → List Item → Layer → Layer
 with_more l more m = record l { items = l.items ++ more; frame = m.frame; pending = m.pending; arguments = m.arguments }
@@ -34,126 +32,22 @@ all_grew l (p ∷ ps) next =
 pub settled_grew : (l : Layer) (next : Option ℕ) → Grew l (settled l next).1
 settled_grew l next = grew_trans l (without_pending l) (settled l next).1 (kept_grew l (without_pending l) refl) (all_grew (without_pending l) l.pending next)
 
--- the lists inside a statement, its own item, and the calls before it
-finished : (l k j : Layer) (next : Option ℕ) → Grew l k → Kept k j → Grew l (settled j next).1
-finished l k j next g h = grew_trans l j (settled j next).1 (grew_trans l k j g (kept_grew k j h)) (settled_grew j next)
-
-pub same : (l : Layer) → Grew l l
-same l = kept_grew l l refl
-
--- ---- own items
-
-pub assigned_kept : (l : Layer) (at : ℕ) (d : syntax.Designator) (e : syntax.Expression) → Kept l (assigned l at d e)
-unfolding assigned
-assigned_kept l at d e =
-    let m : Layer = (expression (designator l d).1 e).1 in
-    kept_trans l m (assigned l at d e) (kept_trans l (designator l d).1 m (designator_kept l d) (expression_kept (designator l d).1 e)) refl
-
-pub chosen_kept : (l : Layer) (at : ℕ) (e : syntax.Expression) (first other : Option ℕ) → Kept l (chosen l at e first other)
-unfolding chosen
-chosen_kept l at e first other = kept_trans l (expression l e).1 (chosen l at e first other) (expression_kept l e) refl
-
-pub while_kept : (l : Layer) (at : ℕ) (e : syntax.Expression) (body : Option ℕ) → Kept l (while_item l at e body)
-unfolding while_item
-while_kept l at e body = kept_trans l (expression l e).1 (while_item l at e body) (expression_kept l e) refl
-
-pub until_kept : (l : Layer) (at : ℕ) (e : syntax.Expression) (body : Option ℕ) → Kept l (until_item l at e body)
-unfolding until_item
-until_kept l at e body = kept_trans l (expression l e).1 (until_item l at e body) (expression_kept l e) refl
-
-pub selected_kept : (l : Layer) (at : ℕ) (e : syntax.Expression) (as' : List Arm) → Kept l (selected l at e as')
-unfolding selected
-selected_kept l at e as' = kept_trans l (expression l e).1 (selected l at e as') (expression_kept l e) refl
-
-pub for_kept : (l : Layer) (at : ℕ) (x : List ℕ) (e : syntax.Expression) (d : Direction) (f : syntax.Expression) (body : Option ℕ) → Kept l (for_item l at x e d f body)
-unfolding for_item
-for_kept l at x e d f body =
-    let m : Layer = (expression (expression l e).1 f).1 in
-    kept_trans l m (for_item l at x e d f body) (kept_trans l (expression l e).1 m (expression_kept l e) (expression_kept (expression l e).1 f)) refl
-
--- ---- calls and starts
-
-standard_kept : (l : Layer) (at : ℕ) (r : PredeclaredRoutine) (es : syntax.Expressions) → Kept l (standard l at r es)
-unfolding standard
-standard_kept l at r es = kept_trans l (first_value l es).1 (standard l at r es) (first_kept l es) refl
-
-procedure_kept : (l : Layer) (at : ℕ) (c : ComponentPlace) (b : Bool) (r : ℕ) (es : syntax.Expressions) → Kept l (procedure l at c b r es)
-unfolding procedure arguments
-procedure_kept l at c b r es = kept_trans l (arguments_from l r 0 es).1 (procedure l at c b r es) (arguments_kept l r 0 es) refl
-
-invoked_as_kept : (l : Layer) (at : ℕ) (c : Callee) (es : syntax.Expressions) → Kept l (invoked_as l at c es)
-invoked_as_kept l at (a_standard_procedure r) es = standard_kept l at r es
-invoked_as_kept l at (a_procedure c b r) es = procedure_kept l at c b r es
-invoked_as_kept l at no_callee es = refl
-
-pub invoked_kept : (l : Layer) (at : ℕ) (d : syntax.Designator) (es : syntax.Expressions) → Kept l (invoked l at d es)
-unfolding invoked
-invoked_kept l at d es =
-    kept_trans l (designator l d).1 (invoked_as (designator l d).1 at (callee_of (designator l d).0) es) (designator_kept l d) (invoked_as_kept (designator l d).1 at (callee_of (designator l d).0) es)
-
-begun_kept : (l : Layer) (at : ℕ) (c : ComponentPlace) (r : ℕ) (es : syntax.Expressions) → Kept l (begun_component l at c r es)
-unfolding begun_component arguments
-begun_kept l at c r es = kept_trans l (arguments_from l r 0 es).1 (begun_component l at c r es) (arguments_kept l r 0 es) refl
-
-started_as_kept : (l : Layer) (at : ℕ) (o : Option Placed) (es : syntax.Expressions) → Kept l (started_as l at o es)
-started_as_kept l at None es = refl
-started_as_kept l at (Some p) es = begun_kept l at p.0 (initial_of l p.1) es
-
-pub started_kept : (l : Layer) (t : syntax.Start) → Kept l (started l t)
-unfolding started
-started_kept l t =
-    let m : Layer = (designator l t.target).1 in
-    kept_trans l m (started_as m (name_at t.target) (placed_of (designator l t.target).0) t.arguments) (designator_kept l t.target) (started_as_kept m (name_at t.target) (placed_of (designator l t.target).0) t.arguments)
-
-starts_grew : (l : Layer) (ts : List syntax.Start) (next : Option ℕ) → Grew l (starts l ts next).1
-unfolding starts
-starts_grew l [] next = same l
-starts_grew l (t ∷ ts) next = finished l (starts l ts next).1 (started (starts l ts next).1 t) (starts l ts next).0 (starts_grew l ts next) (started_kept (starts l ts next).1 t)
-
 -- ---- statements
 
-repeated_grew : (l k : Layer) (at : ℕ) (body : Option ℕ) (e : syntax.Expression) (next : Option ℕ) → Grew l k → Grew l (repeated k at body e next).1
-repeated_grew l k at body e next g =
-    let y : Option ℕ × Layer = settled (until_item k (token_of e) e body) next in
-    finished l y.1 (blocked y.1 at body) y.0 (finished l k (until_item k (token_of e) e body) next g (until_kept k (token_of e) e body)) refl
+kept_after : (l k m : Layer) → Grew l k → Kept k m → Grew l m
+kept_after l k m h i = grew_trans l k m h (kept_grew k m i)
 
-mutual
-  unfolding statements statement arms one_arm
+added_after : (l m : Layer) (at : ℕ) (a : Action) (need : ℕ) → Grew l m → Grew l (added m at a need)
+added_after l m at a need h = kept_after l m (added m at a need) h refl
 
-  pub statements_grew : (l : Layer) (ss : syntax.Statements) → Grew l (statements l ss).1
-  statements_grew l syntax.no_statements = same l
-  statements_grew l (syntax.more_statements s ss) =
-      let rest : Option ℕ × Layer = statements l ss in
-      grew_trans l rest.1 (statement rest.1 s rest.0).1 (statements_grew l ss) (statement_grew rest.1 s rest.0)
+grew_calls : (l : Layer) → CallSteps (Grew l) (λ r. Unit {0}) ⊥ (λ x. ⊥)
+grew_calls l = any_calls (Grew l) (λ m k h. kept_after l m (with_count m k) h refl) (λ m r at a need h. kept_after l m (added (with_room (with_cell m) r) at a need) h refl)
 
-  pub statement_grew : (l : Layer) (s : syntax.Statement) (next : Option ℕ) → Grew l (statement l s next).1
-  statement_grew l (syntax.empty at) next = finished l l (added l at code.nothing 0) next (same l) refl
-  statement_grew l (syntax.assign at d e) next = finished l l (assigned l at d e) next (same l) (assigned_kept l at d e)
-  statement_grew l (syntax.invoke at d es) next = finished l l (invoked l at d es) next (same l) (invoked_kept l at d es)
-  statement_grew l (syntax.block at ss) next = finished l (statements l ss).1 (blocked (statements l ss).1 at (statements l ss).0) next (statements_grew l ss) refl
-  statement_grew l (syntax.if_then at e s) next =
-      let x : Option ℕ × Layer = statement l s None in
-      finished l x.1 (chosen x.1 at e x.0 None) next (statement_grew l s None) (chosen_kept x.1 at e x.0 None)
-  statement_grew l (syntax.if_else at e s t) next =
-      let x : Option ℕ × Layer = statement l s None in
-      let y : Option ℕ × Layer = statement x.1 t None in
-      finished l y.1 (chosen y.1 at e x.0 y.0) next (grew_trans l x.1 y.1 (statement_grew l s None) (statement_grew x.1 t None)) (chosen_kept y.1 at e x.0 y.0)
-  statement_grew l (syntax.case_of at e as' b) next = finished l (arms l as').1 (selected (arms l as').1 at e (arms l as').0) next (arms_grew l as') (selected_kept (arms l as').1 at e (arms l as').0)
-  statement_grew l (syntax.while_do at e s) next =
-      let x : Option ℕ × Layer = statement l s None in
-      finished l x.1 (while_item x.1 at e x.0) next (statement_grew l s None) (while_kept x.1 at e x.0)
-  statement_grew l (syntax.repeat_until at ss e) next = repeated_grew l (statements l ss).1 at (statements l ss).0 e next (statements_grew l ss)
-  statement_grew l (syntax.for_do at i e d f s) next =
-      let x : Option ℕ × Layer = statement l s None in
-      finished l x.1 (for_item x.1 at i.name e d f x.0) next (statement_grew l s None) (for_kept x.1 at i.name e d f x.0)
-  statement_grew l (syntax.cycle at ss) next = finished l (statements l ss).1 (cycled (statements l ss).1 at (statements l ss).0) next (statements_grew l ss) refl
-  statement_grew l (syntax.init at ts) next = starts_grew l ts next
+grew_items : (l : Layer) → ItemSteps (Grew l) (λ r. Unit {0})
+grew_items l = any_items (Grew l) (λ m r h. kept_after l m (with_room m r) h refl) (added_after l)
 
-  pub arms_grew : (l : Layer) (as' : syntax.Arms) → Grew l (arms l as').1
-  arms_grew l syntax.no_arms = same l
-  arms_grew l (syntax.more_arms a as') =
-      let x : Arm × Layer = one_arm l a in
-      grew_trans l x.1 (arms x.1 as').1 (arm_grew l a) (arms_grew x.1 as')
+grew_lists : (l : Layer) → ListSteps (Grew l)
+grew_lists l = any_lists (Grew l) (added_after l) (λ m next h. grew_trans l m (settled m next).1 h (settled_grew m next))
 
-  arm_grew : (l : Layer) (a : syntax.Arm) → Grew l (one_arm l a).1
-  arm_grew l (syntax.arm labels s) = statement_grew l s None
+pub statements_grew : (l : Layer) (ss : syntax.Statements) → Grew l (statements l ss).1
+statements_grew l ss = statements_walked (grew_calls l) (grew_items l) (grew_lists l) l ss (kept_grew l l refl) never

@@ -1,6 +1,6 @@
 -- What names, types and system types lead to is there: the numbers of system types and routines are below how many there are.
 use Rattle.std.proofs.Common.{◌≡◌, ℕ, suc, ◌+◌, ◌<◌, ◌≤◌, Bool, true, false, if◌then◌else◌, ◌&&◌, nat_le, nat_lt, List, [], ◌∷◌, drop, length, Option, Some, None, slice_get, refl, sym, subst, arith, rules}
-use Rattle.cp_resolved.proofs.Words.{bytes_eq, CellType, ArrayType, LayoutMeaning, initial_in, initial_of}
+use Rattle.cp_resolved.proofs.Words.{bytes_eq, Each, CellType, ArrayType, LayoutMeaning, initial_in, initial_of}
 use Rattle.cp_symbols.specs.declared.kinds.CellType.TheVariants as types
 use Rattle.cp_symbols.specs.declared.names.LayoutMeaning.TheVariants as meaning
 use Rattle.cp_slots.specs.Code.{ComponentPlace, OrdinalExpression, Place}
@@ -27,8 +27,7 @@ IsMeaning s r (meaning.Routine n) = n ≤ r
 IsMeaning s r m = Unit {0}
 
 abbrev pub AreNames : (systems routines : ℕ) → Names → Type 0
-AreNames s r [] = Unit {0}
-AreNames s r (d ∷ ds) = IsMeaning s r d.1 × AreNames s r ds
+AreNames s r ds = Each (λ d. IsMeaning s r d.1) ds
 
 abbrev pub IsCompound : (systems : ℕ) → Compound → Type 0
 IsCompound s (array a) = IsType s a.element

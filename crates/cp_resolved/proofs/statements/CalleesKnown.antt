@@ -2,12 +2,12 @@
 use Rattle.std.proofs.Common.{◌≡◌, ℕ, zero, suc, Bool, true, false, if◌then◌else◌, List, [], ◌∷◌, Option, Some, None, slice_get, refl, sym, ap, subst, ◌∙◌}
 use Rattle.cp_resolved.proofs.Words.{Program, Routine, Tree, IsAccepted, Name, same_name, find, since, routine_meaning, RoutineMeaning, routine_in}
 use Rattle.cp_resolved.proofs.Words.{SystemMeaning, declared, own_meaning, or_own, system_of, Place, IsAgreed, AreAgreed, places_of, tokens_of, Opening}
-use Rattle.cp_resolved.proofs.Words.{openings_of, meaning_in, meaning_at, IsRead, initial_meaning, Each, Tokens, is_entry_in}
+use Rattle.cp_resolved.proofs.Words.{openings_of, meaning_in, meaning_at, IsRead, initial_meaning, Each, Tokens, is_entry_in, Ty, HasResult, name_with, name_in, layouts_of}
 use Rattle.cp_meaning.specs.Scopes as scopes
-use Rattle.cp_resolved.proofs.agreeing.ProgramNoted.{ProgramNoted, read_noted}
+use Rattle.cp_resolved.proofs.agreeing.AgreeingProgram.{ProgramResult}
 use Rattle.cp_resolved.proofs.statements.RoutinesNoted.{opens_entry, entry_in, entry_at, waits_of, waits_with, waits_at, IsNoted, AreNoted, InitialNumbered, SystemNumbered}
 use Rattle.cp_resolved.proofs.agreeing.RoutinesSeen.{body_scope_entry}
-use Rattle.cp_resolved.proofs.agreeing.ScopesOfTrees.{scopes_law}
+use Rattle.cp_resolved.proofs.agreeing.ScopesOfTrees.{agreed_program}
 use Rattle.cp_resolved.proofs.declarations.SmallBodies.{IsSmallOpening, read_opens}
 
 -- ---- the place of a number
@@ -16,6 +16,7 @@ pub record At (t : Tree) (n : ℕ) : Type 0 where
   pub place : Place
   pub opening : Opening
   pub means : meaning_at t.program n ≡ opening.meaning
+  pub named : HasResult opening.meaning.result → (layouts_of t).names n ≡ opening.name
   pub entry : entry_at t.program n ≡ opens_entry opening
   pub waits : waits_at t.program n ≡ waits_of place opening
   pub agreed : IsAgreed (tokens_of t.program) t.program place opening
@@ -38,6 +39,11 @@ there_at tokens p (x ∷ xs) (q ∷ os) (suc n) o a h s e =
     let r : There tokens p xs n o = there_at tokens p xs os n o a.1 h.1 s.1 e in
     record { place = r.place; is = r.is; agreed = r.agreed; noted = r.noted; small = r.small }
 there_at tokens p _ _ n o a h s e = absurd a
+
+-- the name of a routine with a result
+name_of_result : (x : Option Name) (r : Option Ty) → HasResult r → name_with x r ≡ x
+name_of_result x (Some t) i = refl
+name_of_result x None i = absurd i
 
 waits_none : (q : Option Place) → waits_with q None ≡ false
 waits_none None = refl
@@ -84,14 +90,14 @@ module _ (t : Tree) (read : IsRead t.program) (accepted : IsAccepted t) where
   abbrev tokens : Tokens
   tokens = tokens_of t.program
 
-  all : ProgramNoted tokens p
-  all = read_noted t read accepted
+  all : ProgramResult tokens p
+  all = agreed_program t read accepted
 
   pub numbered : (k : ℕ) → SystemNumbered p tokens (system_of p k)
   numbered k = system_numbered p tokens (declared p).systems k (own_meaning (declared p) p) all.systems all.own
 
   at_opening : (n : ℕ) (o : Opening) → slice_get (openings_of p) n ≡ Some o → There tokens p (places_of p) n o
-  at_opening n o e = there_at tokens p (places_of p) (openings_of p) n o (scopes_law t read accepted).places all.noted (read_opens p read) e
+  at_opening n o e = there_at tokens p (places_of p) (openings_of p) n o all.places all.noted (read_opens p read) e
 
   pub at_number : (n : ℕ) → At t n
   at_number n = go (slice_get (openings_of p) n) refl
@@ -103,6 +109,7 @@ module _ (t : Tree) (read : IsRead t.program) (accepted : IsAccepted t) where
             place = r.place;
             opening = o;
             means = ap (meaning_in (initial_meaning (own_meaning (declared p) p))) e;
+            named = λ result. ap name_in e ∙ name_of_result o.name o.meaning.result result;
             entry = ap entry_in e;
             waits = ap (λ (q : Option Place). waits_with q (slice_get (openings_of p) n)) r.is ∙ ap (waits_with (Some r.place)) e;
             agreed = r.agreed;
@@ -112,10 +119,12 @@ module _ (t : Tree) (read : IsRead t.program) (accepted : IsAccepted t) where
       go None e =
           let i : InitialNumbered p tokens (own_meaning (declared p) p) = all.own.initial in
           let r : There tokens p (places_of p) i.number i.opening = at_opening i.number i.opening i.there in
+          let own : i.opening.meaning ≡ initial_meaning (own_meaning (declared p) p) = sym (ap (meaning_in (initial_meaning (own_meaning (declared p) p))) i.there) ∙ i.means in
           record {
             place = r.place;
             opening = i.opening;
-            means = ap (meaning_in (initial_meaning (own_meaning (declared p) p))) e ∙ (sym i.means ∙ ap (meaning_in (initial_meaning (own_meaning (declared p) p))) i.there);
+            means = ap (meaning_in (initial_meaning (own_meaning (declared p) p))) e ∙ sym own;
+            named = λ result. absurd (subst (λ (m : RoutineMeaning). HasResult m.result) own result);
             entry = ap entry_in e ∙ (sym i.entry ∙ ap entry_in i.there);
             waits = ap (waits_with (slice_get (places_of p) n)) e ∙ (waits_none (slice_get (places_of p) n) ∙ (sym i.waits ∙ (ap (λ (q : Option Place). waits_with q (slice_get (openings_of p) i.number)) r.is ∙ ap (waits_with (Some r.place)) i.there)));
             agreed = r.agreed;

@@ -1,7 +1,7 @@
 -- What the rules have found of the calls in expressions that break none of them.
 use Rattle.cp_resolved.proofs.Words.{◌≡◌, ℕ, Bool, true, false, ◌&&◌, if◌then◌else◌, List, [], ◌∷◌, Option, Some, None, Ok, refl, sym, ap, subst, ◌∙◌, nat_eq, option_or}
 use Rattle.cp_resolved.proofs.Words.{eq-eqb, Sign, Relation, Addition, Multiplication, CheckFault, ValueType, Predeclared, Use, no_use, both_uses, broken, agree, is_of}
-use Rattle.cp_resolved.proofs.Words.{values_of, Scopes, heading_at, body_at, Context, Operand, Named, or_left, or_right, C5, C9, C10, C12, value, is_queue}
+use Rattle.cp_resolved.proofs.Words.{values_of, Judged, Scopes, heading_at, body_at, Context, Operand, Named, or_left, or_right, C5, C9, C10, C12, value, is_queue}
 use Rattle.cp_tree.specs.declared.expression.Addition.TheVariants as addition
 use Rattle.cp_tree.specs.declared.expression.Multiplication.TheVariants as multiplication
 use Rattle.cp_scope.specs.declared.fault.CheckFault.TheVariants as check_fault
@@ -38,6 +38,13 @@ total_below f u [] h = (h, tt)
 total_below f u (o ∷ os) h =
     let r = total_below f (both_uses u o.uses) os h in
     (first_below f u o.uses r.0, (second_below f u o.uses r.0, r.1))
+
+-- what came before where a judgement goes on from it, with what is known of both
+pub record Reached {A : Type 0} (B : A → Type 0) (j : Judged A) (U : Type 0) : Type 0 where
+  pub value : A
+  pub is : j ≡ Ok value
+  pub below : B value
+  pub rest : U
 
 -- ---- operations
 

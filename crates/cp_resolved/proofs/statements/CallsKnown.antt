@@ -2,7 +2,7 @@
 use Rattle.std.proofs.Common.{◌≡◌, ℕ, Bool, true, false, ◌&&◌, ◌⊎◌, inl, inr, Option, Some, None, Ok, is_some, refl, sym, ap, subst, ◌∙◌}
 use Rattle.cp_resolved.proofs.Words.{not, SystemKind, Identifier, ValueType, Predeclared, Use, no_use, Judged, Context, Named, expression, designator, IsAccepted}
 use Rattle.cp_resolved.proofs.Words.{statements_loud, Name, Ty, has_components, RoutineMeaning, routine_in, last_field, is_call_meant, system_of, Designated}
-use Rattle.cp_resolved.proofs.Words.{designator_form, IsOwn, tokens_of, Here, meaning_at, IsRead, layouts_of, IsBare, find, since, routine_meaning, standard_meaning}
+use Rattle.cp_resolved.proofs.Words.{designator_form, IsOwn, tokens_of, Here, meaning_at, IsRead, layouts_of, find, since, routine_meaning, standard_meaning}
 use Rattle.cp_resolved.proofs.Words.{permanent_variable, delay_procedure, continue_procedure, name_of, routine_called, routine_meant, routine_of_system, routine_of_type}
 use Rattle.cp_tree.specs.declared.declaration.SystemKind.TheVariants as system_kind
 use Rattle.cp_tree.specs.Syntax.{Program, Tree, Designator, designator as name_with, Selectors, no_selectors, more_selectors}
@@ -15,21 +15,24 @@ use Rattle.cp_check.specs.declared.operand.Named.TheVariants as name
 use Rattle.cp_check.specs.Calls as calls
 use Rattle.cp_check.specs.Names as names
 use Rattle.cp_check.specs.Statements.{statements, may_wait_in}
+use Rattle.cp_resolved.proofs.Words.{Heard, HasResult, is_named, AllFormed, CallsFormed, all_calls_laid}
 use Rattle.cp_meaning.specs.Types as named
 use Rattle.cp_meaning.specs.Scopes as scopes
 use Rattle.cp_resolved.specs.Typed.{Tokens, is_entry_in, IsOrdinalResult, ResultIs, HeadingIs, IsMarked, RoutineIs, StandardIs, predeclared_of, ConstantIs, ScopesAgree, AreSmallSelectors}
 use Rattle.cp_resolved.proofs.statements.CalleesKnown.{At, at_number, numbered, routine_entry, CalleeKnown}
 use Rattle.cp_resolved.proofs.statements.CallsJudged.{OwnCall, CalledAs, GivesResult, IsValue}
-use Rattle.cp_resolved.proofs.statements.ExpressionsJudged.{FunctionSaid}
+use Rattle.cp_resolved.proofs.statements.ExpressionsJudged.{FunctionSaid, AllSaid}
 use Rattle.cp_resolved.proofs.forms.FormedStatements.{Right, right_of}
-use Rattle.cp_resolved.proofs.forms.FormedTargets.{begun_routine}
+use Rattle.cp_resolved.proofs.forms.FormedTargets.{OwnRoutine, begun_routine, no_selector, routine_no_variable}
 use Rattle.cp_resolved.proofs.forms.FormsOfTrees.{all_heard}
+use Rattle.cp_resolved.proofs.forms.StatementsFit.{AllFine, all_formed}
+use Rattle.cp_resolved.specs.FormedBodies.{IsFormedAt}
 use Rattle.cp_resolved.proofs.statements.RoutinesNoted.{is_monitor, delays_in, entry_with, entry_at, waits_at, Done, Numbered}
-use Rattle.cp_resolved.proofs.statements.StatementsJudged.{InvokedAs, IsInvoked, InvokeSaid, StatementsSaid, statements_said}
-use Rattle.cp_resolved.proofs.forms.TypingExpressions.{designator_typed}
-use Rattle.cp_resolved.proofs.forms.TypingNames.{IsComponentMeaning, written, IsCalled, NamedIs, HasDesignated}
+use Rattle.cp_resolved.proofs.statements.StatementsJudged.{InvokedAs, IsInvoked, InvokeSaid, StatementsSaid}
+use Rattle.cp_resolved.proofs.forms.TypingExpressions.{designator_named}
+use Rattle.cp_resolved.proofs.forms.TypingNames.{IsComponentMeaning, written, IsCalled, NamedIs}
 use Rattle.cp_resolved.proofs.forms.TypingValues.{IsValue as IsPlainValue, held_value}
-use Rattle.cp_resolved.proofs.forms.UsedNames.{IsVariableMeaning, other_bare, EntryUsed, entry_used, known_is}
+use Rattle.cp_resolved.proofs.forms.UsedNames.{other_bare, EntryUsed, entry_used, known_is}
 use Rattle.cp_resolved.proofs.agreeing.WithoutFaults.{Then, then_of}
 use Rattle.cp_resolved.proofs.components.ComponentImages.{both as both_are}
 
@@ -94,10 +97,6 @@ result_known : (tokens : Tokens) (v : Option ValueType) (r : RoutineMeaning) →
 result_known tokens None r h i e = h refl
 result_known tokens (Some v) r h i e = subst (IsOrdinalResult tokens v) e i
 
-bare : (i : Identifier) (ss : Selectors) → IsBare (name_with i ss) → ss ≡ no_selectors
-bare i no_selectors b = refl
-bare i (more_selectors x ss) b = absurd b
-
 module _ (t : Tree) (read : IsRead t.program) (accepted : IsAccepted t) (n : ℕ) where
   abbrev p : Program
   p = t.program
@@ -123,25 +122,43 @@ module _ (t : Tree) (read : IsRead t.program) (accepted : IsAccepted t) (n : ℕ
   agrees : ScopesAgree tokens s h
   agrees = a.agreed.scopes (layouts_of t) ((layouts_of t).owners n) n
 
+  heard : Heard s
+  heard = all_heard s a.agreed.known
+
+  own : (k : ℕ) → w.routine ≡ Some k → OwnRoutine tokens s h w agrees k
+  own k i =
+      let o : IsOwn tokens a.place a.opening k = a.agreed.own k i in
+      record {
+        named = λ y e result. ap (is_named y) (a.named (subst (λ (m : RoutineMeaning). HasResult m.result) a.means result)) ∙ o.named y e;
+        heading = subst (λ (m : RoutineMeaning). HeadingIs (written tokens s h) (heading_at k s) (Some m)) (sym a.means) o.heading;
+      }
+
   pub judged : Right (statements s w (Ok no_use) a.opening.meaning.body)
-  judged = right_of (statements s w (Ok no_use) a.opening.meaning.body) (statements_loud s w (all_heard s a.agreed.known) a.opening.meaning.body (Ok no_use) tt) a.agreed.sound
+  judged = right_of (statements s w (Ok no_use) a.opening.meaning.body) (statements_loud s w heard a.opening.meaning.body (Ok no_use) tt) a.agreed.sound
 
   -- whether the rules find a `delay` there
   abbrev pub f : Bool
   f = judged.value.delays
 
-  pub said : StatementsSaid s w f scope a.opening.meaning.body
-  said = (let x = statements_said s w f scope a.opening.meaning.body a.small (Ok no_use) judged.value (λ e. e) judged.is in x.rest)
+  fine : AllFine tokens s h w agrees heard own f a.opening.meaning.body
+  fine = (let x = all_formed tokens s h w agrees heard own f a.opening.meaning.body a.small (Ok no_use) judged.value (λ e. e) judged.is in x.rest)
 
-  typed : (i : Identifier) (ss : Selectors) (c : check_designated.DesignatedName) → AreSmallSelectors ss → designator s w (name_with i ss) ≡ Ok c → NamedIs tokens s h i.name (find i.name scope) (last_field ss) c.named (designator_form h (name_with i ss))
-  typed i ss c m is = subst (λ (j : Judged check_designated.DesignatedName). HasDesignated tokens s h i.name (find i.name scope) (last_field ss) j (designator_form h (name_with i ss))) is (designator_typed tokens s h w agrees i ss m)
+  pub said : StatementsSaid s w f scope a.opening.meaning.body
+  said = fine.2
+
+  pub calls_said : AllSaid s w f scope (all_calls_laid scope a.opening.meaning.body)
+  calls_said = fine.1.1
+
+  -- in the scope of its number
+  pub formed_at : IsFormedAt t n
+  formed_at =
+      let there : RoutineMeaning → Here = (λ m. record h { scope = m.scope }) in
+      record {
+        formed = subst (λ (m : RoutineMeaning). AllFormed (there m) m.body) (sym a.means) fine.0;
+        calls = subst (λ (m : RoutineMeaning). CallsFormed (there m) (all_calls_laid m.scope m.body)) (sym a.means) fine.1.0;
+      }
 
   -- ---- a routine of the component itself
-
-  no_variable : (k : ℕ) (y : Name) (m : Option scopes.Meaning) → RoutineIs (written tokens s h) (heading_at k s) y scope m → IsVariableMeaning m → ⊥
-  no_variable k y (Some (scopes.local_variable u)) i v = i
-  no_variable k y (Some (permanent_variable u)) i v = i
-  no_variable k y _ i v = v
 
   visible_alone : (i : Identifier) (ss : Selectors) (c : check_designated.DesignatedName) (k : ℕ) → ss ≡ no_selectors → designator s w (name_with i ss) ≡ Ok c → c.named ≡ name.Routine k → look i.name s ≡ Some (Some (meaning.Routine k))
   unfolding expression
@@ -207,7 +224,7 @@ module _ (t : Tree) (read : IsRead t.program) (accepted : IsAccepted t) (n : ℕ
 
   own_callee : (i : Identifier) (ss : Selectors) (c : check_designated.DesignatedName) (k : ℕ) (r : RoutineMeaning) → designator s w (name_with i ss) ≡ Ok c → c.named ≡ name.Routine k → RoutineIs (written tokens s h) (heading_at k s) i.name scope (find i.name scope) → OwnCall s w f k → routine_called p scope (name_with i ss) ≡ Some r → CalleeKnown p n (find i.name scope) r
   own_callee i ss c k r is same x own e =
-      let there : look i.name s ≡ Some (Some (meaning.Routine k)) = visible_alone i ss c k (bare i ss (other_bare tokens s h w agrees i ss c (no_variable k i.name (find i.name scope) x) is)) is same in
+      let there : look i.name s ≡ Some (Some (meaning.Routine k)) = visible_alone i ss c k (no_selector tokens s h w agrees i ss (other_bare tokens s h w agrees i ss c (routine_no_variable tokens s h w agrees i.name k (find i.name scope) x) is)) is same in
       own_known i.name (last_field ss) k (find i.name scope) r refl x (a.agreed.written i.name k there) own e
 
   entry_callee : (i : Identifier) (ss : Selectors) (c : check_designated.DesignatedName) (k : ℕ) (r : RoutineMeaning) → AreSmallSelectors ss → designator s w (name_with i ss) ≡ Ok c → c.named ≡ name.Entry k → IsCalled tokens s h k i.name (find i.name scope) (last_field ss) → (heading_at k s).is_entry ≡ true → routine_called p scope (name_with i ss) ≡ Some r → CalleeKnown p n (find i.name scope) r
@@ -235,7 +252,7 @@ module _ (t : Tree) (read : IsRead t.program) (accepted : IsAccepted t) (n : ℕ
   function_named i ss c _ o r small is same x v d g e = absurd v
 
   pub function_callee : (d : Designator) (r : RoutineMeaning) → FunctionSaid s w f scope d → routine_called p scope d ≡ Some r → CalleeKnown p n (find (name_of d) scope) r × (r.result ≡ None → ⊥)
-  function_callee (name_with i ss) r x e = function_named i ss x.value x.value.named (designator_form h (name_with i ss)) r x.small x.is refl (typed i ss x.value x.small x.is) x.kind x.called x.result e
+  function_callee (name_with i ss) r x e = function_named i ss x.value x.value.named (designator_form h (name_with i ss)) r x.small x.is refl (designator_named tokens s h w agrees i ss x.value x.small x.is) x.kind x.called x.result e
 
   procedure_named : (i : Identifier) (ss : Selectors) (c : check_designated.DesignatedName) (m : Named) (o : Option Designated) (r : RoutineMeaning) → AreSmallSelectors ss → designator s w (name_with i ss) ≡ Ok c → c.named ≡ m → NamedIs tokens s h i.name (find i.name scope) (last_field ss) m o → IsInvoked s w f scope m → InvokedAs s w f scope m → routine_called p scope (name_with i ss) ≡ Some r → CalleeKnown p n (find i.name scope) r
   procedure_named i ss c (name.Routine k) o r small is same x v own e = own_callee i ss c k r is same x own e
@@ -244,7 +261,7 @@ module _ (t : Tree) (read : IsRead t.program) (accepted : IsAccepted t) (n : ℕ
   procedure_named i ss c _ o r small is same x v d e = absurd v
 
   pub procedure_callee : (d : Designator) (r : RoutineMeaning) → InvokeSaid s w f scope d → routine_called p scope d ≡ Some r → CalleeKnown p n (find (name_of d) scope) r
-  procedure_callee (name_with i ss) r x e = procedure_named i ss x.value x.value.named (designator_form h (name_with i ss)) r x.small x.is refl (typed i ss x.value x.small x.is) x.kind x.invoked e
+  procedure_callee (name_with i ss) r x e = procedure_named i ss x.value x.value.named (designator_form h (name_with i ss)) r x.small x.is refl (designator_named tokens s h w agrees i ss x.value x.small x.is) x.kind x.invoked e
 
   -- ---- `delay` and `continue`
 
@@ -256,7 +273,7 @@ module _ (t : Tree) (read : IsRead t.program) (accepted : IsAccepted t) (n : ℕ
   standard_named i x q _ o e k v d = absurd v
 
   standard_invoked : (d : Designator) (q : scopes.Standard) → InvokeSaid s w f scope d → find (name_of d) scope ≡ Some (standard_meaning q) → InvokedAs s w f scope (name.Predeclared (predeclared_of q))
-  standard_invoked (name_with i ss) q x e = standard_named i (last_field ss) q x.value.named (designator_form h (name_with i ss)) e (typed i ss x.value x.small x.is) x.kind x.invoked
+  standard_invoked (name_with i ss) q x e = standard_named i (last_field ss) q x.value.named (designator_form h (name_with i ss)) e (designator_named tokens s h w agrees i ss x.value x.small x.is) x.kind x.invoked
 
   -- somebody may wait where `delay` stands
   pub delay_waits : (d : Designator) → InvokeSaid s w f scope d → find (name_of d) scope ≡ Some (standard_meaning delay_procedure) → waits_at p n ≡ true

@@ -67,21 +67,17 @@ the_statement P _ h = h.0
 
 -- ---- statements without a fault
 
+-- what came before, and what holds of the rest
+pub record Inside {A : Type 0} (j : Judged A) (U : Type 0) : Type 0 where
+  pub value : A
+  pub is : j ≡ Ok value
+  pub rest : U
+
 module _ (s : Scopes) (w : Context) where
   pub record IsSound (t : Statement) : Type 0 where
     pub small : IsSmallStatement t
     pub use_of : Use
     pub is : statement s w t ≡ Ok use_of
-
-  pub record Inside (j : Judged Use) (U : Type 0) : Type 0 where
-    pub value : Use
-    pub is : j ≡ Ok value
-    pub rest : U
-
-  pub record InsideArms (j : Judged (List Label × Use)) (U : Type 0) : Type 0 where
-    pub value : List Label × Use
-    pub is : j ≡ Ok value
-    pub rest : U
 
   tested_then : (at : ℕ) (e : Expression) (k : Judged Use) (r : Use) → (both (expression s w false e) k >>= statements.test_then at) ≡ Ok r → Inside k (Unit {0})
   tested_then at e k r is =
@@ -127,7 +123,7 @@ module _ (s : Scopes) (w : Context) where
         let b = both_of j (statement s w t) k.value k.is in
         record { value = k.value.0; is = b.first; rest = (sound_in t m.0 k.value.1 b.second, x.rest) }
 
-    pub sound_arms : (as' : Arms) → AreSmallArms as' → (j : Judged (List Label × Use)) (r : List Label × Use) → statements.arms s w j as' ≡ Ok r → InsideArms j (EachArm IsSound as')
+    pub sound_arms : (as' : Arms) → AreSmallArms as' → (j : Judged (List Label × Use)) (r : List Label × Use) → statements.arms s w j as' ≡ Ok r → Inside j (EachArm IsSound as')
     sound_arms no_arms m j r is = record { value = r; is = is; rest = tt }
     sound_arms (more_arms (arm cs t) as') m j r is =
         let x = sound_arms as' m.1 (both j (statements.labelled s w (arm cs t)) >>= cases.joined) r is in

@@ -49,7 +49,7 @@ module _ (t : Tree) (read : IsRead t.program) (accepted : IsAccepted t) where
             let heard : Heard x.scopes = all_heard x.scopes agreed.known in
             let j : Judged Use = statements x.scopes x.context (Ok no_use) o.meaning.body in
             let r : Right j = right_of j (statements_loud x.scopes x.context heard o.meaning.body (Ok no_use) tt) agreed.sound in
-            let sound : Inside x.scopes x.context (Ok no_use) (EachOf (IsSound x.scopes x.context) o.meaning.body) = sound_of x.scopes x.context o.meaning.body small (Ok no_use) r.value r.is in
+            let sound : Inside {A = Use} (Ok no_use) (EachOf (IsSound x.scopes x.context) o.meaning.body) = sound_of x.scopes x.context o.meaning.body small (Ok no_use) r.value r.is in
             each_of (IsSound x.scopes x.context) (StatementKnown (tokens_of p) h x.context) (statement_known (tokens_of p) x.scopes h x.context (agreed.scopes (layouts_of t) k n) heard) o.meaning.body sound.rest
             );
       }

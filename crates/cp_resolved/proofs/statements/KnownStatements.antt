@@ -1,19 +1,17 @@
 -- What the rules say of statements that break none, in any routine with their scope: of what is assigned, called, delayed, displayed and started.
-use Rattle.std.proofs.Common.{◌≡◌, ℕ, ◌+◌, Bool, true, false, ◌⊎◌, inl, inr, if◌then◌else◌, List, [], ◌∷◌, length, Option, Some, None, Ok, refl, sym, ap, subst, ◌∙◌}
-use Rattle.cp_resolved.proofs.Words.{nat_eq, Identifier, SystemKind, C5, C6, C12, ValueType, Predeclared, Use, no_use, both_uses, agree, Judged, broken, both, ◌>>=◌}
+use Rattle.std.proofs.Common.{◌≡◌, ℕ, ◌+◌, Bool, true, false, ◌⊎◌, inl, inr, if◌then◌else◌, List, [], ◌∷◌, Option, Some, None, Ok, refl, sym, ap, subst, ◌∙◌}
+use Rattle.cp_resolved.proofs.Words.{Identifier, SystemKind, C5, C12, ValueType, Predeclared, Use, no_use, both_uses, Judged, both, ◌>>=◌}
 use Rattle.cp_resolved.proofs.Words.{faults, Scopes, heading_at, Context, Operand, OperandUse, Named, fault, expression, designator, arguments, Heard, Name}
 use Rattle.cp_resolved.proofs.Words.{RoutineMeaning, last_field, is_call_meant, result_type, Here, is_own, Each, IsSmallStart, IsSmallStatement, IsBare, Target}
 use Rattle.cp_resolved.proofs.Words.{is_assignable, is_queue_in, is_queue, name_of, routine_called, variable_in, HasQueue, IsPerformed}
 use Rattle.cp_tree.specs.declared.declaration.SystemKind.TheVariants.{Monitor}
 use Rattle.cp_tree.specs.Syntax.{Expression, Expressions, no_expressions, more_expressions, Designator, designator as name_with, Selectors, no_selectors, more_selectors, Start, Statement, assign, invoke, init}
-use Rattle.cp_scope.specs.declared.types.Parameter as check_parameter
 use Rattle.cp_scope.specs.declared.types.ValueType.TheVariants as types
 use Rattle.cp_scope.specs.declared.types.Predeclared.TheVariants as predeclared
 use Rattle.cp_check.specs.declared.operand.OperandUse.TheVariants as place
 use Rattle.cp_check.specs.declared.operand.DesignatedName as check_designated
 use Rattle.cp_check.specs.declared.operand.Named.TheVariants as name
 use Rattle.cp_check.specs.declared.statement.Target.TheVariants as target
-use Rattle.cp_check.specs.Operations as operations
 use Rattle.cp_check.specs.Calls as calls
 use Rattle.cp_check.specs.Expressions as expressions
 use Rattle.cp_check.specs.Statements as statements
@@ -23,19 +21,22 @@ use Rattle.cp_meaning.specs.Types as named
 use Rattle.cp_meaning.specs.Types.{Ty, Base, Range, ordinal}
 use Rattle.cp_meaning.specs.Scopes as scopes
 use Rattle.cp_meaning.specs.Scopes.{find, standard_meaning, delay_procedure, continue_procedure, display_procedure}
-use Rattle.cp_resolved.specs.Compiled.{Formed, as_ordinal, Designated, a_variable, some_components, a_component, then_form, result_begun, begun_form, designator_form, expression_form}
+use Rattle.cp_resolved.specs.Compiled.{Formed, as_ordinal, Designated, a_variable, some_components, a_component, result_begun, begun_form, designator_form, expression_form}
 use Rattle.cp_resolved.specs.Stands.{IsOrdinal}
 use Rattle.cp_resolved.specs.Typed.{Tokens, Written, BaseIs, TypeIs, HeadingIs, RoutineIs, predeclared_of, StandardIs, ScopesAgree, Expressed, HasForm, AreSmallExpressions, AreSmallSelectors}
 use Rattle.cp_resolved.proofs.agreeing.Agreeing.{none_left, none_right}
 use Rattle.cp_resolved.proofs.forms.AssignableForms.{free_place}
-use Rattle.cp_resolved.proofs.statements.EachStatement.{IsSound}
+use Rattle.cp_resolved.proofs.statements.EachStatement.{IsSound, Inside}
 use Rattle.cp_resolved.proofs.forms.FormedStatements.{performed_formed}
-use Rattle.cp_resolved.proofs.forms.GivenArguments.{AreArguments, passed, plain_arguments, var_arguments, called_passed, Passed}
-use Rattle.cp_resolved.proofs.statements.NamedArguments.{IsVariable, AreVariables, is_stored, stored_variable, given_variables}
-use Rattle.cp_resolved.proofs.forms.TypingExpressions.{expression_typed, designator_typed}
-use Rattle.cp_resolved.proofs.forms.TypingNames.{Holds, written, NamedIs, HasDesignated}
+use Rattle.cp_resolved.proofs.forms.FormedTargets.{aimed_is, assigns, no_entry, no_standard, only, routine_begun, routine_no_variable}
+use Rattle.cp_resolved.proofs.statements.StatementsJudged.{procedure_is}
+use Rattle.cp_resolved.proofs.forms.GivenArguments.{procedure_arguments, passed, called_passed, Passed}
+use Rattle.cp_resolved.proofs.statements.NamedArguments.{IsVariable, AreVariables, stored_variable, given_variables}
+use Rattle.cp_resolved.proofs.forms.NamesAlone.{is_stored}
+use Rattle.cp_resolved.proofs.forms.TypingExpressions.{expression_typed, designator_named}
+use Rattle.cp_resolved.proofs.forms.TypingNames.{Holds, written, NamedIs}
 use Rattle.cp_resolved.proofs.forms.TypingValues.{own_called}
-use Rattle.cp_resolved.proofs.forms.UsedNames.{IsVariableMeaning, other_bare}
+use Rattle.cp_resolved.proofs.forms.UsedNames.{other_bare}
 use Rattle.cp_resolved.proofs.agreeing.WithoutFaults.{ok_same, Then, then_of, both_of}
 
 -- ---- what is said
@@ -135,69 +136,20 @@ module _ (tokens : Tokens) (s : Scopes) (h : Here) (w : Context) (agrees : Scope
       go place.Fixed j y = absurd (cc)
       go place.Function j y = absurd (cc)
 
-  no_entry : (n : ℕ) → IsAimed (name.Entry n) → ⊥
-  no_entry n a = go (heading_at n s).result a.1
-    where
-      go : (o : Option ValueType) → statements.result_target s w n false o ≡ target.Assignable a.0 → ⊥
-      go None x = cc
-      go (Some u) x = cc
-
-  no_standard : (q : Predeclared) → IsAimed (name.Predeclared q) → ⊥
-  no_standard q a = go (operations.is_function q) a.1
-    where
-      go : (b : Bool) → (if b then target.Fixed None else target.Kind) ≡ target.Assignable a.0 → ⊥
-      go true x = cc
-      go false x = cc
-
-  routine_no_variable : (n : Name) (x : ℕ) (m : Option scopes.Meaning) → RoutineIs W (heading_at x s) n h.scope m → IsVariableMeaning m → ⊥
-  routine_no_variable n x (Some (scopes.local_variable t)) k v = k
-  routine_no_variable n x (Some (scopes.permanent_variable t)) k v = k
-  routine_no_variable n x _ k v = v
-
-  routine_begun : (m : Option scopes.Meaning) (n : Name) (x : ℕ) → RoutineIs W (heading_at x s) n h.scope m → begun_form h n m ≡ result_begun h (is_own h n)
-  routine_begun (Some (scopes.routine_meaning r)) n x k = refl
-  routine_begun _ n x k = absurd k
-
-  only : (o : Option Designated) → o ≡ then_form o (λ a. Some a)
-  only None = refl
-  only (Some a) = refl
-
   begun_type : (b : Bool) (spot : code.Place) (t : Ty) → result_begun h b ≡ Some (a_variable spot t) → t ≡ result_type (h.layouts.meanings h.routine).result
   begun_type true spot t e = sym (some_variable _ spot (result_type (h.layouts.meanings h.routine).result) t e)
   begun_type false spot t e = absurd (let bad : None ≡ Some (a_variable spot t) = e in cc)
 
   result_aimed : (i : Identifier) (ss : Selectors) (n : ℕ) → RoutineIs W (heading_at n s) i.name h.scope (find i.name h.scope) → IsBare (name_with i ss) → (spot : code.Place) (t : Ty) → designator_form h (name_with i ss) ≡ Some (a_variable spot t) → t ≡ result_type (h.layouts.meanings h.routine).result
-  result_aimed i no_selectors n k bare spot t e = begun_type (is_own h i.name) spot t (sym (routine_begun (find i.name h.scope) i.name n k) ∙ (only (begun_form h i.name (find i.name h.scope)) ∙ e))
+  result_aimed i no_selectors n k bare spot t e = begun_type (is_own h i.name) spot t (sym (routine_begun tokens s h w agrees (find i.name h.scope) i.name n k) ∙ (only tokens s h w agrees (begun_form h i.name (find i.name h.scope)) ∙ e))
   result_aimed i (more_selectors x ss) n k bare spot t e = absurd bare
 
   named_aimed : (i : Identifier) (ss : Selectors) (c : check_designated.DesignatedName) (n : Named) → designator s w (name_with i ss) ≡ Ok c → NamedIs tokens s h i.name (find i.name h.scope) (last_field ss) n (designator_form h (name_with i ss)) → IsAimed n → AssignKnown h (name_with i ss)
   named_aimed i ss c (name.Variable u) is k a = λ spot t e. inl (held_movable (find i.name h.scope) (last_field ss) u (designator_form h (name_with i ss)) k (aimed_free u a) spot t e)
-  named_aimed i ss c (name.Routine n) is k a = λ spot t e. inr (result_aimed i ss n k (other_bare tokens s h w agrees i ss c (routine_no_variable i.name n (find i.name h.scope) k) is) spot t e)
-  named_aimed i ss c (name.Entry n) is k a = absurd (no_entry n a)
-  named_aimed i ss c (name.Predeclared q) is k a = absurd (no_standard q a)
+  named_aimed i ss c (name.Routine n) is k a = λ spot t e. inr (result_aimed i ss n k (other_bare tokens s h w agrees i ss c (routine_no_variable tokens s h w agrees i.name n (find i.name h.scope) k) is) spot t e)
+  named_aimed i ss c (name.Entry n) is k a = absurd (no_entry tokens s h w agrees n a.0 a.1)
+  named_aimed i ss c (name.Predeclared q) is k a = absurd (no_standard tokens s h w agrees q a.0 a.1)
   named_aimed i ss c x is k a = absurd (let bad = a.1 in cc)
-
-  -- a name with selectors that is judged without a fault
-  pointed : (i : Identifier) (ss : Selectors) (c : check_designated.DesignatedName) → AreSmallSelectors ss → designator s w (name_with i ss) ≡ Ok c → NamedIs tokens s h i.name (find i.name h.scope) (last_field ss) c.named (designator_form h (name_with i ss))
-  pointed i ss c m is = subst (λ (j : Judged check_designated.DesignatedName). HasDesignated tokens s h i.name (find i.name h.scope) (last_field ss) j (designator_form h (name_with i ss))) is (designator_typed tokens s h w agrees i ss m)
-
-  aimed_is : (at : ℕ) (t x : Target) → statements.aimed at t ≡ Ok x → t ≡ x
-  aimed_is at (target.Assignable v) x e = ok_same (target.Assignable v) x e
-  aimed_is at (target.Fixed o) x e = ok_same (target.Fixed o) x e
-  aimed_is at target.Kind x e = absurd (cc)
-
-  fixed_refused : (at : ℕ) (o : Operand) (v : Option ValueType) (u r : Use) → statements.assigned at (target.Fixed v) o u ≡ Ok r → ⊥
-  fixed_refused at o None u r e = cc
-  fixed_refused at o (Some v) u r e = go (agree v o.value_type) e
-    where
-      go : (c : Bool) → (if c then (let j : Judged Use = broken at C6 in j) else broken at C5) ≡ Ok r → ⊥
-      go true x = cc
-      go false x = cc
-
-  assigns : (at : ℕ) (t : Target) (o : Operand) (u r : Use) → statements.assigned at t o u ≡ Ok r → (v : ValueType) × (t ≡ target.Assignable v)
-  assigns at (target.Assignable v) o u r e = (v, refl)
-  assigns at (target.Fixed v) o u r e = absurd (fixed_refused at o v u r e)
-  assigns at target.Kind o u r e = absurd (cc)
 
   assign_known : (at : ℕ) (i : Identifier) (ss : Selectors) (e : Expression) → AreSmallSelectors ss → (r : Use) → statements.assignment s w at (name_with i ss) e ≡ Ok r → AssignKnown h (name_with i ss)
   unfolding statements.assignment
@@ -211,33 +163,19 @@ module _ (tokens : Tokens) (s : Scopes) (h : Here) (w : Context) (agrees : Scope
       let a : Then (statements.aimed i.at (target_of s w c.named)) (λ x. Ok (x, c.uses)) t.value.0 = then_of (statements.aimed i.at (target_of s w c.named)) (λ x. Ok (x, c.uses)) t.value.0 k.rest in
       let aim : target_of s w c.named ≡ t.value.0.0 = aimed_is i.at (target_of s w c.named) a.value a.is ∙ ap (λ (x : Target × Use). x.0) (ok_same (a.value, c.uses) t.value.0 a.rest) in
       let y = assigns at t.value.0.0 t.value.1 (both_uses t.value.0.1 t.value.1.uses) r t.rest in
-      named_aimed i ss c c.named k.is (pointed i ss c m k.is) (y.0, aim ∙ y.1)
+      named_aimed i ss c c.named k.is (designator_named tokens s h w agrees i ss c m k.is) (y.value_type, aim ∙ y.is)
 
   -- ---- calls
 
   abbrev Known : Designator → Expressions → Type 0
   Known d es = InvokeKnown tokens h w d es
 
-  -- the arguments of a procedure, whatever is known of its parameters
-  procedure_arguments : (as' : List check_parameter.Parameter) (v : Option ValueType) (k : ℕ) (es : Expressions) (os : List Operand) → arguments s w (statements.as_many as' k v) 0 es ≡ Ok os → length as' ≡ length os → AreArguments tokens s h w agrees as' es os
-  procedure_arguments as' (Some v) k es os is many = plain_arguments tokens s h w agrees as' 0 es os is many
-  procedure_arguments as' None k es os is many = go (nat_eq (length as') k) is
-    where
-      go : (b : Bool) → arguments s w (if b then as' else []) 0 es ≡ Ok os → AreArguments tokens s h w agrees as' es os
-      go true i = var_arguments tokens s h w agrees as' es os i many
-      go false i = plain_arguments tokens s h w agrees as' 0 es os i many
-
-  no_result : (at name_at : ℕ) (b : Bool) (n : ℕ) (os : List Operand) (u r : Use) (v : Option ValueType) → statements.procedure_of s w at name_at b n os u v ≡ Ok r → calls.called s w at name_at b n os u ≡ Ok r
-  no_result at name_at b n os u r None is = is
-  no_result at name_at b n os u r (Some v) is = absurd (cc)
-
   called_variables : (at name_at : ℕ) (b : Bool) (n : ℕ) (os : List Operand) (u r : Use) (es : Expressions) (o : Option RoutineMeaning) → AreSmallExpressions es → HeadingIs W (heading_at n s) o → arguments s w (statements.procedure_parameters s n (statements.number_of es)) 0 es ≡ Ok os → statements.procedure_called s w at name_at b n os u ≡ Ok r →
       (y : RoutineMeaning) → o ≡ Some y → AreVariables h y.parameters es
-  unfolding statements.procedure_called
   called_variables at name_at b n os u r es None m i a is y e = absurd i
   called_variables at name_at b n os u r es (Some x) m i a is y e =
-      let p : Passed tokens s h w agrees n os = called_passed tokens s h w agrees at name_at b n os u r (no_result at name_at b n os u r (heading_at n s).result is) in
-      let given = given_variables tokens s h w agrees (heading_at n s).parameters x.parameters es os i.1 m (procedure_arguments (heading_at n s).parameters (heading_at n s).result (statements.number_of es) es os a p.fit.many) p.variables in
+      let p : Passed tokens s h w agrees n os = called_passed tokens s h w agrees at name_at b n os u r (procedure_is s w true h.scope at name_at b n os u r is) in
+      let given = given_variables tokens s h w agrees (heading_at n s).parameters x.parameters es os i.1 m (procedure_arguments tokens s h w agrees (heading_at n s).parameters (heading_at n s).result (statements.number_of es) es os a p.fit.many) p.variables in
       subst (λ (z : RoutineMeaning). AreVariables h z.parameters es) (same x y e) given
     where
       same : (x y : RoutineMeaning) → Some x ≡ Some y → x ≡ y
@@ -408,7 +346,7 @@ module _ (tokens : Tokens) (s : Scopes) (h : Here) (w : Context) (agrees : Scope
       let t : Then (both (designator s w d) (arguments s w ps 0 es)) (statements.invoked s w at) r = then_of (both (designator s w d) (arguments s w ps 0 es)) (statements.invoked s w at) r is in
       let b = both_of (designator s w d) (arguments s w ps 0 es) t.value t.is in
       let a : arguments s w (statements.parameters_of s t.value.0.named (statements.number_of es)) 0 es ≡ Ok t.value.1 = sym (ap (λ (j : Judged check_designated.DesignatedName). arguments s w (statements.parameters_named s (statements.number_of es) j) 0 es) b.first) ∙ b.second in
-      named_known at i ss es t.value.0 t.value.0.named t.value.1 r (pointed i ss t.value.0 small b.first) less a t.rest
+      named_known at i ss es t.value.0 t.value.0.named t.value.1 r (designator_named tokens s h w agrees i ss t.value.0 small b.first) less a t.rest
 
   -- ---- starts
 
@@ -434,7 +372,7 @@ module _ (tokens : Tokens) (s : Scopes) (h : Here) (w : Context) (agrees : Scope
       let d : Designator = name_with i ss in
       let t : Then (both (designator s w d) (arguments s w [] 0 es)) (statements.started s i.at) r = then_of (both (designator s w d) (arguments s w [] 0 es)) (statements.started s i.at) r is in
       let b = both_of (designator s w d) (arguments s w [] 0 es) t.value t.is in
-      named_started i.at i ss t.value.0 t.value.0.named t.value.1 r (pointed i ss t.value.0 m b.first) t.rest
+      named_started i.at i ss t.value.0 t.value.0.named t.value.1 r (designator_named tokens s h w agrees i ss t.value.0 m b.first) t.rest
 
   start_by : (t : Start) (d : Designator) → t.target ≡ d → IsSmallStart t → (r : Use) → statements.start s w t ≡ Ok r → StartKnown tokens h t
   start_by t (name_with i ss) same small r is =
@@ -442,12 +380,7 @@ module _ (tokens : Tokens) (s : Scopes) (h : Here) (w : Context) (agrees : Scope
       let less : IsSmallStart (record { target = name_with i ss; arguments = t.arguments }) = subst IsSmallStart one small in
       subst (λ (z : Start). StartKnown tokens h z) (sym one) (start_of i ss t.arguments less.0 r (subst (λ (z : Start). statements.start s w z ≡ Ok r) one is))
 
-  record Before (j : Judged Use) (U : Type 0) : Type 0 where
-    value : Use
-    is : j ≡ Ok value
-    rest : U
-
-  starts_known : (ts : List Start) → Each IsSmallStart ts → (j : Judged Use) (r : Use) → statements.starts s w j ts ≡ Ok r → Before j (Each (StartKnown tokens h) ts)
+  starts_known : (ts : List Start) → Each IsSmallStart ts → (j : Judged Use) (r : Use) → statements.starts s w j ts ≡ Ok r → Inside j (Each (StartKnown tokens h) ts)
   unfolding statements.starts
   starts_known [] m j r is = record { value = r; is = is; rest = tt }
   starts_known (t ∷ ts) m j r is =

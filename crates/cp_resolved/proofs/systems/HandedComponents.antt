@@ -15,6 +15,7 @@ use Rattle.cp_resolved.proofs.names.Entries.{still_there, last_entry}
 use Rattle.cp_resolved.proofs.components.Handed.{handed, constants_owned, definitions_owned, variables_handed}
 use Rattle.cp_resolved.proofs.names.KeptNames as kept
 use Rattle.cp_resolved.proofs.names.PermanentNames.{found_cases, open_found}
+use Rattle.cp_resolved.proofs.laid.OwnedCells.{parameter_types}
 use Rattle.cp_resolved.proofs.names.Steps.{all_inside}
 use Rattle.cp_resolved.proofs.names.StepsOfParts.{Reached, system_groups_reached}
 use Rattle.cp_resolved.proofs.names.StepsOfTypes.{named_type_same}
@@ -116,10 +117,6 @@ AreBoundAt l qs = AreBound l.owned.parameters qs l.names
 
 abbrev value_named : Name → Ty → Parameter
 value_named x t = record { name = x; ty = t; is_var = false }
-
-parameter_types : (l : Layer) (ps : Parameters) (x : List ℕ) (v : CellType) → (system_parameter l ps x v).1.types ≡ l.types
-parameter_types l ps x (types.System j) = refl
-parameter_types l ps x _ = refl
 
 module _ (k : Numbering) where
   one_bound : (l : Layer) (ps : Parameters) (x : Name) (t : Ty) (v : CellType) (qs : List Parameter) → TypeIs k l.types t v → AreBoundAt l qs → AreBoundAt (system_parameter l ps x v).1 (qs ++ value_named x t ∷ [])

@@ -191,11 +191,7 @@ module _ (t : Tree) (r : Tables) (same : plain r ≡ laid t) (place : IsPlain t.
         let one : one_handed q.ty ≡ 1 = ap one_handed i in
         let next : handed_count (pre ++ q ∷ []) ≡ handed_count pre + 1 = omega (arith, more, one) in
         (o.within, o.slot, o.system, subst (λ n. Rest post n) next rest)
-    one_handed_by pre q post (ordinal s) e i rest = subst (λ n. Rest post n) (same_count pre q (ordinal s) i refl) rest
-    one_handed_by pre q post queue_type e i rest = subst (λ n. Rest post n) (same_count pre q queue_type i refl) rest
-    one_handed_by pre q post (set_over s) e i rest = subst (λ n. Rest post n) (same_count pre q (set_over s) i refl) rest
-    one_handed_by pre q post (array_over s u) e i rest = subst (λ n. Rest post n) (same_count pre q (array_over s u) i refl) rest
-    one_handed_by pre q post (record_with us) e i rest = subst (λ n. Rest post n) (same_count pre q (record_with us) i refl) rest
+    one_handed_by pre q post t e i rest = subst (λ n. Rest post n) (same_count pre q t i refl) rest
 
     all_handed : (pre post : List Parameter) → m.parameters ≡ pre ++ post → Rest post (handed_count pre)
     all_handed pre [] e =

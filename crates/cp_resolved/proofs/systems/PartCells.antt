@@ -7,8 +7,8 @@ use Rattle.cp_resolved.proofs.Words.{layouts_of, SystemMeaning, declared, progra
 use Rattle.cp_symbols.specs.declared.names.LayoutMeaning.TheVariants as meaning
 use Rattle.cp_layout.specs.Layers as layers
 use Rattle.cp_resolved.proofs.counts.FewCellsOfTables.{few_cells_law}
-use Rattle.cp_resolved.proofs.frames.FrameCells.{itself, look_left, look_each}
-use Rattle.cp_resolved.proofs.systems.PermanentCells.{width, taken, taken_before, taken_inside, taken_apart, Holds}
+use Rattle.cp_resolved.proofs.frames.FrameCells.{itself, look_left, look_each, before_inside, before_apart}
+use Rattle.cp_resolved.proofs.systems.PermanentCells.{width, taken, taken_before, Holds}
 use Rattle.cp_resolved.proofs.declarations.Placed.{placed_law}
 use Rattle.cp_resolved.proofs.agreeing.ScopeVariables.{Among, among_left, look_among, among_all}
 use Rattle.cp_resolved.proofs.names.Steps.{found_in}
@@ -70,7 +70,7 @@ module _ (t : Tree) (r : Tables) (n : ℕ) (s : SystemStands t r n) (declares : 
       seen = look_each (λ (v : Variable). find v.name m.scope ≡ Some (permanent_variable v.ty)) x u (system_variables m) declares.visible (look_left x u qs m.variables p.found)
 
       inside : taken_before x ws ≤ most
-      inside = let i = taken_inside x u ws (part_taken x u p) in omega (arith, i, all_taken, few)
+      inside = let i = before_inside width x u ws (part_taken x u p) in omega (arith, i, all_taken, few)
 
       go : (o : Option LayoutMeaning) → layers.find x s.begun.names ≡ o → FoundIs (numbering_of t.program) s.begun.types o (Some (permanent_variable u)) (since x m.scope) → slot_in (layers.find x s.around.names) ≡ taken_before x ws
       go None f g = absurd g
@@ -91,12 +91,12 @@ module _ (t : Tree) (r : Tables) (n : ℕ) (s : SystemStands t r n) (declares : 
   part_inside x u e =
       let p : IsPart x u = part x u e in
       let slot = part_slot x u p in
-      let i = taken_inside x u ws (part_taken x u p) in
+      let i = before_inside width x u ws (part_taken x u p) in
       let one : width u ≡ 1 = p.one in
       omega (arith, slot, i, one, all_taken)
 
   pub parts_different : (x y : Name) (u v : Ty) → same_name x y ≡ false → look x (components_among true qs) ≡ Some u → look y (components_among true qs) ≡ Some v → slot_in (layers.find x (parts_at t n).names) ≡ slot_in (layers.find y (parts_at t n).names) → ⊥
-  parts_different x y u v other e f same = go (taken_apart x y u v ws other (part_taken x u p) (part_taken y v q))
+  parts_different x y u v other e f same = go (before_apart width x y u v ws other (part_taken x u p) (part_taken y v q))
     where
       p : IsPart x u
       p = part x u e

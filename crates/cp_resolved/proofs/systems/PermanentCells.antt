@@ -1,6 +1,6 @@
 -- The parameters and variables of a system type have its permanent cells, one after the other.
-use Rattle.std.proofs.Common.{◌≡◌, ◌+◌, ◌≤◌, ℕ, Bool, true, false, if◌then◌else◌, List, [], ◌∷◌, ◌++◌, length, Option, Some, None, refl, sym, ap, subst, ◌∙◌, ◌⊎◌, inl, inr, arith, append_assoc, append-nil}
-use Rattle.cp_resolved.proofs.Words.{min, bytes_eq, none-some, same_Some, Identifier, CellType, Contained, LayoutMeaning, most, plus, written_type, Name, same_name, Ty}
+use Rattle.std.proofs.Common.{◌≡◌, ◌+◌, ◌≤◌, ℕ, true, false, if◌then◌else◌, List, [], ◌∷◌, ◌++◌, length, Option, Some, None, refl, sym, ap, subst, ◌∙◌, ◌⊎◌, inl, inr, arith, append_assoc, append-nil}
+use Rattle.cp_resolved.proofs.Words.{min, bytes_eq, Identifier, CellType, Contained, LayoutMeaning, most, plus, written_type, Name, same_name, Ty}
 use Rattle.cp_resolved.proofs.Words.{has_components, Scope, permanent_variable, parameter_variables, Enumerated, each_in, in_type, in_part, cells_of, look}
 use Rattle.cp_resolved.proofs.Words.{components_among, Each, IsSmallType, IsSmallPart, AreNumbered, IsParameter, AreParameters}
 use Rattle.cp_tree.specs.Syntax as syntax
@@ -17,8 +17,9 @@ use Rattle.cp_meaning.specs.Declarations.{Variable, Parameter, Block, Heading, n
 use Rattle.cp_resolved.specs.InStep.{Numbering, range_on, TypeIs, InStep}
 use Rattle.cp_resolved.proofs.frames.Cells.{cells_same}
 use Rattle.cp_resolved.proofs.laid.Extends.{Longer}
-use Rattle.cp_resolved.proofs.frames.FrameCells.{look_left, look_right, itself, same_is}
-use Rattle.cp_resolved.proofs.frames.FrameKept.{constants_cells, definitions_cells, type_cells, owned_same}
+use Rattle.cp_resolved.proofs.laid.OwnedCells.{variable_types, parameter_types}
+use Rattle.cp_resolved.proofs.frames.FrameCells.{look_left, look_right, same_is, weight, weight_before, weight_append, before_left, before_right}
+use Rattle.cp_resolved.proofs.frames.FrameKept.{cells, constants_cells, definitions_cells, type_cells, owned_same}
 use Rattle.cp_resolved.proofs.frames.FrameSteps.{one_variable}
 use Rattle.cp_resolved.proofs.frames.FramesBegun.{variables_append, named_parameters, groups_grow, parts_grow, variables_grow}
 use Rattle.cp_resolved.proofs.names.KeptNames as kept
@@ -36,57 +37,10 @@ width (named.component_of n) = 1
 width t = cells_of t
 
 abbrev pub taken : List Variable → ℕ
-taken [] = 0
-taken (v ∷ vs) = width v.ty + taken vs
+taken vs = weight width vs
 
 abbrev pub taken_before : Name → List Variable → ℕ
-taken_before x [] = 0
-taken_before x (v ∷ vs) = if same_name x v.name then 0 else width v.ty + taken_before x vs
-
-pub taken_append : (vs ws : List Variable) → taken (vs ++ ws) ≡ taken vs + taken ws
-taken_append [] ws = omega arith
-taken_append (v ∷ vs) ws = let e = taken_append vs ws in omega (arith, e)
-
-pub taken_left : (x : Name) (t : Ty) (vs ws : List Variable) → look x vs ≡ Some t → taken_before x (vs ++ ws) ≡ taken_before x vs
-taken_left x t [] ws h = absurd (none-some t h)
-taken_left x t (v ∷ vs) ws h = go (same_name x v.name) h (taken_left x t vs ws)
-  where
-    go : (b : Bool) → (if b then Some v.ty else look x vs) ≡ Some t → (look x vs ≡ Some t → taken_before x (vs ++ ws) ≡ taken_before x vs) → (if b then 0 else width v.ty + taken_before x (vs ++ ws)) ≡ (if b then 0 else width v.ty + taken_before x vs)
-    go true e rest = refl
-    go false e rest = ap (λ n. width v.ty + n) (rest e)
-
-pub taken_right : (x : Name) (vs ws : List Variable) → look x vs ≡ None → taken_before x (vs ++ ws) ≡ taken vs + taken_before x ws
-taken_right x [] ws h = omega arith
-taken_right x (v ∷ vs) ws h = go (same_name x v.name) h (taken_right x vs ws)
-  where
-    go : (b : Bool) → (if b then Some v.ty else look x vs) ≡ None → (look x vs ≡ None → taken_before x (vs ++ ws) ≡ taken vs + taken_before x ws) → (if b then 0 else width v.ty + taken_before x (vs ++ ws)) ≡ width v.ty + taken vs + taken_before x ws
-    go true e rest = absurd (none-some v.ty (sym e))
-    go false e rest = let f = rest e in omega (arith, f)
-
-pub taken_inside : (x : Name) (t : Ty) (vs : List Variable) → look x vs ≡ Some t → taken_before x vs + width t ≤ taken vs
-taken_inside x t [] h = absurd (none-some t h)
-taken_inside x t (v ∷ vs) h = go (same_name x v.name) h (taken_inside x t vs)
-  where
-    go : (b : Bool) → (if b then Some v.ty else look x vs) ≡ Some t → (look x vs ≡ Some t → taken_before x vs + width t ≤ taken vs) → (if b then 0 else width v.ty + taken_before x vs) + width t ≤ width v.ty + taken vs
-    go true e rest = let f = ap width (same_Some v.ty t e) in omega (arith, f)
-    go false e rest = let f = rest e in omega (arith, f)
-
-pub taken_apart : (x y : Name) (t u : Ty) (vs : List Variable) → same_name x y ≡ false → look x vs ≡ Some t → look y vs ≡ Some u → (taken_before x vs + width t ≤ taken_before y vs) ⊎ (taken_before y vs + width u ≤ taken_before x vs)
-taken_apart x y t u [] o h i = absurd (none-some t h)
-taken_apart x y t u (v ∷ vs) o h i = go (same_name x v.name) (same_name y v.name) refl refl h i (taken_apart x y t u vs o)
-  where
-    further : (taken_before x vs + width t ≤ taken_before y vs) ⊎ (taken_before y vs + width u ≤ taken_before x vs) →
-        (width v.ty + taken_before x vs + width t ≤ width v.ty + taken_before y vs) ⊎ (width v.ty + taken_before y vs + width u ≤ width v.ty + taken_before x vs)
-    further (inl k) = inl (omega (arith, k))
-    further (inr k) = inr (omega (arith, k))
-
-    go : (b c : Bool) → same_name x v.name ≡ b → same_name y v.name ≡ c → (if b then Some v.ty else look x vs) ≡ Some t → (if c then Some v.ty else look y vs) ≡ Some u →
-        (look x vs ≡ Some t → look y vs ≡ Some u → (taken_before x vs + width t ≤ taken_before y vs) ⊎ (taken_before y vs + width u ≤ taken_before x vs)) →
-        ((if b then 0 else width v.ty + taken_before x vs) + width t ≤ (if c then 0 else width v.ty + taken_before y vs)) ⊎ ((if c then 0 else width v.ty + taken_before y vs) + width u ≤ (if b then 0 else width v.ty + taken_before x vs))
-    go true true p q e f rest = absurd (let bad : true ≡ false = sym (itself x) ∙ subst (λ z. same_name x z ≡ false) (same_is y v.name q ∙ sym (same_is x v.name p)) o in cc)
-    go true false p q e f rest = let g = ap width (same_Some v.ty t e) in inl (omega (arith, g))
-    go false true p q e f rest = let g = ap width (same_Some v.ty u f) in inr (omega (arith, g))
-    go false false p q e f rest = further (rest e f)
+taken_before x vs = weight_before width x vs
 
 -- ---- where they lie
 
@@ -104,8 +58,8 @@ pub record Owns (l : Layer) (ws : List Variable) : Type 0 where
   pub holding : AreHolding ws l.names
 
 holds_more : (ws vs : List Variable) (x : Name) (m : LayoutMeaning) → Holds ws x m → Holds (ws ++ vs) x m
-holds_more ws vs x (meaning.Variable (origin.Permanent n) v) h = (h.0, look_left x h.0 ws vs h.1, h.2 ∙ ap (λ j. min j most) (sym (taken_left x h.0 ws vs h.1)))
-holds_more ws vs x (meaning.Bound n k) h = (h.0, look_left x h.0 ws vs h.1, h.2 ∙ ap (λ j. min j most) (sym (taken_left x h.0 ws vs h.1)))
+holds_more ws vs x (meaning.Variable (origin.Permanent n) v) h = (h.0, look_left x h.0 ws vs h.1, h.2 ∙ ap (λ j. min j most) (sym (before_left width x h.0 ws vs h.1)))
+holds_more ws vs x (meaning.Bound n k) h = (h.0, look_left x h.0 ws vs h.1, h.2 ∙ ap (λ j. min j most) (sym (before_left width x h.0 ws vs h.1)))
 holds_more ws vs x _ h = tt
 
 holding_more : (ws vs : List Variable) (ns : Names) → AreHolding ws ns → AreHolding (ws ++ vs) ns
@@ -137,26 +91,17 @@ holding_variable ws x m ns l h y n e = go (found_cases (x, m) ns y n e)
 
 -- ---- constants and types
 
+same_owns : (l m : Layer) (ws : List Variable) → cells m ≡ cells l → AreHolding ws m.names → Owns l ws → Owns m ws
+same_owns l m ws e holding h = record { cells = ap (λ o. o.cells) (owned_same l m e) ∙ h.cells; holding = holding }
+
 pub constants_own : (l : Layer) (ds : List syntax.ConstantDefinition) (ws : List Variable) → Owns l ws → Owns (constants l ds) ws
-constants_own l ds ws h =
-    record {
-      cells = ap (λ o. o.cells) (owned_same l (constants l ds) (constants_cells l ds)) ∙ h.cells;
-      holding = kept.constants_keep (AreHolding ws) IsUnheld (holding_added ws) (λ b z. tt) (λ v. tt) l ds h.holding;
-    }
+constants_own l ds ws h = same_owns l (constants l ds) ws (constants_cells l ds) (kept.constants_keep (AreHolding ws) IsUnheld (holding_added ws) (λ b z. tt) (λ v. tt) l ds h.holding) h
 
 pub definitions_own : (l : Layer) (ds : List syntax.TypeDefinition) (ws : List Variable) → Owns l ws → Owns (type_definitions l ds) ws
-definitions_own l ds ws h =
-    record {
-      cells = ap (λ o. o.cells) (owned_same l (type_definitions l ds) (definitions_cells l ds)) ∙ h.cells;
-      holding = kept.definitions_keep (AreHolding ws) IsUnheld (holding_added ws) (λ b z. tt) (λ v. tt) l ds h.holding;
-    }
+definitions_own l ds ws h = same_owns l (type_definitions l ds) ws (definitions_cells l ds) (kept.definitions_keep (AreHolding ws) IsUnheld (holding_added ws) (λ b z. tt) (λ v. tt) l ds h.holding) h
 
 pub type_owns : (l : Layer) (t : syntax.TypeTerm) (ws : List Variable) → Owns l ws → Owns (written_type l t).1 ws
-type_owns l t ws h =
-    record {
-      cells = ap (λ o. o.cells) (owned_same l (written_type l t).1 (type_cells l t)) ∙ h.cells;
-      holding = kept.type_keep (AreHolding ws) IsUnheld (holding_added ws) (λ b z. tt) (λ v. tt) l t h.holding;
-    }
+type_owns l t ws h = same_owns l (written_type l t).1 ws (type_cells l t) (kept.type_keep (AreHolding ws) IsUnheld (holding_added ws) (λ b z. tt) (λ v. tt) l t h.holding) h
 
 -- ---- one more
 
@@ -171,27 +116,24 @@ variable_holds ws x t v n new e y same =
     let absent : look y ws ≡ None = ap (λ z. look z ws) (same_is y x turned) ∙ new in
     let first : look y (one_variable x t ∷ []) ≡ Some t = ap (λ b. if b then Some t else None) turned in
     let none : taken_before y (one_variable x t ∷ []) ≡ 0 = ap (λ b. if b then 0 else width t + 0) turned in
-    let place = taken_right y ws (one_variable x t ∷ []) absent in
+    let place = before_right width y ws (one_variable x t ∷ []) absent in
     (t, look_right y ws (one_variable x t ∷ []) absent ∙ first, e ∙ ap (λ j. min j most) (let f : taken ws ≡ taken_before y (ws ++ one_variable x t ∷ []) = omega (arith, place, none) in f))
 
 bound_holds : (ws : List Variable) (x : Name) (t : Ty) (n k : ℕ) → look x ws ≡ None → n ≡ min (taken ws) most → (y : Name) → bytes_eq x y ≡ true → Holds (ws ++ one_variable x t ∷ []) y (meaning.Bound n k)
 bound_holds ws x t n k new e y same = variable_holds ws x t types.Queue n new e y same
 
 more_cells : (ws : List Variable) (x : Name) (t : Ty) (n w : ℕ) → n ≡ min (taken ws) most → w ≡ width t → plus n w ≡ min (taken (ws ++ one_variable x t ∷ [])) most
-more_cells ws x t n w e f = let a = taken_append ws (one_variable x t ∷ []) in let b : taken (one_variable x t ∷ []) ≡ width t + 0 = refl in omega (arith, a, b, e, f)
-
-plain_width : (t : Ty) → has_components t ≡ false → width t ≡ cells_of t
-plain_width (named.component_of n) h = absurd (let bad : true ≡ false = h in cc)
-plain_width _ h = refl
+more_cells ws x t n w e f = let a = weight_append width ws (one_variable x t ∷ []) in let b : taken (one_variable x t ∷ []) ≡ width t + 0 = refl in omega (arith, a, b, e, f)
 
 pub width_plain : (t : Ty) → has_components t ≡ false → width t ≡ cells_of t
-width_plain = plain_width
+width_plain (named.component_of n) h = absurd (let bad : true ≡ false = h in cc)
+width_plain _ h = refl
 
 module _ (k : Numbering) where
   cell_owns : (l : Layer) (x : Name) (t : Ty) (v : CellType) (ws : List Variable) → has_components t ≡ false → TypeIs k l.types t v → IsFirst ws (one_variable x t) → Owns l ws → Owns (cell_variable l x v).1 (ws ++ one_variable x t ∷ [])
   cell_owns l x t v ws w i new h =
       record {
-        cells = more_cells ws x t l.owned.cells (kinds.cells_of l.types v) h.cells (cells_same k l.types t v i new.few ∙ sym (plain_width t w));
+        cells = more_cells ws x t l.owned.cells (kinds.cells_of l.types v) h.cells (cells_same k l.types t v i new.few ∙ sym (width_plain t w));
         holding = holding_variable (ws ++ one_variable x t ∷ []) x (meaning.Variable (origin.Permanent l.owned.cells) v) l.names (variable_holds ws x t v l.owned.cells new.other h.cells) (holding_more ws (one_variable x t ∷ []) l.names h.holding);
       }
 
@@ -221,10 +163,6 @@ module _ (k : Numbering) where
   pub follow_right : (ws vs us : List Variable) → Follow ws (vs ++ us) → Follow (ws ++ components_among false vs) us
   follow_right ws [] us h = subst (λ xs. Follow xs us) (sym (append-nil ws)) h
   follow_right ws (v ∷ vs) us h = subst (λ xs. Follow xs us) (one_and_more ws v vs) (follow_right (ws ++ components_among false (v ∷ [])) vs us h.1)
-
-  variable_types : (l : Layer) (x : List ℕ) (v : CellType) (o : Option Contained) → (variable_with l x v o).types ≡ l.types
-  variable_types l x v None = refl
-  variable_types l x v (Some c) = refl
 
   variables_of_own : (l : Layer) (t : Ty) (v : CellType) (is : List Identifier) (ws : List Variable) → TypeIs k l.types t v → Follow ws (named_variables (names_of is) t) → Owns l ws → Owns (variables_of l v is) (ws ++ components_among false (named_variables (names_of is) t))
   unfolding variables_of
@@ -300,16 +238,12 @@ module _ (k : Numbering) where
       subst (λ u. Owns (system_parameter l ps x u).1 (ws ++ one_variable x (named.component_of n) ∷ [])) (sym i)
       (record { cells = more_cells ws x (named.component_of n) l.owned.cells 1 h.cells refl; holding = holding_variable (ws ++ one_variable x (named.component_of n) ∷ []) x (meaning.Bound l.owned.cells n) l.names (bound_holds ws x (named.component_of n) l.owned.cells n new.other h.cells) (holding_more ws (one_variable x (named.component_of n) ∷ []) l.names h.holding) })
 
-  system_parameter_types : (l : Layer) (ps : Parameters) (x : List ℕ) (v : CellType) → (system_parameter l ps x v).1.types ≡ l.types
-  system_parameter_types l ps x (types.Ordinal r) = refl
-  system_parameter_types l ps x _ = refl
-
   parameters_own : (l : Layer) (ps : Parameters) (t : Ty) (v : CellType) (is : List Identifier) (ws : List Variable) → IsParameter t → TypeIs k l.types t v → Firsts ws (named_variables (names_of is) t) → Owns l ws → Owns (system_parameters_of l ps v is).1 (ws ++ named_variables (names_of is) t)
   unfolding system_parameters_of
   parameters_own l ps t v [] ws p i f h = subst (λ us. Owns l us) (sym (append-nil ws)) h
   parameters_own l ps t v (x ∷ xs) ws p i f h =
       let m : Parameters × Layer = system_parameter l ps x.name v in
-      let j : TypeIs k m.1.types t v = subst (λ ts. TypeIs k ts t v) (sym (system_parameter_types l ps x.name v)) i in
+      let j : TypeIs k m.1.types t v = subst (λ ts. TypeIs k ts t v) (sym (parameter_types l ps x.name v)) i in
       subst (λ us. Owns (system_parameters_of m.1 m.0 v xs).1 us) (append_assoc ws (one_variable x.name t ∷ []) (named_variables (names_of xs) t)) (parameters_own m.1 m.0 t v xs (ws ++ one_variable x.name t ∷ []) p j f.1 (parameter_owns l ps x.name t v ws p i f.0 h))
 
   firsts_before : (qs ps : List Parameter) → Longer qs ps → Firsts [] (parameter_variables ps) → Firsts [] (parameter_variables qs)

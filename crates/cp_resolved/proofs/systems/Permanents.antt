@@ -16,7 +16,7 @@ use Rattle.cp_resolved.proofs.frames.Cells.{count_same}
 use Rattle.cp_resolved.proofs.laid.Declared as declared_parts
 use Rattle.cp_resolved.proofs.laid.Declares.{Declares, type_declares, constants_declare, definitions_declare}
 use Rattle.cp_resolved.proofs.names.KeptNames as kept
-use Rattle.cp_resolved.proofs.laid.OwnedCells.{type_owned}
+use Rattle.cp_resolved.proofs.laid.OwnedCells.{type_owned, variable_types, parameter_types}
 use Rattle.cp_resolved.proofs.laid.Named.{IsType, AreTypes, Named}
 use Rattle.cp_resolved.proofs.systems.OwnedParts.{contained_of, OwnsAt, owns_grown, owns_cells, owns_bound, owns_variable, owns_components}
 use Rattle.cp_resolved.proofs.names.PermanentNames.{IsPermanent, IsOther, Under, under_same, under_added, open_found}
@@ -83,10 +83,6 @@ module _ (k : Numbering) where
 
   -- ---- variables
 
-  still_types : (l : Layer) (x : List ℕ) (v : CellType) (o : Option Contained) → (variable_with l x v o).types ≡ l.types
-  still_types l x v None = refl
-  still_types l x v (Some c) = refl
-
   still_systems : (l : Layer) (x : List ℕ) (v : CellType) (o : Option Contained) → (variable_with l x v o).systems ≡ l.systems
   still_systems l x v None = refl
   still_systems l x v (Some c) = refl
@@ -107,7 +103,7 @@ module _ (k : Numbering) where
       let w : Variable = record { name = x.name; ty = t } in
       let m : Layer = variable l x.name v in
       let a : OwnsAt k m (vs ++ w ∷ []) = variable_owns l w v (components_of l.types v) vs refl h c i in
-      let ts : m.types ≡ l.types = still_types l x.name v (components_of l.types v) in
+      let ts : m.types ≡ l.types = variable_types l x.name v (components_of l.types v) in
       let ss : m.systems ≡ l.systems = still_systems l x.name v (components_of l.types v) in
       let d : ContainedAre m.types (length m.systems) t v = rw (ts, ss) c in
       let b : OwnsAt k (variables_of m v xs) ((vs ++ w ∷ []) ++ named_variables (names_of xs) t) = variables_of_owns m t v xs (vs ++ w ∷ []) (rw ts h) d a in
@@ -162,15 +158,7 @@ module _ (k : Numbering) where
 
   parameter_owns : (l : Layer) (ps : Parameters) (x : List ℕ) (t : Ty) (v : CellType) → TypeIs k l.types t v → OwnsAt k l [] → OwnsAt k (system_parameter l ps x v).1 []
   parameter_owns l ps x t (types.System j) h o = owns_bound k l.types l.systems l.names l.owned [] o x j
-  parameter_owns l ps x t (types.Ordinal r) h o = owns_cells k l.types l.systems l.names l.owned [] o x t (types.Ordinal r) h
-  parameter_owns l ps x t types.Queue h o = owns_cells k l.types l.systems l.names l.owned [] o x t types.Queue h
-  parameter_owns l ps x t (types.Set r) h o = owns_cells k l.types l.systems l.names l.owned [] o x t (types.Set r) h
-  parameter_owns l ps x t (types.Array n) h o = owns_cells k l.types l.systems l.names l.owned [] o x t (types.Array n) h
-  parameter_owns l ps x t (types.Record n) h o = owns_cells k l.types l.systems l.names l.owned [] o x t (types.Record n) h
-
-  parameter_types : (l : Layer) (ps : Parameters) (x : List ℕ) (v : CellType) → (system_parameter l ps x v).1.types ≡ l.types
-  parameter_types l ps x (types.System j) = refl
-  parameter_types l ps x _ = refl
+  parameter_owns l ps x t v h o = owns_cells k l.types l.systems l.names l.owned [] o x t v h
 
   parameters_own : (l : Layer) (ps : Parameters) (t : Ty) (v : CellType) (is : List Identifier) → TypeIs k l.types t v → OwnsAt k l [] → OwnsAt k (system_parameters_of l ps v is).1 []
   unfolding system_parameters_of

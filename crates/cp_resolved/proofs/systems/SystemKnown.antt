@@ -10,9 +10,9 @@ use Rattle.cp_meaning.specs.Values.{least}
 use Rattle.cp_meaning.specs.Scopes as scopes
 use Rattle.cp_meaning.specs.State.{Content, holds, Environment}
 use Rattle.cp_resolved.specs.Resolved.{AreApart, first_permanent}
-use Rattle.cp_resolved.proofs.frames.FrameCells.{look_right, look_either, look_each, none_left, none_right, same_is}
+use Rattle.cp_resolved.proofs.frames.FrameCells.{look_right, look_either, look_each, none_left, none_right, same_is, before_inside, before_apart}
 use Rattle.cp_resolved.proofs.frames.LeastCells.{standing_typed}
-use Rattle.cp_resolved.proofs.systems.PermanentCells.{width, width_plain, taken, taken_before, taken_inside, taken_apart, Holds, Owns, Follow, Firsts}
+use Rattle.cp_resolved.proofs.systems.PermanentCells.{width, width_plain, taken, taken_before, Holds, Owns, Follow, Firsts}
 use Rattle.cp_resolved.proofs.agreeing.ScopeVariables.{Among, among_left, among_right, look_among, never_missing, among_look, components_append, among_all, among_some}
 use Rattle.cp_resolved.proofs.names.Steps.{found_in}
 use Rattle.cp_meaning.proofs.OwnLocal.{nothing_append as content_right}
@@ -168,7 +168,7 @@ module _ (k : Numbering) where
         all = let c : z.owned.cells ≡ min (taken ws) most = owns.cells in omega (arith, c, few)
 
         inside : taken_before x ws ≤ most
-        inside = let i = taken_inside x t ws (held_taken x t e) in omega (arith, i, all, few)
+        inside = let i = before_inside width x t ws (held_taken x t e) in omega (arith, i, all, few)
 
         go : (o : Option LayoutMeaning) → layers.find x l.names ≡ o → FoundIs k l.types o (Some (permanent_variable t)) (scopes.since x m.scope) → slot_in (layers.find x z.names) ≡ taken_before x ws
         go None f g = absurd g
@@ -183,13 +183,13 @@ module _ (k : Numbering) where
     pub cells_inside : (x : Name) (t : Ty) → look x held ≡ Some t → slot_in (layers.find x z.names) + cells_of t ≤ z.owned.cells
     cells_inside x t e =
         let s = slot_is x t e in
-        let i = taken_inside x t ws (held_taken x t e) in
+        let i = before_inside width x t ws (held_taken x t e) in
         let w = width_plain t (held_plain x t e) in
         let c : z.owned.cells ≡ min (taken ws) most = owns.cells in
         omega (arith, s, i, w, c, few)
 
     pub cells_apart : AreApart (λ x. slot_in (layers.find x z.names)) held
-    cells_apart x y t u o e f = go (taken_apart x y t u ws o (held_taken x t e) (held_taken y u f))
+    cells_apart x y t u o e f = go (before_apart width x y t u ws o (held_taken x t e) (held_taken y u f))
       where
         go : (taken_before x ws + width t ≤ taken_before y ws) ⊎ (taken_before y ws + width u ≤ taken_before x ws) →
             (slot_in (layers.find x z.names) + cells_of t ≤ slot_in (layers.find y z.names)) ⊎ (slot_in (layers.find y z.names) + cells_of u ≤ slot_in (layers.find x z.names))

@@ -76,12 +76,9 @@ module _ (s : SystemLayout) (m : SystemMeaning) (different : AreDifferent (syste
       (among_some true x (named.component_of n) (parameter_variables m.parameters) refl a)
 
   parameter_is : (x : Name) (t : Ty) → IsParameter t → Among x t (parameter_variables m.parameters) → SystemParameterIs s t x
-  parameter_is x (named.ordinal r) f a = held_found x (named.ordinal r) refl a
-  parameter_is x named.queue_type f a = held_found x named.queue_type refl a
-  parameter_is x (named.set_over r) f a = held_found x (named.set_over r) refl a
   parameter_is x (named.array_over r t) f a = held_found x (named.array_over r t) f a
-  parameter_is x (named.record_with us) f a = held_found x (named.record_with us) refl a
   parameter_is x (named.component_of n) f a = part_found x n a
+  parameter_is x t f a = held_found x t refl a
 
   parameters_are : (qs : List Parameter) → Each (λ (q : Parameter). IsParameter q.ty) qs → ((x : Name) (t : Ty) → Among x t (parameter_variables qs) → Among x t (parameter_variables m.parameters)) → SystemParametersAre s qs
   parameters_are [] f a = tt

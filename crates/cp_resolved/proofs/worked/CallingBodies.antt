@@ -1,7 +1,7 @@
 -- The law of bodies is not empty: of the procedure of a program, which calls a function with its `var` parameter, what is wanted holds.
-use Rattle.std.proofs.Common.{◌≡◌, ◌≤◌, ◌∙◌, ◌⊎◌, inl, inr, ℕ, Bool, true, false, if◌then◌else◌, [], ◌∷◌, length, Option, Some, None, slice_get, refl, sym, ap, subst, arith}
-use Rattle.cp_resolved.proofs.Words.{codes, bytes_eq, none-some, same_Some, LayoutMeaning, Names, Layer, outermost, nothing_laid, Tables, routine_at, plain, laid}
-use Rattle.cp_resolved.proofs.Words.{simple_type, written_type, statements, statement, assigned, Name, same_name, ordinal, Scope, RoutineMeaning, routine_of_type}
+use Rattle.std.proofs.Common.{◌≡◌, ◌≤◌, ◌∙◌, ◌⊎◌, inl, inr, ℕ, Bool, true, false, [], ◌∷◌, length, Option, Some, None, slice_get, refl, sym, ap, subst, arith}
+use Rattle.cp_resolved.proofs.Words.{codes, bytes_eq, none-some, LayoutMeaning, Names, Layer, outermost, nothing_laid, Tables, routine_at, plain, laid}
+use Rattle.cp_resolved.proofs.Words.{simple_type, written_type, statements, statement, assigned, Name, ordinal, RoutineMeaning, routine_of_type}
 use Rattle.cp_resolved.proofs.Words.{routine_begun, all_begun, ground_of, BodyFormed, Numbering, Here, is_own, place_of, meaning_at, numbering_of, OwnAll, KnowsStarts}
 use Rattle.cp_tree.specs.Syntax as syntax
 use Rattle.cp_slots.specs.declared.place.PlaceOrigin.TheVariants as origin
@@ -19,7 +19,7 @@ use Rattle.cp_resolved.specs.FormedParts.{HeadingIs, KnowsHeadings}
 use Rattle.cp_resolved.proofs.names.Alike.{same_inside}
 use Rattle.cp_resolved.proofs.items.BodiesStand.{bodies_law}
 use Rattle.cp_resolved.proofs.worked.CallingPlaced.{calling_placed}
-use Rattle.cp_resolved.proofs.worked.CallingProgram.{calling, f, p, integer, parameter_b, called_f, lowest, highest}
+use Rattle.cp_resolved.proofs.worked.CallingProgram.{Says, found, calling, f, p, integer, parameter_b, called_f, lowest, highest}
 use Rattle.cp_resolved.proofs.items.Expressions.{inside}
 use Rattle.cp_resolved.proofs.names.PermanentNames.{found_cases, no_name}
 
@@ -76,31 +76,19 @@ all_known = (tt, (knows_p, (knows_f, (tt, (tt, (tt, (tt, (tt, (tt, (tt, (tt, (tt
 
 -- ---- what the scope says
 
-abbrev Says : (Name → scopes.Meaning → Type 0) → Scope → Type 0
-Says P [] = Unit {0}
-Says P (d ∷ ds) = ((x : Name) → P x d.1) × Says P ds
-
-said : (P : Name → scopes.Meaning → Type 0) (x : Name) (s : Scope) (m : scopes.Meaning) → Says P s → scopes.find x s ≡ Some m → P x m
-said P x [] m a e = absurd (none-some m e)
-said P x (d ∷ ds) m a e = go (same_name x d.0) (said P x ds m a.1) e
-  where
-    go : (b : Bool) → (scopes.find x ds ≡ Some m → P x m) → (if b then Some d.1 else scopes.find x ds) ≡ Some m → P x m
-    go true rest i = subst (P x) (same_Some d.1 m i) (a.0 x)
-    go false rest i = rest i
-
 -- no variable is a component
 abbrev HasNone : Name → scopes.Meaning → Type 0
 HasNone x (scopes.permanent_variable t) = (y : Name) (r : RoutineMeaning) → routine_of_type calling.program t y ≡ Some r → ⊥
 HasNone x m = Unit {0}
 
 none_here : Says HasNone h.scope
-none_here = ((λ x. tt), ((λ x. tt), ((λ x. tt), ((λ x y r e. none-some r e), ((λ x. tt), ((λ x. tt), ((λ x. tt), ((λ x. tt), ((λ x. tt), ((λ x. tt), ((λ x. tt), ((λ x. tt), ((λ x. tt), ((λ x. tt), ((λ x. tt), ((λ x. tt), ((λ x. tt), ((λ x. tt), ((λ x. tt), tt)))))))))))))))))))
+none_here = (tt, (tt, (tt, ((λ y r e. none-some r e), (tt, (tt, (tt, (tt, (tt, (tt, (tt, (tt, (tt, (tt, (tt, (tt, (tt, (tt, (tt, tt)))))))))))))))))))
 
 headings_known : KnowsHeadings k h begun_p
 headings_known =
     record {
       own = λ x n e. routine_found Known x names_here n all_known (ap (layers.find x) (sym names_p) ∙ e);
-      entry = λ x y t r n e g i. absurd (said HasNone x h.scope (scopes.permanent_variable t) none_here e y r g);
+      entry = λ x y t r n e g i. absurd (found HasNone x h.scope (scopes.permanent_variable t) none_here e y r g);
     }
 
 -- ---- nothing is a component
@@ -118,14 +106,14 @@ own_plain false d e = absurd (none-some d e)
 
 plain_here : Says BeginsPlain h.scope
 plain_here = (
-  (λ x d e. subst IsNumber (same_inside _ d e) tt),
+  (λ d e. subst IsNumber (same_inside _ d e) tt),
   (
-    (λ x d e. own_plain (is_own h x) d e),
+    (λ d e. own_plain (is_own h (codes "p")) d e),
     (
-      (λ x d e. own_plain (is_own h x) d e),
+      (λ d e. own_plain (is_own h (codes "f")) d e),
       (
-        (λ x d e. subst IsNumber (same_inside _ d e) tt),
-        ((λ x d e. absurd (none-some d e)), ((λ x d e. absurd (none-some d e)), ((λ x d e. absurd (none-some d e)), ((λ x d e. absurd (none-some d e)), ((λ x d e. absurd (none-some d e)), ((λ x d e. absurd (none-some d e)), ((λ x d e. absurd (none-some d e)), ((λ x d e. absurd (none-some d e)), ((λ x d e. absurd (none-some d e)), ((λ x d e. absurd (none-some d e)), ((λ x d e. absurd (none-some d e)), ((λ x d e. absurd (none-some d e)), ((λ x d e. absurd (none-some d e)), ((λ x d e. absurd (none-some d e)), ((λ x d e. absurd (none-some d e)), tt))))))))))))))),
+        (λ d e. subst IsNumber (same_inside _ d e) tt),
+        ((λ d e. absurd (none-some d e)), ((λ d e. absurd (none-some d e)), ((λ d e. absurd (none-some d e)), ((λ d e. absurd (none-some d e)), ((λ d e. absurd (none-some d e)), ((λ d e. absurd (none-some d e)), ((λ d e. absurd (none-some d e)), ((λ d e. absurd (none-some d e)), ((λ d e. absurd (none-some d e)), ((λ d e. absurd (none-some d e)), ((λ d e. absurd (none-some d e)), ((λ d e. absurd (none-some d e)), ((λ d e. absurd (none-some d e)), ((λ d e. absurd (none-some d e)), ((λ d e. absurd (none-some d e)), tt))))))))))))))),
       ),
     ),
   ),
@@ -133,7 +121,7 @@ plain_here = (
 
 begins_plain : (x : Name) (o : Option scopes.Meaning) (d : Designated) → scopes.find x h.scope ≡ o → begun_form h x o ≡ Some d → IsNumber d
 begins_plain x None d e i = absurd (none-some d i)
-begins_plain x (Some m) d e i = said BeginsPlain x h.scope m plain_here e d i
+begins_plain x (Some m) d e i = found BeginsPlain x h.scope m plain_here e d i
 
 no_component : (ss : syntax.Selectors) (d : Designated) (c : code.ComponentPlace) (n : ℕ) → IsNumber d → selected_form h ss d ≡ Some (a_component c n) → ⊥
 no_component syntax.no_selectors (a_variable q (ordinal r)) c n i e = cc

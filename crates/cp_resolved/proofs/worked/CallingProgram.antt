@@ -1,6 +1,6 @@
 -- A program with variables and calls stands for itself: layouts for it exist, whatever items have the views that are wanted.
 use Rattle.std.proofs.Common.{◌≡◌, ◌∙◌, ℕ, zero, suc, ◌+◌, ◌<◌, ◌≤◌, ◌⊎◌, inl, inr, Bool, true, false, if◌then◌else◌, List, [], ◌∷◌, map, length, replicate, Option, Some, None, ap, sym, refl, subst, arith, get_or}
-use Rattle.cp_resolved.proofs.Words.{ℤ, pos, negsuc, codes, slice_index, slice_index_or, length-map, Identifier, Tables, item_at, routine_at, no_item, Name, same_name}
+use Rattle.cp_resolved.proofs.Words.{Each, ℤ, pos, negsuc, codes, slice_index, slice_index_or, length-map, Identifier, Tables, item_at, routine_at, no_item, Name, same_name}
 use Rattle.cp_resolved.proofs.Words.{temporary, result_name, Ty, ordinal, all_integers, has_components, Variable, RoutineMeaning, routine_in, system_of, step_down}
 use Rattle.cp_resolved.proofs.Words.{component_with, first_components, encode, HasType, as_ordinal, Ground, ItemAt, CallItem}
 use Rattle.cp_tree.specs.declared.expression.Addition.TheVariants.{Plus}
@@ -14,7 +14,7 @@ use Rattle.cp_meaning.specs.Scopes.{Meaning, local_variable, permanent_variable,
 use Rattle.cp_meaning.specs.State.{component_at as named_component_at}
 use Rattle.cp_resolved.specs.Layouts.{cells_of, FrameLayout, Layouts, here, cell_named, look}
 use Rattle.cp_resolved.specs.Resolved.{StandsAt, ContainedAt, initial_meaning, first_value, first_permanent, FrameIs, RoutineIs, SystemIs, ComponentIs, ProcessIs, Stands}
-use Rattle.cp_resolved.proofs.frames.FrameCells.{same_is}
+use Rattle.cp_resolved.proofs.frames.FrameCells.{look_each, same_is}
 
 -- ---- the program
 
@@ -167,11 +167,11 @@ layouts =
 -- ---- names
 
 -- what a scope says of each of its names holds of what is found
-abbrev Says : (Name → Meaning → Type 0) → Scope → Type 0
+abbrev pub Says : (Name → Meaning → Type 0) → Scope → Type 0
 Says P [] = Unit {0}
 Says P (d ∷ ds) = P d.0 d.1 × Says P ds
 
-found : (P : Name → Meaning → Type 0) (x : Name) (s : Scope) (m : Meaning) → Says P s → find x s ≡ Some m → P x m
+pub found : (P : Name → Meaning → Type 0) (x : Name) (s : Scope) (m : Meaning) → Says P s → find x s ≡ Some m → P x m
 found P x [] m h e = absurd (cc)
 found P x (d ∷ ds) m h e = go (same_name x d.0) refl (λ k. found P x ds m h.1 k) e
   where
@@ -181,16 +181,10 @@ found P x (d ∷ ds) m h e = go (same_name x d.0) refl (λ k. found P x ds m h.1
 
 -- a variable that is looked up in a list is one of it
 abbrev AllOf : (Name → Ty → Type 0) → List Variable → Type 0
-AllOf P [] = Unit {0}
-AllOf P (v ∷ vs) = P v.name v.ty × AllOf P vs
+AllOf P vs = Each (λ (v : Variable). P v.name v.ty) vs
 
 looked : (P : Name → Ty → Type 0) (x : Name) (vs : List Variable) (t : Ty) → AllOf P vs → look x vs ≡ Some t → P x t
-looked P x [] t h e = absurd (cc)
-looked P x (v ∷ vs) t h e = go (same_name x v.name) refl (λ k. looked P x vs t h.1 k) e
-  where
-    go : (b : Bool) → same_name x v.name ≡ b → (look x vs ≡ Some t → P x t) → (if b then Some v.ty else look x vs) ≡ Some t → P x t
-    go true w ih e = subst (λ y. P y t) (sym (same_is x v.name w)) (subst (P v.name) (let k : v.ty ≡ t = cc in k) h.0)
-    go false w ih e = ih e
+looked P x vs t h e = look_each (λ (v : Variable). P v.name v.ty) x t vs h e
 
 -- ---- that they stand
 
