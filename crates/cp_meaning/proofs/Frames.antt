@@ -106,6 +106,11 @@ abbrev pub ArePlain : List Item → Type 0
 ArePlain [] = Unit {0}
 ArePlain (i ∷ items) = IsPlain i × ArePlain items
 
+pub plain-rest : (fs : List Frame) (i : Item) (items : List Item) → IsPlain i → ItemsFit fs (i ∷ items) → ItemsFit fs items
+plain-rest fs (return o) items h f = absurd h
+plain-rest fs (init_end m) items h f = absurd h
+plain-rest fs _ items h f = f
+
 pub plain-append : (xs ys : List Item) → ArePlain xs → ArePlain ys → ArePlain (xs ++ ys)
 plain-append [] ys h k = k
 plain-append (x ∷ xs) ys h k = (h.0, plain-append xs ys h.1 k)

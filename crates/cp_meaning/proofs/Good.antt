@@ -1,10 +1,11 @@
 -- What an item of a process may do, as far as exclusion goes.
-use Rattle.std.proofs.Common.{◌≡◌, ℕ, ◌∙◌, ◌⊎◌, inl, inr, Bool, true, false, ◌||◌, if◌then◌else◌, List, [], ◌∷◌, Ok, Err, sym, refl, subst}
+use Rattle.std.proofs.Common.{◌≡◌, ℕ, ◌∙◌, ◌⊎◌, inl, inr, Bool, true, false, ◌||◌, List, [], ◌∷◌, sym, refl, subst}
 use Rattle.cp_tree.specs.declared.declaration.SystemKind.TheVariants as system_kind
-use Rattle.cp_meaning.proofs.Words.{Outcome, ◌>>=◌, Move, stays, enters, leaves, delays, continues, starts, shows, ends, Doing}
+use Rattle.cp_meaning.proofs.Words.{Outcome, Move, stays, enters, leaves, delays, continues, starts, shows, ends, Doing}
 use Rattle.cp_meaning.specs.State.{ComponentStatus, uninitialised, initialising, initialised, Component, component_at, Item}
 use Rattle.cp_meaning.proofs.Frames.{Frame, frames, entry_in, initial_in, ItemsFit, Descends}
 use Rattle.cp_meaning.proofs.Stored.{SameLayout, SameComponents}
+use Rattle.cp_meaning.proofs.Taken.{AllOf}
 
 abbrev pub IsMonitor : List Component → ℕ → Type 0
 IsMonitor cs m = (component_at cs m).kind ≡ system_kind.Monitor
@@ -55,23 +56,10 @@ abbrev pub GoodDoing : List Component → List Frame → Doing → Type 0
 GoodDoing cs fs d = Good cs fs (frames d.calls) d.components d.items d.move
 
 abbrev pub GoodOutcome : List Component → List Frame → Outcome Doing → Type 0
-GoodOutcome cs fs (Ok d) = GoodDoing cs fs d
-GoodOutcome cs fs (Err e) = Unit {0}
+GoodOutcome cs fs o = AllOf (GoodDoing cs fs) o
 
 pub good_at : (cs : List Component) (fs gs : List Frame) (d : Doing) → frames d.calls ≡ gs → Good cs fs gs d.components d.items d.move → GoodDoing cs fs d
 good_at cs fs gs d e h = subst (λ g. Good cs fs g d.components d.items d.move) (sym e) h
-
-pub bind_good : {A : Type 0} (cs : List Component) (fs : List Frame) (o : Outcome A) (f : A → Outcome Doing) → ((a : A) → GoodOutcome cs fs (f a)) → GoodOutcome cs fs (o >>= f)
-bind_good cs fs (Ok a) f h = h a
-bind_good cs fs (Err e) f h = tt
-
-pub outcome_if : (cs : List Component) (fs : List Frame) (b : Bool) (x y : Outcome Doing) → (b ≡ true → GoodOutcome cs fs x) → (b ≡ false → GoodOutcome cs fs y) → GoodOutcome cs fs (if b then x else y)
-outcome_if cs fs true x y h k = h refl
-outcome_if cs fs false x y h k = k refl
-
-pub fits_if : (fs : List Frame) (b : Bool) (xs ys : List Item) → ItemsFit fs xs → ItemsFit fs ys → ItemsFit fs (if b then xs else ys)
-fits_if fs true xs ys h k = h
-fits_if fs false xs ys h k = k
 
 pub or_cases : (a b : Bool) → (a || b) ≡ true → (a ≡ true) ⊎ (b ≡ true)
 or_cases true b h = inl refl

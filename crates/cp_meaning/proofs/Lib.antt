@@ -28,6 +28,7 @@ mod Room
 mod Shown
 mod ShownPrograms
 pub mod Stored
+pub mod Taken
 mod TracedPrograms
 mod Traces
 mod Wanted

@@ -1,27 +1,26 @@
 -- Each local rule is good.
-use Rattle.std.proofs.Common.{◌≡◌, ℕ, zero, suc, ◌<◌, ◌≤◌, ◌==◌, ◌∙◌, ◌⊎◌, inl, inr, ℤ, true, false, if◌then◌else◌, List, [], ◌∷◌, ◌++◌, length, get_or, set, Option, Some, None, Ok, Err, ap, sym, refl, subst, arith, eqb-true, eq-eqb}
-use Rattle.cp_meaning.proofs.Words.{Identifier, SystemKind, result_name, Outcome, ◌>>=◌, SystemMeaning, system_of, Move, enters, stays, delays, continues, starts, ends}
-use Rattle.cp_meaning.proofs.Words.{Doing, Direction, Value, number_value, queue_value, number_of, waiting_in, items_of, items_of_all, until_items}
+use Rattle.std.proofs.Common.{◌≡◌, ℕ, zero, suc, ◌<◌, ◌≤◌, ◌==◌, ◌∙◌, ◌⊎◌, inl, inr, true, false, if◌then◌else◌, List, [], ◌∷◌, ◌++◌, length, get_or, set, Option, Some, None, ap, sym, refl, subst, arith, eqb-true, eq-eqb}
+use Rattle.cp_meaning.proofs.Words.{SystemKind, result_name, SystemMeaning, system_of, Move, enters, stays, delays, continues, starts, ends}
+use Rattle.cp_meaning.proofs.Words.{Value, queue_value, waiting_in, items_of_all}
 use Rattle.cp_tree.specs.declared.declaration.SystemKind.TheVariants as system_kind
-use Rattle.cp_tree.specs.Syntax.{Expressions, Designator, Start, Statement, assign, invoke, block, if_then, if_else, case_of, while_do, repeat_until, for_do, cycle, Program}
-use Rattle.cp_meaning.specs.Scopes.{Meaning, constant_meaning, type_meaning, local_variable, permanent_variable, routine_meaning, standard_meaning, delay_procedure, continue_procedure, display_procedure}
+use Rattle.cp_tree.specs.Syntax.{Program}
 use Rattle.cp_meaning.specs.Declarations.{RoutineMeaning}
 use Rattle.cp_meaning.specs.State.{Place, Environment, ComponentStatus, uninitialised, initialising, initialised, Component, component_at, no_component, CallKind, own_statement, initial_statement, local_routine, entry_routine, Call, callers, Item, statement_item, function_call, start_item, until, successor, return, init_end, end, is_entry_kind}
-use Rattle.cp_meaning.specs.Places.{View, Target, target_named, value_at, stored, this_call, this_component, plain_place, component_there}
-use Rattle.cp_meaning.specs.Operations.{same_integer, is_true, checked}
-use Rattle.cp_meaning.specs.Expressions.{value, target_value, first_value, meaning_here, routine_called}
-use Rattle.cp_meaning.specs.Calls.{bound, opened, is_initialised, is_uninitialised, entered_as, with_move, with_items, entered, called_as, called, with_status, initial, initialised_in, started_as, started}
-use Rattle.cp_meaning.specs.LocalRules.{scope_here, becomes, assigned, arm_for, is_beyond, goes_on_with, queue_free, delayed_in, after_return, continued_from, in_place_of, argument_of, invoked, does, outer, with_result, leaving_move, return_move, returned, finished, takes}
-use Rattle.cp_meaning.proofs.Frames.{at_set, Frame, frames, entry_in, initial_in, below, frames-callers, TopReturns, TopStarts, ItemsFit, ArePlain, plain-append, plain-fit, system_at, Descends, no_entry_below, no_initial_below, entry_or_initial}
-use Rattle.cp_meaning.proofs.PlainItems.{plain_items, plain_all, plain_until}
+use Rattle.cp_meaning.specs.Places.{View, value_at, stored, this_call, this_component, plain_place, component_there}
+use Rattle.cp_meaning.specs.Expressions.{target_value}
+use Rattle.cp_meaning.specs.Calls.{bound, opened, is_initialised, is_uninitialised, entered_as, with_move, with_items, with_status, initial, initialised_in, started_as}
+use Rattle.cp_meaning.specs.LocalRules.{after_return, continued_from, outer, with_result, leaving_move, return_move, returned, finished, takes}
+use Rattle.cp_meaning.proofs.Frames.{plain-rest, at_set, Frame, frames, entry_in, initial_in, below, frames-callers, TopReturns, TopStarts, ItemsFit, plain-fit, system_at, Descends, no_entry_below, no_initial_below, entry_or_initial}
+use Rattle.cp_meaning.proofs.PlainItems.{plain_all}
 use Rattle.cp_meaning.proofs.Stored.{SameComponents, same_layout, same_components, layout_after, status_layout, stored_frames, stored_components}
-use Rattle.cp_meaning.proofs.Good.{IsMonitor, status_at, NonEmpty, StatusMoves, NoneEntered, Left, MoveFits, Good, GoodDoing, GoodOutcome, good_at, bind_good, outcome_if, fits_if, or_cases, or_right, quiet}
+use Rattle.cp_meaning.proofs.Good.{IsMonitor, status_at, NonEmpty, StatusMoves, NoneEntered, Left, MoveFits, Good, GoodDoing, GoodOutcome, good_at, or_cases, or_right, quiet}
+use Rattle.cp_meaning.proofs.Taken.{whatever, if_all, Rules, takes_all}
 
-initialised_told : (s : ComponentStatus) → is_initialised s ≡ true → s ≡ initialised
+pub initialised_told : (s : ComponentStatus) → is_initialised s ≡ true → s ≡ initialised
 initialised_told initialised h = refl
 initialised_told x h = cc
 
-uninitialised_told : (s : ComponentStatus) → is_uninitialised s ≡ true → s ≡ uninitialised
+pub uninitialised_told : (s : ComponentStatus) → is_uninitialised s ≡ true → s ≡ uninitialised
 uninitialised_told uninitialised h = refl
 uninitialised_told x h = cc
 
@@ -75,16 +74,6 @@ module _ (p : Program) (c : Call) (calls : List Call) (cs : List Component) (pid
 
   items_good : (u : View) (items : List Item) (move : Move) → Alike u → ItemsFit fs items → MoveFits cs fs fs move → GoodDoing cs fs (with_move (with_items u items) move)
   items_good u items move a f h = quiet cs fs (with_move (with_items u items) move) tt order starting entering a.same_frames a.same_static f h
-
-  becomes_good : (u : View) (items : List Item) → Alike u → ItemsFit fs items → GoodOutcome cs fs (becomes u items)
-  becomes_good u items a f = items_good u items stays a f same_entries
-
-  stored_good : (o : Outcome Value) (t : Target) (f : View → Outcome Doing) → ((u : View) → Alike u → GoodOutcome cs fs (f u)) → GoodOutcome cs fs ((o >>= λ x. Ok (stored v t.place x)) >>= f)
-  stored_good (Ok x) t f h = h (stored v t.place x) (alike_stored v t.place x alike)
-  stored_good (Err e) t f h = tt
-
-  assigned_good : (t : Target) (w : Value) (f : View → Outcome Doing) → ((u : View) → Alike u → GoodOutcome cs fs (f u)) → GoodOutcome cs fs (assigned v t w >>= f)
-  assigned_good t w f h = stored_good (checked t.ty w) t f h
 
   -- ---- calls
 
@@ -141,22 +130,6 @@ module _ (p : Program) (c : Call) (calls : List Call) (cs : List Component) (pid
   entry_as system_kind.Class d r o items e is f was lt =
       entry_good d r o items e stays f was (lt (λ b. (let bad : system_kind.Class ≡ system_kind.Process = sym is ∙ b in cc))) (λ m mon h. class_entry d is m mon (or_cases (d == m) _ h))
   entry_as system_kind.Process d r o items e is f was lt = items_good v items stays alike f same_entries
-
-  entered_good : (q : Place) (r : RoutineMeaning) (o : Option _) (es : Expressions) (items : List Item) → ItemsFit fs items → GoodOutcome cs fs (entered v (component_there v q) r o es items)
-  entered_good q r o es items f =
-      let d = component_there v q in
-      bind_good cs fs (bound v r.parameters es) _ (λ e.
-      outcome_if cs fs (is_initialised (status_at cs d)) _ _ (λ i. entry_as (component_at cs d).kind d r o items e refl f (initialised_told (status_at cs d) i) (named_below q)) (λ i. tt))
-
-  called_good : (m : Option Meaning) (d : Designator) (q : Option RoutineMeaning) (o : Option _) (es : Expressions) (items : List Item) → ItemsFit fs items → GoodOutcome cs fs (called_as v m d q o es items)
-  called_good m d None o es items f = becomes_good v items alike f
-  called_good (Some (routine_meaning x)) d (Some r) o es items f = bind_good cs fs (bound v r.parameters es) _ (λ e. local_good r o items e f)
-  called_good None d (Some r) o es items f = bind_good cs fs (target_value v d) _ (λ t. entered_good t.place r o es items f)
-  called_good (Some (constant_meaning b z)) d (Some r) o es items f = bind_good cs fs (target_value v d) _ (λ t. entered_good t.place r o es items f)
-  called_good (Some (type_meaning t)) d (Some r) o es items f = bind_good cs fs (target_value v d) _ (λ t. entered_good t.place r o es items f)
-  called_good (Some (local_variable t)) d (Some r) o es items f = bind_good cs fs (target_value v d) _ (λ t. entered_good t.place r o es items f)
-  called_good (Some (permanent_variable t)) d (Some r) o es items f = bind_good cs fs (target_value v d) _ (λ t. entered_good t.place r o es items f)
-  called_good (Some (standard_meaning s)) d (Some r) o es items f = bind_good cs fs (target_value v d) _ (λ t. entered_good t.place r o es items f)
 
   -- ---- starts
 
@@ -216,18 +189,12 @@ module _ (p : Program) (c : Call) (calls : List Call) (cs : List Component) (pid
 
   initialised_good : (d : ℕ) (s : SystemMeaning) (items : List Item) (e : Environment) → ItemsFit fs items → ((component_at cs d).kind ≡ system_kind.Process → ⊥) → (((component_at cs d).kind ≡ system_kind.Process → ⊥) → system_at cs d < system_at cs c.component) → GoodOutcome cs fs (initialised_in v d s items e)
   initialised_good d s items e f never lt =
-      outcome_if cs fs (is_uninitialised (status_at cs d)) _ _ (λ u. initial_good d never (uninitialised_told (status_at cs d) u) (lt never) (e ++ (component_at cs d).environment) s items e f refl) (λ u. tt)
+      if_all (GoodDoing cs fs) (is_uninitialised (status_at cs d)) _ _ (λ u. initial_good d never (uninitialised_told (status_at cs d) u) (lt never) (e ++ (component_at cs d).environment) s items e f refl) tt
 
   started_good : (k : SystemKind) (d : ℕ) (s : SystemMeaning) (items : List Item) (e : Environment) → (component_at cs d).kind ≡ k → ItemsFit fs items → (((component_at cs d).kind ≡ system_kind.Process → ⊥) → system_at cs d < system_at cs c.component) → GoodOutcome cs fs (started_as k v d s items e)
   started_good system_kind.Class d s items e is f lt = initialised_good d s items e f (λ b. (let bad : system_kind.Class ≡ system_kind.Process = sym is ∙ b in cc)) lt
   started_good system_kind.Monitor d s items e is f lt = initialised_good d s items e f (λ b. (let bad : system_kind.Monitor ≡ system_kind.Process = sym is ∙ b in cc)) lt
   started_good system_kind.Process d s items e is f lt = items_good v items (starts d e) alike f (same_entries, is)
-
-  start_good : (t : Start) (items : List Item) → ItemsFit fs items → GoodOutcome cs fs (started v t items)
-  start_good t items f =
-      bind_good cs fs (target_value v t.target) _ (λ u.
-      bind_good cs fs (bound v (system_of p (component_at cs (component_there v u.place)).system).parameters t.arguments) _ (λ e.
-      started_good (component_at cs (component_there v u.place)).kind (component_there v u.place) (system_of p (component_at cs (component_there v u.place)).system) items e refl f (named_below u.place)))
 
   -- ---- ends of calls
 
@@ -378,59 +345,30 @@ module _ (p : Program) (c : Call) (calls : List Call) (cs : List Component) (pid
   finished_good : (m : ℕ) (items : List Item) → TopStarts m fs → ItemsFit (frames calls) items → GoodDoing cs fs (finished v m items)
   finished_good m items top f = let t = top_starts m c.kind refl top in finished_at m _ t.0 t.1 items f
 
-  -- ---- statements
-
-  twice_fit : (xs ys items : List Item) → ArePlain xs → ArePlain ys → ItemsFit fs items → ItemsFit fs (xs ++ ys ++ items)
-  twice_fit xs ys items h k f = plain-fit fs (xs ++ ys) items (plain-append xs ys h k) f
-
-  next_good : (at : ℕ) (i : Identifier) (z : ℤ) (d : Direction) (b : ℤ) (s : Statement) (items : List Item) → ItemsFit fs items → GoodOutcome cs fs (goes_on_with v at i z d b s items)
-  next_good at i z d b s items f = assigned_good (target_named v i.name) (number_value z) _ (λ u a. becomes_good u _ a (plain-fit fs (items_of (scope_here v) s) _ (plain_items (scope_here v) s) f))
-
-  delayed_good : (o : Option ℕ) (items : List Item) (q : Place) → ItemsFit fs items → GoodOutcome cs fs (queue_free o >>= λ x. Ok (with_move (with_items (stored v q (queue_value (Some pid))) items) (delays c.component)))
-  delayed_good None items q f = items_good (stored v q _) items (delays c.component) (alike_stored v q _ alike) f (same_entries, entry_or_initial cs (c.kind, c.component) (frames calls) order)
-  delayed_good (Some r) items q f = tt
-
-  place_good : (d : Option Designator) (go : Place → Outcome Doing) (items : List Item) → ItemsFit fs items → ((q : Place) → GoodOutcome cs fs (go q)) → GoodOutcome cs fs (in_place_of v d go items)
-  place_good None go items f h = becomes_good v items alike f
-  place_good (Some d) go items f h = bind_good cs fs (target_value v d) _ (λ t. h t.place)
-
-  call_good : (d : Designator) (es : Expressions) (o : Option _) (items : List Item) → ItemsFit fs items → GoodOutcome cs fs (called v d es o items)
-  call_good d es o items f = called_good (meaning_here v d) d (routine_called p c.scope d) o es items f
-
-  invoked_good : (m : Option Meaning) (d : Designator) (es : Expressions) (items : List Item) → ItemsFit fs items → GoodOutcome cs fs (invoked v pid m d es items)
-  invoked_good (Some (standard_meaning delay_procedure)) d es items f = place_good (argument_of es) (delayed_in v pid items) items f (λ q. delayed_good (waiting_in (value_at v q)) items q f)
-  invoked_good (Some (standard_meaning continue_procedure)) d es items f = place_good (argument_of es) _ items f (λ q. continued_good c.kind items q refl f)
-  invoked_good (Some (standard_meaning display_procedure)) d es items f = bind_good cs fs (first_value v es) _ (λ x. items_good v items _ alike f same_entries)
-  invoked_good m d es items f = call_good d es None items f
-
-  does_good : (s : Statement) (items : List Item) → ItemsFit fs items → GoodOutcome cs fs (does v pid s items)
-  does_good (assign at d e) items f = bind_good cs fs (value v e) _ (λ x. bind_good cs fs (target_value v d) _ (λ t. assigned_good t x.value _ (λ u a. becomes_good u items a f)))
-  does_good (invoke at d es) items f = invoked_good (meaning_here v d) d es items f
-  does_good (block at ss) items f = becomes_good v _ alike (plain-fit fs (items_of_all (scope_here v) ss) items (plain_all (scope_here v) ss) f)
-  does_good (if_then at e s) items f = bind_good cs fs (value v e) _ (λ x. becomes_good v _ alike (fits_if fs (is_true x) _ _ (plain-fit fs (items_of (scope_here v) s) items (plain_items (scope_here v) s) f) f))
-  does_good (if_else at e s t) items f =
-      bind_good cs fs (value v e) _ (λ x. becomes_good v _ alike (fits_if fs (is_true x) _ _ (plain-fit fs (items_of (scope_here v) s) items (plain_items (scope_here v) s) f) (plain-fit fs (items_of (scope_here v) t) items (plain_items (scope_here v) t) f)))
-  does_good (case_of at e as' b) items f =
-      bind_good cs fs (value v e) _ (λ x. bind_good cs fs (arm_for (scope_here v) (number_of x.value) as') _ (λ s. becomes_good v _ alike (plain-fit fs (items_of (scope_here v) s) items (plain_items (scope_here v) s) f)))
-  does_good (while_do at e s) items f =
-      bind_good cs fs (value v e) _ (λ x. becomes_good v _ alike (fits_if fs (is_true x) _ _ (twice_fit (items_of (scope_here v) s) (items_of (scope_here v) (while_do at e s)) items (plain_items (scope_here v) s) (plain_items (scope_here v) (while_do at e s)) f) f))
-  does_good (repeat_until at ss e) items f = becomes_good v _ alike (twice_fit (items_of_all (scope_here v) ss) (until_items (scope_here v) ss e) items (plain_all (scope_here v) ss) (plain_until (scope_here v) ss e) f)
-  does_good (for_do at i e d b s) items f =
-      bind_good cs fs (value v e) _ (λ x. bind_good cs fs (value v b) _ (λ y.
-      outcome_if cs fs (is_beyond d (number_of x.value) (number_of y.value)) _ _ (λ h. becomes_good v items alike f) (λ h. next_good at i _ d _ s items f)))
-  does_good (cycle at ss) items f = becomes_good v _ alike (twice_fit (items_of_all (scope_here v) ss) (items_of (scope_here v) (cycle at ss)) items (plain_all (scope_here v) ss) (plain_items (scope_here v) (cycle at ss)) f)
-  does_good _ items f = becomes_good v items alike f
-
   -- ---- items
 
+  rules : Rules p c calls cs pid (GoodDoing cs fs) Alike (ItemsFit fs) (λ q. Unit {0}) (λ e. Unit {0}) (λ k e. Unit {0})
+  rules =
+      record {
+        near = λ d. whatever (target_value v d);
+        named = λ i. tt;
+        arguments = λ qs es. whatever (bound v qs es);
+        handed = λ k es. whatever (bound v (system_of p k).parameters es);
+        plain = plain-fit fs;
+        rest = plain-rest fs;
+        as_it_is = alike;
+        stores = λ q w n. alike_stored v q w alike;
+        goes_on = λ u items a f. items_good u items stays a f same_entries;
+        ended = λ items f. items_good v items ends alike f same_entries;
+        shows = λ items x f. items_good v items _ alike f same_entries;
+        opens = λ r o items e k f. local_good r o items e f;
+        enters = λ q r o items e n k i f. entry_as (component_at cs (component_there v q)).kind (component_there v q) r o items e refl f (initialised_told (status_at cs (component_there v q)) i) (named_below q);
+        starts = λ q items e n h f. started_good (component_at cs (component_there v q)).kind (component_there v q) (system_of p (component_at cs (component_there v q)).system) items e refl f (named_below q);
+        waits = λ q items n f. items_good (stored v q (queue_value (Some pid))) items (delays c.component) (alike_stored v q (queue_value (Some pid)) alike) f (same_entries, entry_or_initial cs (c.kind, c.component) (frames calls) order);
+        continues = λ q items n f. continued_good c.kind items q refl f;
+        returns = λ o items f. returned_good o items f.0 f.1;
+        finishes = λ m items f. finished_good m items f.0 f.1;
+      }
+
   pub takes_good : (items : List Item) → ItemsFit fs items → GoodOutcome cs fs (takes v pid items)
-  takes_good [] f = becomes_good v [] alike f
-  takes_good (statement_item s ∷ items) f = does_good s items f
-  takes_good (function_call at d es ∷ items) f = call_good d es _ items f
-  takes_good (start_item t ∷ items) f = start_good t items f
-  takes_good (until ss e ∷ items) f =
-      bind_good cs fs (value v e) _ (λ x. becomes_good v _ alike (fits_if fs (is_true x) _ _ f (twice_fit (items_of_all (scope_here v) ss) (until_items (scope_here v) ss e) items (plain_all (scope_here v) ss) (plain_until (scope_here v) ss e) f)))
-  takes_good (successor at i z d b s ∷ items) f = outcome_if cs fs (same_integer z b) _ _ (λ h. becomes_good v items alike f) (λ h. next_good at i _ d b s items f)
-  takes_good (return o ∷ items) f = returned_good o items f.0 f.1
-  takes_good (init_end m ∷ items) f = finished_good m items f.0 f.1
-  takes_good (end ∷ items) f = items_good v items ends alike f same_entries
+  takes_good items f = takes_all p c calls cs pid (GoodDoing cs fs) Alike (ItemsFit fs) (λ q. Unit {0}) (λ e. Unit {0}) (λ k e. Unit {0}) rules items f

@@ -1,26 +1,27 @@
 -- Each local rule changes only what the process holds, and keeps what is held.
-use Rattle.std.proofs.Common.{◌≡◌, ℕ, ◌<◌, ◌≤◌, ◌-◌, ◌==◌, ◌∙◌, ◌⊎◌, inl, inr, ℤ, Bool, true, false, ◌||◌, if◌then◌else◌, List, [], ◌∷◌, ◌++◌, length, Option, Some, None, Ok, Err, ap, sym, refl, subst, arith, eqb-true, eq-eqb}
-use Rattle.cp_meaning.proofs.Words.{Identifier, SystemKind, SystemMeaning, system_of, owner_of, is_parameter, IsParameterOf, Direction, Value, number_value, queue_value}
-use Rattle.cp_meaning.proofs.Words.{number_of, waiting_in, step_down, Move, stays, enters, leaves, delays, continues, starts, shows, ends, Doing, HasNoClass, HasEarlier}
+use Rattle.std.proofs.Common.{pos, ◌≡◌, ℕ, ◌<◌, ◌≤◌, ◌-◌, ◌==◌, ◌∙◌, ◌⊎◌, inl, inr, ℤ, Bool, true, false, ◌||◌, if◌then◌else◌, List, [], ◌∷◌, ◌++◌, length, Option, Some, None, Ok, Err, ap, sym, refl, subst, arith, eqb-true, eq-eqb}
+use Rattle.cp_meaning.proofs.Words.{SystemKind, SystemMeaning, system_of, owner_of, is_parameter, IsParameterOf, Value, queue_value}
+use Rattle.cp_meaning.proofs.Words.{number_of, number_value, step_down, Move, stays, enters, leaves, delays, continues, starts, shows, ends, Doing, HasNoClass, HasEarlier}
 use Rattle.cp_tree.specs.declared.declaration.SystemKind.TheVariants as system_kind
-use Rattle.cp_tree.specs.Syntax.{Expression, Expressions, more_expressions, Designator, designator, Selectors, no_selectors, more_selectors, Selector, field, index, Start, Statement, empty, assign, invoke, if_then, if_else, case_of, while_do, for_do, init, Program}
-use Rattle.cp_meaning.specs.Names.{Name, same_name, temporary, result_name}
+use Rattle.cp_tree.specs.Syntax.{Expression, Expressions, more_expressions, Designator, designator, Selectors, no_selectors, more_selectors, Selector, field, index, Program}
+use Rattle.cp_meaning.specs.Names.{Name, same_name, result_name}
 use Rattle.cp_meaning.specs.Outcome.{ErrorName, Outcome, ◌>>=◌}
-use Rattle.cp_meaning.specs.Types.{Ty, ordinal, queue_type, set_over, array_over, record_with, component_of, is_within}
-use Rattle.cp_meaning.specs.Scopes.{Meaning, constant_meaning, type_meaning, local_variable, permanent_variable, routine_meaning, standard_meaning, delay_procedure, continue_procedure, display_procedure, find}
+use Rattle.cp_meaning.specs.Types.{Ty, array_over, component_of, is_within}
+use Rattle.cp_meaning.specs.Scopes.{Meaning, local_variable, permanent_variable, find}
 use Rattle.cp_meaning.specs.Declarations.{Parameter, RoutineMeaning}
-use Rattle.cp_meaning.specs.State.{Holder, in_call, in_component, Place, Content, holds, refers, knows, Environment, ComponentStatus, uninitialised, initialising, initialised, Component, component_at, CallKind, initial_statement, local_routine, entry_routine, Call, callers, Item, statement_item, function_call, start_item, until, successor, return, init_end, end}
+use Rattle.cp_meaning.specs.State.{Holder, in_call, in_component, Place, Content, holds, refers, knows, Environment, uninitialised, initialising, initialised, Component, component_at, CallKind, initial_statement, local_routine, entry_routine, Call, callers, Item}
 use Rattle.cp_meaning.specs.Places.{View, Target, content_of, call_above, environment_of, this_call, plain_place, referred, target_meant, target_named, value_at, stored, component_with, element_chosen, around_of, component_known, component_by, component_there}
-use Rattle.cp_meaning.specs.Operations.{same_integer, checked}
-use Rattle.cp_meaning.specs.Expressions.{value, target_value, selected, chosen, with_element_of, first_value, meaning_here, routine_called, variable_in}
-use Rattle.cp_meaning.specs.Calls.{refers_to, of_system, knows_of, bound_variable, bound_value, bound_argument, bound, least_of, least_result, opened, is_initialised, is_uninitialised, entered_as, with_move, with_items, entered, called_as, called, with_status, initial, initialised_in, started_as, started_at, started}
-use Rattle.cp_meaning.specs.LocalRules.{scope_here, becomes, assigned, arm_for, is_beyond, next_value, goes_on_with, queue_free, delayed_in, continued_from, in_place_of, argument_of, invoked, does, outer, return_move, returned, finished, takes}
+use Rattle.cp_meaning.specs.Operations.{checked}
+use Rattle.cp_meaning.specs.Expressions.{value, target_value, selected, chosen, with_element_of, variable_in}
+use Rattle.cp_meaning.specs.Calls.{refers_to, of_system, knows_of, bound_variable, bound_value, bound_argument, bound, least_of, least_result, opened, is_uninitialised, entered_as, with_move, with_items, with_status, initial, initialised_in, started_as}
+use Rattle.cp_meaning.specs.LocalRules.{continued_from, outer, return_move, returned, finished, takes}
 use Rattle.cp_meaning.proofs.Frames.{Frame, frames, frames-callers, below, system_at}
 use Rattle.cp_meaning.proofs.Good.{status_at}
 use Rattle.cp_meaning.proofs.Stored.{stored_frames}
-use Rattle.cp_meaning.proofs.LocalLaw.{within, status_set}
+use Rattle.cp_meaning.proofs.LocalLaw.{uninitialised_told, within, status_set}
 use Rattle.cp_meaning.proofs.ComponentTree.{path_at, kind_at, SameTree, tree_after, set_tree, own_owner, Distinct, contained_owner, ContainedEarlier, contained_below}
 use Rattle.cp_meaning.proofs.Held.{HeldBy, HeldPlace, RefersHeld, HeldCalls, Bottom, permanents_at, ClassesKnown, held_more, place_more, held_alike, length-frames, kind_past, IsValue, cons_content, append_content, least_values, least_result_value, stored_held, EarlierKnown, permanents_set, known_set, stored_known, stored_tree, stored_changed}
+use Rattle.cp_meaning.proofs.Taken.{AllOf, bind_known, bind_all, if_all, Rules, takes_all}
 
 -- names that are none of these parameters have nothing in the environment
 abbrev pub NamedBy : List Parameter → Environment → Type 0
@@ -54,8 +55,7 @@ pub record Owned (p : Program) (base : List Component) (me : ℕ) (fs : List Fra
   pub starting : MoveOwned p base move
 
 abbrev pub OwnedBy : Program → List Component → ℕ → List Frame → List Component → Outcome Doing → Type 0
-OwnedBy p base me fs cs (Ok d) = Owned p base me fs cs d.calls d.components d.move
-OwnedBy p base me fs cs (Err e) = Unit {0}
+OwnedBy p base me fs cs o = AllOf (λ (d : Doing). Owned p base me fs cs d.calls d.components d.move) o
 
 -- where the first environment has nothing for a name, the second one decides
 pub nothing_append : (x : Name) (a b : Environment) → content_of x a ≡ None → content_of x (a ++ b) ≡ content_of x b
@@ -65,10 +65,6 @@ nothing_append x (c ∷ a) b h = go (same_name x c.0) h (nothing_append x a b)
     go : (s : Bool) → (if s then Some c.1 else content_of x a) ≡ None → (content_of x a ≡ None → content_of x (a ++ b) ≡ content_of x b) → (if s then Some c.1 else content_of x (a ++ b)) ≡ content_of x b
     go true h rest = absurd (let bad : Some c.1 ≡ None = h in cc)
     go false h rest = rest h
-
-uninitialised_told : (s : ComponentStatus) → is_uninitialised s ≡ true → s ≡ uninitialised
-uninitialised_told uninitialised h = refl
-uninitialised_told x h = cc
 
 module _ (p : Program) (c : Call) (calls : List Call) (cs : List Component) (pid me : ℕ) (base : List Component) (tree : SameTree base cs) (distinct : Distinct base)
     (kinds : (n : ℕ) → n < length base → kind_at base n ≡ (system_of p (component_at base n).system).kind)
@@ -86,14 +82,6 @@ module _ (p : Program) (c : Call) (calls : List Call) (cs : List Component) (pid
 
   abbrev OwnedOutcome : Outcome Doing → Type 0
   OwnedOutcome o = OwnedBy p base me fs cs o
-
-  bind_owned : {A : Type 0} (o : Outcome A) (f : A → Outcome Doing) → ((a : A) → OwnedOutcome (f a)) → OwnedOutcome (o >>= f)
-  bind_owned (Ok a) f h = h a
-  bind_owned (Err e) f h = tt
-
-  outcome_if : (b : Bool) (x y : Outcome Doing) → (b ≡ true → OwnedOutcome x) → OwnedOutcome y → OwnedOutcome (if b then x else y)
-  outcome_if true x y h k = h refl
-  outcome_if false x y h k = k
 
   -- ---- views with other values
 
@@ -123,9 +111,6 @@ module _ (p : Program) (c : Call) (calls : List Call) (cs : List Component) (pid
   items_owned u items move a m =
       record { tree = a.still; held = a.still_held; bottom = subst (Bottom me) (sym a.same_frames) bottom; classes = a.still_known; earlier = a.still_earlier; changed = λ n x ne. inl (a.only n x ne); starting = m }
 
-  becomes_owned : (u : View) (items : List Item) → Alike u → OwnedOutcome (becomes u items)
-  becomes_owned u items a = items_owned u items stays a tt
-
   -- ---- places
 
   in_this_call : HeldPlace base me fs (this_call v)
@@ -146,40 +131,27 @@ module _ (p : Program) (c : Call) (calls : List Call) (cs : List Component) (pid
   named_held : (x : Name) → HeldPlace base me fs (target_named v x).place.holder
   named_held x = target_meant_held x (find x c.scope)
 
-  abbrev HeldTarget : Outcome Target → Type 0
-  HeldTarget (Ok t) = HeldPlace base me fs t.place.holder
-  HeldTarget (Err e) = Unit {0}
+  abbrev PlaceHeld : Target → Type 0
+  PlaceHeld t = HeldPlace base me fs t.place.holder
 
-  target_if : (b : Bool) (t : Target) (e : ErrorName) → HeldPlace base me fs t.place.holder → HeldTarget (if b then Ok t else Err e)
+  target_if : (b : Bool) (t : Target) (e : ErrorName) → HeldPlace base me fs t.place.holder → AllOf PlaceHeld (if b then Ok t else Err e)
   target_if true t e h = h
   target_if false t e h = tt
 
-  element_held : (u : Ty) (t : Target) (z : ℤ) → HeldPlace base me fs t.place.holder → HeldTarget (with_element_of u t z)
+  element_held : (u : Ty) (t : Target) (z : ℤ) → HeldPlace base me fs t.place.holder → AllOf PlaceHeld (with_element_of u t z)
   element_held (array_over r u) t z h = target_if (is_within r z) _ _ h
   element_held _ t z h = h
 
-  bind_target : {A : Type 0} (o : Outcome A) (f : A → Outcome Target) → ((a : A) → HeldTarget (f a)) → HeldTarget (o >>= f)
-  bind_target (Ok a) f h = h a
-  bind_target (Err e) f h = tt
-
-  chosen_held : (s : Selector) (t : Target) → HeldPlace base me fs t.place.holder → HeldTarget (chosen v s t)
+  chosen_held : (s : Selector) (t : Target) → HeldPlace base me fs t.place.holder → AllOf PlaceHeld (chosen v s t)
   chosen_held (field i) t h = h
-  chosen_held (index e) t h = bind_target (value v e) _ (λ x. element_held t.ty t (number_of x.value) h)
+  chosen_held (index e) t h = bind_all PlaceHeld (value v e) _ (λ x. element_held t.ty t (number_of x.value) h)
 
-  after_target : (o : Outcome Target) (f : Target → Outcome Target) → HeldTarget o → ((t : Target) → HeldPlace base me fs t.place.holder → HeldTarget (f t)) → HeldTarget (o >>= f)
-  after_target (Ok t) f h k = k t h
-  after_target (Err e) f h k = tt
-
-  selected_held : (ss : Selectors) (t : Target) → HeldPlace base me fs t.place.holder → HeldTarget (selected v ss t)
+  selected_held : (ss : Selectors) (t : Target) → HeldPlace base me fs t.place.holder → AllOf PlaceHeld (selected v ss t)
   selected_held no_selectors t h = h
-  selected_held (more_selectors s ss) t h = after_target (chosen v s t) _ (chosen_held s t h) (λ u k. selected_held ss u k)
+  selected_held (more_selectors s ss) t h = bind_known PlaceHeld PlaceHeld (chosen v s t) _ (chosen_held s t h) (λ u k. selected_held ss u k)
 
-  target_held : (d : Designator) → HeldTarget (target_value v d)
+  target_held : (d : Designator) → AllOf PlaceHeld (target_value v d)
   target_held (designator i ss) = selected_held ss (target_named v i.name) (named_held i.name)
-
-  with_target : (o : Outcome Target) (f : Target → Outcome Doing) → HeldTarget o → ((t : Target) → HeldPlace base me fs t.place.holder → OwnedOutcome (f t)) → OwnedOutcome (o >>= f)
-  with_target (Ok t) f h k = k t h
-  with_target (Err e) f h k = tt
 
   -- ---- components that are named
 
@@ -243,26 +215,13 @@ module _ (p : Program) (c : Call) (calls : List Call) (cs : List Component) (pid
   abbrev KnowsOwned : Environment → Type 0
   KnowsOwned e = (d : ℕ) (x : Name) → content_of x e ≡ Some (knows d) → kind_at base d ≡ system_kind.Class → owner_of base d ≡ owner_of base c.component
 
-  abbrev BoundHeld : Outcome Environment → Type 0
-  BoundHeld (Ok e) = RefersHeld base me fs e × KnowsOwned e
-  BoundHeld (Err e) = Unit {0}
+  abbrev EnvironmentHeld : Environment → Type 0
+  EnvironmentHeld e = RefersHeld base me fs e × KnowsOwned e
 
   abbrev ContentHeld : Content → Type 0
   ContentHeld (holds w) = Unit {0}
   ContentHeld (refers q) = HeldPlace base me fs q.holder
   ContentHeld (knows d) = kind_at base d ≡ system_kind.Class → owner_of base d ≡ owner_of base c.component
-
-  abbrev OutcomeHeld : Outcome Content → Type 0
-  OutcomeHeld (Ok k) = ContentHeld k
-  OutcomeHeld (Err e) = Unit {0}
-
-  bind_content : {A : Type 0} (o : Outcome A) (f : A → Outcome Content) → ((a : A) → OutcomeHeld (f a)) → OutcomeHeld (o >>= f)
-  bind_content (Ok a) f h = h a
-  bind_content (Err e) f h = tt
-
-  target_content : (o : Outcome Target) (f : Target → Outcome Content) → HeldTarget o → ((t : Target) → HeldPlace base me fs t.place.holder → OutcomeHeld (f t)) → OutcomeHeld (o >>= f)
-  target_content (Ok t) f h k = k t h
-  target_content (Err e) f h k = tt
 
   of_system_owned : (k n : ℕ) → (kind_at base n ≡ system_kind.Class → owner_of base n ≡ owner_of base c.component) → kind_at base (of_system v k n) ≡ system_kind.Class → owner_of base (of_system v k n) ≡ owner_of base c.component
   of_system_owned k n h = go ((component_at cs n).system == k)
@@ -271,36 +230,34 @@ module _ (p : Program) (c : Call) (calls : List Call) (cs : List Component) (pid
       go true class = h class
       go false class = none_past (length cs) refl class
 
-  variable_held : (o : Option Designator) → OutcomeHeld (bound_variable v refers_to o)
-  variable_held None = tt
-  variable_held (Some d) = target_content (target_value v d) _ (target_held d) (λ t h. h)
-
-  component_held : (k : ℕ) (o : Option Designator) → OutcomeHeld (bound_variable v (knows_of v k) o)
-  component_held k None = tt
-  component_held k (Some d) = target_content (target_value v d) _ (target_held d) (λ t h. of_system_owned k (component_there v t.place) (there_owned t.place))
-
-  checked_held : (t : Ty) (e : Expression) → OutcomeHeld (value v e >>= λ x. checked t x.value >>= λ w. Ok (holds w))
-  checked_held t e = bind_content (value v e) _ (λ x. bind_content (checked t x.value) _ (λ w. tt))
-
-  value_held : (t : Ty) (e : Expression) → OutcomeHeld (bound_value v t e)
-  value_held (component_of k) e = component_held k (variable_in e)
-  value_held (ordinal r) e = checked_held (ordinal r) e
-  value_held queue_type e = checked_held queue_type e
-  value_held (set_over r) e = checked_held (set_over r) e
-  value_held (array_over r t) e = checked_held (array_over r t) e
-  value_held (record_with ts) e = checked_held (record_with ts) e
-
-  argument_held : (q : Parameter) (e : Expression) → OutcomeHeld (bound_argument v q e)
-  argument_held q e = go q.is_var
+  -- what is so of values, of places that are held and of components found at such places is so of an argument
+  argument_all : (P : Content → Type 0) → ((w : Value) → P (holds w)) → ((t : Target) → PlaceHeld t → P (refers t.place)) → (q : Parameter) → ((k : ℕ) → q.ty ≡ component_of k → (t : Target) → P (knows (of_system v k (component_there v t.place)))) →
+      (e : Expression) → AllOf P (bound_argument v q e)
+  argument_all P value_so place_so q component_so e = go q.is_var
     where
-      go : (b : Bool) → OutcomeHeld (if b then bound_variable v refers_to (variable_in e) else bound_value v q.ty e)
-      go true = variable_held (variable_in e)
-      go false = value_held q.ty e
+      variable : (o : Option Designator) → AllOf P (bound_variable v refers_to o)
+      variable None = value_so (number_value (pos 0))
+      variable (Some d) = bind_known PlaceHeld P (target_value v d) (λ t. Ok (refers t.place)) (target_held d) place_so
+
+      component : (k : ℕ) → q.ty ≡ component_of k → (o : Option Designator) → AllOf P (bound_variable v (knows_of v k) o)
+      component k same None = value_so (number_value (pos 0))
+      component k same (Some d) = bind_all P (target_value v d) (λ t. Ok (knows (of_system v k (component_there v t.place)))) (component_so k same)
+
+      by_type : (t : Ty) → q.ty ≡ t → AllOf P (bound_value v t e)
+      by_type (component_of k) same = component k same (variable_in e)
+      by_type t same = bind_all P (value v e) (λ x. checked t x.value >>= λ w. Ok (holds w)) (λ x. bind_all P (checked t x.value) (λ w. Ok (holds w)) value_so)
+
+      go : (b : Bool) → AllOf P (if b then bound_variable v refers_to (variable_in e) else bound_value v q.ty e)
+      go true = variable (variable_in e)
+      go false = by_type q.ty refl
+
+  argument_held : (q : Parameter) (e : Expression) → AllOf ContentHeld (bound_argument v q e)
+  argument_held q e = argument_all ContentHeld (λ w. tt) (λ t h. h) q (λ k same t. of_system_owned k (component_there v t.place) (there_owned t.place)) e
 
   no_content : (x : Name) (k : Content) {A : Type 0} → content_of x [] ≡ Some k → A
   no_content x k h = absurd (let bad : None ≡ Some k = h in cc)
 
-  nothing_bound : BoundHeld (Ok [])
+  nothing_bound : AllOf EnvironmentHeld (Ok [])
   nothing_bound = ((λ x q h. no_content x (refers q) h), λ d x h class. no_content x (knows d) h)
 
   refers_cons : (y : Name) (k : Content) (e : Environment) → ContentHeld k → RefersHeld base me fs e → RefersHeld base me fs ((y, k) ∷ e)
@@ -317,33 +274,23 @@ module _ (p : Program) (c : Call) (calls : List Call) (cs : List Component) (pid
       go (inl t) = subst ContentHeld t.1 h class
       go (inr t) = r d x t.1 class
 
-  bound_cons : (y : Name) (o : Outcome Content) (r : Outcome Environment) → OutcomeHeld o → BoundHeld r → BoundHeld (o >>= λ k. r >>= λ rest. Ok ((y, k) ∷ rest))
-  bound_cons y (Ok k) (Ok e) h g = (refers_cons y k e h g.0, knows_cons y k e h g.1)
-  bound_cons y _ _ h g = tt
+  bound_cons : (y : Name) (o : Outcome Content) (r : Outcome Environment) → AllOf ContentHeld o → AllOf EnvironmentHeld r → AllOf EnvironmentHeld (o >>= λ k. r >>= λ rest. Ok ((y, k) ∷ rest))
+  bound_cons y o r h g = bind_known ContentHeld EnvironmentHeld o _ h (λ k a. bind_known EnvironmentHeld EnvironmentHeld r _ g (λ e b. (refers_cons y k e a b.0, knows_cons y k e a b.1)))
 
-  bound_held : (qs : List Parameter) (es : Expressions) → BoundHeld (bound v qs es)
+  bound_held : (qs : List Parameter) (es : Expressions) → AllOf EnvironmentHeld (bound v qs es)
   bound_held (q ∷ qs) (more_expressions e es) = bound_cons q.name (bound_argument v q e) (bound v qs es) (argument_held q e) (bound_held qs es)
   bound_held _ _ = nothing_bound
 
-  abbrev BoundNamed : List Parameter → Outcome Environment → Type 0
-  BoundNamed qs (Ok e) = NamedBy qs e
-  BoundNamed qs (Err e) = Unit {0}
-
-  named_cons : (q : Parameter) (qs : List Parameter) (o : Outcome Content) (r : Outcome Environment) → BoundNamed qs r → BoundNamed (q ∷ qs) (o >>= λ k. r >>= λ rest. Ok ((q.name, k) ∷ rest))
-  named_cons q qs (Ok k) (Ok e) g = λ x h. go x (same_name x q.name) h
+  named_cons : (q : Parameter) (qs : List Parameter) (k : Content) (e : Environment) → NamedBy qs e → NamedBy (q ∷ qs) ((q.name, k) ∷ e)
+  named_cons q qs k e g x h = go (same_name x q.name) h
     where
-      go : (x : Name) (b : Bool) → (b || is_parameter x qs) ≡ false → (if b then Some k else content_of x e) ≡ None
-      go x true h = absurd (let bad : true ≡ false = h in cc)
-      go x false h = g x h
-  named_cons q qs _ _ g = tt
+      go : (b : Bool) → (b || is_parameter x qs) ≡ false → (if b then Some k else content_of x e) ≡ None
+      go true h = absurd (let bad : true ≡ false = h in cc)
+      go false h = g x h
 
-  bound_named : (qs : List Parameter) (es : Expressions) → BoundNamed qs (bound v qs es)
-  bound_named (q ∷ qs) (more_expressions e es) = named_cons q qs (bound_argument v q e) (bound v qs es) (bound_named qs es)
+  bound_named : (qs : List Parameter) (es : Expressions) → AllOf (NamedBy qs) (bound v qs es)
+  bound_named (q ∷ qs) (more_expressions e es) = bind_all (NamedBy (q ∷ qs)) (bound_argument v q e) _ (λ k. bind_known (NamedBy qs) (NamedBy (q ∷ qs)) (bound v qs es) _ (bound_named qs es) (λ rest g. named_cons q qs k rest g))
   bound_named _ _ = λ x h. refl
-
-  with_bound : (o : Outcome Environment) (f : Environment → Outcome Doing) → BoundHeld o → ((e : Environment) → RefersHeld base me fs e → KnowsOwned e → OwnedOutcome (f e)) → OwnedOutcome (o >>= f)
-  with_bound (Ok e) f h k = k e h.0 h.1
-  with_bound (Err e) f h k = tt
 
   -- what holds of each component that has the type of one of the parameters
 
@@ -353,58 +300,28 @@ module _ (p : Program) (c : Call) (calls : List Call) (cs : List Component) (pid
     Fits (refers q) = Unit {0}
     Fits (knows d) = Q d
 
-    abbrev OutcomeFits : Outcome Content → Type 0
-    OutcomeFits (Ok k) = Fits k
-    OutcomeFits (Err e) = Unit {0}
+    abbrev pub AllFit : Environment → Type 0
+    AllFit e = (d : ℕ) (x : Name) → content_of x e ≡ Some (knows d) → Q d
 
     abbrev pub BoundFits : Outcome Environment → Type 0
-    BoundFits (Ok e) = (d : ℕ) (x : Name) → content_of x e ≡ Some (knows d) → Q d
-    BoundFits (Err e) = Unit {0}
+    BoundFits o = AllOf AllFit o
 
     abbrev pub ParametersFit : List Parameter → Type 0
     ParametersFit [] = Unit {0}
     ParametersFit (q ∷ qs) = ((k n : ℕ) → q.ty ≡ component_of k → Q (of_system v k n)) × ParametersFit qs
 
-    bind_fits : {A : Type 0} (o : Outcome A) (f : A → Outcome Content) → ((a : A) → OutcomeFits (f a)) → OutcomeFits (o >>= f)
-    bind_fits (Ok a) f h = h a
-    bind_fits (Err e) f h = tt
+    argument_fits : (q : Parameter) (e : Expression) → ((k n : ℕ) → q.ty ≡ component_of k → Q (of_system v k n)) → AllOf Fits (bound_argument v q e)
+    argument_fits q e h = argument_all Fits (λ w. tt) (λ t n. tt) q (λ k same t. h k (component_there v t.place) same) e
 
-    component_fits : (k : ℕ) (o : Option Designator) → ((n : ℕ) → Q (of_system v k n)) → OutcomeFits (bound_variable v (knows_of v k) o)
-    component_fits k None h = tt
-    component_fits k (Some d) h = bind_fits (target_value v d) _ (λ t. h (component_there v t.place))
-
-    checked_fits : (t : Ty) (e : Expression) → OutcomeFits (value v e >>= λ x. checked t x.value >>= λ w. Ok (holds w))
-    checked_fits t e = bind_fits (value v e) _ (λ x. bind_fits (checked t x.value) _ (λ w. tt))
-
-    value_fits : (t : Ty) (e : Expression) → ((k n : ℕ) → t ≡ component_of k → Q (of_system v k n)) → OutcomeFits (bound_value v t e)
-    value_fits (component_of k) e h = component_fits k (variable_in e) (λ n. h k n refl)
-    value_fits (ordinal r) e h = checked_fits (ordinal r) e
-    value_fits queue_type e h = checked_fits queue_type e
-    value_fits (set_over r) e h = checked_fits (set_over r) e
-    value_fits (array_over r t) e h = checked_fits (array_over r t) e
-    value_fits (record_with ts) e h = checked_fits (record_with ts) e
-
-    refers_fits : (o : Option Designator) → OutcomeFits (bound_variable v refers_to o)
-    refers_fits None = tt
-    refers_fits (Some d) = bind_fits (target_value v d) _ (λ t. tt)
-
-    argument_fits : (q : Parameter) (e : Expression) → ((k n : ℕ) → q.ty ≡ component_of k → Q (of_system v k n)) → OutcomeFits (bound_argument v q e)
-    argument_fits q e h = go q.is_var
+    fits_cons : (y : Name) (k : Content) (e : Environment) → Fits k → AllFit e → AllFit ((y, k) ∷ e)
+    fits_cons y k e h g d x s = go (cons_content x (y, k) e (knows d) s)
       where
-        go : (b : Bool) → OutcomeFits (if b then bound_variable v refers_to (variable_in e) else bound_value v q.ty e)
-        go true = refers_fits (variable_in e)
-        go false = value_fits q.ty e h
-
-    fits_cons : (y : Name) (o : Outcome Content) (r : Outcome Environment) → OutcomeFits o → BoundFits r → BoundFits (o >>= λ k. r >>= λ rest. Ok ((y, k) ∷ rest))
-    fits_cons y (Ok k) (Ok e) h g = λ d x s. go x d (cons_content x (y, k) e (knows d) s)
-      where
-        go : (x : Name) (d : ℕ) → ((same_name x y ≡ true) × (k ≡ knows d)) ⊎ ((same_name x y ≡ false) × (content_of x e ≡ Some (knows d))) → Q d
-        go x d (inl t) = subst Fits t.1 h
-        go x d (inr t) = g d x t.1
-    fits_cons y _ _ h g = tt
+        go : ((same_name x y ≡ true) × (k ≡ knows d)) ⊎ ((same_name x y ≡ false) × (content_of x e ≡ Some (knows d))) → Q d
+        go (inl t) = subst Fits t.1 h
+        go (inr t) = g d x t.1
 
     pub bound_fits : (qs : List Parameter) (es : Expressions) → ParametersFit qs → BoundFits (bound v qs es)
-    bound_fits (q ∷ qs) (more_expressions e es) h = fits_cons q.name (bound_argument v q e) (bound v qs es) (argument_fits q e h.0) (bound_fits qs es h.1)
+    bound_fits (q ∷ qs) (more_expressions e es) h = bind_known Fits AllFit (bound_argument v q e) _ (argument_fits q e h.0) (λ k a. bind_known AllFit AllFit (bound v qs es) _ (bound_fits qs es h.1) (λ rest b. fits_cons q.name k rest a b))
     bound_fits _ _ h = λ d x s. no_content x (knows d) s
 
   abbrev NoClass : ℕ → Type 0
@@ -483,29 +400,6 @@ module _ (p : Program) (c : Call) (calls : List Call) (cs : List Component) (pid
       opened_owned d entry_routine r o items e stays (class_held d entry_routine (owns class)) (not_past d class) refs tt
   entry_as system_kind.Process d r o items e is owns refs = items_owned v items stays alike tt
 
-  entered_owned : (q : Place) (r : RoutineMeaning) (o : Option Name) (es : Expressions) (items : List Item) → OwnedOutcome (entered v (component_there v q) r o es items)
-  entered_owned q r o es items =
-      with_bound (bound v r.parameters es) _ (bound_held r.parameters es) (λ e refs known.
-      outcome_if (is_initialised (status_at cs (component_there v q))) _ _ (λ i. entry_as (kind_at cs (component_there v q)) (component_there v q) r o items e refl (there_owned q) refs) tt)
-
-  entry_owned : (d : Designator) (r : RoutineMeaning) (o : Option Name) (es : Expressions) (items : List Item) → OwnedOutcome (target_value v d >>= λ t. entered v (component_there v t.place) r o es items)
-  entry_owned d r o es items = bind_owned (target_value v d) _ (λ t. entered_owned t.place r o es items)
-
-  called_owned : (m : Option Meaning) (d : Designator) (q : Option RoutineMeaning) (o : Option Name) (es : Expressions) (items : List Item) → OwnedOutcome (called_as v m d q o es items)
-  called_owned m d None o es items = becomes_owned v items alike
-  called_owned (Some (routine_meaning x)) d (Some r) o es items =
-      with_bound (bound v r.parameters es) _ (bound_held r.parameters es) (λ e refs known.
-      opened_owned c.component local_routine r o items e stays (held_more base me (local_routine, c.component) fs c.component held.0) held.1 refs tt)
-  called_owned None d (Some r) o es items = entry_owned d r o es items
-  called_owned (Some (constant_meaning b z)) d (Some r) o es items = entry_owned d r o es items
-  called_owned (Some (type_meaning t)) d (Some r) o es items = entry_owned d r o es items
-  called_owned (Some (local_variable t)) d (Some r) o es items = entry_owned d r o es items
-  called_owned (Some (permanent_variable t)) d (Some r) o es items = entry_owned d r o es items
-  called_owned (Some (standard_meaning s)) d (Some r) o es items = entry_owned d r o es items
-
-  call_owned : (d : Designator) (es : Expressions) (o : Option Name) (items : List Item) → OwnedOutcome (called v d es o items)
-  call_owned d es o items = called_owned (meaning_here v d) d (routine_called p c.scope d) o es items
-
   -- ---- starts
 
   initial_owned : (d : ℕ) (s : SystemMeaning) (items : List Item) (e : Environment) → d < length base → status_at cs d ≡ uninitialised → HeldBy base me ((initial_statement, d) ∷ fs) d →
@@ -554,37 +448,41 @@ module _ (p : Program) (c : Call) (calls : List Call) (cs : List Component) (pid
   initialised_owned : (d : ℕ) (s : SystemMeaning) (items : List Item) (e : Environment) → d < length base → HeldBy base me ((initial_statement, d) ∷ fs) d →
       ((n : ℕ) (x : Name) → content_of x e ≡ Some (knows n) → kind_at base n ≡ system_kind.Class → owner_of base n ≡ owner_of base d) → ((n : ℕ) (x : Name) → content_of x e ≡ Some (knows n) → Below (system_at base d) n) → NamedBy (system_of p (component_at base d).system).parameters e → OwnedOutcome (initialised_in v d s items e)
   initialised_owned d s items e lt h known lower names =
-      outcome_if (is_uninitialised (status_at cs d)) _ _ (λ u. initial_owned d s items e lt (uninitialised_told (status_at cs d) u) h known lower names) tt
+      if_all OwnedDoing (is_uninitialised (status_at cs d)) _ _ (λ u. initial_owned d s items e lt (uninitialised_told (status_at cs d) u) h known lower names) tt
 
   system_not_class : (d : ℕ) → d < length base → (kind_at cs d ≡ system_kind.Class → ⊥) → (system_of p (component_at cs d).system).kind ≡ system_kind.Class → ⊥
   system_not_class d lt h k = h (tree.kind d ∙ kinds d lt ∙ ap (λ j. (system_of p j).kind) (sym (tree.system d)) ∙ k)
 
-  started_owned : (k : SystemKind) (d : ℕ) (items : List Item) (o : Outcome Environment) → kind_at cs d ≡ k → (kind_at base d ≡ system_kind.Class → owner_of base d ≡ owner_of base c.component) → BoundHeld o →
-      (((system_of p (component_at cs d).system).kind ≡ system_kind.Class → ⊥) → BoundFits NoClass o) → BoundFits (Below (system_at base d)) o → BoundNamed (system_of p (component_at base d).system).parameters o → OwnedOutcome (o >>= λ e. started_as k v d (system_of p (component_at cs d).system) items e)
-  started_owned k d items (Err e) is owns h free lower names = tt
-  started_owned system_kind.Class d items (Ok e) is owns h free lower names =
-      let class = in_base d system_kind.Class is in
-      initialised_owned d (system_of p (component_at cs d).system) items e (not_past d class) (class_held d initial_statement (owns class)) (λ n x t k. h.1 n x t k ∙ sym (owns class)) lower names
-  started_owned system_kind.Monitor d items (Ok e) is owns h free lower names =
-      let lt = within base d (λ b. (let bad : system_kind.Monitor ≡ system_kind.Process = sym (in_base d system_kind.Monitor is) ∙ b in cc)) in
-      initialised_owned d (system_of p (component_at cs d).system) items e lt (monitor_started d (in_base d system_kind.Monitor is))
-      (λ n x t k. absurd (free (system_not_class d lt (λ b. (let bad : system_kind.Monitor ≡ system_kind.Class = sym is ∙ b in cc))) n x t k)) lower names
-  started_owned system_kind.Process d items (Ok e) is owns h free lower names =
-      items_owned v items (starts d e) alike
-      ((λ lt n x t. ((λ k. absurd (free (system_not_class d lt (λ b. (let bad : system_kind.Process ≡ system_kind.Class = sym is ∙ b in cc))) n x t k)), lower n x t)), names)
+  -- what is known of the arguments with which a component of a system type is started
+  record Handed (k : ℕ) (e : Environment) : Type 0 where
+    owned : KnowsOwned e
+    free : ((system_of p k).kind ≡ system_kind.Class → ⊥) → AllFit NoClass e
+    lower : AllFit (Below k) e
+    names : NamedBy (system_of p k).parameters e
 
-  start_owned : (t : Start) (items : List Item) → OwnedOutcome (started v t items)
-  start_owned t items = bind_owned (target_value v t.target) _ (λ u. place u.place)
+  bound_handed : (k : ℕ) (es : Expressions) → AllOf (Handed k) (bound v (system_of p k).parameters es)
+  bound_handed k es = go (bound v (system_of p k).parameters es) (bound_held (system_of p k).parameters es) (λ h. bound_fits NoClass (system_of p k).parameters es (no_class_fits (system_of p k).parameters (class_parameters k h)))
+      (bound_fits (Below k) (system_of p k).parameters es (below_fits k (system_of p k).parameters (parameters_earlier k))) (bound_named (system_of p k).parameters es)
     where
-      place : (q : Place) → OwnedOutcome (started_at v (component_there v q) (system_of p (component_at cs (component_there v q)).system) t.arguments items)
-      place q =
-          let d = component_there v q in
-          let k = (component_at cs d).system in
-          let s = system_of p k in
-          started_owned (kind_at cs d) d items (bound v s.parameters t.arguments) refl (there_owned q) (bound_held s.parameters t.arguments)
-          (λ h. bound_fits NoClass s.parameters t.arguments (no_class_fits s.parameters (class_parameters k h)))
-          (subst (λ j. BoundFits (Below j) (bound v s.parameters t.arguments)) (tree.system d) (bound_fits (Below k) s.parameters t.arguments (below_fits k s.parameters (parameters_earlier k))))
-          (subst (λ j. BoundNamed (system_of p j).parameters (bound v s.parameters t.arguments)) (tree.system d) (bound_named s.parameters t.arguments))
+      go : (o : Outcome Environment) → AllOf EnvironmentHeld o → (((system_of p k).kind ≡ system_kind.Class → ⊥) → BoundFits NoClass o) → BoundFits (Below k) o → AllOf (NamedBy (system_of p k).parameters) o → AllOf (Handed k) o
+      go (Ok e) h free lower names = record { owned = h.1; free = free; lower = lower; names = names }
+      go (Err e) h free lower names = tt
+
+  started_owned : (k : SystemKind) (d : ℕ) (items : List Item) (e : Environment) → kind_at cs d ≡ k → (kind_at base d ≡ system_kind.Class → owner_of base d ≡ owner_of base c.component) → Handed (component_at cs d).system e →
+      OwnedOutcome (started_as k v d (system_of p (component_at cs d).system) items e)
+  started_owned k d items e is owns h = by_kind k is (subst (λ j. AllFit (Below j) e) (tree.system d) h.lower) (subst (λ j. NamedBy (system_of p j).parameters e) (tree.system d) h.names)
+    where
+      by_kind : (k : SystemKind) → kind_at cs d ≡ k → AllFit (Below (system_at base d)) e → NamedBy (system_of p (component_at base d).system).parameters e → OwnedOutcome (started_as k v d (system_of p (component_at cs d).system) items e)
+      by_kind system_kind.Class is lower names =
+          let class = in_base d system_kind.Class is in
+          initialised_owned d (system_of p (component_at cs d).system) items e (not_past d class) (class_held d initial_statement (owns class)) (λ n x t k. h.owned n x t k ∙ sym (owns class)) lower names
+      by_kind system_kind.Monitor is lower names =
+          let lt = within base d (λ b. (let bad : system_kind.Monitor ≡ system_kind.Process = sym (in_base d system_kind.Monitor is) ∙ b in cc)) in
+          initialised_owned d (system_of p (component_at cs d).system) items e lt (monitor_started d (in_base d system_kind.Monitor is))
+          (λ n x t k. absurd (h.free (system_not_class d lt (λ b. (let bad : system_kind.Monitor ≡ system_kind.Class = sym is ∙ b in cc))) n x t k)) lower names
+      by_kind system_kind.Process is lower names =
+          items_owned v items (starts d e) alike
+          ((λ lt n x t. ((λ k. absurd (h.free (system_not_class d lt (λ b. (let bad : system_kind.Process ≡ system_kind.Class = sym is ∙ b in cc))) n x t k)), lower n x t)), names)
 
   -- ---- ends of calls
 
@@ -653,53 +551,30 @@ module _ (p : Program) (c : Call) (calls : List Call) (cs : List Component) (pid
       go n x ne (inl t) = absurd (ne (ap (λ j. content_of x (permanents_at cs j)) t.0 ∙ ap (content_of x) (sym t.1)))
       go n x ne (inr t) = absurd (ne (ap (content_of x) (sym t)))
 
-  -- ---- statements
+  -- ---- items
 
-  assigned_owned : (t : Target) (w : Value) (f : View → Outcome Doing) → HeldPlace base me fs t.place.holder → ((u : View) → Alike u → OwnedOutcome (f u)) → OwnedOutcome (assigned v t w >>= f)
-  assigned_owned t w f h k = go (checked t.ty w)
-    where
-      go : (o : Outcome Value) → OwnedOutcome ((o >>= λ x. Ok (stored v t.place x)) >>= f)
-      go (Ok x) = k (stored v t.place x) (alike_stored t.place x h)
-      go (Err e) = tt
-
-  next_owned : (at : ℕ) (i : Identifier) (z : ℤ) (d : Direction) (b : ℤ) (s : Statement) (items : List Item) → OwnedOutcome (goes_on_with v at i z d b s items)
-  next_owned at i z d b s items = assigned_owned (target_named v i.name) (number_value z) _ (named_held i.name) (λ u a. becomes_owned u [] a)
-
-  place_owned : (d : Option Designator) (go : Place → Outcome Doing) (items : List Item) → ((q : Place) → HeldPlace base me fs q.holder → OwnedOutcome (go q)) → OwnedOutcome (in_place_of v d go items)
-  place_owned None go items h = becomes_owned v items alike
-  place_owned (Some d) go items h = with_target (target_value v d) _ (target_held d) (λ t k. h t.place k)
-
-  delay_owned : (o : Option ℕ) (items : List Item) (q : Place) → HeldPlace base me fs q.holder → OwnedOutcome (queue_free o >>= λ x. Ok (with_move (with_items (stored v q (queue_value (Some pid))) items) (delays c.component)))
-  delay_owned None items q h = items_owned (stored v q (queue_value (Some pid))) items (delays c.component) (alike_stored q (queue_value (Some pid)) h) tt
-  delay_owned (Some r) items q h = tt
-
-  invoked_owned : (m : Option Meaning) (d : Designator) (es : Expressions) (items : List Item) → OwnedOutcome (invoked v pid m d es items)
-  invoked_owned (Some (standard_meaning delay_procedure)) d es items = place_owned (argument_of es) (delayed_in v pid items) items (λ q h. delay_owned (waiting_in (value_at v q)) items q h)
-  invoked_owned (Some (standard_meaning continue_procedure)) d es items = place_owned (argument_of es) _ items (λ q h. continued_owned c.kind items q h)
-  invoked_owned (Some (standard_meaning display_procedure)) d es items = bind_owned (first_value v es) _ (λ x. items_owned v items _ alike tt)
-  invoked_owned m d es items = call_owned d es None items
-
-  does_owned : (s : Statement) (items : List Item) → OwnedOutcome (does v pid s items)
-  does_owned (empty at) items = becomes_owned v items alike
-  does_owned (assign at d e) items = bind_owned (value v e) _ (λ x. with_target (target_value v d) _ (target_held d) (λ t h. assigned_owned t x.value _ h (λ u a. becomes_owned u items a)))
-  does_owned (invoke at d es) items = invoked_owned (meaning_here v d) d es items
-  does_owned (if_then at e s) items = bind_owned (value v e) _ (λ x. becomes_owned v [] alike)
-  does_owned (if_else at e s t) items = bind_owned (value v e) _ (λ x. becomes_owned v [] alike)
-  does_owned (case_of at e as' b) items = bind_owned (value v e) _ (λ x. bind_owned (arm_for (scope_here v) (number_of x.value) as') _ (λ s. becomes_owned v [] alike))
-  does_owned (while_do at e s) items = bind_owned (value v e) _ (λ x. becomes_owned v [] alike)
-  does_owned (for_do at i e d b s) items =
-      bind_owned (value v e) _ (λ x. bind_owned (value v b) _ (λ y.
-      outcome_if (is_beyond d (number_of x.value) (number_of y.value)) _ _ (λ h. becomes_owned v items alike) (next_owned at i (number_of x.value) d (number_of y.value) s items)))
-  does_owned (init at ts) items = becomes_owned v items alike
-  does_owned _ items = becomes_owned v [] alike
+  rules : Rules p c calls cs pid OwnedDoing Alike (λ items. Unit {0}) (λ q. HeldPlace base me fs q.holder) EnvironmentHeld Handed
+  rules =
+      record {
+        near = target_held;
+        named = λ i. named_held i.name;
+        arguments = bound_held;
+        handed = bound_handed;
+        plain = λ xs items h f. tt;
+        rest = λ i items h f. tt;
+        as_it_is = alike;
+        stores = alike_stored;
+        goes_on = λ u items a f. items_owned u items stays a tt;
+        ended = λ items f. items_owned v items ends alike tt;
+        shows = λ items x f. items_owned v items _ alike tt;
+        opens = λ r o items e h f. opened_owned c.component local_routine r o items e stays (held_more base me (local_routine, c.component) fs c.component held.0) held.1 h.0 tt;
+        enters = λ q r o items e n h i f. entry_as (kind_at cs (component_there v q)) (component_there v q) r o items e refl (there_owned q) h.0;
+        starts = λ q items e n h f. started_owned (kind_at cs (component_there v q)) (component_there v q) items e refl (there_owned q) h;
+        waits = λ q items n f. items_owned (stored v q (queue_value (Some pid))) items (delays c.component) (alike_stored q (queue_value (Some pid)) n) tt;
+        continues = λ q items n f. continued_owned c.kind items q n;
+        returns = λ o items f. returned_owned o items;
+        finishes = λ m items f. finished_owned m items;
+      }
 
   pub takes_owned : (items : List Item) → OwnedOutcome (takes v pid items)
-  takes_owned [] = becomes_owned v [] alike
-  takes_owned (statement_item s ∷ items) = does_owned s items
-  takes_owned (function_call at d es ∷ items) = call_owned d es (Some (temporary at)) items
-  takes_owned (start_item t ∷ items) = start_owned t items
-  takes_owned (until ss e ∷ items) = bind_owned (value v e) _ (λ x. becomes_owned v [] alike)
-  takes_owned (successor at i z d b s ∷ items) = outcome_if (same_integer z b) _ _ (λ h. becomes_owned v items alike) (next_owned at i (next_value d z) d b s items)
-  takes_owned (return o ∷ items) = returned_owned o items
-  takes_owned (init_end m ∷ items) = finished_owned m items
-  takes_owned (end ∷ items) = items_owned v items ends alike tt
+  takes_owned items = takes_all p c calls cs pid OwnedDoing Alike (λ items. Unit {0}) (λ q. HeldPlace base me fs q.holder) EnvironmentHeld Handed rules items tt

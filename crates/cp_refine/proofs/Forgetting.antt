@@ -1,11 +1,11 @@
 -- A machine without what it displayed stands for the state without what it displayed.
 use Rattle.cp_refine.proofs.Words.{ℕ, List, [], ◌∷◌, refl, Tree, Program, Tables, component_at, ComponentKind, Frame, Entry, Rest, Successor, Return, InitEnd, Machine}
-use Rattle.cp_refine.proofs.Words.{thread_at, ComponentStatus, uninitialised, State, by_forgetting, Layouts, Ground, ground_of, Simulates, Represents, ComponentIs}
-use Rattle.cp_refine.proofs.Words.{MonitorIs, MachineFits, LinesFit}
+use Rattle.cp_refine.proofs.Words.{thread_at, State, by_forgetting, Layouts, Ground, ground_of, Simulates, Represents}
+use Rattle.cp_refine.proofs.Words.{MachineFits, LinesFit}
 use Rattle.cp_machine.specs.Reach.{Reaches, HasBegunAs, ExecutesAs, StackExecutes, EndsBegun}
 use Rattle.cp_slots.specs.declared.tables.ComponentKind.TheVariants as kind
 use Rattle.cp_meaning.specs.State as named
-use Rattle.cp_refine.specs.Represents as represents
+use Rattle.cp_refine.proofs.control.Moving.{represents_with}
 
 abbrev without_output : Machine → Machine
 without_output m = record m { output = [] }
@@ -54,37 +54,8 @@ lines m h = record { gate = h.gate; once = h.once; pending = h.pending }
 
 -- ---- what it stands for
 
-begun_of : (s : State) (k : ComponentKind) (u : ComponentStatus) → represents.HasBegun (named_without_output s) k u → represents.HasBegun s k u
-begun_of s kind.Class uninitialised h = h
-begun_of s (kind.Monitor n) uninitialised h = h
-begun_of s _ _ h = h
-
-component_is : (g : Ground) (p : Program) (l : Layouts) (s : State) (m : Machine) (n : ℕ) → ComponentIs g p l s m n → ComponentIs g p l (named_without_output s) (without_output m) n
-component_is g p l s m n h =
-    record {
-      phase = h.phase;
-      variables = h.variables;
-      parts = λ x t e has. h.parts x t e (begun_of s (component_at g.tables n).kind (named.component_at s.components n).status has);
-      others = h.others;
-    }
-
-monitor_is : (s : State) (m : Machine) (n : ℕ) (k : ComponentKind) → MonitorIs s m n k → MonitorIs (named_without_output s) (without_output m) n k
-monitor_is s m n (kind.Monitor k) h = h
-monitor_is s m n _ h = tt
-
 represented : (g : Ground) (p : Program) (l : Layouts) (s : State) (m : Machine) → Represents g p l s m → Represents g p l (named_without_output s) (without_output m)
-represented g p l s m h =
-    record {
-      process_count = h.process_count;
-      component_count = h.component_count;
-      processes = h.processes;
-      components = λ n less. component_is g p l s m n (h.components n less);
-      monitors = λ n less. monitor_is s m n (component_at g.tables n).kind (h.monitors n less);
-      queues = record { waiting = h.queues.waiting; queued = h.queues.queued };
-      pending = h.pending;
-      gates = h.gates;
-      output = refl;
-    }
+represented g p l s m h = represents_with g p l s m [] [] s.pending m.pending refl h.pending h
 
 pub forgets : (t : Tree) (r : Tables) (l : Layouts) (g : named.Gates) (s : State) (m : Machine) → Simulates t r l g s m → Simulates t r l g (named_without_output s) (without_output m)
 forgets t r l g s m h =

@@ -83,6 +83,7 @@ pub use Rattle.cp_slots.specs.declared.place.SetOperation.TheVariants.{Differenc
 pub use Rattle.cp_slots.specs.declared.tables.ComponentKind.{ComponentKind}
 pub use Rattle.cp_layout.specs.Laid.{plain}
 unfoldable pub use Rattle.cp_layout.specs.Laid.{laid}
+pub use Rattle.cp_resolved.proofs.names.Alike.{same_inside as some_same}
 pub use Rattle.cp_resolved.proofs.Resolving.{resolving_law}
 pub use Rattle.cp_resolved.proofs.declarations.Placed.{placed_law}
 pub use Rattle.cp_resolved.proofs.declarations.StandingParts.{free_part}

@@ -15,4 +15,3 @@ pub mod Rewriting
 pub mod SetAssignments
 pub mod Storing
 pub mod Writing
-pub mod WritingCalls

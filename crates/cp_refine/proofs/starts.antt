@@ -11,5 +11,6 @@ pub mod StartArguments
 pub mod StartComponents
 pub mod StartFitting
 pub mod StartNames
+pub mod Starting
 pub mod StartsKnown
 pub mod StartsOutside

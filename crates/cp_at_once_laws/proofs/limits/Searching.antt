@@ -1,9 +1,10 @@
 -- What the search at once takes is gone through, whatever the limit of steps; and what goes on for ever in it is told.
 use Rattle.std.proofs.Common.{◌≡◌, ◌⊎◌, inl, inr, ◌∙◌, ◌+◌, ◌≤◌, ◌<◌, ℕ, zero, suc, None, Some, ap, sym, refl, subst, arith}
 use Rattle.cp_at_once_laws.proofs.Words.{OutcomeKind, Turn, Over, Due, Goes, System, Repeats, repeated_part, IsTurnKnown, FollowsEach, FollowsOne, GoesThrough, some_same}
-use Rattle.cp_at_once_laws.proofs.Words.{distance, AnyOf, Moment, moments_by, stretch_moments, IsCut, IsRound, spot_after, spot_by, from_there, rounds, happens_early}
+use Rattle.cp_at_once_laws.proofs.Words.{distance, AnyOf, Moment, stretch_moments, IsCut, IsRound, spot_after, spot_by, from_there, rounds, happens_early}
 use Rattle.cp_run.specs.Run.{Node, Choosing, node_at, turn_after, stretch}
 use Rattle.cp_endless.specs.Settled.{IsIn}
+use Rattle.cp_endless.proofs.steps.Rounds.{times, many, arrives, any_moment, moment_of}
 use Rattle.cp_at_once_laws.specs.Search.{ComesOut, GoesRound, IsTaken, IsFollowed, SearchesAtOnce}
 
 module _ {S : Type 0} (sys : System S) where
@@ -31,7 +32,7 @@ module _ {S : Type 0} (sys : System S) where
       go Due u e again = absurd cc
       go (Goes r) u e again = again r u e
 
-  round_of : (steps : ℕ) (b : S) (f : ℕ) → Repeats sys steps b f → IsRound sys b f
+  abbrev round_of : (steps : ℕ) (b : S) (f : ℕ) → Repeats sys steps b f → IsRound sys b f
   round_of steps b f r = record { before = steps; state = r.state; process = r.process; comes = r.comes; after = r.after; returns = r.returns }
 
   -- a stretch that repeats does not stand still
@@ -75,54 +76,13 @@ module _ {S : Type 0} (sys : System S) where
   -- ---- what goes on for ever
 
   module _ (steps : ℕ) (b : S) (f : ℕ) (r : Repeats sys steps b f) where
-    times : ℕ → ℕ
-    times zero = 0
-    times (suc k) = suc r.after + times k
-
-    many : (k : ℕ) → k ≤ times k
-    unfolding times
-    many zero = omega arith
-    many (suc k) = let h = many k in omega (arith, h)
-
-    again : (k : ℕ) → spot_after sys (times k) r.state r.process ≡ Some (r.state, r.process)
-    unfolding times
-    again zero = refl
-    again (suc k) = from_there sys (suc r.after) (times k) r.state r.process r.state r.process r.returns ∙ again k
-
-    arrives : (k : ℕ) → spot_after sys (steps + times k) b f ≡ Some (r.state, r.process)
-    arrives k = from_there sys steps (times k) b f r.state r.process r.comes ∙ again k
-
-    pub any_moment : (P : Moment S → Type 0) (n : ℕ) (s : S) (p i : ℕ) (t : S) (q : ℕ) → i < n → spot_after sys i s p ≡ Some (t, q) → P (record { state = t; mover = q }) → AnyOf P (stretch_moments sys n s p)
-    unfolding stretch_moments
-    any_moment P zero s p i t q less is h = absurd (omega (arith, less))
-    any_moment P (suc n) s p zero t q less is h = inl (subst (λ (x : S × ℕ). P (record { state = x.0; mover = x.1 })) (sym (some_same (s, p) (t, q) is)) h)
-    any_moment P (suc n) s p (suc i) t q less is h = inr (by (turn_after sys (sys.step s p) p (sys.event s p)) is (λ x k. any_moment P n (sys.step s p) x i t q (omega (arith, less)) k h))
-      where
-        by : (turn : Turn) → spot_by (sys.step s p) (spot_after sys i (sys.step s p)) turn ≡ Some (t, q) → ((x : ℕ) → spot_after sys i (sys.step s p) x ≡ Some (t, q) → AnyOf P (stretch_moments sys n (sys.step s p) x)) → AnyOf P (moments_by (stretch_moments sys n (sys.step s p)) turn)
-        by (Over kind) is on = absurd cc
-        by Due is on = absurd cc
-        by (Goes x) is on = on x is
-
-    moment_of : (P : Moment S → Type 0) (n : ℕ) (s : S) (p : ℕ) → AnyOf P (stretch_moments sys n s p) → (i : ℕ) × (t : S) × (q : ℕ) × (spot_after sys i s p ≡ Some (t, q)) × P (record { state = t; mover = q })
-    unfolding stretch_moments
-    moment_of P zero s p a = absurd a
-    moment_of P (suc n) s p (inl now) = (0, s, p, refl, now)
-    moment_of P (suc n) s p (inr rest) = by (turn_after sys (sys.step s p) p (sys.event s p)) refl rest (λ x d. moment_of P n (sys.step s p) x d)
-      where
-        by : (turn : Turn) → turn_after sys (sys.step s p) p (sys.event s p) ≡ turn → AnyOf P (moments_by (stretch_moments sys n (sys.step s p)) turn) →
-            ((x : ℕ) → AnyOf P (stretch_moments sys n (sys.step s p) x) → (i : ℕ) × (t : S) × (q : ℕ) × (spot_after sys i (sys.step s p) x ≡ Some (t, q)) × P (record { state = t; mover = q })) →
-            (i : ℕ) × (t : S) × (q : ℕ) × (spot_after sys i s p ≡ Some (t, q)) × P (record { state = t; mover = q })
-        by (Over kind) e a on = absurd a
-        by Due e a on = absurd a
-        by (Goes x) e a on = let h = on x a in (suc h.0, h.1, h.2, ap (spot_by (sys.step s p) (spot_after sys h.0 (sys.step s p))) e ∙ h.3, h.4)
-
     -- who makes each step from some place on is the process of the round
     pub same_mover : (q since : ℕ) → ((n : ℕ) → (t : S) × (spot_after sys (since + n) b f ≡ Some (t, q))) → r.process ≡ q
     same_mover q since moves =
-        let le = many since in
-        let d = distance since (steps + times since) (omega (arith, le)) in
+        let le = many sys b f (round_of steps b f r) since in
+        let d = distance since (steps + times sys b f (round_of steps b f r) since) (omega (arith, le)) in
         let x = moves d.0 in
-        ap (λ (y : S × ℕ). y.1) (some_same (r.state, r.process) (x.0, q) (sym (arrives since) ∙ ap (λ i. spot_after sys i b f) (sym d.1) ∙ x.1))
+        ap (λ (y : S × ℕ). y.1) (some_same (r.state, r.process) (x.0, q) (sym (arrives sys b f (round_of steps b f r) since) ∙ ap (λ i. spot_after sys i b f) (sym d.1) ∙ x.1))
 
     -- a call that is made again and again is made in the round
     pub calls_in : (P : Moment S → Type 0) → ((n : ℕ) → (m : ℕ) × (n ≤ m) × ((t : S) × (q : ℕ) × (spot_after sys m b f ≡ Some (t, q)) × P (record { state = t; mover = q }))) → AnyOf P (repeated_part r)
@@ -131,7 +91,7 @@ module _ {S : Type 0} (sys : System S) where
         let d = distance steps x.0 x.1 in
         let here = sym (from_there sys steps d.0 b f r.state r.process r.comes) ∙ ap (λ i. spot_after sys i b f) d.1 ∙ x.2.2 in
         let round : IsRound sys r.state r.process = record { before = 0; state = r.state; process = r.process; comes = refl; after = r.after; returns = r.returns } in
-        subst (λ n. AnyOf P (stretch_moments sys n r.state r.process)) (none (suc r.after)) (happens_early sys r.state r.process round P (suc d.0) (any_moment P (suc d.0) r.state r.process d.0 x.2.0 x.2.1 (omega arith) here x.2.3))
+        subst (λ n. AnyOf P (stretch_moments sys n r.state r.process)) (none (suc r.after)) (happens_early sys r.state r.process round P (suc d.0) (any_moment sys P (suc d.0) r.state r.process d.0 x.2.0 x.2.1 (omega arith) here x.2.3))
       where
         none : (n : ℕ) → 0 + n ≡ n
         none n = omega arith
@@ -139,6 +99,6 @@ module _ {S : Type 0} (sys : System S) where
     -- and one that is made in the round is made again and again
     pub calls_again : (P : Moment S → Type 0) → AnyOf P (repeated_part r) → (n : ℕ) → (m : ℕ) × (n ≤ m) × ((t : S) × (q : ℕ) × (spot_after sys m b f ≡ Some (t, q)) × P (record { state = t; mover = q }))
     calls_again P a n =
-        let x = moment_of P (suc r.after) r.state r.process a in
-        let le = many n in
-        (steps + times n + x.0, omega (arith, le), (x.1, x.2, from_there sys (steps + times n) x.0 b f r.state r.process (arrives n) ∙ x.3, x.4))
+        let x = moment_of sys P (suc r.after) r.state r.process a in
+        let le = many sys b f (round_of steps b f r) n in
+        (steps + times sys b f (round_of steps b f r) n + x.0, omega (arith, le), (x.1, x.2, from_there sys (steps + times sys b f (round_of steps b f r) n) x.0 b f r.state r.process (arrives sys b f (round_of steps b f r) n) ∙ x.3, x.4))

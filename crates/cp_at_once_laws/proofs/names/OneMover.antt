@@ -12,12 +12,9 @@ use Rattle.cp_at_once_laws.proofs.limits.Words.{EventKind, is_local, is_kernel, 
 use Rattle.cp_at_once_laws.proofs.names.Commuting.{plain as is_plain, within_of}
 use Rattle.cp_at_once_laws.proofs.names.Laws.{kept, beside_law}
 use Rattle.cp_at_once_laws.proofs.names.States.{Known, known}
-use Rattle.cp_at_once_laws.proofs.names.Waking.{only_ready, IsStuck, IsAtGate, Woken, unchanged, own, both_ready, let_go, begun_now, woken_by, own_status, own_what, goes_call, end_stuck}
+use Rattle.cp_at_once_laws.proofs.names.Waking.{only_ready, IsStuck, IsAtGate, Woken, unchanged, own, both_ready, let_go, begun_now, woken_by, own_status, own_what, goes_call, end_stuck, goes_same}
 use Rattle.cp_at_once_laws.proofs.pairs.Changes.{GoesFrom, Becomes}
 use Rattle.cp_at_once_laws.proofs.pairs.Facts.{Facts, AllFacts, done, facts}
-
-goes_same : (q r : ℕ) → Goes q ≡ Goes r → q ≡ r
-goes_same q r e = cc
 
 no_more : (n : ℕ) → n + 0 ≡ n
 no_more n = omega arith

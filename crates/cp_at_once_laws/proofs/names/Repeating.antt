@@ -12,7 +12,8 @@ use Rattle.cp_at_once_laws.specs.OnSlots.{RepeatsByOneLaw}
 use Rattle.cp_at_once_laws.proofs.rules.StartsKnown.{StartsKnown}
 use Rattle.cp_at_once_laws.specs.Whole.{GoesOnBy, IsAloneBy, SpinsBy}
 use Rattle.cp_at_once_laws.proofs.limits.NothingLeft.{met_there}
-use Rattle.cp_at_once_laws.proofs.limits.Searching.{any_moment, calls_again}
+use Rattle.cp_at_once_laws.proofs.limits.Searching.{calls_again}
+use Rattle.cp_endless.proofs.steps.Rounds.{any_moment}
 use Rattle.cp_at_once_laws.proofs.names.Commuting.{plain as is_plain}
 use Rattle.cp_at_once_laws.proofs.names.Laws.{kept, beside_law, all_commute}
 use Rattle.cp_at_once_laws.proofs.names.OneMover.{Endless, one_mover, no_end}
@@ -171,7 +172,7 @@ module _ (t : Tree) (r : Tables) (read : IsRead t.program) (ok : IsAccepted t) (
       let again_round : IsRound (silent_slots r First) rep.state rep.process = record { before = 0; state = rep.state; process = rep.process; comes = refl; after = rep.after; returns = rep.returns } in
       none (subst (λ i. AnyOf (CallsAt (silent_slots r First)) (stretch_moments (silent_slots r First) i rep.state rep.process)) (zero_less (suc rep.after))
       (happens_early (silent_slots r First) rep.state rep.process again_round (CallsAt (silent_slots r First)) (suc n)
-      (any_moment (silent_slots r First) limit begin first rep (CallsAt (silent_slots r First)) (suc n) rep.state rep.process n (spot (limit + n)).0.0 (spot (limit + n)).0.1 (omega arith) (sym (from_there (silent_slots r First) limit n begin first rep.state rep.process rep.comes) ∙ (spot (limit + n)).1)
+      (any_moment (silent_slots r First) (CallsAt (silent_slots r First)) (suc n) rep.state rep.process n (spot (limit + n)).0.0 (spot (limit + n)).0.1 (omega arith) (sym (from_there (silent_slots r First) limit n begin first rep.state rep.process rep.comes) ∙ (spot (limit + n)).1)
       (subst IsKernelCall (event_there (limit + n)) call))))
     where
       zero_less : (n : ℕ) → 0 + n ≡ n

@@ -12,7 +12,7 @@ use Rattle.cp_at_once_laws.proofs.pairs.Changes.{GoesFrom, Becomes, left_by, rep
 
 -- ---- the turn after a call
 
-goes_same : (q r : ℕ) → Goes q ≡ Goes r → q ≡ r
+pub goes_same : (q r : ℕ) → Goes q ≡ Goes r → q ≡ r
 goes_same q r e = cc
 
 -- where one process goes on after a call, it alone is ready

@@ -104,18 +104,4 @@ module _ (procs own ln : ℕ → Bool) (x : State) (p : Program) (s : State) (pi
         }
 
     pub apart : AllFacts p s pid (done p s pid) → Leaves (done p s pid) → Moves (done p s pid) → IsApart procs own ln x p s pid
-    apart facts leaves moves =
-        let here : List Call → Outcome Doing = λ k. takes (let v : View = record { program = p; calls = k; components = s.components } in v) pid me.items in
-        record {
-          call = o.call;
-          calls = o.calls;
-          open_calls = o.are;
-          held = held_calls;
-          many = other.many;
-          size = other.size;
-          told = told;
-          mine = flagged.mine;
-          ends = ends_of me.items (subst (λ k. ItemsFit (frames k) me.items) o.are (orderly.orderly.processes pid lt).fits) (flagged.held o.call.component (top_held me.calls o.are (owned.processes pid lt).held));
-          leaves = subst (λ k. LeavesOthers own ln x.components p o.call o.calls s.components pid other.size held_calls told (here k)) o.are (leaves_of (done p s pid) leaves);
-          does = subst (λ k. DoneOwn procs own ln x s pid (here k)) o.are (done_of (done p s pid) facts moves);
-        }
+    apart facts leaves moves = record { taken = taken leaves; does = done_of (done p s pid) facts moves }

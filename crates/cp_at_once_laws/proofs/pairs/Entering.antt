@@ -8,6 +8,7 @@ use Rattle.cp_meaning.proofs.Stored.{field_kept}
 use Rattle.cp_meaning.proofs.Orderly.{line_which, line_at}
 use Rattle.cp_at_once_laws.proofs.reading.Mixed.{one_of, mix, mix_at, mix_length}
 use Rattle.cp_at_once_laws.proofs.reading.Taking.{also_mixed}
+use Rattle.cp_at_once_laws.proofs.pairs.Changes.{left_by}
 use Rattle.cp_at_once_laws.proofs.pairs.Two.{AllStatic, silent, flipped}
 
 -- ---- processes
@@ -20,10 +21,6 @@ same_at ps k z lt = get_or-set_same ps k z no_process lt
 
 reversed : (a b : ℕ) → a ≢ b → b ≢ a
 reversed a b ne e = ne (sym e)
-
--- a process as an item left it
-abbrev left_by : Process → Doing → Status → Process
-left_by y d status = record { component = y.component; status = status; calls = d.calls; items = d.items }
 
 module _ (ps : List Process) (a b m : ℕ) (ne : a ≢ b) (da db : Doing) (status : Status) where
   abbrev xa : Process → Process

@@ -240,8 +240,8 @@ module _ (procs own ln : ℕ → Bool) (x : State) where
   abbrev pub done_of : Program → State → ℕ → Outcome Doing
   done_of p s pid = takes (view_of p s pid) pid (process_at s.processes pid).items
 
-  -- what a step of a process needs, so that others do not matter to it
-  pub record IsApart (p : Program) (s : State) (pid : ℕ) : Type 0 where
+  -- what the item of a process needs, so that others do not matter to it
+  pub record IsTaken (p : Program) (s : State) (pid : ℕ) : Type 0 where
     pub call : Call
     pub calls : List Call
     pub open_calls : (process_at s.processes pid).calls ≡ call ∷ calls
@@ -254,20 +254,11 @@ module _ (procs own ln : ℕ → Bool) (x : State) where
     pub ends : EndsOwn own ln x.components p call calls s.components pid size held told (process_at s.processes pid).items
     -- statuses of the others' are left, and a run error has seen the same ones
     pub leaves : LeavesOthers own ln x.components p call calls s.components pid size held told (takes (record { program = p; calls = call ∷ calls; components = s.components }) pid (process_at s.processes pid).items)
-    pub does : DoneOwn s pid (takes (record { program = p; calls = call ∷ calls; components = s.components }) pid (process_at s.processes pid).items)
 
-  -- the same without what the kernel looks at
-  pub record IsTaken (p : Program) (s : State) (pid : ℕ) : Type 0 where
-    pub call : Call
-    pub calls : List Call
-    pub open_calls : (process_at s.processes pid).calls ≡ call ∷ calls
-    pub held : OwnCalls own (call ∷ calls)
-    pub many : length s.processes ≡ length x.processes
-    pub size : length s.components ≡ length x.components
-    pub told : (n : ℕ) → own n ≡ false → (status_at x.components n ≡ status_at s.components n) ⊎ (status_at s.components n ≡ initialised → ⊥)
-    pub mine : procs pid ≡ true
-    pub ends : EndsOwn own ln x.components p call calls s.components pid size held told (process_at s.processes pid).items
-    pub leaves : LeavesOthers own ln x.components p call calls s.components pid size held told (takes (record { program = p; calls = call ∷ calls; components = s.components }) pid (process_at s.processes pid).items)
+  -- and what its step needs, with what the kernel looks at
+  pub record IsApart (p : Program) (s : State) (pid : ℕ) : Type 0 where
+    pub taken : IsTaken p s pid
+    pub does : DoneOwn s pid (done_of p s pid)
 
   pub taken_merged : (p : Program) (s : State) (pid : ℕ) → IsTaken p s pid → step_of p (merged s) pid ≡ settled p (merged s) pid (all_mixed own ln x.components (done_of p s pid))
   taken_merged p s pid a =
@@ -277,9 +268,4 @@ module _ (procs own ln : ℕ → Bool) (x : State) where
       ap (λ k. settled p (merged s) pid (all_mixed own ln x.components (takes (let w : View = record { program = p; calls = k; components = s.components } in w) pid (process_at s.processes pid).items))) (sym a.open_calls)
 
   pub step_merged : (p : Program) (s : State) (pid : ℕ) → IsApart p s pid → step_of p (merged s) pid ≡ merged_step (step_of p s pid)
-  step_merged p s pid a =
-      ap (λ y. settled p (merged s) pid (takes (let w : View = record { program = p; calls = y.calls; components = mix own ln s.components x.components } in w) pid y.items)) (process_own procs s.processes x.processes pid a.many a.mine) ∙
-      ap (λ k. settled p (merged s) pid (takes (let w : View = record { program = p; calls = k; components = mix own ln s.components x.components } in w) pid (process_at s.processes pid).items)) a.open_calls ∙
-      ap (settled p (merged s) pid) (takes_reads own ln x.components p a.call a.calls s.components pid a.size a.held a.told (process_at s.processes pid).items a.ends a.leaves) ∙
-      settled_merged p s pid (takes (let w : View = record { program = p; calls = a.call ∷ a.calls; components = s.components } in w) pid (process_at s.processes pid).items) a.does ∙
-      ap (λ k. merged_step (settled p s pid (takes (let w : View = record { program = p; calls = k; components = s.components } in w) pid (process_at s.processes pid).items))) (sym a.open_calls)
+  step_merged p s pid a = taken_merged p s pid a.taken ∙ settled_merged p s pid (done_of p s pid) a.does

@@ -13,16 +13,9 @@ use Rattle.cp_meaning.specs.Values.{with_part}
 use Rattle.cp_meaning.specs.Lifting.{items_of}
 use Rattle.cp_meaning.specs.Calls.{bound, opened, is_initialised, is_uninitialised, entered_as, with_move, with_items, entered, called_as, called, with_status, initial, initialised_in, started_as, started_at, started}
 use Rattle.cp_meaning.specs.LocalRules.{becomes, assigned, arm_for, is_beyond, next_value, goes_on_with, queue_free, delayed_in, after_return, continued_from, in_place_of, argument_of, invoked, does, with_result, leaving_move, return_move, returned, finished, takes}
+use Rattle.cp_meaning.proofs.LocalLaw.{initialised_told, uninitialised_told}
 use Rattle.cp_at_once_laws.proofs.reading.Mixed.{mix_length, one_of, mix, mix_at, mix_set, mix_kind, mix_system, mix_own}
 use Rattle.cp_at_once_laws.proofs.reading.Reading.{OwnPlace, OwnCalls, v, m, OwnTarget, named_own, target_own, environment_same, read_same, named_same, value_same, first_same, target_same, there_same, bound_same}
-
-uninitialised_told : (s : ComponentStatus) → is_uninitialised s ≡ true → s ≡ uninitialised
-uninitialised_told uninitialised h = refl
-uninitialised_told x h = cc
-
-initialised_told : (s : ComponentStatus) → is_initialised s ≡ true → s ≡ initialised
-initialised_told initialised h = refl
-initialised_told x h = cc
 
 -- ---- past the last component
 

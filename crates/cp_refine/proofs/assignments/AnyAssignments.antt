@@ -1,6 +1,6 @@
 -- The whole step of an assignment, of whatever type the target is.
-use Rattle.std.proofs.Common.{◌≡◌, ◌∙◌, ℕ, true, List, [], ◌∷◌, ◌++◌, Option, Some, ap, sym, refl, subst, arith}
-use Rattle.cp_refine.proofs.Words.{ℤ, pos, int_le, slice_index, Program, Expression, Designator, assign, Address, Frame, HasCells, Memory, put_number, Entry, Machine}
+use Rattle.std.proofs.Common.{◌≡◌, ◌∙◌, ℕ, true, List, ◌∷◌, ◌++◌, Option, Some, ap, sym, refl, subst, arith}
+use Rattle.cp_refine.proofs.Words.{ℤ, pos, int_le, slice_index, Program, Expression, Designator, assign, Address, Frame, put_number, Entry, Machine}
 use Rattle.cp_refine.proofs.Words.{thread_at, with_stack, memory_at, number_put, rest_of, step_at, Range, Ty, ordinal, set_over, array_over, record_with, is_within}
 use Rattle.cp_refine.proofs.Words.{number_value, Place, Item, statement_item, State, stored, becomes, view_of, step_of, settled, cells_of, Layouts, here, HasType, Sees}
 use Rattle.cp_refine.proofs.Words.{PlaceAt, Form, as_ordinal, as_set, as_place, a_variable, expression_form, designator_form}
@@ -8,17 +8,12 @@ use Rattle.cp_slots.specs.Code as code
 use Rattle.cp_machine.specs.Statements as statements
 use Rattle.cp_resolved.specs.Stands.{Ground, ItemAt, AssignedBy}
 use Rattle.cp_refine.proofs.assignments.Assignments.{assign_runs}
-use Rattle.cp_refine.proofs.assignments.Blocks.{WritesBlock, none_written, one_written}
+use Rattle.cp_refine.proofs.assignments.Blocks.{number_writes}
 use Rattle.cp_refine.proofs.assignments.BlockStores.{VariablesApart, block_success}
 use Rattle.cp_refine.proofs.control.Control.{Taken, StepIs, top_frame}
 use Rattle.cp_refine.proofs.assignments.CopyAssignments.{copy_runs}
 use Rattle.cp_refine.proofs.control.Running.{Executes, frames_below, sees_now}
 use Rattle.cp_refine.proofs.assignments.SetAssignments.{set_assign_runs}
-use Rattle.cp_refine.proofs.expressions.SetCells.{no_further}
-
--- one cell is a block
-pub number_writes : (m : Memory) (a : Address) (z : ℤ) → HasCells m a 1 → WritesBlock m (put_number m a z) a (z ∷ [])
-number_writes m a z h = subst (λ b. WritesBlock m (put_number m b z) a (z ∷ [])) (no_further a) (one_written m m a (z ∷ []) 0 1 z (none_written m a (z ∷ [])) h (omega arith) refl)
 
 -- a subrange is inside its base, and the greatest value of a set's base is no negative number
 abbrev pub RangeKnown : Ty → Type 0

@@ -5,7 +5,7 @@ use Rattle.cp_refine.proofs.Words.{size_of, Name, same_name, Ty, cells_of, Layou
 use Rattle.cp_refine.proofs.control.Control.{top_frame}
 use Rattle.cp_refine.proofs.control.Moving.{same_or_other}
 use Rattle.cp_refine.proofs.assignments.Writing.{ComponentsApart, side as below_or_above}
-use Rattle.cp_refine.proofs.assignments.WritingCalls.{FrameApart, FramesApart, Below}
+use Rattle.cp_refine.proofs.assignments.BlocksInCalls.{FrameApart, FramesApart, Below}
 
 -- ---- the variables of a frame
 

@@ -1,5 +1,5 @@
 -- Cells that are written one after the other: a set, and the copy of an array or a record.
-use Rattle.std.proofs.Common.{◌≡◌, ◌≢◌, ◌∙◌, ℕ, zero, suc, ◌+◌, ◌*◌, ◌-◌, ◌/◌, ◌%◌, ◌^◌, ◌<◌, ◌≤◌, ◌⊎◌, inl, inr, List, Some, ap, sym, refl, subst, arith, length, get_or}
+use Rattle.std.proofs.Common.{◌≡◌, ◌≢◌, ◌∙◌, ℕ, zero, suc, ◌+◌, ◌*◌, ◌-◌, ◌/◌, ◌%◌, ◌^◌, ◌<◌, ◌≤◌, ◌⊎◌, inl, inr, List, [], ◌∷◌, Some, ap, sym, refl, subst, arith, length, get_or}
 use Rattle.cp_refine.proofs.Words.{ℤ, pos, slice_index_or, cases_lt, Address, Permanent, Local, HasCells, Ty, Value, Choice, with_part, cells_of, encode, set_cells}
 use Rattle.cp_refine.proofs.Words.{HasType, chosen_at, Few, further, LiesAt, Memory, cell_at, moved, put_number, put_copy}
 use Rattle.std.specs.Int.{cast_signed, w16}
@@ -61,6 +61,10 @@ one_written m m2 a ws n cells z h has less e =
     here : (k : ℕ) → k < suc n → (k ≡ n) ⊎ (k ≢ n) → cell_at (put_number m2 (further a n) z) (further a k) ≡ slice_index_or ws k (pos 0)
     here k small (inl same) = ap (λ j. cell_at (put_number m2 (further a n) z) (further a j)) same ∙ ((put_writes m2 (further a n) z (has_one m m2 a n cells h.permanents h.cells has less)).here ∙ (sym e ∙ ap (λ j. slice_index_or ws j (pos 0)) (sym same)))
     here k small (inr other) = (put_writes m2 (further a n) z (has_one m m2 a n cells h.permanents h.cells has less)).there (further a k) (further_apart a k n other) ∙ h.here k (omega (arith, small, other))
+
+-- one cell is a block
+pub number_writes : (m : Memory) (a : Address) (z : ℤ) → HasCells m a 1 → WritesBlock m (put_number m a z) a (z ∷ [])
+number_writes m a z h = subst (λ b. WritesBlock m (put_number m b z) a (z ∷ [])) (no_further a) (one_written m m a (z ∷ []) 0 1 z (none_written m a (z ∷ [])) h (omega arith) refl)
 
 -- ---- a copy
 

@@ -1,13 +1,44 @@
 -- A value of any type that is written into a variable of an open call, or a part of one: all open calls hold what they hold then.
 use Rattle.std.proofs.Common.{◌≡◌, ◌∙◌, ℕ, ◌+◌, ◌<◌, ◌≤◌, ◌==◌, ◌⊎◌, inl, inr, Bool, true, false, if◌then◌else◌, List, [], ◌∷◌, Option, Some, ap, sym, refl, subst, arith, length}
-use Rattle.cp_refine.proofs.Words.{bytes_eq-Decides, Tables, Local, Frame, Memory, referred, Name, same_name, Ty, Value, Choice, with_part, Content, holds, refers, Place}
+use Rattle.cp_refine.proofs.Words.{some_same, bytes_eq-Decides, Tables, Local, Frame, Memory, referred, Name, same_name, Ty, Value, Choice, with_part, Content, holds, refers, Place}
 use Rattle.cp_refine.proofs.Words.{Environment, Call, cells_of, Layouts, cell_named, look, encode, HasType, chosen_at, LiesAt, frame_above, PlaceAt, CallHolds, CallsHold}
 use Rattle.cp_meaning.specs.Places.{content_of, with_content, value_held, call_above, with_environment, with_call_environment}
 use Rattle.cp_refine.proofs.assignments.Blocks.{WritesBlock, block_kept, block_new}
 use Rattle.cp_refine.proofs.expressions.Parts.{encode_length}
 use Rattle.cp_refine.proofs.expressions.Reading.{calls_frames, frame_same as frame_is}
 use Rattle.cp_refine.proofs.assignments.Writing.{content_here, content_there}
-use Rattle.cp_refine.proofs.assignments.WritingCalls.{FrameApart, FramesApart, Below, below_in, apart_below, local_is, type_is}
+
+-- the cells of a frame's variables are inside its size, and those of different names apart; no name is a variable and a `var` parameter
+pub record FrameApart (l : Layouts) (size : ℕ → ℕ) (routine : ℕ) : Type 0 where
+  pub inside : (x : Name) (t : Ty) → look x (l.frames routine).variables ≡ Some t → cell_named (l.frames routine) x + cells_of t ≤ size routine
+  pub apart : (x y : Name) (t u : Ty) → same_name x y ≡ false → look x (l.frames routine).variables ≡ Some t → look y (l.frames routine).variables ≡ Some u →
+      (cell_named (l.frames routine) x + cells_of t ≤ cell_named (l.frames routine) y) ⊎ (cell_named (l.frames routine) y + cells_of u ≤ cell_named (l.frames routine) x)
+  pub different : (x y : Name) (t u : Ty) → look x (l.frames routine).references ≡ Some t → look y (l.frames routine).variables ≡ Some u → same_name x y ≡ false
+
+-- all frames of a list lie below a cell
+abbrev pub Below : (size : ℕ → ℕ) → ℕ → List Frame → Type 0
+Below size base [] = Unit {0}
+Below size base (f ∷ fs) = (f.base + size f.routine ≤ base) × Below size f.base fs
+
+abbrev pub FramesApart : (size : ℕ → ℕ) → List Frame → Type 0
+FramesApart size [] = Unit {0}
+FramesApart size (f ∷ fs) = Below size f.base fs
+
+pub local_is : (a b : ℕ) → Local a ≡ Local b → a ≡ b
+local_is a b e = cc
+
+-- a frame of a list lies where the list does
+pub below_in : (size : ℕ → ℕ) (base below : ℕ) (fs : List Frame) (f : Frame) → Below size base fs → frame_above fs below ≡ Some f → f.base + size f.routine ≤ base
+below_in size base below [] f b e = absurd (cc)
+below_in size base below (g ∷ fs) f b e = go (length fs == below) (λ d. below_in size g.base below fs f b.1 d) e
+  where
+    go : (c : Bool) → (frame_above fs below ≡ Some f → f.base + size f.routine ≤ g.base) → (if c then Some g else frame_above fs below) ≡ Some f → f.base + size f.routine ≤ base
+    go true ih d = subst (λ (x : Frame). x.base + size x.routine ≤ base) (frame_is g f d) b.0
+    go false ih d = let w = ih d in let v = b.0 in omega (arith, w, v)
+
+pub apart_below : (size : ℕ → ℕ) (base : ℕ) (fs : List Frame) → Below size base fs → FramesApart size fs
+apart_below size base [] b = tt
+apart_below size base (f ∷ fs) b = b.1
 
 module _ (r : Tables) (l : Layouts) (size : ℕ → ℕ) (m m2 : Memory) (apart : (n : ℕ) → n < length r.routines → FrameApart l size n) (a : ℕ) (t : Ty) (y : Value) (typed : HasType t y) (writes : WritesBlock m m2 (Local a) (encode y)) where
   -- nothing that lies below the written cells, or above them, changes
@@ -58,7 +89,7 @@ module _ (r : Tables) (l : Layouts) (size : ℕ → ℕ) (m m2 : Memory) (apart 
         variable : (n : Name) (v : Ty) → look n (l.frames f.routine).variables ≡ Some v → (b : Bool) → same_name n x ≡ b → LiesAt m2 v (value_held (content_of n (new_for c.environment))) (Local (f.base + cell_named (l.frames f.routine) n))
         variable n v e true s =
             let ex : n ≡ x = (bytes_eq-Decides n x).0 s in
-            let et : v ≡ u = type_is v u (sym e ∙ (ap (λ w. look w (l.frames f.routine).variables) ex ∙ known)) in
+            let et : v ≡ u = some_same v u (sym e ∙ (ap (λ w. look w (l.frames f.routine).variables) ex ∙ known)) in
             subst (λ (o : Option Content). LiesAt m2 v (value_held o) (Local (f.base + cell_named (l.frames f.routine) n))) (sym (content_here n x (new_content c.environment) c.environment s))
             (subst (λ w. LiesAt m2 w (with_part (value_held (content_of x c.environment)) choices y) (Local (f.base + cell_named (l.frames f.routine) n))) (sym et)
             (subst (λ w. LiesAt m2 u (with_part (value_held (content_of x c.environment)) choices y) (Local (f.base + cell_named (l.frames f.routine) w))) (sym ex) written))

@@ -1,6 +1,6 @@
 -- A value of any type that is written into a permanent variable, or a part of one: all components have what they have then.
 use Rattle.std.proofs.Common.{◌≡◌, ◌≢◌, ◌∙◌, ℕ, ◌+◌, ◌<◌, ◌≤◌, ◌⊎◌, inl, inr, true, false, List, Option, Some, ap, sym, subst, arith, length}
-use Rattle.cp_refine.proofs.Words.{bytes_eq-Decides, Tables, component_at, Permanent, Memory, Name, same_name, Ty, Value, Choice, with_part, Content, holds}
+use Rattle.cp_refine.proofs.Words.{some_same, bytes_eq-Decides, Tables, component_at, Permanent, Memory, Name, same_name, Ty, Value, Choice, with_part, Content, holds}
 use Rattle.cp_refine.proofs.Words.{Environment, Component, no_component, cells_of, Layouts, look, encode, HasType, chosen_at, further, LiesAt}
 use Rattle.cp_meaning.specs.State as named
 use Rattle.cp_meaning.specs.Places.{content_of, with_content, value_held, with_permanents}
@@ -34,10 +34,12 @@ module _ (r : Tables) (l : Layouts) (cs : List Component) (m m2 : Memory) (lie :
   environment_there : (n : ℕ) → n ≢ k → (named.component_at after n).environment ≡ (named.component_at cs n).environment
   environment_there n d = ap (λ (c : Component). c.environment) (set_there cs k n (record (named.component_at cs k) { environment = new_environment }) no_component d)
 
+  pub block_content_new : same_name x x ≡ true → content_of x (named.component_at after k).environment ≡ Some new_content
+  block_content_new h = ap (content_of x) environment_here ∙ content_here x x new_content (named.component_at cs k).environment h
+
   target_lies : same_name x x ≡ true → Lies k x u
   target_lies h =
-      let e : content_of x (named.component_at after k).environment ≡ Some new_content = ap (content_of x) environment_here ∙ content_here x x new_content (named.component_at cs k).environment h in
-      subst (λ (o : Option Content). LiesAt m2 u (value_held o) (Permanent ((component_at r k).base + (l.systems (component_at r k).system).slots x))) (sym e)
+      subst (λ (o : Option Content). LiesAt m2 u (value_held o) (Permanent ((component_at r k).base + (l.systems (component_at r k).system).slots x))) (sym (block_content_new h))
       (block_new m m2 u old (Permanent ((component_at r k).base + (l.systems (component_at r k).system).slots x)) choices offset t y writes (lie k x u there known) chosen typed)
 
   pub block_content_kept : (n : ℕ) (z : Name) → (n ≢ k) ⊎ (same_name z x ≡ false) → content_of z (named.component_at after n).environment ≡ content_of z (named.component_at cs n).environment
@@ -59,16 +61,13 @@ module _ (r : Tables) (l : Layouts) (cs : List Component) (m m2 : Memory) (lie :
   permanent_is : (a b : ℕ) → Permanent a ≡ Permanent b → a ≡ b
   permanent_is a b e = cc
 
-  type_is : (a b : Ty) → Some a ≡ Some b → a ≡ b
-  type_is a b e = cc
-
   pub components_with_block : ComponentsLie r l after m2
   components_with_block n z v less looked = go (apart n k z x v u less there looked known)
     where
       go : ((n ≡ k) × (same_name z x ≡ true)) ⊎ (((n ≢ k) ⊎ (same_name z x ≡ false)) × ((i j : ℕ) → i < cells_of v → j < cells_of u → (component_at r n).base + (l.systems (component_at r n).system).slots z + i ≢ (component_at r k).base + (l.systems (component_at r k).system).slots x + j)) → Lies n z v
       go (inl same) =
           let ex : z ≡ x = (bytes_eq-Decides z x).0 same.1 in
-          let et : v ≡ u = type_is v u (sym looked ∙ (ap (λ i. look z (l.systems (component_at r i).system).variables) same.0 ∙ (ap (λ w. look w (l.systems (component_at r k).system).variables) ex ∙ known))) in
+          let et : v ≡ u = some_same v u (sym looked ∙ (ap (λ i. look z (l.systems (component_at r i).system).variables) same.0 ∙ (ap (λ w. look w (l.systems (component_at r k).system).variables) ex ∙ known))) in
           subst (λ i. Lies i z v) (sym same.0) (subst (λ w. Lies k w v) (sym ex) (subst (λ w. Lies k x w) (sym et) (target_lies (subst (λ w. same_name w x ≡ true) ex same.1))))
       go (inr other) =
           subst (λ (o : Option Content). LiesAt m2 v (value_held o) (Permanent ((component_at r n).base + (l.systems (component_at r n).system).slots z))) (sym (block_content_kept n z other.0))

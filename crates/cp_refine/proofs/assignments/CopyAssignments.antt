@@ -23,7 +23,7 @@ use Rattle.cp_refine.proofs.expressions.Reading.{AllLie}
 use Rattle.cp_refine.proofs.control.Running.{Executes, all_lie, frames_below, sees_now}
 use Rattle.cp_refine.proofs.expressions.VariableExpressions.{of_variable, place_found}
 use Rattle.cp_refine.proofs.expressions.Views.{views_agree}
-use Rattle.cp_refine.proofs.assignments.WritingCalls.{FramesApart}
+use Rattle.cp_refine.proofs.assignments.BlocksInCalls.{FramesApart}
 
 is_copy : (a : Action) (p b : code.Place) (size : ℕ) → code.action_seen a ≡ code.copy_cells p b size → (t : code_place.Place) × (x : code_place.Place) × (a ≡ action.Copy t x size) × (code.place_seen t ≡ p) × (code.place_seen x ≡ b)
 is_copy (action.Copy t x n) p b size e = (t, x, cc, cc, cc)

@@ -1,19 +1,18 @@
 -- A value of any type is assigned to a variable of an open call, or to a part of one: what stands for what is kept.
-use Rattle.cp_refine.proofs.Words.{◌≡◌, ◌∙◌, ℕ, ◌+◌, ◌<◌, ◌≤◌, List, Option, Some, None, ap, sym, refl, subst, arith, length, ℤ, slice_set, Program, component_at}
+use Rattle.cp_refine.proofs.Words.{◌≡◌, ◌∙◌, ℕ, ◌+◌, ◌<◌, ◌≤◌, List, Option, Some, None, ap, sym, refl, subst, arith, length, ℤ, slice_set, Program}
 use Rattle.cp_refine.proofs.Words.{Address, Permanent, Local, Frame, Memory, cell_at, Entry, Machine, Thread, thread_at, no_thread, with_stack, memory_at, with_memory}
 use Rattle.cp_refine.proofs.Words.{Name, Ty, Value, Choice, in_call, ready, Environment, Call, Item, Process, State, content_of, value_held, call_above}
 use Rattle.cp_refine.proofs.Words.{with_call_environment, stored, becomes, view_of, settled, cells_of, Layouts, cell_named, look, encode, HasType, chosen_at, Ground}
 use Rattle.cp_machine.specs.Statements as statements
 use Rattle.cp_meaning.specs.State as named
-use Rattle.cp_refine.specs.Represents.{further, frame_above, InFrame, PlaceAt, StackIs, CallsHold, frames_of, own_memory, ProcessIs, StatusIs, Represents}
+use Rattle.cp_refine.specs.Represents.{further, frame_above, InFrame, PlaceAt, StackIs, CallsHold, frames_of, own_memory, Represents}
 use Rattle.cp_refine.proofs.assignments.Assigning.{entries_kept, stack_kept, set_set}
 use Rattle.cp_refine.proofs.assignments.Blocks.{WritesBlock}
-use Rattle.cp_refine.proofs.assignments.BlocksInCalls.{new_for, calls_with_block}
+use Rattle.cp_refine.proofs.assignments.BlocksInCalls.{FrameApart, FramesApart, new_for, calls_with_block}
 use Rattle.cp_refine.proofs.control.Control.{Goes, StepIs}
-use Rattle.cp_refine.proofs.control.Moving.{set_here, moved, stays_inside}
+use Rattle.cp_refine.proofs.control.Moving.{set_here, goes_ready}
 use Rattle.cp_refine.proofs.expressions.Parts.{encode_length, part_stands}
 use Rattle.cp_refine.proofs.expressions.Reading.{held_above}
-use Rattle.cp_refine.proofs.assignments.WritingCalls.{FrameApart, FramesApart}
 
 -- ---- the memory of a process
 
@@ -78,36 +77,16 @@ module _ (g : Ground) (p : Program) (l : Layouts) (s : State) (m : Machine) (q :
     abbrev new_process : Process
     new_process = record { component = (named.process_at s.processes q).component; status = ready; calls = with_call_environment old_calls below new_environment; items = zs }
 
-    stands : ProcessIs g p l q new_process new_thread
-    stands =
-        record {
-          component = (k.rep.processes q k.there).component;
-          status = subst (λ v. StatusIs g p l q new_process new_thread ready v) (sym k.was_slot)
-              (record {
-                stack = stack_kept g p l below new_environment (thread_at m.threads q).frame old_calls zs gs is;
-                calls = subst (λ fs. CallsHold g.tables l (own_memory new_thread) (with_call_environment old_calls below new_environment) fs) (sym same)
-                    (calls_with_block g.tables l known.size (own_memory (thread_at m.threads q)) (own_memory new_thread) known.apart a t y typed own_writes below x u choices offset chosen fits
-                    old_calls (frames_of (thread_at m.threads q).frame es) f above known_there at known.frames k.calls);
-              });
-        }
-
     block_assigned : Represents g p l (record s { processes = slice_set s.processes q new_process }) (record m { threads = slice_set m.threads q new_thread })
     block_assigned =
-        moved g p l s m q new_process new_thread s.components m.monitors s.pending m.pending k.rep
+        goes_ready g p l s m q k.rep k.there k.was k.was_slot (with_call_environment old_calls below new_environment) zs new_thread refl
         (record {
-          there = k.there;
-          was_started = λ e. (let w = k.was in cc);
-          was_undelayed = λ n e. (let w = k.was in cc);
-          started = λ e. cc;
-          undelayed = λ n e. cc;
-          undelayed_slot = λ c e. (let w = k.was_slot in cc);
-          stands = stands;
-          count = refl;
-          same_status = λ n. refl;
-          same_environment = λ n. refl;
-          monitors = λ n h. stays_inside s m q new_process new_thread n (component_at g.tables n).kind k.there k.was refl (entries_kept n below new_environment old_calls) (k.rep.monitors n h);
-          pending = k.rep.pending;
+          stack = stack_kept g p l below new_environment (thread_at m.threads q).frame old_calls zs gs is;
+          calls = subst (λ fs. CallsHold g.tables l (own_memory new_thread) (with_call_environment old_calls below new_environment) fs) (sym same)
+              (calls_with_block g.tables l known.size (own_memory (thread_at m.threads q)) (own_memory new_thread) known.apart a t y typed own_writes below x u choices offset chosen fits
+              old_calls (frames_of (thread_at m.threads q).frame es) f above known_there at known.frames k.calls);
         })
+        (λ n j e. entries_kept n below new_environment old_calls)
 
     pub block_step : (line : ℕ) → StepIs g p l q line (settled p s q (becomes (stored (view_of p s q) (record { holder = in_call below; name = x; choices = choices }) y) zs)) (statements.local changed)
     block_step line = record { state = subst (λ n. Represents g p l (record s { processes = slice_set s.processes q new_process }) n) (sym machine_is) block_assigned; event = refl }

@@ -1,19 +1,18 @@
 -- A value of any type is assigned to a permanent variable, or to a part of one: what stands for what is kept.
 use Rattle.std.proofs.Common.{◌≡◌, ◌≢◌, ◌∙◌, ℕ, ◌+◌, ◌<◌, ◌⊎◌, inl, inr, Bool, true, false, List, [], Option, Some, None, ap, sym, refl, subst, arith, length, length-set}
-use Rattle.cp_refine.proofs.Words.{ℤ, slice_set, bytes_eq-Decides, Program, ComponentKind, component_at, Address, Permanent, Local, Frame, Memory, cell_at, Entry}
-use Rattle.cp_refine.proofs.Words.{Machine, Thread, thread_at, no_thread, phase_at, with_stack, memory_at, with_memory, Name, same_name, Ty, queue_type, Value, Choice}
-use Rattle.cp_refine.proofs.Words.{part_at, View, content_of, value_held, environment_of, value_at, stored, becomes, view_of, settled, Layouts, look, encode, HasType}
+use Rattle.cp_refine.proofs.Words.{some_same, ℤ, slice_set, bytes_eq-Decides, Program, component_at, Address, Permanent, Local, Frame, Memory, cell_at, Entry}
+use Rattle.cp_refine.proofs.Words.{Machine, Thread, thread_at, no_thread, phase_at, with_stack, memory_at, with_memory, Name, same_name, Ty, queue_type, Value, Choice, with_part}
+use Rattle.cp_refine.proofs.Words.{part_at, View, content_of, with_content, value_held, environment_of, value_at, stored, becomes, view_of, settled, Layouts, look, encode, HasType}
 use Rattle.cp_refine.proofs.Words.{chosen_at, Ground, set-get_or}
-use Rattle.cp_slots.specs.declared.tables.ComponentKind.TheVariants as kind
 use Rattle.cp_machine.specs.Statements as statements
 use Rattle.cp_meaning.specs.State as named
-use Rattle.cp_meaning.specs.State.{Holder, in_call, in_component, Place, Content, Component, no_component, ComponentStatus, uninitialised, initialising, initialised, Item, State}
-use Rattle.cp_refine.specs.Represents.{further, BeginsAt, PlaceAt, StackIs, frames_of, PhaseIs, HasBegun, ComponentIs, MonitorIs, QueuesAre, all_permanents, Represents}
+use Rattle.cp_meaning.specs.State.{Holder, in_call, in_component, Place, Content, holds, Component, no_component, unstarted, Item, State}
+use Rattle.cp_refine.specs.Represents.{further, BeginsAt, PlaceAt, StackIs, frames_of, PhaseIs, HasBegun, ComponentIs, all_permanents, Represents}
 use Rattle.cp_refine.proofs.assignments.Blocks.{WritesBlock}
-use Rattle.cp_refine.proofs.assignments.BlocksInComponents.{after, block_content_kept, components_with_block}
+use Rattle.cp_refine.proofs.assignments.BlocksInComponents.{after, block_content_new, block_content_kept, components_with_block}
 use Rattle.cp_refine.proofs.control.Control.{Goes, goes_still, StepIs}
 use Rattle.cp_refine.proofs.assignments.LocalBlocks.{memory_same}
-use Rattle.cp_refine.proofs.control.Moving.{set_here, set_there, same_or_other}
+use Rattle.cp_refine.proofs.control.Moving.{same_or_other, set_keeps, begun_from, monitor_from}
 use Rattle.cp_refine.proofs.assignments.Writing.{ComponentsApart, ComponentsLie}
 
 module _ (g : Ground) (p : Program) (l : Layouts) (s : State) (m : Machine) (rep : Represents g p l s m) (apart : ComponentsApart g.tables l)
@@ -21,8 +20,6 @@ module _ (g : Ground) (p : Program) (l : Layouts) (s : State) (m : Machine) (rep
     (parts_apart : (n : ℕ) (z w : Name) (t u : Ty) → look z (l.systems n).parts ≡ Some t → look w (l.systems n).variables ≡ Some u → same_name z w ≡ false)
     (k : ℕ) (x : Name) (u : Ty) (choices : List Choice) (offset : ℕ) (t : Ty) (y : Value) (there : k < length g.tables.components) (known : look x (l.systems (component_at g.tables k).system).variables ≡ Some u)
     (chosen : chosen_at u choices ≡ Some (offset, t)) (typed : HasType t y)
-    -- the variable has no queue
-    (unqueued : (cs : List Choice) (o : ℕ) → chosen_at u cs ≡ Some (o, queue_type) → ⊥)
     (ps : List ℤ) (writes : WritesBlock (all_permanents m) (all_permanents (record m { permanents = ps })) (further (Permanent ((component_at g.tables k).base + (l.systems (component_at g.tables k).system).slots x)) offset) (encode y)) where
   pub there_named : k < length s.components
   there_named = let e = rep.component_count in omega (arith, e, there)
@@ -39,25 +36,23 @@ module _ (g : Ground) (p : Program) (l : Layouts) (s : State) (m : Machine) (rep
   abbrev pub state_after : State
   state_after = record s { components = components_after }
 
-  count_same : length components_after ≡ length s.components
-  count_same = length-set s.components k _
+  abbrev changed : Component
+  changed = record (named.component_at s.components k) { environment = with_content x (holds (with_part (value_held (content_of x (named.component_at s.components k).environment)) choices y)) (named.component_at s.components k).environment }
 
   status_same : (n : ℕ) → (named.component_at components_after n).status ≡ (named.component_at s.components n).status
-  status_same n = go (same_or_other n k)
-    where
-      go : (n ≡ k) ⊎ (n ≢ k) → (named.component_at components_after n).status ≡ (named.component_at s.components n).status
-      go (inl e) = ap (λ i. (named.component_at components_after i).status) e ∙ (ap (λ (c : Component). c.status) (set_here s.components k _ no_component there_named) ∙ ap (λ i. (named.component_at s.components i).status) (sym e))
-      go (inr d) = ap (λ (c : Component). c.status) (set_there s.components k n _ no_component d)
+  status_same n = set_keeps (λ (c : Component). c.status) s.components k changed no_component there_named refl n
 
-  line_same : (n : ℕ) → (named.component_at components_after n).line ≡ (named.component_at s.components n).line
-  line_same n = go (same_or_other n k)
-    where
-      go : (n ≡ k) ⊎ (n ≢ k) → (named.component_at components_after n).line ≡ (named.component_at s.components n).line
-      go (inl e) = ap (λ i. (named.component_at components_after i).line) e ∙ (ap (λ (c : Component). c.line) (set_here s.components k _ no_component there_named) ∙ ap (λ i. (named.component_at s.components i).line) (sym e))
-      go (inr d) = ap (λ (c : Component). c.line) (set_there s.components k n _ no_component d)
+  pub line_same : (n : ℕ) → (named.component_at components_after n).line ≡ (named.component_at s.components n).line
+  line_same n = set_keeps (λ (c : Component). c.line) s.components k changed no_component there_named refl n
 
-  content_same : (n : ℕ) (z : Name) → (n ≢ k) ⊎ (same_name z x ≡ false) → content_of z (named.component_at components_after n).environment ≡ content_of z (named.component_at s.components n).environment
+  pub content_new : same_name x x ≡ true → content_of x (named.component_at components_after k).environment ≡ Some (holds (with_part (value_held (content_of x (named.component_at s.components k).environment)) choices y))
+  content_new h = block_content_new g.tables l s.components (all_permanents m) (all_permanents machine_after) lie apart k x u choices offset t y there there_named known chosen typed writes h
+
+  pub content_same : (n : ℕ) (z : Name) → (n ≢ k) ⊎ (same_name z x ≡ false) → content_of z (named.component_at components_after n).environment ≡ content_of z (named.component_at s.components n).environment
   content_same n z d = block_content_kept g.tables l s.components (all_permanents m) (all_permanents machine_after) lie apart k x u choices offset t y there there_named known chosen typed writes n z d
+
+  pub variables_after : ComponentsLie g.tables l components_after (all_permanents machine_after)
+  variables_after n z v less d = components_with_block g.tables l s.components (all_permanents m) (all_permanents machine_after) lie apart k x u choices offset t y there there_named known chosen typed writes n z v less d
 
   -- another name of the component, or another component
   other_name : (n : ℕ) (z : Name) → (n ≡ k → same_name z x ≡ false) → (n ≢ k) ⊎ (same_name z x ≡ false)
@@ -66,21 +61,6 @@ module _ (g : Ground) (p : Program) (l : Layouts) (s : State) (m : Machine) (rep
       go : (n ≡ k) ⊎ (n ≢ k) → (n ≢ k) ⊎ (same_name z x ≡ false)
       go (inl e) = inr (h e)
       go (inr d) = inl d
-
-  begun_same : (c : ComponentKind) (a b : ComponentStatus) → a ≡ b → HasBegun state_after c a → HasBegun s c b
-  begun_same (kind.Process j) a b e h = h
-  begun_same (kind.Monitor j) a b e h = subst (λ v. HasBegun s (kind.Monitor j) v) e (plain a h)
-    where
-      plain : (a : ComponentStatus) → HasBegun state_after (kind.Monitor j) a → HasBegun s (kind.Monitor j) a
-      plain uninitialised h = h
-      plain initialising h = h
-      plain initialised h = h
-  begun_same kind.Class a b e h = subst (λ v. HasBegun s kind.Class v) e (plain a h)
-    where
-      plain : (a : ComponentStatus) → HasBegun state_after kind.Class a → HasBegun s kind.Class a
-      plain uninitialised h = h
-      plain initialising h = h
-      plain initialised h = h
 
   not_named : (n : ℕ) (z : Name) → n ≡ k → look z (l.systems (component_at g.tables n).system).variables ≡ None → same_name z x ≡ false
   not_named n z e h = go (same_name z x) refl
@@ -92,70 +72,61 @@ module _ (g : Ground) (p : Program) (l : Layouts) (s : State) (m : Machine) (rep
           absurd (cc)
       go false d = d
 
-  component_after : (n : ℕ) → n < length components_after → ComponentIs g p l state_after machine_after n
-  component_after n h =
-      let less : n < length s.components = (let e = count_same in omega (arith, e, h)) in
+  -- what stands for the components, in each state and machine that have them, where who was unstarted is so still
+  pub components_stand : (s2 : State) (m2 : Machine) → ((j : ℕ) → (named.process_at s.processes j).status ≡ unstarted → (named.process_at s2.processes j).status ≡ unstarted) → (n : ℕ) → n < length components_after →
+      ComponentIs g p l (record s2 { components = components_after }) (record m2 { permanents = ps; phases = m.phases; bindings = m.bindings }) n
+  components_stand s2 m2 still n h =
+      let less : n < length s.components = (let e : length components_after ≡ length s.components = length-set s.components k _ in omega (arith, e, h)) in
       let c = rep.components n less in
       record {
         phase = subst (λ v. PhaseIs (component_at g.tables n).kind v (phase_at m n)) (sym (status_same n)) c.phase;
-        variables = λ z v d. components_with_block g.tables l s.components (all_permanents m) (all_permanents machine_after) lie apart k x u choices offset t y there there_named known chosen typed writes n z v (let e = rep.component_count in omega (arith, e, less)) d;
-        parts = λ z v d b. content_same n z (other_name n z (λ e. parts_apart (component_at g.tables n).system z x v u d (subst (λ i. look x (l.systems (component_at g.tables i).system).variables ≡ Some u) (sym e) known))) ∙ c.parts z v d (begun_same (component_at g.tables n).kind (named.component_at components_after n).status (named.component_at s.components n).status (status_same n) b);
+        variables = λ z v d. variables_after n z v (let e = rep.component_count in omega (arith, e, less)) d;
+        parts = λ z v d b. content_same n z (other_name n z (λ e. parts_apart (component_at g.tables n).system z x v u d (subst (λ i. look x (l.systems (component_at g.tables i).system).variables ≡ Some u) (sym e) known)))
+            ∙ c.parts z v d (subst (λ w. HasBegun s (component_at g.tables n).kind w) (status_same n) (begun_from s (record s2 { components = components_after }) still (component_at g.tables n).kind (named.component_at components_after n).status b));
         others = λ z d b. content_same n z (other_name n z (λ e. not_named n z e d)) ∙ c.others z d b;
       }
 
-  monitor_after : (n : ℕ) (c : ComponentKind) → MonitorIs s m n c → MonitorIs state_after machine_after n c
-  monitor_after n (kind.Monitor j) h = (h.0 ∙ sym (line_same n), h.1)
-  monitor_after n _ h = tt
+  -- the variable has no queue
+  module _ (unqueued : (cs : List Choice) (o : ℕ) → chosen_at u cs ≡ Some (o, queue_type) → ⊥) where
+    abbrev old_view : View → View
+    old_view v = record { program = v.program; calls = v.calls; components = s.components }
 
-  abbrev old_view : View → View
-  old_view v = record { program = v.program; calls = v.calls; components = s.components }
+    -- a queue is no part of the variable that is written
+    queue_elsewhere : (n : ℕ) (z : Name) (v : Ty) (cs : List Choice) (o : ℕ) → look z (l.systems (component_at g.tables n).system).variables ≡ Some v → chosen_at v cs ≡ Some (o, queue_type) → (n ≢ k) ⊎ (same_name z x ≡ false)
+    queue_elsewhere n z v cs o h e = other_name n z (λ d. go d (same_name z x) refl)
+      where
+        go : n ≡ k → (b : Bool) → same_name z x ≡ b → same_name z x ≡ false
+        go d true w =
+            let same : z ≡ x = (bytes_eq-Decides z x).0 w in
+            let found : look x (l.systems (component_at g.tables k).system).variables ≡ Some v = subst (λ i. look i (l.systems (component_at g.tables k).system).variables ≡ Some v) same (subst (λ i. look z (l.systems (component_at g.tables i).system).variables ≡ Some v) d h) in
+            absurd (unqueued cs o (subst (λ i. chosen_at i cs ≡ Some (o, queue_type)) (some_same v u (sym found ∙ known)) e))
+        go d false w = w
 
-  type_is : (a b : Ty) → Some a ≡ Some b → a ≡ b
-  type_is a b e = cc
+    place_same : (v : View) (z : Place) (n a : ℕ) → v.components ≡ components_after → z.holder ≡ in_component n → PlaceAt g.tables l [] z queue_type (Permanent a) → value_at v z ≡ value_at (old_view v) z
+    place_same v z n a c e h = go z.holder e h.begins
+      where
+        go : (w : Holder) → w ≡ in_component n → BeginsAt g.tables l [] w z.name h.whole h.first → part_at (value_held (content_of z.name (environment_of v w))) z.choices ≡ part_at (value_held (content_of z.name (environment_of (old_view v) w))) z.choices
+        go (in_call b) d begins = absurd (cc)
+        go (in_component i) d begins =
+            ap (λ (o : Option Content). part_at (value_held o) z.choices)
+            (ap (λ (cs : List Component). content_of z.name (named.component_at cs i).environment) c ∙ content_same i z.name (queue_elsewhere i z.name h.whole z.choices h.offset begins.known h.chosen))
 
-  -- a queue is no part of the variable that is written
-  queue_elsewhere : (n : ℕ) (z : Name) (v : Ty) (cs : List Choice) (o : ℕ) → look z (l.systems (component_at g.tables n).system).variables ≡ Some v → chosen_at v cs ≡ Some (o, queue_type) → (n ≢ k) ⊎ (same_name z x ≡ false)
-  queue_elsewhere n z v cs o h e = other_name n z (λ d. go d (same_name z x) refl)
-    where
-      go : n ≡ k → (b : Bool) → same_name z x ≡ b → same_name z x ≡ false
-      go d true w =
-          let same : z ≡ x = (bytes_eq-Decides z x).0 w in
-          let found : look x (l.systems (component_at g.tables k).system).variables ≡ Some v = subst (λ i. look i (l.systems (component_at g.tables k).system).variables ≡ Some v) same (subst (λ i. look z (l.systems (component_at g.tables i).system).variables ≡ Some v) d h) in
-          let ty : v ≡ u = type_is v u (sym found ∙ known) in
-          absurd (unqueued cs o (subst (λ i. chosen_at i cs ≡ Some (o, queue_type)) ty e))
-      go d false w = w
-
-  place_same : (v : View) (z : Place) (n a : ℕ) → v.components ≡ components_after → z.holder ≡ in_component n → PlaceAt g.tables l [] z queue_type (Permanent a) → value_at v z ≡ value_at (old_view v) z
-  place_same v z n a c e h = go z.holder e h.begins
-    where
-      go : (w : Holder) → w ≡ in_component n → BeginsAt g.tables l [] w z.name h.whole h.first → part_at (value_held (content_of z.name (environment_of v w))) z.choices ≡ part_at (value_held (content_of z.name (environment_of (old_view v) w))) z.choices
-      go (in_call b) d begins = absurd (cc)
-      go (in_component i) d begins =
-          ap (λ (o : Option Content). part_at (value_held o) z.choices)
-          (ap (λ (cs : List Component). content_of z.name (named.component_at cs i).environment) c ∙ content_same i z.name (queue_elsewhere i z.name h.whole z.choices h.offset begins.known h.chosen))
-
-  queues_after : QueuesAre g l state_after machine_after
-  queues_after =
-      record {
-        waiting = λ q n a v less e f c.
-            (let w = rep.queues.waiting q n a (old_view v) less e f refl in
-            (w.0, w.1, w.2, place_same v w.0 n a c w.1 w.2 ∙ w.3));
-        queued = λ z q n a v c e h d. rep.queues.queued z q n a (old_view v) refl e h (sym (place_same v z n a c e h) ∙ d);
-      }
-
-  pub permanent_with_block : Represents g p l (record s { components = components_after }) (record m { permanents = ps })
-  permanent_with_block =
-      record {
-        process_count = rep.process_count;
-        component_count = count_same ∙ rep.component_count;
-        processes = rep.processes;
-        components = component_after;
-        monitors = λ n h. monitor_after n (component_at g.tables n).kind (rep.monitors n (let e = count_same in omega (arith, e, h)));
-        queues = queues_after;
-        pending = rep.pending;
-        gates = rep.gates;
-        output = rep.output;
-      }
+    pub permanent_with_block : Represents g p l (record s { components = components_after }) (record m { permanents = ps })
+    permanent_with_block =
+        record {
+          process_count = rep.process_count;
+          component_count = length-set s.components k _ ∙ rep.component_count;
+          processes = rep.processes;
+          components = components_stand s m (λ j e. e);
+          monitors = λ n h. monitor_from s state_after m machine_after n (component_at g.tables n).kind refl (line_same n) (λ j e. refl) (rep.monitors n (let e : length components_after ≡ length s.components = length-set s.components k _ in omega (arith, e, h)));
+          queues = record {
+            waiting = λ q n a v less e f c. (let w = rep.queues.waiting q n a (old_view v) less e f refl in (w.0, w.1, w.2, place_same v w.0 n a c w.1 w.2 ∙ w.3));
+            queued = λ z q n a v c e h d. rep.queues.queued z q n a (old_view v) refl e h (sym (place_same v z n a c e h) ∙ d);
+          };
+          pending = rep.pending;
+          gates = rep.gates;
+          output = rep.output;
+        }
 
 -- ---- the step
 
@@ -189,8 +160,8 @@ permanent_block_stored g p l s m q line es k t known fs zs gs is same n x choice
     record {
       state = subst (λ w. Represents g p l (settled p s q (becomes (stored (view_of p s q) (record { holder = in_component n; name = x; choices = choices }) y) zs)).state w) (sym (permanents_only (with_stack m q gs) q (change (memory_at (with_stack m q gs) q)) cell (encode y) writes_now))
           (permanent_with_block g p l still (with_stack m q gs) now known.apart known.parts_apart n x place.whole choices place.offset t y place.begins.there place.begins.known place.chosen typed
-          (λ cs j e. known.unqueued (component_at g.tables n).system x place.whole choices cs place.offset j place.begins.known place.chosen e)
-          (change (memory_at (with_stack m q gs) q)).permanents (all_writes (with_stack m q gs) q (change (memory_at (with_stack m q gs) q)) cell (encode y) writes_now));
+          (change (memory_at (with_stack m q gs) q)).permanents (all_writes (with_stack m q gs) q (change (memory_at (with_stack m q gs) q)) cell (encode y) writes_now)
+          (λ cs j e. known.unqueued (component_at g.tables n).system x place.whole choices cs place.offset j place.begins.known place.chosen e));
       event = refl;
     }
   where

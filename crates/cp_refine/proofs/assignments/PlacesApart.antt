@@ -1,6 +1,6 @@
 -- Two places of one type are the same or have no cell in common, whether they are of open calls or of components.
 use Rattle.std.proofs.Common.{◌≡◌, ◌≢◌, ◌∙◌, ℕ, ◌+◌, ◌<◌, ◌≤◌, ◌==◌, ◌⊎◌, inl, inr, Bool, true, false, if◌then◌else◌, List, [], ◌∷◌, Option, Some, None, ap, sym, refl, subst, arith, length}
-use Rattle.cp_refine.proofs.Words.{eqb-true, bytes_eq-Decides, Tables, component_at, Address, Permanent, Local, Frame, Memory, Name, same_name, Ty, Choice}
+use Rattle.cp_refine.proofs.Words.{some_same, eqb-true, bytes_eq-Decides, Tables, component_at, Address, Permanent, Local, Frame, Memory, Name, same_name, Ty, Choice}
 use Rattle.cp_refine.proofs.Words.{Holder, in_call, in_component, Place, Call, View, content_of, value_held, call_above, cells_of, Layouts, cell_named, look}
 use Rattle.cp_refine.proofs.Words.{chosen_at, further, LiesAt, frame_above, InFrame, BeginsAt, PlaceAt, CallsHold}
 use Rattle.cp_meaning.specs.State as named
@@ -8,7 +8,7 @@ use Rattle.cp_refine.proofs.control.Moving.{same_or_other}
 use Rattle.cp_refine.proofs.assignments.Overlaps.{SameOrApart, part_ends, parts_apart}
 use Rattle.cp_refine.proofs.expressions.Reading.{AllLie, held_above, frame_same as frame_is}
 use Rattle.cp_refine.proofs.assignments.Writing.{ComponentsApart}
-use Rattle.cp_refine.proofs.assignments.WritingCalls.{FrameApart, FramesApart, below_in, apart_below, type_is}
+use Rattle.cp_refine.proofs.assignments.BlocksInCalls.{FrameApart, FramesApart, below_in, apart_below}
 
 -- ---- frames
 
@@ -70,7 +70,7 @@ module _ (r : Tables) (l : Layouts) (fs : List Frame) (v : View) (m : Memory) (a
       by_name : look y (l.frames f.routine).variables ≡ Some w → (z : Bool) → same_name x y ≡ z → SameOrApart (further (Local (first_local f x)) o) (further (Local (first_local f y)) j) (cells_of t)
       by_name i2 true s =
           let same : x ≡ y = (bytes_eq-Decides x y).0 s in
-          let ty : w ≡ u = type_is w u (sym i2 ∙ (ap (λ n. look n (l.frames f.routine).variables) (sym same) ∙ k)) in
+          let ty : w ≡ u = some_same w u (sym i2 ∙ (ap (λ n. look n (l.frames f.routine).variables) (sym same) ∙ k)) in
           subst (λ n. SameOrApart (further (Local (first_local f x)) o) (further (Local (first_local f n)) j) (cells_of t)) same
           (parts_apart m u (value_held (content_of x (call_above v.calls b).environment)) (Local (first_local f x)) cs ds o j t (local_lies b f x u e k) p (subst (λ n. chosen_at n ds ≡ Some (j, t)) ty q))
       by_name i2 false s = local_apart (first_local f x) (first_local f y) o j (cells_of t) (side ((apart f.routine (routine_there r l m b v.calls fs f all.calls e)).apart x y u w s k i2))
@@ -105,7 +105,7 @@ module _ (r : Tables) (l : Layouts) (fs : List Frame) (v : View) (m : Memory) (a
       go : ((n ≡ k) × (same_name x y ≡ true)) ⊎ (((n ≢ k) ⊎ (same_name x y ≡ false)) × ((i h : ℕ) → i < cells_of u → h < cells_of w → first_permanent n x + i ≢ first_permanent k y + h)) → SameOrApart (further (Permanent (first_permanent n x)) o) (further (Permanent (first_permanent k y)) j) (cells_of t)
       go (inl same) =
           let name : x ≡ y = (bytes_eq-Decides x y).0 same.1 in
-          let ty : w ≡ u = type_is w u (sym d ∙ (ap (λ i. look y (l.systems (component_at r i).system).variables) (sym same.0) ∙ (ap (λ i. look i (l.systems (component_at r n).system).variables) (sym name) ∙ e))) in
+          let ty : w ≡ u = some_same w u (sym d ∙ (ap (λ i. look y (l.systems (component_at r i).system).variables) (sym same.0) ∙ (ap (λ i. look i (l.systems (component_at r n).system).variables) (sym name) ∙ e))) in
           subst (λ i. SameOrApart (further (Permanent (first_permanent n x)) o) (further (Permanent (first_permanent i y)) j) (cells_of t)) same.0
           (subst (λ i. SameOrApart (further (Permanent (first_permanent n x)) o) (further (Permanent (first_permanent n i)) j) (cells_of t)) name
           (parts_apart m u (value_held (content_of x (named.component_at v.components n).environment)) (Permanent (first_permanent n x)) cs ds o j t (permanent_lies n x u a e) p (subst (λ i. chosen_at i ds ≡ Some (j, t)) ty q)))

@@ -1,7 +1,8 @@
 -- The variable of a `for` can be stored in, whether it is one of an open call or a permanent one.
 use Rattle.cp_refine.proofs.Words.{◌≡◌, ℕ, List, subst, sym, Program, Address, Frame, put_number, Entry, Machine, thread_at, memory_at, Range, ordinal}
 use Rattle.cp_refine.proofs.Words.{number_value, Place, State, view_of, Layouts, Ground, LiesAt, PlaceAt, frames_of, value_at}
-use Rattle.cp_refine.proofs.assignments.AnyAssignments.{number_writes, RangeKnown}
+use Rattle.cp_refine.proofs.assignments.AnyAssignments.{RangeKnown}
+use Rattle.cp_refine.proofs.assignments.Blocks.{number_writes}
 use Rattle.cp_refine.proofs.assignments.BlockStores.{VariablesApart, block_stored}
 use Rattle.cp_refine.proofs.control.Control.{Goes}
 use Rattle.cp_refine.proofs.control.Counting.{StoresIn}

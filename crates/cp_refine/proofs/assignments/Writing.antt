@@ -1,12 +1,10 @@
--- A number that is written into a variable, or into a part of one: what lies there is the value with that part, and all else lies as it did.
-use Rattle.std.proofs.Common.{◌≡◌, ◌≢◌, ◌∙◌, ℕ, zero, suc, ◌+◌, ◌<◌, ◌⊎◌, inl, inr, Bool, true, false, if◌then◌else◌, List, [], ◌∷◌, Option, Some, None, ap, sym, refl, arith, length, length-set, get_or}
-use Rattle.cp_refine.proofs.Words.{ℤ, pos, slice_index_or, bytes_eq-Decides, Tables, component_at, Address, Permanent, Local, HasCells, Memory, cell_at}
-use Rattle.cp_refine.proofs.Words.{put_number, Name, same_name, Range, Ty, ordinal, Value, number_value, Choice, with_part, Content, Environment, Component}
-use Rattle.cp_refine.proofs.Words.{content_of, with_content, value_held, cells_of, Layouts, look, encode, HasType, chosen_at, further, LiesAt}
+-- One cell that is written, a name that has another content, and variables of components that are apart.
+use Rattle.std.proofs.Common.{◌≡◌, ◌≢◌, ◌∙◌, ℕ, ◌+◌, ◌<◌, ◌≤◌, ◌⊎◌, inl, inr, Bool, true, false, if◌then◌else◌, List, [], ◌∷◌, Option, Some, None, ap, sym, refl, arith, length, length-set}
+use Rattle.cp_refine.proofs.Words.{ℤ, pos, cases_lt, bytes_eq-Decides, Tables, component_at, Address, Permanent, Local, HasCells, Memory, cell_at}
+use Rattle.cp_refine.proofs.Words.{put_number, Name, same_name, Ty, Content, Environment, Component}
+use Rattle.cp_refine.proofs.Words.{content_of, with_content, value_held, cells_of, Layouts, look, further, LiesAt}
 use Rattle.cp_meaning.specs.State as named
-use Rattle.cp_refine.proofs.expressions.Parts.{encode_length}
-use Rattle.cp_refine.proofs.assignments.Rewriting.{Outside, NewAt, part_new}
-use Rattle.cp_refine.proofs.control.Moving.{set_here, set_there, same_or_other}
+use Rattle.cp_refine.proofs.control.Moving.{set_here, set_there}
 
 -- ---- one cell
 
@@ -43,56 +41,16 @@ put_writes m (Local n) z h =
     elsewhere (Permanent k) d = refl
     elsewhere (Local k) d = set_there m.cells n k z (pos 0) (λ e. d (ap Local e))
 
-pub has_same : (m m2 : Memory) (a : Address) (z : ℤ) (b : Address) (cells : ℕ) → WritesCell m m2 a z → HasCells m b cells → HasCells m2 b cells
-has_same m m2 a z (Permanent n) cells w h = let e = w.permanents in omega (arith, e, h)
-has_same m m2 a z (Local n) cells w h = let e = w.cells in omega (arith, e, h)
-
--- what lies elsewhere lies as it did
-pub lies_kept : (m m2 : Memory) (a : Address) (z : ℤ) (t : Ty) (v : Value) (b : Address) → WritesCell m m2 a z → LiesAt m t v b → ((k : ℕ) → k < cells_of t → further b k ≢ a) → LiesAt m2 t v b
-lies_kept m m2 a z t v b w h apart =
-    let n = encode_length t v h.typed in
-    record {
-      typed = h.typed;
-      cells = has_same m m2 a z b (cells_of t) w h.cells;
-      block = λ k less. w.there (further b k) (apart k (omega (arith, n, less))) ∙ h.block k less;
-    }
-
 pub further_apart : (a : Address) (k n : ℕ) → k ≢ n → further a k ≢ further a n
 further_apart (Permanent j) k n d e = (let s : j + k ≡ j + n = cc in d (omega (arith, s)))
 further_apart (Local j) k n d e = (let s : j + k ≡ j + n = cc in d (omega (arith, s)))
 
 pub side : (i o : ℕ) → i ≢ o → (i < o) ⊎ (o < i)
-side zero zero d = absurd (d refl)
-side zero (suc o) d = inl (omega arith)
-side (suc i) zero d = inr (omega arith)
-side (suc i) (suc o) d = go (side i o (λ e. d (ap suc e)))
+side i o d = go (cases_lt i o)
   where
-    go : (i < o) ⊎ (o < i) → (suc i < suc o) ⊎ (suc o < suc i)
-    go (inl l) = inl (omega (arith, l))
-    go (inr l) = inr (omega (arith, l))
-
--- the variable has the number at its part
-pub lies_new : (m m2 : Memory) (z : ℤ) (t : Ty) (v : Value) (b : Address) (cs : List Choice) (offset : ℕ) (r : Range) → WritesCell m m2 (further b offset) z → LiesAt m t v b → chosen_at t cs ≡ Some (offset, ordinal r) → HasType (ordinal r) (number_value z) → LiesAt m2 t (with_part v cs (number_value z)) b
-lies_new m m2 z t v b cs offset r w h e k =
-    let new = part_new t v cs (offset, ordinal r) (number_value z) h.typed e k in
-    let n = encode_length t v h.typed in
-    let n2 = encode_length t (with_part v cs (number_value z)) new.typed in
-    record {
-      typed = new.typed;
-      cells = has_same m m2 (further b offset) z b (cells_of t) w h.cells;
-      block = λ i less. go i less new.cells n n2 (same_or_other i offset);
-    }
-  where
-    go : (i : ℕ) → i < length (encode (with_part v cs (number_value z))) → NewAt (encode v) (encode (with_part v cs (number_value z))) (z ∷ []) offset → length (encode v) ≡ cells_of t → length (encode (with_part v cs (number_value z))) ≡ cells_of t → (i ≡ offset) ⊎ (i ≢ offset) → cell_at m2 (further b i) ≡ slice_index_or (encode (with_part v cs (number_value z))) i (pos 0)
-    go i less new n n2 (inl d) =
-        let s : offset + 0 ≡ i = omega (arith, d) in
-        ap (λ j. cell_at m2 (further b j)) d ∙ (w.here ∙ (sym (new.inner 0 (omega arith)) ∙ ap (λ j. get_or (encode (with_part v cs (number_value z))) j (pos 0)) s))
-    go i less new n n2 (inr d) =
-        w.there (further b i) (further_apart b i offset d) ∙ (h.block i (omega (arith, n, n2, less)) ∙ sym (new.outer i (outside (side i offset d))))
-      where
-        outside : (i < offset) ⊎ (offset < i) → Outside offset 1 i
-        outside (inl l) = inl l
-        outside (inr l) = inr (omega (arith, l))
+    go : (i < o) ⊎ (o ≤ i) → (i < o) ⊎ (o < i)
+    go (inl l) = inl l
+    go (inr l) = inr (omega (arith, l, d))
 
 -- ---- environments
 

@@ -1,6 +1,6 @@
 -- A call is opened: its frame stands above those of its callers, and its end returns to the caller.
 use Rattle.std.proofs.Common.{◌≡◌, ◌∙◌, ℕ, ◌+◌, ◌<◌, ◌==◌, true, false, List, [], ◌∷◌, ◌++◌, append_assoc, Option, Some, None, ap, sym, refl, subst, arith, length}
-use Rattle.cp_refine.proofs.Words.{◌&&◌, ◌||◌, ℤ, not, slice_set, Program, Argument, ComponentKind, component_at, routine_at, Bound, Frame, bound_in_frame, Memory, Entry}
+use Rattle.cp_refine.proofs.Words.{◌&&◌, ◌||◌, ℤ, slice_set, Program, Argument, component_at, routine_at, Bound, Frame, bound_in_frame, Memory, Entry}
 use Rattle.cp_refine.proofs.Words.{Return, frame_behind, StackFits, size_of, Machine, Thread, no_thread, monitor_at, thread_at, with_thread, rest_of, Name}
 use Rattle.cp_refine.proofs.Words.{RoutineMeaning, items_of_all, Doing, enters, first_inside, Layouts, here, cell_named, first_values, RoutineIs, Ground, result_cell}
 use Rattle.cp_refine.proofs.Words.{ResultGoes, AreBound, memory_at, frame_opened, with_memory, least_of, least_result}
@@ -13,17 +13,17 @@ use Rattle.cp_machine.specs.Calls as calls
 use Rattle.cp_machine.specs.Kernel as machine
 use Rattle.cp_machine.specs.Statements as statements
 use Rattle.cp_meaning.specs.State as named
-use Rattle.cp_meaning.specs.State.{ready, at_gate, Status, Environment, CallKind, local_routine, entry_routine, Call, Item, return, Process, State, has_entry, is_entry_kind, waits_at}
+use Rattle.cp_meaning.specs.State.{ready, at_gate, Status, Environment, CallKind, local_routine, entry_routine, Call, Item, return, Process, State, has_entry, is_entry_kind}
 use Rattle.cp_meaning.specs.Kernel as meaning
 use Rattle.cp_meaning.specs.Kernel.{local_event, enter_event, is_anybody_inside}
-use Rattle.cp_refine.specs.Represents.{StackIs, StatusIs, ProcessIs, Runs, monitor_left, CallIs, CallsHold, MonitorIs, frames_of, own_memory, Represents}
+use Rattle.cp_refine.specs.Represents.{StackIs, ProcessIs, Runs, monitor_left, CallIs, CallsHold, MonitorIs, frames_of, own_memory, Represents}
 use Rattle.cp_refine.proofs.assignments.Assigning.{set_set}
 use Rattle.cp_refine.proofs.control.Control.{Goes, StepIs}
 use Rattle.cp_refine.proofs.calls.FramesBelow.{lie_lower, frames_lie, calls_below}
 use Rattle.cp_refine.proofs.gates.Gates as gates
 use Rattle.cp_refine.proofs.gates.Gates.{OwnNumbers, HasCalled, nobody_inside, somebody_inside}
 use Rattle.cp_refine.proofs.control.Lists.{all_items, stack_rest, frames_rest}
-use Rattle.cp_refine.proofs.control.Moving.{set_here, inside_same, moved}
+use Rattle.cp_refine.proofs.control.Moving.{set_here, stands_ready, goes_ready}
 use Rattle.cp_refine.proofs.calls.NewFrame.{CanOpen, bound_memory, binds_all, holds_new}
 use Rattle.cp_refine.proofs.control.Running.{calls_alike}
 use Rattle.cp_refine.proofs.expressions.Members.{not_equal as differs}
@@ -129,39 +129,16 @@ module _ (g : Ground) (p : Program) (l : Layouts) (s : State) (m : Machine) (q :
   abbrev Outside : CallKind → Type 0
   Outside c = (n j : ℕ) → (component_at g.tables n).kind ≡ kind.Monitor j → (is_entry_kind c && d == n) ≡ false
 
-  inside_kept : (c : CallKind) (t : Thread) → Outside c → (n : ℕ) (a : ComponentKind) → (component_at g.tables n).kind ≡ a → MonitorIs s m n a → MonitorIs (record s { processes = slice_set s.processes q (new_process ready c) }) (with_thread m q t) n a
-  inside_kept c t out n (kind.Monitor j) f h =
-      let entry : has_entry n (new_call c ∷ before.calls) ≡ has_entry n before.calls = ap (λ b. b || has_entry n before.calls) (out n j f) in
-      (h.0, h.1 ∙ sym (inside_same n q (new_process ready c) s.processes (ap (λ b. b && true) entry ∙ sym (ap (λ u. has_entry n before.calls && not (waits_at n u)) k.was)) k.there))
-  inside_kept c t out n _ f h = tt
-
   stands_new : (c : CallKind) (monitor : Option ℕ) → monitor ≡ monitor_left g.tables (new_call c) c (component_at g.tables d).kind → ProcessIs g p l q (new_process ready c) (new_thread monitor)
-  stands_new c monitor left =
-      record {
-        component = (k.rep.processes q k.there).component;
-        status = subst (λ u. StatusIs g p l q (new_process ready c) (new_thread monitor) ready u) (sym k.was_slot) (runs_new ready c monitor left);
-      }
+  stands_new c monitor left = stands_ready g p l s m q k.rep k.there k.was k.was_slot (new_call c ∷ before.calls) (items_of_all meaning_of.scope meaning_of.body ++ return o ∷ zs) (new_thread monitor) refl (runs_new ready c monitor left)
 
   pub called_outside : (line : ℕ) (c : CallKind) → Outside c → monitor_left g.tables (new_call c) c (component_at g.tables d).kind ≡ None →
       StepIs g p l q line (record { state = record s { processes = slice_set s.processes q (new_process ready c) }; event = local_event }) (statements.local (calls.called g.tables m q number d xs bs slot None rest))
   called_outside line c out none =
       record {
         state = subst (λ w. Represents g p l (record s { processes = slice_set s.processes q (new_process ready c) }) w) (sym (machine_is None))
-            (moved g p l s m q (new_process ready c) (new_thread None) s.components m.monitors s.pending m.pending k.rep
-            (record {
-              there = k.there;
-              was_started = λ a. (let w = k.was in cc);
-              was_undelayed = λ n a. (let w = k.was in cc);
-              started = λ a. cc;
-              undelayed = λ n a. cc;
-              undelayed_slot = λ n a. (let w = k.was_slot in cc);
-              stands = stands_new c None (sym none);
-              count = refl;
-              same_status = λ n. refl;
-              same_environment = λ n. refl;
-              monitors = λ n h. inside_kept c (new_thread None) out n (component_at g.tables n).kind refl (k.rep.monitors n h);
-              pending = k.rep.pending;
-            }));
+            (goes_ready g p l s m q k.rep k.there k.was k.was_slot (new_call c ∷ before.calls) (items_of_all meaning_of.scope meaning_of.body ++ return o ∷ zs) (new_thread None) refl (runs_new ready c None (sym none))
+            (λ n j f. ap (λ b. b || has_entry n before.calls) (out n j f)));
         event = refl;
       }
 
@@ -203,14 +180,14 @@ module _ (g : Ground) (p : Program) (l : Layouts) (s : State) (m : Machine) (q :
         Represents g p l (meaning.entering (is_anybody_inside d s.processes) s q d (record { calls = new_call entry_routine ∷ before.calls; items = items_of_all meaning_of.scope meaning_of.body ++ return o ∷ zs; components = s.components; move = enters d })) (machine.entered_by w (with_thread m q (new_thread (Some j))) q j)
     by_holder None free =
         subst (λ b. Represents g p l (meaning.entering b s q d doing) (machine.entered_by None (with_thread m q (new_thread (Some j))) q j)) (sym (nobody_inside d s.processes free))
-        (gates.enters_free g p l s m q (new_process ready entry_routine) (new_thread (Some j)) d j k.rep own monitor known there_component k.there k.was k.was_slot (has_called ready) free refl k.was_slot (stands_new entry_routine (Some j) left))
+        (gates.enters_free g p l s m q (new_process ready entry_routine) (new_thread (Some j)) d j k.rep own monitor known there_component k.there k.was k.was_slot (has_called ready) free refl (stands_new entry_routine (Some j) left))
       where
         doing : Doing
         doing = record { calls = new_call entry_routine ∷ before.calls; items = items_of_all meaning_of.scope meaning_of.body ++ return o ∷ zs; components = s.components; move = enters d }
     by_holder (Some r) busy =
         subst (λ b. Represents g p l (meaning.entering b s q d doing) (machine.entered_by (Some r) (with_thread m q (new_thread (Some j))) q j)) (sym (somebody_inside d r s.processes busy))
         (subst (λ w. Represents g p l (meaning.entering true s q d doing) w) (sym machine_waits)
-        (gates.enters_busy g p l s m q (new_process (at_gate d) entry_routine) waiting_thread d j k.rep own monitor known there_component k.there k.was k.was_slot (has_called (at_gate d)) r busy refl refl stands_waiting))
+        (gates.enters_busy g p l s m q (new_process (at_gate d) entry_routine) waiting_thread d j k.rep own monitor known there_component k.there k.was k.was_slot (has_called (at_gate d)) r busy refl stands_waiting))
       where
         doing : Doing
         doing = record { calls = new_call entry_routine ∷ before.calls; items = items_of_all meaning_of.scope meaning_of.body ++ return o ∷ zs; components = s.components; move = enters d }

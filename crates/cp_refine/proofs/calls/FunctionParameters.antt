@@ -1,5 +1,5 @@
 -- The parameters of functions are no `var` parameters.
-use Rattle.cp_refine.proofs.Words.{◌≡◌, ◌∙◌, false, List, [], ◌∷◌, ◌++◌, Option, Some, None, ap, sym, refl, subst, Name, Ty, array_over, component_of, system_of, Each}
+use Rattle.cp_refine.proofs.Words.{some_same, ◌≡◌, ◌∙◌, false, List, [], ◌∷◌, ◌++◌, Option, Some, None, ap, sym, refl, subst, Name, Ty, array_over, component_of, system_of, Each}
 use Rattle.cp_refine.proofs.Words.{Meaning, local_variable, permanent_variable, routine_meaning, Scope, find, since, last_field}
 use Rattle.cp_tree.specs.Syntax.{Designator, designator, Group, RoutineKind, procedure, function, Routine, Program}
 use Rattle.cp_meaning.specs.Declarations.{type_named, names_of, Parameter, Heading, parameters_named, with_group, with_groups, heading_of, result_of, RoutineMeaning, routine_in}
@@ -32,9 +32,6 @@ record IsDeclared (m : RoutineMeaning) : Type 0 where
 
 declared_values : (m : RoutineMeaning) → IsDeclared m → (m.result ≡ None → ⊥) → Each IsValue m.parameters
 declared_values m d some = subst (λ (z : RoutineMeaning). Each IsValue z.parameters) (sym d.same) (heading_values d.scope (heading_of d.scope d.routine.kind).scope d.routine.kind (λ e. some (ap (λ (z : RoutineMeaning). z.result) d.same ∙ e)))
-
-some_same : (a b : RoutineMeaning) → Some a ≡ Some b → a ≡ b
-some_same a b e = cc
 
 system_declared : (y : Name) (o : Option Meaning) (s : Scope) (m : RoutineMeaning) → routine_of_system y o s ≡ Some m → IsDeclared m
 system_declared y (Some (routine_meaning r)) s m e = record { scope = since y s; routine = r; same = sym (some_same (routine_in (since y s) r) m e) }

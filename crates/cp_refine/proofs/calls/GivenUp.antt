@@ -12,8 +12,8 @@ use Rattle.cp_refine.proofs.assignments.Apart.{frame_apart, frames_apart}
 use Rattle.cp_refine.proofs.control.Control.{top_frame}
 use Rattle.cp_refine.proofs.calls.FramesBelow.{LieBelow, frames_lie, SameBelow, calls_below}
 use Rattle.cp_refine.proofs.expressions.Reading.{calls_frames}
-use Rattle.cp_refine.proofs.assignments.Writing.{put_writes}
-use Rattle.cp_refine.proofs.assignments.WritingCalls.{calls_written}
+use Rattle.cp_refine.proofs.assignments.Blocks.{number_writes}
+use Rattle.cp_refine.proofs.assignments.BlocksInCalls.{calls_with_block}
 
 -- ---- on names
 
@@ -126,9 +126,9 @@ module _ (g : Ground) (p : Program) (l : Layouts) (routines : (n : ℕ) → n < 
     result_calls : CallsHold g.tables l (put_number closed (Local cell) z) (calls_back (Some x) c cs) (frames_of caller es)
     result_calls =
         subst (λ (w : Value). CallsHold g.tables l (put_number closed (Local cell) z) (with_call_environment cs (length cs - 1) (with_content x (holds w) (call_above cs (length cs - 1)).environment)) (frames_of caller es)) (sym number.1)
-        (calls_written g.tables l (size_of g.tables) closed (put_number closed (Local cell) z) (λ n h. frame_apart g p l n (routines n h)) cell z
-        (put_writes closed (Local cell) z (let e = closed_length in let d = fits in omega (arith, e, d)))
-        (length cs - 1) x (ordinal range) [] 0 range refl (subst (HasType (ordinal range)) number.1 result_lies.typed) (omega arith)
+        (calls_with_block g.tables l (size_of g.tables) closed (put_number closed (Local cell) z) (λ n h. frame_apart g p l n (routines n h)) cell (ordinal range) (number_value z) (subst (HasType (ordinal range)) number.1 result_lies.typed)
+        (number_writes closed (Local cell) z (let e = closed_length in let d = fits in omega (arith, e, d)))
+        (length cs - 1) x (ordinal range) [] 0 refl (omega arith)
         cs (frames_of caller es) caller caller_known.1 goes refl (frames_apart g.tables caller es below) closed_calls)
 
     result_given : CallsHold g.tables l (own_memory (given_up g.tables t caller (Some to) es)) (calls_back (Some x) c cs) (frames_of caller es)

@@ -1,6 +1,6 @@
 -- The frame that a call opens holds the environment of the call: its parameters, and first values for all else.
 use Rattle.std.proofs.Common.{◌≡◌, ◌∙◌, ℕ, ◌+◌, ◌^◌, ◌<◌, Bool, true, false, if◌then◌else◌, List, [], ◌∷◌, ◌++◌, Option, Some, None, ap, sym, refl, subst, arith, length}
-use Rattle.cp_refine.proofs.Words.{pos, replicate, slice_index_or, bytes_eq-Decides, Program, Argument, routine_at, Bound, Reference, Local, Frame, bound_in_frame}
+use Rattle.cp_refine.proofs.Words.{some_same, pos, replicate, slice_index_or, bytes_eq-Decides, Program, Argument, routine_at, Bound, Reference, Local, Frame, bound_in_frame}
 use Rattle.cp_refine.proofs.Words.{referred, size_of, Name, same_name, Ty, has_components, Variable, Parameter, RoutineMeaning, Content, holds, refers, knows, Place}
 use Rattle.cp_refine.proofs.Words.{Environment, Call, content_of, value_held, parameter_variables, Ground, IsBound, AreBound, IsOther, AreDifferent, LiesAt, PlaceAt}
 use Rattle.cp_refine.proofs.Words.{CallHolds, content_second, least, least_of, least_result, Layouts, FrameLayout, cell_named, look}
@@ -115,47 +115,26 @@ module _ (g : Ground) (p : Program) (l : Layouts) (fs : List Frame) (m : Memory)
 
   -- ---- a parameter by its name
 
-  record Found (x : Name) (u : Ty) (e : Environment) (n : Memory) : Type 0 where
+  record Found (x : Name) (u : Ty) (n : Memory) : Type 0 where
     parameter : Parameter
     content : Content
     bound : Bound
-    has : content_of x e ≡ Some content
     named : parameter.name ≡ x
     typed : parameter.ty ≡ u
     lies : OneHere n parameter content
     known : ParameterIs lay parameter.is_var parameter
     given : IsBound g.tables l fs m parameter content bound
 
-  found : (x : Name) (u : Ty) (qs : List Parameter) (e : Environment) (xs : List Argument) (bs : List Bound) (n : Memory) → Given qs e xs bs → ParametersAre lay qs → AllHere n qs e → look x (parameter_variables qs) ≡ Some u → Found x u e n
+  found : (x : Name) (u : Ty) (qs : List Parameter) (e : Environment) (xs : List Argument) (bs : List Bound) (n : Memory) → Given qs e xs bs → ParametersAre lay qs → AllHere n qs e → look x (parameter_variables qs) ≡ Some u → (w : Found x u n) × (content_of x e ≡ Some w.content)
   found x u [] e xs bs n is h a k = absurd (cc)
   found x u (q ∷ qs) (d ∷ e) (y ∷ xs) (b ∷ bs) n is h a k = go (same_name x q.name) refl (found x u qs e xs bs n is.3 h.1 a.1) k
     where
-      go : (w : Bool) → same_name x q.name ≡ w → (look x (parameter_variables qs) ≡ Some u → Found x u e n) → (if w then Some q.ty else look x (parameter_variables qs)) ≡ Some u → Found x u (d ∷ e) n
-      go true s ih k =
-          record {
-            parameter = q;
-            content = d.1;
-            bound = b;
-            has = ap (λ (w : Bool). if w then Some d.1 else content_of x e) (ap (same_name x) is.0 ∙ s);
-            named = sym ((bytes_eq-Decides x q.name).0 s);
-            typed = cc;
-            lies = a.0;
-            known = h.0;
-            given = is.2;
-          }
-      go false s ih k =
-          let w = ih k in
-          record {
-            parameter = w.parameter;
-            content = w.content;
-            bound = w.bound;
-            has = ap (λ (v : Bool). if v then Some d.1 else content_of x e) (ap (same_name x) is.0 ∙ s) ∙ w.has;
-            named = w.named;
-            typed = w.typed;
-            lies = w.lies;
-            known = w.known;
-            given = w.given;
-          }
+      go : (w : Bool) → same_name x q.name ≡ w → (look x (parameter_variables qs) ≡ Some u → (f : Found x u n) × (content_of x e ≡ Some f.content)) → (if w then Some q.ty else look x (parameter_variables qs)) ≡ Some u → (f : Found x u n) × (content_of x (d ∷ e) ≡ Some f.content)
+      go true s ih k = (
+        record { parameter = q; content = d.1; bound = b; named = sym ((bytes_eq-Decides x q.name).0 s); typed = cc; lies = a.0; known = h.0; given = is.2 },
+        ap (λ (w : Bool). if w then Some d.1 else content_of x e) (ap (same_name x) is.0 ∙ s),
+      )
+      go false s ih k = (let f = ih k in (f.0, ap (λ (v : Bool). if v then Some d.1 else content_of x e) (ap (same_name x) is.0 ∙ s) ∙ f.1))
   found x u (q ∷ qs) _ _ _ n is h a k = absurd is
 
   not_found : (x : Name) (qs : List Parameter) (e : Environment) (xs : List Argument) (bs : List Bound) → Given qs e xs bs → look x (parameter_variables qs) ≡ None → content_of x e ≡ None
@@ -180,9 +159,6 @@ module _ (g : Ground) (p : Program) (l : Layouts) (fs : List Frame) (m : Memory)
 
   place_known : (q : Parameter) → q.is_var ≡ true → ParameterIs lay q.is_var q → look q.name lay.references ≡ Some q.ty
   place_known q e h = subst (λ b. ParameterIs lay b q) e h
-
-  type_is : (a b : Ty) → Some a ≡ Some b → a ≡ b
-  type_is a b e = cc
 
   -- ---- the frame
 
@@ -217,7 +193,7 @@ module _ (g : Ground) (p : Program) (l : Layouts) (fs : List Frame) (m : Memory)
     -- a value parameter lies in its cells
     value_lies : (x : Name) (t : Ty) (q : Parameter) (c : Content) (b : Bound) → look x lay.variables ≡ Some t → q.name ≡ x → ParameterIs lay q.is_var q → OneHere bound_memory q c → IsBound g.tables l fs m q c b → LiesAt bound_memory t (value_held (Some c)) (Local (f.base + cell_named lay x))
     value_lies x t q (holds w) b known same h lies is =
-        let ty : q.ty ≡ t = type_is q.ty t (sym (value_known q is.0 h) ∙ (ap (λ z. look z lay.variables) same ∙ known)) in
+        let ty : q.ty ≡ t = some_same q.ty t (sym (value_known q is.0 h) ∙ (ap (λ z. look z lay.variables) same ∙ known)) in
         subst (λ z. LiesAt bound_memory t w (Local (f.base + cell_named lay z))) same (subst (λ u. LiesAt bound_memory u w (Local (f.base + cell_named lay q.name))) ty lies)
     value_lies x t q (refers y) (Reference a) known same h lies is = absurd (not_both x q.name t q.ty same known (place_known q is.0 h))
     value_lies x t q (refers y) b known same h lies is = absurd is
@@ -227,8 +203,8 @@ module _ (g : Ground) (p : Program) (l : Layouts) (fs : List Frame) (m : Memory)
     variable_lies x t known None k =
         subst (λ (w : Option Content). LiesAt bound_memory t (value_held w) (Local (f.base + cell_named lay x))) (sym (content_second x e (first_values meaning) (not_found x meaning.parameters e xs bs given k))) (first_lies x t known k)
     variable_lies x t known (Some u) k =
-        let w = found x u meaning.parameters e xs bs bound_memory given frame.parameters all.lies k in
-        subst (λ (v : Option Content). LiesAt bound_memory t (value_held v) (Local (f.base + cell_named lay x))) (sym (content_first x e (first_values meaning) w.content w.has)) (value_lies x t w.parameter w.content w.bound known w.named w.known w.lies w.given)
+        let named = found x u meaning.parameters e xs bs bound_memory given frame.parameters all.lies k in let w = named.0 in
+        subst (λ (v : Option Content). LiesAt bound_memory t (value_held v) (Local (f.base + cell_named lay x))) (sym (content_first x e (first_values meaning) w.content named.1)) (value_lies x t w.parameter w.content w.bound known w.named w.known w.lies w.given)
 
     -- a variable is no place
     value_plain : (x : Name) (t : Ty) (q : Parameter) (c : Content) (b : Bound) (y : Place) → look x lay.variables ≡ Some t → q.name ≡ x → ParameterIs lay q.is_var q → IsBound g.tables l fs m q c b → c ≡ refers y → ⊥
@@ -240,8 +216,8 @@ module _ (g : Ground) (p : Program) (l : Layouts) (fs : List Frame) (m : Memory)
     variable_plain x t y known None k d =
         no_place x (first_values meaning) y (held_append (least_of meaning.variables) (least_result meaning.result) (least_held meaning.variables) (result_held meaning.result)) (sym (content_second x e (first_values meaning) (not_found x meaning.parameters e xs bs given k)) ∙ d)
     variable_plain x t y known (Some u) k d =
-        let w = found x u meaning.parameters e xs bs bound_memory given frame.parameters all.lies k in
-        let same : Some w.content ≡ Some (refers y) = sym (content_first x e (first_values meaning) w.content w.has) ∙ d in
+        let named = found x u meaning.parameters e xs bs bound_memory given frame.parameters all.lies k in let w = named.0 in
+        let same : Some w.content ≡ Some (refers y) = sym (content_first x e (first_values meaning) w.content named.1) ∙ d in
         value_plain x t w.parameter w.content w.bound y known w.named w.known w.given (cc)
 
     -- a `var` parameter has its place
@@ -256,8 +232,8 @@ module _ (g : Ground) (p : Program) (l : Layouts) (fs : List Frame) (m : Memory)
 
     reference_lies : (x : Name) (t : Ty) → look x lay.references ≡ Some t → HasPlace x t (content_of x environment)
     reference_lies x t known =
-        let w = found x t meaning.parameters e xs bs bound_memory given frame.parameters all.lies (can.closed x t known) in
-        subst (HasPlace x t) (sym (content_first x e (first_values meaning) w.content w.has)) (place_lies x t w.parameter w.content w.bound known w.named w.typed w.known w.lies w.given)
+        let named = found x t meaning.parameters e xs bs bound_memory given frame.parameters all.lies (can.closed x t known) in let w = named.0 in
+        subst (HasPlace x t) (sym (content_first x e (first_values meaning) w.content named.1)) (place_lies x t w.parameter w.content w.bound known w.named w.typed w.known w.lies w.given)
 
     pub holds_new : (c : Call) → c.environment ≡ environment → CallHolds g.tables l bound_memory c f fs
     holds_new c same =

@@ -1,6 +1,6 @@
 -- The step with which a call returns: the caller goes on, with the result of a function; the return from an entry of a monitor leaves it.
 use Rattle.std.proofs.Common.{◌≡◌, ◌≢◌, ◌∙◌, ℕ, ◌^◌, ◌<◌, ◌==◌, Bool, true, false, if◌then◌else◌, List, [], ◌∷◌, Option, Some, None, ap, sym, refl, subst, arith, length, length-set}
-use Rattle.cp_refine.proofs.Words.{◌&&◌, ◌||◌, not, slice_set, eqb-true, SystemKind, Program, ComponentKind, component_at, Frame, Entry, Return, StackFits, ThreadFits}
+use Rattle.cp_refine.proofs.Words.{◌&&◌, ◌||◌, slice_set, eqb-true, SystemKind, Program, ComponentKind, component_at, Frame, Entry, Return, StackFits, ThreadFits}
 use Rattle.cp_refine.proofs.Words.{take_top, step_at, Name, Range, Ty, ordinal, stays, with_items, with_move, View, view_of, step_of, settled, Layouts, here, RoutineIs}
 use Rattle.cp_refine.proofs.Words.{Ground, result_cell, ResultGoes, SameKind, KindsAgree, First, Any, takes, with_result, leaving_move, return_move}
 use Rattle.cp_tree.specs.declared.declaration.SystemKind.TheVariants as system_kind
@@ -12,17 +12,17 @@ use Rattle.cp_machine.specs.Kernel as machine
 use Rattle.cp_machine.specs.Machine.{Machine, Monitor, Thread, no_monitor, monitor_at, thread_at, with_thread}
 use Rattle.cp_machine.specs.Statements as statements
 use Rattle.cp_meaning.specs.State as named
-use Rattle.cp_meaning.specs.State.{ready, at_gate, Component, CallKind, entry_routine, Call, current, callers, Item, return, Process, no_process, State, has_entry, is_entry_kind, is_inside, waits_at}
+use Rattle.cp_meaning.specs.State.{ready, at_gate, Component, CallKind, entry_routine, Call, current, callers, Item, return, Process, no_process, State, has_entry, is_entry_kind, is_inside}
 use Rattle.cp_meaning.specs.Kernel as meaning
 use Rattle.cp_meaning.specs.Kernel.{kernel_step, local_event, leave_event}
-use Rattle.cp_refine.specs.Represents.{StackIs, StatusIs, ProcessIs, Runs, ReturnIs, monitor_left, CallsHold, MonitorIs, frames_of, own_memory, Represents}
+use Rattle.cp_refine.specs.Represents.{StackIs, ProcessIs, Runs, ReturnIs, monitor_left, CallsHold, frames_of, own_memory, Represents}
 use Rattle.cp_refine.proofs.assignments.Assigning.{entries_kept, stack_kept, set_set}
 use Rattle.cp_refine.proofs.control.Control.{StepIs}
 use Rattle.cp_refine.proofs.gates.Gates as gates
 use Rattle.cp_refine.proofs.gates.Gates.{OwnNumbers, OthersOutside, HasReturned, none_left}
 use Rattle.cp_refine.proofs.calls.GivenUp.{calls_back, view_with, calls_are, components_same, calls_given_up}
 use Rattle.cp_refine.proofs.gates.LettingIn.{FirstWaits, lets_in}
-use Rattle.cp_refine.proofs.control.Moving.{set_here, set_there, inside_same, moved}
+use Rattle.cp_refine.proofs.control.Moving.{set_here, set_there, runs_now, stands_ready, goes_ready}
 use Rattle.cp_refine.proofs.expressions.Members.{not_equal as differs}
 
 -- ---- a monitor that is left, and then lets its line in
@@ -85,7 +85,7 @@ module _ (g : Ground) (p : Program) (l : Layouts) (s : State) (m : Machine) (q :
   thread = thread_at m.threads q
 
   runs_before : Runs g p l before thread
-  runs_before = subst (λ u. StatusIs g p l q before thread ready u) k.was_slot (subst (λ u. StatusIs g p l q before thread u thread.status) k.was (k.rep.processes q k.there).status)
+  runs_before = runs_now g p l s m q k.rep k.there k.was k.was_slot
 
   pub stack_before : StackIs g p l thread.frame before.calls before.items (Return caller slot monitor ∷ es)
   stack_before = subst (λ (fs : List Entry). StackIs g p l thread.frame before.calls before.items fs) k.stack runs_before.stack
@@ -139,12 +139,11 @@ module _ (g : Ground) (p : Program) (l : Layouts) (s : State) (m : Machine) (q :
   abbrev pub thread_back : Option ℕ → Thread
   thread_back r = calls.given_up g.tables thread caller r es
 
+  runs_back : (o : Option Name) → ResultGoes (here p l caller.routine) o (l.meanings thread.frame.routine).result → Runs g p l (process_back o) (thread_back (result_cell (here p l caller.routine) o))
+  runs_back o goes = record { stack = stack_back o; calls = held_after o goes }
+
   pub stands_back : (o : Option Name) → ResultGoes (here p l caller.routine) o (l.meanings thread.frame.routine).result → ProcessIs g p l q (process_back o) (thread_back (result_cell (here p l caller.routine) o))
-  stands_back o goes =
-      record {
-        component = (k.rep.processes q k.there).component;
-        status = subst (λ u. StatusIs g p l q (process_back o) (thread_back (result_cell (here p l caller.routine) o)) ready u) (sym k.was_slot) (record { stack = stack_back o; calls = held_after o goes });
-      }
+  stands_back o goes = stands_ready g p l s m q k.rep k.there k.was k.was_slot (calls_back o call calls_around) items_after (thread_back (result_cell (here p l caller.routine) o)) refl (runs_back o goes)
 
   entries_back : (o : Option Name) (n : ℕ) → has_entry n (calls_back o call calls_around) ≡ has_entry n calls_around
   entries_back None n = refl
@@ -156,44 +155,21 @@ module _ (g : Ground) (p : Program) (l : Layouts) (s : State) (m : Machine) (q :
   -- ---- a call that was no entry of a monitor
 
   not_inside : (n j : ℕ) (c : CallKind) → call.kind ≡ c → (d : ComponentKind) → (component_at g.tables call.component).kind ≡ d → monitor_left g.tables call c d ≡ None → (component_at g.tables n).kind ≡ kind.Monitor j → (is_entry_kind c && call.component == n) ≡ false
-  not_inside n j entry_routine e (kind.Monitor i) f none is = absurd (cc)
-  not_inside n j entry_routine e (kind.Process i) f none is = go (call.component == n) refl
+  not_inside n j entry_routine e d f none is = go (call.component == n) refl
     where
       go : (b : Bool) → call.component == n ≡ b → call.component == n ≡ false
-      go true d = (let w : (component_at g.tables call.component).kind ≡ kind.Monitor j = ap (λ i. (component_at g.tables i).kind) (eqb-true call.component n d) ∙ is in absurd (cc))
-      go false d = d
-  not_inside n j entry_routine e kind.Class f none is = go (call.component == n) refl
-    where
-      go : (b : Bool) → call.component == n ≡ b → call.component == n ≡ false
-      go true d = (let w : (component_at g.tables call.component).kind ≡ kind.Monitor j = ap (λ i. (component_at g.tables i).kind) (eqb-true call.component n d) ∙ is in absurd (cc))
-      go false d = d
+      go true w =
+          let monitor : d ≡ kind.Monitor j = sym f ∙ (ap (λ i. (component_at g.tables i).kind) (eqb-true call.component n w) ∙ is) in
+          let some : Some j ≡ None = subst (λ c. monitor_left g.tables call entry_routine c ≡ None) monitor none in
+          absurd (cc)
+      go false w = w
   not_inside n j _ e d f none is = refl
-
-  inside_kept : (o : Option Name) (t : Thread) → monitor_left g.tables call call.kind (component_at g.tables call.component).kind ≡ None → (n : ℕ) (d : ComponentKind) → (component_at g.tables n).kind ≡ d → MonitorIs s m n d → MonitorIs (record s { processes = slice_set s.processes q (process_back o) }) (with_thread m q t) n d
-  inside_kept o t none n (kind.Monitor j) e h =
-      let entry : has_entry n (calls_back o call calls_around) ≡ has_entry n before.calls =
-      entries_back o n ∙ sym (entries_were n ∙ ap (λ b. b || has_entry n calls_around) (not_inside n j call.kind refl (component_at g.tables call.component).kind refl none e)) in
-      (h.0, h.1 ∙ sym (inside_same n q (process_back o) s.processes (ap (λ b. b && true) entry ∙ sym (ap (λ u. has_entry n before.calls && not (waits_at n u)) k.was)) k.there))
-  inside_kept o t none n _ e h = tt
 
   pub stays_back : (o : Option Name) → ResultGoes (here p l caller.routine) o (l.meanings thread.frame.routine).result → monitor_left g.tables call call.kind (component_at g.tables call.component).kind ≡ None →
       Represents g p l (record s { processes = slice_set s.processes q (process_back o) }) (with_thread m q (thread_back (result_cell (here p l caller.routine) o)))
   stays_back o goes none =
-      moved g p l s m q (process_back o) (thread_back (result_cell (here p l caller.routine) o)) s.components m.monitors s.pending m.pending k.rep
-      (record {
-        there = k.there;
-        was_started = λ e. (let w = k.was in cc);
-        was_undelayed = λ n e. (let w = k.was in cc);
-        started = λ e. cc;
-        undelayed = λ n e. cc;
-        undelayed_slot = λ c e. (let w = k.was_slot in cc);
-        stands = stands_back o goes;
-        count = refl;
-        same_status = λ n. refl;
-        same_environment = λ n. refl;
-        monitors = λ n h. inside_kept o (thread_back (result_cell (here p l caller.routine) o)) none n (component_at g.tables n).kind refl (k.rep.monitors n h);
-        pending = k.rep.pending;
-      })
+      goes_ready g p l s m q k.rep k.there k.was k.was_slot (calls_back o call calls_around) items_after (thread_back (result_cell (here p l caller.routine) o)) refl (runs_back o goes)
+      (λ n j e. entries_back o n ∙ sym (entries_were n ∙ ap (λ b. b || has_entry n calls_around) (not_inside n j call.kind refl (component_at g.tables call.component).kind refl none e)))
 
   -- ---- an entry of a monitor
 
@@ -217,7 +193,7 @@ module _ (g : Ground) (p : Program) (l : Layouts) (s : State) (m : Machine) (q :
     machine_freed = record machine_out { monitors = slice_set m.monitors j (record { holder = None; line = (monitor_at m j).line }) }
 
     pub left_free : Represents g p l state_out machine_freed
-    left_free = gates.leaves g p l s m q (process_back o) (thread_back (result_cell (here p l caller.routine) o)) n j k.rep may.own is (may.known j is) there_n k.there k.was has_returned may.exclusive refl k.was_slot (stands_back o goes)
+    left_free = gates.leaves g p l s m q (process_back o) (thread_back (result_cell (here p l caller.routine) o)) n j k.rep may.own is (may.known j is) there_n k.there k.was has_returned may.exclusive refl (stands_back o goes)
 
     pub outside : is_inside n (process_back o) ≡ false
     outside = ap (λ b. b && true) has_returned.out

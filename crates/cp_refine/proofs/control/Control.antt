@@ -1,7 +1,7 @@
 -- Steps that only change what is still to be done: the empty statement, `begin`, `if` and the loops' beginnings.
 use Rattle.std.proofs.Common.{◌≡◌, ◌∙◌, ℕ, ◌<◌, Bool, true, false, if◌then◌else◌, List, [], ◌∷◌, ◌++◌, Option, None, ap, sym, refl, subst, length}
 use Rattle.cp_refine.proofs.Words.{Result, Ok, Err, ℤ, pos, int_lt, slice_set, slice_index, Expression, Statement, empty, block, if_then, Statements, Program, Action}
-use Rattle.cp_refine.proofs.Words.{Tables, component_at, item_at, Frame, Memory, Entry, Rest, Successor, Return, InitEnd, Machine, Thread, thread_at, with_stack}
+use Rattle.cp_refine.proofs.Words.{Tables, item_at, Frame, Memory, Entry, Rest, Successor, Return, InitEnd, Machine, thread_at, with_stack}
 use Rattle.cp_refine.proofs.Words.{memory_at, rest_of, act, take_top, step_at, items_of, items_of_all, ready, Item, statement_item, Process, State, Call, current}
 use Rattle.cp_refine.proofs.Words.{view_of, step_of, settled, takes, becomes, stays, Scope, value, Typed, is_true, Value, number_of, Ty, OrdinalAgrees, is_boolean}
 use Rattle.cp_refine.proofs.Words.{plain_value, Layouts, Here, here, Ground, ItemAt, AreKept, calls_before, ItemIs, ItemsAre, Outcome, ErrorName, ◌>>=◌}
@@ -17,9 +17,9 @@ use Rattle.cp_meaning.specs.State as named
 use Rattle.cp_meaning.specs.Kernel.{Stepped, local_event, fault_event, moved_to}
 use Rattle.cp_slots.specs.Code as code
 use Rattle.cp_refine.specs.Named.{error_of, event_of}
-use Rattle.cp_refine.specs.Represents.{StatusIs, StackIs, CallsHold, frames_of, own_memory, ProcessIs, Represents}
+use Rattle.cp_refine.specs.Represents.{StackIs, CallsHold, frames_of, own_memory, Represents}
 use Rattle.cp_refine.proofs.control.Lists.{all_items, statement_items, stack_rest, frames_rest}
-use Rattle.cp_refine.proofs.control.Moving.{moved, stays_inside}
+use Rattle.cp_refine.proofs.control.Moving.{goes_ready}
 use Rattle.cp_refine.proofs.expressions.Numbers.{is_true_same}
 use Rattle.cp_refine.proofs.expressions.Values.{truth_range}
 use Rattle.cp_refine.proofs.expressions.Views.{views_agree}
@@ -73,31 +73,8 @@ module _ (g : Ground) (p : Program) (l : Layouts) (s : State) (m : Machine) (q :
   pub goes_still : (zs : List Item) (fs : List Entry) → StackIs g p l (thread_at m.threads q).frame (named.process_at s.processes q).calls zs fs → frames_of (thread_at m.threads q).frame fs ≡ frames_of (thread_at m.threads q).frame es →
       Represents g p l (record s { processes = slice_set s.processes q (still_process zs) }) (with_stack m q fs)
   goes_still zs fs is same =
-      (let x : Process = still_process zs in
-      let t : Thread = record (thread_at m.threads q) { stack = fs } in
-      moved g p l s m q x t s.components m.monitors s.pending m.pending k.rep
-      (record {
-        there = k.there;
-        was_started = λ e. (let w = k.was in cc);
-        was_undelayed = λ n e. (let w = k.was in cc);
-        started = λ e. cc;
-        undelayed = λ n e. cc;
-        undelayed_slot = λ c e. (let w = k.was_slot in cc);
-        stands = runs_still zs fs is same;
-        count = refl;
-        same_status = λ n. refl;
-        same_environment = λ n. refl;
-        monitors = λ n h. stays_inside s m q x t n (component_at g.tables n).kind k.there k.was refl refl (k.rep.monitors n h);
-        pending = k.rep.pending;
-      }))
-    where
-      runs_still : (zs : List Item) (fs : List Entry) → StackIs g p l (thread_at m.threads q).frame (named.process_at s.processes q).calls zs fs → frames_of (thread_at m.threads q).frame fs ≡ frames_of (thread_at m.threads q).frame es → ProcessIs g p l q (still_process zs) (record (thread_at m.threads q) { stack = fs })
-      runs_still zs fs is same =
-          record {
-            component = (k.rep.processes q k.there).component;
-            status = subst (λ u. StatusIs g p l q (still_process zs) (record (thread_at m.threads q) { stack = fs }) ready u) (sym k.was_slot)
-                (record { stack = is; calls = subst (λ fs. CallsHold g.tables l (own_memory (thread_at m.threads q)) (named.process_at s.processes q).calls fs) (sym same) k.calls });
-          }
+      goes_ready g p l s m q k.rep k.there k.was k.was_slot (named.process_at s.processes q).calls zs (record (thread_at m.threads q) { stack = fs }) refl
+      (record { stack = is; calls = subst (λ hs. CallsHold g.tables l (own_memory (thread_at m.threads q)) (named.process_at s.processes q).calls hs) (sym same) k.calls }) (λ n j e. refl)
 
 -- what a step comes to on names and on slots
 pub record StepIs (g : Ground) (p : Program) (l : Layouts) (q line : ℕ) (a : Stepped) (b : statements.Stepped) : Type 0 where

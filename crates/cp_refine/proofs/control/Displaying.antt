@@ -1,11 +1,11 @@
 -- The step of `display`: the value comes at the end of the output, if there is room for it.
 use Rattle.std.proofs.Common.{◌≡◌, ◌∙◌, ℕ, ◌+◌, ◌<◌, ◌==◌, Bool, true, false, if◌then◌else◌, List, [], ◌∷◌, ◌++◌, Option, Some, None, ap, sym, refl, subst, arith, length, map}
 use Rattle.cp_refine.proofs.Words.{ℤ, pos, negsuc, ◌-◌, Result, Ok, Err, slice_index, ints, Program, Expression, Expressions, more_expressions, Designator, invoke}
-use Rattle.cp_refine.proofs.Words.{Action, ComponentKind, component_at, item_at, Entry, memory_at, rest_of, act, step_at, Outcome, ◌>>=◌, Value, number_value, Meaning}
+use Rattle.cp_refine.proofs.Words.{Action, item_at, Entry, memory_at, rest_of, act, step_at, Outcome, ◌>>=◌, Value, number_value, Meaning}
 use Rattle.cp_refine.proofs.Words.{standard_meaning, display_procedure, find, Stepped, displaying, moved_to, output_room, Doing, value, name_of, expression_calls}
 use Rattle.cp_refine.proofs.Words.{expressions_calls, designator_calls, Typed, range_of_base, view_of, step_of, settled, Layouts, Here, here, as_ordinal, plain_value}
-use Rattle.cp_refine.proofs.Words.{HasBegun, ComponentIs, MonitorIs, Represents, OrdinalAgrees, MOST_SHOWN, Base, integers, booleans, characters, enumerated, Range, Ty}
-use Rattle.cp_refine.proofs.Words.{ordinal, is_within, ready, Item, statement_item, Shown, ComponentStatus, uninitialised, State}
+use Rattle.cp_refine.proofs.Words.{Represents, OrdinalAgrees, MOST_SHOWN, Base, integers, booleans, characters, enumerated, Range, Ty}
+use Rattle.cp_refine.proofs.Words.{ordinal, is_within, ready, Item, statement_item, Shown, State}
 use Rattle.std.proofs.lemmas.List.{map-append, length-map}
 use Rattle.cp_slots.specs.declared.item.Action.TheVariants as action
 use Rattle.cp_slots.specs.declared.item.ShownKind.{ShownKind}
@@ -26,6 +26,7 @@ use Rattle.cp_resolved.specs.Stands.{Ground, DisplayItem, InvokedBy, kind_of}
 use Rattle.cp_refine.specs.Named.{shown_by, shown_of}
 use Rattle.cp_refine.proofs.control.Control.{Taken, StepIs, takes_item, acts, fails, goes_on_to, scope_is}
 use Rattle.cp_refine.proofs.expressions.Expressions.{expression_ok}
+use Rattle.cp_refine.proofs.control.Moving.{represents_with}
 use Rattle.cp_refine.proofs.calls.Kept.{kept_left, kept_right}
 use Rattle.cp_refine.proofs.expressions.Numbers.{is_true_same}
 use Rattle.cp_refine.proofs.control.Running.{Executes, frames_below, sees_now}
@@ -55,39 +56,8 @@ shown_same g x (negsuc n) h few = absurd (grind (arith, ints, h))
 abbrev typed_as : Ty → Value → Typed
 typed_as t w = record { ty = t; value = w }
 
--- ---- the output is no part of anything else
-
-begun_kept : (s : State) (os : List Shown) (k : ComponentKind) (u : ComponentStatus) → HasBegun (record s { output = os }) k u → HasBegun s k u
-begun_kept s os (kind.Monitor j) uninitialised b = b
-begun_kept s os kind.Class uninitialised b = b
-begun_kept s os _ _ b = b
-
-monitor_kept : (s : State) (m : Machine) (os : List Shown) (us : List slot_shown.Shown) (n : ℕ) (k : ComponentKind) → MonitorIs s m n k → MonitorIs (record s { output = os }) (record m { output = us }) n k
-monitor_kept s m os us n (kind.Process j) h = h
-monitor_kept s m os us n _ h = h
-
 pub output_is : (g : Ground) (p : Program) (l : Layouts) (s : State) (m : Machine) (os : List Shown) (us : List slot_shown.Shown) → us ≡ map (shown_of g.firsts) os → Represents g p l s m → Represents g p l (record s { output = os }) (record m { output = us })
-output_is g p l s m os us e rep =
-    record {
-      process_count = rep.process_count;
-      component_count = rep.component_count;
-      processes = rep.processes;
-      components = λ n h. component n (rep.components n h);
-      monitors = λ n h. monitor_kept s m os us n (component_at g.tables n).kind (rep.monitors n h);
-      queues = record { waiting = rep.queues.waiting; queued = rep.queues.queued };
-      pending = rep.pending;
-      gates = rep.gates;
-      output = e;
-    }
-  where
-    component : (n : ℕ) → ComponentIs g p l s m n → ComponentIs g p l (record s { output = os }) (record m { output = us }) n
-    component n c =
-        record {
-          phase = c.phase;
-          variables = c.variables;
-          parts = λ y u k b. c.parts y u k (begun_kept s os (component_at g.tables n).kind (named.component_at s.components n).status b);
-          others = c.others;
-        }
+output_is g p l s m os us e rep = represents_with g p l s m os us s.pending m.pending e rep.pending rep
 
 -- ---- the step
 

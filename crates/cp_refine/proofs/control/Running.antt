@@ -21,7 +21,7 @@ local_lies m m2 t w n e h =
       block = λ k less. ap (λ (xs : List ℤ). slice_index_or xs (n + k) (pos 0)) (sym e) ∙ h.block k less;
     }
 
-permanent_lies : (m m2 : Memory) (t : Ty) (w : Value) (n : ℕ) → m.permanents ≡ m2.permanents → LiesAt m t w (Permanent n) → LiesAt m2 t w (Permanent n)
+pub permanent_lies : (m m2 : Memory) (t : Ty) (w : Value) (n : ℕ) → m.permanents ≡ m2.permanents → LiesAt m t w (Permanent n) → LiesAt m2 t w (Permanent n)
 permanent_lies m m2 t w n e h =
     record {
       typed = h.typed;

@@ -16,8 +16,8 @@ use Rattle.cp_store.specs.Sets as sets
 use Rattle.cp_meaning.specs.Types.{Ty, Range, ordinal, set_over, array_over, record_with, component_of, natural_of, is_within}
 use Rattle.cp_meaning.specs.Operations as names
 use Rattle.cp_resolved.specs.Stands.{ValueGiven, PlaceGiven, GivenBy, IsGiven, AreGiven}
-use Rattle.cp_refine.proofs.assignments.AnyAssignments.{number_writes, RangeKnown}
-use Rattle.cp_refine.proofs.assignments.Blocks.{WritesFirst, puts_block, set_writes, copy_writes}
+use Rattle.cp_refine.proofs.assignments.AnyAssignments.{RangeKnown}
+use Rattle.cp_refine.proofs.assignments.Blocks.{WritesFirst, number_writes, puts_block, set_writes, copy_writes}
 use Rattle.cp_refine.proofs.expressions.Expressions.{expression_ok}
 use Rattle.cp_refine.proofs.calls.Kept.{kept_left, kept_right}
 use Rattle.cp_refine.proofs.expressions.Members.{bits_below, set_with}

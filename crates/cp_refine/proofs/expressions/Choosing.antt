@@ -1,6 +1,6 @@
 -- A part of a variable stands as many cells further on as a field or an index says, on names and on slots.
 use Rattle.std.proofs.Common.{◌≡◌, ◌∙◌, ℕ, ◌+◌, ◌-◌, ◌*◌, ◌^◌, ◌<◌, ◌≤◌, Bool, true, false, if◌then◌else◌, List, [], ◌∷◌, ◌++◌, Option, Some, None, ap, sym, refl, subst, arith}
-use Rattle.cp_refine.proofs.Words.{ℤ, pos, negsuc, ◌+ℤ◌, ◌-ℤ◌, neg_ℤ, int_le, int_lt, ◌&&◌, min, unsigned_abs, Result, Ok, Err, ints, lt-ltb, Tables, Address, Permanent}
+use Rattle.cp_refine.proofs.Words.{some_same, ℤ, pos, negsuc, ◌+ℤ◌, ◌-ℤ◌, neg_ℤ, int_le, int_lt, ◌&&◌, min, unsigned_abs, Result, Ok, Err, ints, lt-ltb, Tables, Address, Permanent}
 use Rattle.cp_refine.proofs.Words.{Local, Frame, HasCells, then_with, Name, same_name, Outcome, ◌>>=◌, out_of_range, number_of, Choice, the_field, the_element, Place}
 use Rattle.cp_refine.proofs.Words.{Typed, View, Target, with_choice, value_at, cells_of, Layouts, Here, further, PlaceAt, Memory, moved, onward, stretch, origin_address}
 use Rattle.cp_refine.proofs.Words.{element_offset, with_field, with_index, with_element_of, Chosen, further_chosen, field_chosen, one_chosen, then_chosen, chosen_at}
@@ -143,17 +143,14 @@ module _ (r : Tables) (l : Layouts) (fs : List Frame) (v : View) (m : Memory) (f
   field_target ts x c e (Err a) (Err b) i = i
   field_target ts x c e _ _ i = absurd i
 
-  some_designated : (d e : Designated) → Some d ≡ Some e → d ≡ e
-  some_designated d e i = cc
-
   pub field_ok : (d e : Designated) (o : Outcome Target) (x : Name) → DesignatedAgrees r l fs m f o d → with_field_form d x ≡ Some e → DesignatedAgrees r l fs m f (o >>= λ t. Ok (with_field t x)) e
-  field_ok (a_component c k) e o x i j = subst (DesignatedAgrees r l fs m f (o >>= λ t. Ok (with_field t x))) (some_designated (a_component c k) e j) tt
+  field_ok (a_component c k) e o x i j = subst (DesignatedAgrees r l fs m f (o >>= λ t. Ok (with_field t x))) (some_same (a_component c k) e j) tt
   field_ok (a_variable p (record_with ts)) e o x i j = go p i (field_chosen ts x) refl j
     where
       go : (p : code.Place) → TargetAgrees r l fs o (record_with ts) (plain_address m f p) → (w : Option Chosen) → field_chosen ts x ≡ w → then_form w (λ c. Some (part_of_form p c)) ≡ Some e → DesignatedAgrees r l fs m f (o >>= λ t. Ok (with_field t x)) e
       go p i None k j = absurd (cc)
       go (code.place b offset is) i (Some c) k j =
-          subst (DesignatedAgrees r l fs m f (o >>= λ t. Ok (with_field t x))) (some_designated (a_variable (code.place b (offset + c.0) is) c.1) e j)
+          subst (DesignatedAgrees r l fs m f (o >>= λ t. Ok (with_field t x))) (some_same (a_variable (code.place b (offset + c.0) is) c.1) e j)
           (subst (TargetAgrees r l fs (o >>= λ t. Ok (with_field t x)) c.1) (sym (ap (plain_indexed m f is) (sym (moved_moved (origin_address m.references f b) offset c.0)) ∙ indexed_further m f is (moved (origin_address m.references f b) offset) c.0))
           (field_target ts x c k o (plain_indexed m f is (moved (origin_address m.references f b) offset)) i))
   field_ok y e o x i j = absurd (cc)
@@ -200,9 +197,9 @@ module _ (r : Tables) (l : Layouts) (fs : List Frame) (v : View) (m : Memory) (f
   indexed_target q u t c _ _ i x j k = absurd j
 
   element_ok : (d e : Designated) (o : Outcome Target) (t : Ty) (c : code.OrdinalExpression) (i : Outcome Typed) → DesignatedAgrees r l fs m f o d → OrdinalAgrees i t (plain_value m f c) → with_element_form h d c ≡ Some e → DesignatedAgrees r l fs m f (o >>= λ t. i >>= λ a. with_index t a) e
-  element_ok (some_components first q k) e o t c i j n w = subst (DesignatedAgrees r l fs m f (o >>= λ t. i >>= λ a. with_index t a)) (some_designated (a_component (code.element first q.low q.high (h.layouts.systems k).count c) k) e w) tt
+  element_ok (some_components first q k) e o t c i j n w = subst (DesignatedAgrees r l fs m f (o >>= λ t. i >>= λ a. with_index t a)) (some_same (a_component (code.element first q.low q.high (h.layouts.systems k).count c) k) e w) tt
   element_ok (a_variable (code.place b offset is) (array_over q u)) e o t c i j n w =
-      subst (DesignatedAgrees r l fs m f (o >>= λ t. i >>= λ a. with_index t a)) (some_designated (a_variable (code.place b offset (compiled.with_index is c q (cells_of u))) u) e w)
+      subst (DesignatedAgrees r l fs m f (o >>= λ t. i >>= λ a. with_index t a)) (some_same (a_variable (code.place b offset (compiled.with_index is c q (cells_of u))) u) e w)
       (subst (TargetAgrees r l fs (o >>= λ t. i >>= λ a. with_index t a) u) (sym (indexed_last m f is c q (cells_of u) (moved (origin_address m.references f b) offset)))
       (indexed_target q u t c o (plain_indexed m f is (moved (origin_address m.references f b) offset)) i (plain_value m f c) j n))
   element_ok (a_variable p (ordinal q)) e o t c i j n w = absurd (cc)

@@ -1,6 +1,6 @@
 -- A component that is named: its number on slots is that of the component that stands at the place on names.
 use Rattle.std.proofs.Common.{◌≡◌, ◌∙◌, ℕ, suc, ◌+◌, ◌-◌, ◌*◌, ◌^◌, min, ◌<◌, ◌≤◌, Bool, true, false, if◌then◌else◌, List, [], ◌∷◌, ◌++◌, Option, Some, None, ap, sym, refl, subst, arith, length, append_assoc}
-use Rattle.cp_refine.proofs.Words.{ℤ, pos, ◌+ℤ◌, ◌-ℤ◌, neg_ℤ, unsigned_abs, slice_index_or, Result, Ok, Err, Tables, ComponentPlace, Frame, then_with, Name, Outcome}
+use Rattle.cp_refine.proofs.Words.{some_same, ℤ, pos, ◌+ℤ◌, ◌-ℤ◌, neg_ℤ, unsigned_abs, slice_index_or, Result, Ok, Err, Tables, ComponentPlace, Frame, then_with, Name, Outcome}
 use Rattle.cp_refine.proofs.Words.{out_of_range, ◌>>=◌, Choice, the_field, the_element, number_of, in_component, Place, knows, Component, system_of, Typed}
 use Rattle.cp_refine.proofs.Words.{designator_calls, selectors_calls, selector_calls, field_chosen, OrdinalAgrees, FormAgrees, Sees, ComponentAgrees, error_of}
 use Rattle.cp_refine.proofs.Words.{plain_value, AreKept, Element, Memory, onward, stretch, element_offset, Path, step_down, same_path, Scope, Meaning, local_variable}
@@ -73,15 +73,12 @@ abbrev IsVariable : Designated → Type 0
 IsVariable (a_variable p t) = Unit {0}
 IsVariable d = ⊥
 
-designated_is : (a b : Designated) → Some a ≡ Some b → a ≡ b
-designated_is a b e = cc
-
 field_variable : (t : Ty) (p : code.Place) (x : Name) (w : Designated) → field_of_form t p x ≡ Some w → IsVariable w
-field_variable (record_with ts) (code.place o offset is) x w e = then_some (IsVariable w) (field_chosen ts x) (λ c. Some (part_of_form (code.place o offset is) c)) w e (λ c k j. subst IsVariable (designated_is _ w j) tt)
+field_variable (record_with ts) (code.place o offset is) x w e = then_some (IsVariable w) (field_chosen ts x) (λ c. Some (part_of_form (code.place o offset is) c)) w e (λ c k j. subst IsVariable (some_same _ w j) tt)
 field_variable y p x w e = absurd (cc)
 
 element_variable : (t : Ty) (p : code.Place) (c : code.OrdinalExpression) (w : Designated) → element_of_form t p c ≡ Some w → IsVariable w
-element_variable (array_over r t) (code.place o offset is) c w e = subst IsVariable (designated_is _ w e) tt
+element_variable (array_over r t) (code.place o offset is) c w e = subst IsVariable (some_same _ w e) tt
 element_variable y p x w e = absurd (cc)
 
 module _ (r : Tables) (l : Layouts) (fs : List Frame) (v : View) (m : Memory) (f : Frame) (h : Here) (sees : Sees r l fs v m f h) (bindings : List ℕ) (known : ComponentsKnown v f h bindings) where
@@ -141,28 +138,28 @@ module _ (r : Tables) (l : Layouts) (fs : List Frame) (v : View) (m : Memory) (f
       exact n first number le same = (let few = known.few in omega (arith, le, same, few))
 
   begun_agrees : (x : Name) (w : Option Meaning) → find x h.scope ≡ w → (d : Designated) → begun_form h x w ≡ Some d → NamedAgrees (Ok (target_meant v x w)) d
-  begun_agrees x (Some (local_variable t)) e d k = of_variable (Ok (target_meant v x (Some (local_variable t)))) d (subst IsVariable (designated_is _ d k) tt)
+  begun_agrees x (Some (local_variable t)) e d k = of_variable (Ok (target_meant v x (Some (local_variable t)))) d (subst IsVariable (some_same _ d k) tt)
   begun_agrees x (Some (routine_meaning y)) e d k = of_variable (Ok (target_meant v x (Some (routine_meaning y)))) d (go (is_own h x) k)
     where
       go : (b : Bool) → result_begun h b ≡ Some d → IsVariable d
-      go true k = subst IsVariable (designated_is _ d k) tt
+      go true k = subst IsVariable (some_same _ d k) tt
       go false k = absurd (cc)
-  begun_agrees x (Some (permanent_variable (component_of n))) e d k = subst (NamedAgrees (Ok (target_meant v x (Some (permanent_variable (component_of n)))))) (designated_is _ d k) (go (is_parameter x (system_of h.program h.system).parameters) refl)
+  begun_agrees x (Some (permanent_variable (component_of n))) e d k = subst (NamedAgrees (Ok (target_meant v x (Some (permanent_variable (component_of n)))))) (some_same _ d k) (go (is_parameter x (system_of h.program h.system).parameters) refl)
     where
       go : (b : Bool) → is_parameter x (system_of h.program h.system).parameters ≡ b → NamedAgrees (Ok (target_meant v x (Some (permanent_variable (component_of n))))) (component_begun h x n b)
       go true i = λ cs fields. begun_parameter x n e i cs
       go false i = λ cs fields. begun_alone x n e i cs fields
   begun_agrees x (Some (permanent_variable (array_over q (component_of n)))) e d k =
-      subst (NamedAgrees (Ok (target_meant v x (Some (permanent_variable (array_over q (component_of n))))))) (designated_is _ d k) (refl, λ j cs less fields. begun_element x q n e j cs less fields)
-  begun_agrees x (Some (permanent_variable (array_over q (ordinal n)))) e d k = of_variable (Ok (target_meant v x (Some (permanent_variable (array_over q (ordinal n)))))) d (subst IsVariable (designated_is _ d k) tt)
-  begun_agrees x (Some (permanent_variable (array_over q queue_type))) e d k = of_variable (Ok (target_meant v x (Some (permanent_variable (array_over q queue_type))))) d (subst IsVariable (designated_is _ d k) tt)
-  begun_agrees x (Some (permanent_variable (array_over q (set_over n)))) e d k = of_variable (Ok (target_meant v x (Some (permanent_variable (array_over q (set_over n)))))) d (subst IsVariable (designated_is _ d k) tt)
-  begun_agrees x (Some (permanent_variable (array_over q (array_over n u)))) e d k = of_variable (Ok (target_meant v x (Some (permanent_variable (array_over q (array_over n u)))))) d (subst IsVariable (designated_is _ d k) tt)
-  begun_agrees x (Some (permanent_variable (array_over q (record_with ts)))) e d k = of_variable (Ok (target_meant v x (Some (permanent_variable (array_over q (record_with ts)))))) d (subst IsVariable (designated_is _ d k) tt)
-  begun_agrees x (Some (permanent_variable (ordinal n))) e d k = of_variable (Ok (target_meant v x (Some (permanent_variable (ordinal n))))) d (subst IsVariable (designated_is _ d k) tt)
-  begun_agrees x (Some (permanent_variable queue_type)) e d k = of_variable (Ok (target_meant v x (Some (permanent_variable queue_type)))) d (subst IsVariable (designated_is _ d k) tt)
-  begun_agrees x (Some (permanent_variable (set_over n))) e d k = of_variable (Ok (target_meant v x (Some (permanent_variable (set_over n))))) d (subst IsVariable (designated_is _ d k) tt)
-  begun_agrees x (Some (permanent_variable (record_with ts))) e d k = of_variable (Ok (target_meant v x (Some (permanent_variable (record_with ts))))) d (subst IsVariable (designated_is _ d k) tt)
+      subst (NamedAgrees (Ok (target_meant v x (Some (permanent_variable (array_over q (component_of n))))))) (some_same _ d k) (refl, λ j cs less fields. begun_element x q n e j cs less fields)
+  begun_agrees x (Some (permanent_variable (array_over q (ordinal n)))) e d k = of_variable (Ok (target_meant v x (Some (permanent_variable (array_over q (ordinal n)))))) d (subst IsVariable (some_same _ d k) tt)
+  begun_agrees x (Some (permanent_variable (array_over q queue_type))) e d k = of_variable (Ok (target_meant v x (Some (permanent_variable (array_over q queue_type))))) d (subst IsVariable (some_same _ d k) tt)
+  begun_agrees x (Some (permanent_variable (array_over q (set_over n)))) e d k = of_variable (Ok (target_meant v x (Some (permanent_variable (array_over q (set_over n)))))) d (subst IsVariable (some_same _ d k) tt)
+  begun_agrees x (Some (permanent_variable (array_over q (array_over n u)))) e d k = of_variable (Ok (target_meant v x (Some (permanent_variable (array_over q (array_over n u)))))) d (subst IsVariable (some_same _ d k) tt)
+  begun_agrees x (Some (permanent_variable (array_over q (record_with ts)))) e d k = of_variable (Ok (target_meant v x (Some (permanent_variable (array_over q (record_with ts)))))) d (subst IsVariable (some_same _ d k) tt)
+  begun_agrees x (Some (permanent_variable (ordinal n))) e d k = of_variable (Ok (target_meant v x (Some (permanent_variable (ordinal n))))) d (subst IsVariable (some_same _ d k) tt)
+  begun_agrees x (Some (permanent_variable queue_type)) e d k = of_variable (Ok (target_meant v x (Some (permanent_variable queue_type)))) d (subst IsVariable (some_same _ d k) tt)
+  begun_agrees x (Some (permanent_variable (set_over n))) e d k = of_variable (Ok (target_meant v x (Some (permanent_variable (set_over n))))) d (subst IsVariable (some_same _ d k) tt)
+  begun_agrees x (Some (permanent_variable (record_with ts))) e d k = of_variable (Ok (target_meant v x (Some (permanent_variable (record_with ts))))) d (subst IsVariable (some_same _ d k) tt)
   begun_agrees x y e d k = absurd (cc)
 
   -- ---- selectors
@@ -174,7 +171,7 @@ module _ (r : Tables) (l : Layouts) (fs : List Frame) (v : View) (m : Memory) (f
 
   field_agrees : (x : Name) (d w : Designated) (o : Outcome Target) → NamedAgrees o d → with_field_form d x ≡ Some w → NamedAgrees (o >>= λ t. Ok (with_field t x)) w
   field_agrees x (a_variable p t) w o k e = of_variable _ w (field_variable t p x w e)
-  field_agrees x (a_component c n) w o k e = subst (NamedAgrees (o >>= λ t. Ok (with_field t x))) (designated_is (a_component c n) w e) (field_number x o (plain_component m bindings f c) k)
+  field_agrees x (a_component c n) w o k e = subst (NamedAgrees (o >>= λ t. Ok (with_field t x))) (some_same (a_component c n) w e) (field_number x o (plain_component m bindings f c) k)
   field_agrees x (some_components first q n) w o k e = absurd (cc)
 
   element_number : (first n : ℕ) (q : Range) (t : Target) (z : ℤ) → ArrayAgrees (Ok t) first q n → (b : Bool) → is_within q z ≡ b →
@@ -199,7 +196,7 @@ module _ (r : Tables) (l : Layouts) (fs : List Frame) (v : View) (m : Memory) (f
   element_agrees (a_variable p u) w o t c i k j e = of_variable _ w (element_variable u p c w e)
   element_agrees (a_component p n) w o t c i k j e = absurd (cc)
   element_agrees (some_components first q n) w o t c i k j e =
-      subst (NamedAgrees (o >>= λ u. i >>= λ x. with_index u x)) (designated_is (a_component (code.element first q.low q.high (h.layouts.systems n).count c) n) w e) (index_number first n q t o i (plain_value m f c) k j)
+      subst (NamedAgrees (o >>= λ u. i >>= λ x. with_index u x)) (some_same (a_component (code.element first q.low q.high (h.layouts.systems n).count c) n) w e) (index_number first n q t o i (plain_value m f c) k j)
 
   index_agrees : (d w : Designated) (o : Outcome Target) (x : Formed) (i : Outcome Typed) → NamedAgrees o d → FormAgrees m f i x.ty x.form → with_index_form h d x ≡ Some w → NamedAgrees (o >>= λ u. i >>= λ y. with_index u y) w
   index_agrees d w o x i k j e = go x.form j e
@@ -220,7 +217,7 @@ module _ (r : Tables) (l : Layouts) (fs : List Frame) (v : View) (m : Memory) (f
   done_agrees (Err e) d k = k
 
   selected_agrees : (ss : Selectors) (d w : Designated) (o : Outcome Target) → AreKept h (selectors_calls h.scope ss) → NamedAgrees o d → selected_form h ss d ≡ Some w → NamedAgrees (o >>= selected v ss) w
-  selected_agrees no_selectors d w o kept k e = subst (NamedAgrees (o >>= λ t. Ok t)) (designated_is d w e) (done_agrees o d k)
+  selected_agrees no_selectors d w o kept k e = subst (NamedAgrees (o >>= λ t. Ok t)) (some_same d w e) (done_agrees o d k)
   selected_agrees (more_selectors c ss) d w o kept k e =
       then_some (NamedAgrees (o >>= selected v (more_selectors c ss)) w) (chosen_form h c d) _ w e (λ x ex j.
       subst (λ (p : Outcome Target). NamedAgrees p w) (bind_twice o (chosen v c) (selected v ss))

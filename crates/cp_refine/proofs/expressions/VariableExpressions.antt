@@ -1,6 +1,6 @@
 -- An expression that is a variable: it is found where the variable is.
 use Rattle.std.proofs.Common.{◌≡◌, ◌∙◌, ℕ, ◌++◌, Bool, true, false, if◌then◌else◌, List, [], Option, Some, None, ap, sym, refl, subst}
-use Rattle.cp_refine.proofs.Words.{ℤ, pos, Ok, Err, Relation, Addition, Plus, Minus, Or, Multiplication, Tables, Frame, Memory, Outcome, ◌>>=◌, Typed, signed_value}
+use Rattle.cp_refine.proofs.Words.{some_same, ℤ, pos, Ok, Err, Relation, Addition, Plus, Minus, Or, Multiplication, Tables, Frame, Memory, Outcome, ◌>>=◌, Typed, signed_value}
 use Rattle.cp_refine.proofs.Words.{range_of_base, View, Target, value_at, Layouts, Here, TargetAgrees, Sees, plain_address, AreKept, Sign, Equal, NotEqual, Less, Greater}
 use Rattle.cp_refine.proofs.Words.{AtMost, AtLeast, In, Times, Div, Mod, And, Ty, ordinal, queue_type, Base, integers, characters, all_integers, is_within}
 use Rattle.cp_tree.specs.declared.constant.Sign.TheVariants as sign
@@ -121,9 +121,6 @@ SomeName v h e = (d : Designator) × (es : Expressions) × IsName v h e d es
 abbrev SomeFactor : View → Here → Factor → Type 0
 SomeFactor v h c = (d : Designator) × (es : Expressions) × IsNamedFactor v h c d es
 
-designator_is : (a b : Designator) → Some a ≡ Some b → a ≡ b
-designator_is a b e = cc
-
 module _ (v : View) (h : Here) where
   -- a factor alone is its expression
   lone : (at at2 at3 : ℕ) (c : Factor) (d : Designator) (es : Expressions) → IsNamedFactor v h c d es → IsName v h (alone at (sum at2 None (term at3 c no_factors) no_terms)) d es
@@ -160,7 +157,7 @@ module _ (v : View) (h : Here) where
     variable_is x d k = absurd (cc)
 
     factor_is : (c : Factor) (d : Designator) → variable_in_factor c ≡ Some d → IsNamedFactor v h c d no_expressions
-    factor_is (named at x no_expressions) d k = subst (λ y. IsNamedFactor v h (named at x no_expressions) y no_expressions) (designator_is x d k) (own_factor at x no_expressions)
+    factor_is (named at x no_expressions) d k = subst (λ y. IsNamedFactor v h (named at x no_expressions) y no_expressions) (some_same x d k) (own_factor at x no_expressions)
     factor_is (group at e) d k = in_group at e d no_expressions (variable_is e d k)
     factor_is x d k = absurd (cc)
 
@@ -261,9 +258,6 @@ plain_name h at d _ z p e k = e
 place_of_place : (f : Form) (p : code.Place) → f ≡ as_place p → place_form f ≡ Some p
 place_of_place f p e = ap place_form e
 
-code_is : (p q : code.Place) → Some p ≡ Some q → p ≡ q
-code_is p q e = cc
-
 module _ (r : Tables) (l : Layouts) (fs : List Frame) (v : View) (m : Memory) (f : Frame) (h : Here) (sees : Sees r l fs v m f h) where
   designated : (d : Designator) (z : Formed) (p : code.Place) → AreKept h (designator_calls h.scope d) → then_form (designator_form h d) valued_form ≡ Some z → place_form z.form ≡ Some p → TargetAgrees r l fs (target_value v d) z.ty (plain_address m f p)
   designated d z p kept e k =
@@ -271,7 +265,7 @@ module _ (r : Tables) (l : Layouts) (fs : List Frame) (v : View) (m : Memory) (f
     where
       go : (w : Designated) → designator_form h d ≡ Some w → valued_form w ≡ Some z → TargetAgrees r l fs (target_value v d) z.ty (plain_address m f p)
       go (a_variable q t) ew j =
-          let same : q ≡ p = code_is q p (sym (place_loaded q t) ∙ (ap (λ (x : Formed). place_form x.form) (form_is j) ∙ k)) in
+          let same : q ≡ p = some_same q p (sym (place_loaded q t) ∙ (ap (λ (x : Formed). place_form x.form) (form_is j) ∙ k)) in
           let type_same : t ≡ z.ty = ap (λ (x : Formed). x.ty) (form_is j) in
           subst (λ (x : code.Place). TargetAgrees r l fs (target_value v d) z.ty (plain_address m f x)) same
           (subst (λ (u : Ty). TargetAgrees r l fs (target_value v d) u (plain_address m f q)) type_same (designator_ok r l fs v m f h sees d (a_variable q t) kept ew))

@@ -10,7 +10,7 @@ use Rattle.cp_meaning.specs.State as named
 use Rattle.cp_meaning.specs.State.{Component, no_component, ready, at_gate, Status, Process, no_process, State, is_inside, has_entry, waits_at}
 use Rattle.cp_meaning.specs.Kernel.{after, is_anybody_inside, with_line, line_of}
 use Rattle.cp_meaning.specs.Readings.{first_inside, holder_of}
-use Rattle.cp_refine.proofs.control.Moving.{set_here, set_there, same_or_other, moved, inside_same}
+use Rattle.cp_refine.proofs.control.Moving.{set_here, set_there, same_or_other, set_keeps, inside_same, IsAwake, ready_awake, gate_awake, moved}
 use Rattle.cp_refine.proofs.expressions.Members.{not_equal as differs}
 
 -- ---- who is inside
@@ -110,14 +110,57 @@ module _ (g : Ground) (s s2 : State) (m m2 : Machine) (n j : ℕ) (own : OwnNumb
           (ap (λ (x : Monitor). x.line) there ∙ (h.0 ∙ sym (lines_there k d)), ap (λ (x : Monitor). x.holder) there ∙ (h.1 ∙ sym (holders_there k d)))
   monitors_change k _ e h = tt
 
--- of the components only the line changes
-line_keeps : {A : Type 0} (s : State) (n : ℕ) → n < length s.components → (read : Component → A) (line : List ℕ) → ((c : Component) → read (record c { line = line }) ≡ read c) → (i : ℕ) → read (named.component_at (with_line s.components n line) i) ≡ read (named.component_at s.components i)
-line_keeps s n there read line same i = go (same_or_other i n)
-  where
-    go : (i ≡ n) ⊎ (i ≢ n) → read (named.component_at (with_line s.components n line) i) ≡ read (named.component_at s.components i)
-    go (inl d) =
-        ap (λ k. read (named.component_at (with_line s.components n line) k)) d ∙ (ap read (set_here s.components n (record (named.component_at s.components n) { line = line }) no_component there) ∙ (same (named.component_at s.components n) ∙ ap (λ k. read (named.component_at s.components k)) (sym d)))
-    go (inr d) = ap read (set_there s.components n i (record (named.component_at s.components n) { line = line }) no_component d)
+-- the components, of which the line of one may change
+pub record IsLined (n : ℕ) (cs ds : List Component) : Type 0 where
+  pub count : length ds ≡ length cs
+  pub status : (k : ℕ) → (named.component_at ds k).status ≡ (named.component_at cs k).status
+  pub environment : (k : ℕ) → (named.component_at ds k).environment ≡ (named.component_at cs k).environment
+  pub others : (k : ℕ) → k ≢ n → (named.component_at ds k).line ≡ (named.component_at cs k).line
+
+unlined : (n : ℕ) (cs : List Component) → IsLined n cs cs
+unlined n cs = record { count = refl; status = λ k. refl; environment = λ k. refl; others = λ k d. refl }
+
+module _ (n : ℕ) (cs : List Component) (line : List ℕ) (there : n < length cs) where
+  abbrev changed : Component
+  changed = record (named.component_at cs n) { line = line }
+
+  lined : IsLined n cs (with_line cs n line)
+  lined =
+      record {
+        count = length-set cs n changed;
+        status = set_keeps (λ (c : Component). c.status) cs n changed no_component there refl;
+        environment = set_keeps (λ (c : Component). c.environment) cs n changed no_component there refl;
+        others = λ k d. ap (λ (c : Component). c.line) (set_there cs n k changed no_component d);
+      }
+
+  new_line : (named.component_at (with_line cs n line) n).line ≡ line
+  new_line = ap (λ (c : Component). c.line) (set_here cs n changed no_component there)
+
+-- ---- a process that enters or leaves a monitor
+
+module _ (g : Ground) (p : Program) (l : Layouts) (s : State) (m : Machine) (q : ℕ) (x : Process) (t : Thread) (n j : ℕ) (rep : Represents g p l s m)
+    (own : OwnNumbers g) (is : (component_at g.tables n).kind ≡ kind.Monitor j) (known : j < length m.monitors) (there_n : n < length s.components) (there : q < length s.processes) where
+  monitor_at_first : MonitorIs s m n (kind.Monitor j)
+  monitor_at_first = subst (MonitorIs s m n) is (rep.monitors n there_n)
+
+  -- who is inside of each other monitor is as before
+  gate_changes : IsAwake (named.process_at s.processes q).status → IsAwake x.status → ProcessIs g p l q x t → (cs : List Component) (y : Monitor) → IsLined n s.components cs →
+      y.line ≡ (named.component_at cs n).line → y.holder ≡ first_inside n (slice_set s.processes q x) → ((k : ℕ) → k ≢ n → is_inside k x ≡ is_inside k (named.process_at s.processes q)) →
+      Represents g p l (record s { processes = slice_set s.processes q x; components = cs }) (record m { threads = slice_set m.threads q t; monitors = slice_set m.monitors j y })
+  gate_changes was now stands cs y lines line holder inside =
+      moved g p l s m q x t cs (slice_set m.monitors j y) s.pending m.pending rep
+      (record {
+        there = there;
+        was_awake = was;
+        awake = now;
+        stands = stands;
+        count = lines.count;
+        same_status = lines.status;
+        same_environment = lines.environment;
+        monitors = λ k h. monitors_change g s (record s { processes = slice_set s.processes q x; components = cs }) m (record m { threads = slice_set m.threads q t; monitors = slice_set m.monitors j y }) n j own is y known refl
+            line holder lines.others (λ i d. inside_same i q x s.processes (inside i d) there) k (component_at g.tables k).kind refl (rep.monitors k h);
+        pending = rep.pending;
+      })
 
 -- ---- enter
 
@@ -140,81 +183,33 @@ module _ (g : Ground) (p : Program) (l : Layouts) (s : State) (m : Machine) (q :
       ap (λ (v : Status). has_entry k x.calls && not (waits_at k v)) e ∙ (ap (λ (b : Bool). has_entry k x.calls && not b) w ∙ (ap (λ (b : Bool). b && true) (called.others k d) ∙ sym (ap (λ (v : Status). has_entry k (named.process_at s.processes q).calls && not (waits_at k v)) was)))
 
   -- nobody is inside: the caller goes in
-  pub enters_free : first_inside n s.processes ≡ None → x.status ≡ ready → t.status ≡ status.Ready → ProcessIs g p l q x t →
+  pub enters_free : first_inside n s.processes ≡ None → x.status ≡ ready → ProcessIs g p l q x t →
       Represents g p l (record s { processes = slice_set s.processes q x }) (entered_by None (with_thread m q t) q j)
-  enters_free free now now_slot stands =
-      moved g p l s m q x t s.components (slice_set m.monitors j (record { holder = Some q; line = (monitor_at m j).line })) s.pending m.pending rep
-      (record {
-        there = there;
-        was_started = λ e. cc;
-        was_undelayed = λ k e. cc;
-        started = λ e. cc;
-        undelayed = λ k e. cc;
-        undelayed_slot = λ c e. cc;
-        stands = stands;
-        count = refl;
-        same_status = λ k. refl;
-        same_environment = λ k. refl;
-        monitors = λ k h. monitors_change g s (record s { processes = slice_set s.processes q x }) m (entered_by None (with_thread m q t) q j) n j own is (record { holder = Some q; line = (monitor_at m j).line }) known refl
-            line_here holder_here (λ i d. refl) holders_there k (component_at g.tables k).kind refl (rep.monitors k h);
-        pending = rep.pending;
-      })
+  enters_free free now stands =
+      gate_changes g p l s m q x t n j rep own is known there_n there (ready_awake _ was) (ready_awake x.status now) stands s.components (record { holder = Some q; line = (monitor_at m j).line }) (unlined n s.components)
+      (monitor_at_first g p l s m q x t n j rep own is known there_n there).0 holder_here (λ k d. inside_there ready now k d refl)
     where
-      here : MonitorIs s m n (kind.Monitor j)
-      here = subst (MonitorIs s m n) is (rep.monitors n there_n)
-
-      line_here : (monitor_at m j).line ≡ (named.component_at s.components n).line
-      line_here = here.0
-
       inside_now : is_inside n x ≡ true
       inside_now = ap (λ (v : Status). has_entry n x.calls && not (waits_at n v)) now ∙ ap (λ (b : Bool). b && true) called.entry
 
       holder_here : Some q ≡ first_inside n (slice_set s.processes q x)
       holder_here = sym (only_one n q x s.processes there (λ k h d. all_outside n s.processes free k h) inside_now)
 
-      holders_there : (k : ℕ) → k ≢ n → first_inside k (slice_set s.processes q x) ≡ first_inside k s.processes
-      holders_there k d = inside_same k q x s.processes (inside_there ready now k d refl) there
-
   -- somebody is inside: the caller goes to the end of the line
-  pub enters_busy : (r : ℕ) → first_inside n s.processes ≡ Some r → x.status ≡ at_gate n → t.status ≡ status.AtGate j → ProcessIs g p l q x t →
+  pub enters_busy : (r : ℕ) → first_inside n s.processes ≡ Some r → x.status ≡ at_gate n → ProcessIs g p l q x t →
       Represents g p l (record s { processes = slice_set s.processes q x; components = with_line s.components n (line_of s n ++ q ∷ []) })
       (record m { threads = slice_set m.threads q t; monitors = slice_set m.monitors j (record { holder = Some r; line = (monitor_at m j).line ++ q ∷ [] }) })
-  enters_busy r busy now now_slot stands =
-      moved g p l s m q x t (with_line s.components n (line_of s n ++ q ∷ [])) (slice_set m.monitors j (record { holder = Some r; line = (monitor_at m j).line ++ q ∷ [] })) s.pending m.pending rep
-      (record {
-        there = there;
-        was_started = λ e. cc;
-        was_undelayed = λ k e. cc;
-        started = λ e. cc;
-        undelayed = λ k e. cc;
-        undelayed_slot = λ c e. cc;
-        stands = stands;
-        count = length-set s.components n _;
-        same_status = line_keeps s n there_n (λ c. c.status) (line_of s n ++ q ∷ []) (λ c. refl);
-        same_environment = line_keeps s n there_n (λ c. c.environment) (line_of s n ++ q ∷ []) (λ c. refl);
-        monitors = λ k h. monitors_change g s (record s { processes = slice_set s.processes q x; components = with_line s.components n (line_of s n ++ q ∷ []) }) m (record m { threads = slice_set m.threads q t; monitors = slice_set m.monitors j (record { holder = Some r; line = (monitor_at m j).line ++ q ∷ [] }) }) n j own is (record { holder = Some r; line = (monitor_at m j).line ++ q ∷ [] }) known refl
-            line_here holder_here lines_there holders_there k (component_at g.tables k).kind refl (rep.monitors k (let e = length-set s.components n (record (named.component_at s.components n) { line = line_of s n ++ q ∷ [] }) in omega (arith, e, h)));
-        pending = rep.pending;
-      })
+  enters_busy r busy now stands =
+      gate_changes g p l s m q x t n j rep own is known there_n there (ready_awake _ was) (gate_awake n x.status now) stands (with_line s.components n longer) (record { holder = Some r; line = (monitor_at m j).line ++ q ∷ [] }) (lined n s.components longer there_n)
+      (ap (λ ks. ks ++ q ∷ []) (monitor_at_first g p l s m q x t n j rep own is known there_n there).0 ∙ sym (new_line n s.components longer there_n)) (sym (inside_same n q x s.processes outside_now there ∙ busy))
+      (λ k d. inside_there (at_gate n) now k d (differs n k (λ e. d (sym e))))
     where
-      here : MonitorIs s m n (kind.Monitor j)
-      here = subst (MonitorIs s m n) is (rep.monitors n there_n)
-
-      line_here : (monitor_at m j).line ++ q ∷ [] ≡ (named.component_at (with_line s.components n (line_of s n ++ q ∷ [])) n).line
-      line_here = ap (λ ks. ks ++ q ∷ []) here.0 ∙ sym (ap (λ (c : Component). c.line) (set_here s.components n (record (named.component_at s.components n) { line = line_of s n ++ q ∷ [] }) no_component there_n))
+      longer : List ℕ
+      longer = line_of s n ++ q ∷ []
 
       outside_now : is_inside n x ≡ is_inside n (named.process_at s.processes q)
       outside_now =
           ap (λ (v : Status). has_entry n x.calls && not (waits_at n v)) now ∙ (ap (λ (b : Bool). has_entry n x.calls && not b) (eq-eqb n n refl) ∙ (and_false (has_entry n x.calls) ∙ sym not_inside))
-
-      holder_here : Some r ≡ first_inside n (slice_set s.processes q x)
-      holder_here = sym (inside_same n q x s.processes outside_now there ∙ busy)
-
-      lines_there : (k : ℕ) → k ≢ n → (named.component_at (with_line s.components n (line_of s n ++ q ∷ [])) k).line ≡ (named.component_at s.components k).line
-      lines_there k d = ap (λ (c : Component). c.line) (set_there s.components n k (record (named.component_at s.components n) { line = line_of s n ++ q ∷ [] }) no_component d)
-
-      holders_there : (k : ℕ) → k ≢ n → first_inside k (slice_set s.processes q x) ≡ first_inside k s.processes
-      holders_there k d = inside_same k q x s.processes (inside_there (at_gate n) now k d (differs n k (λ e. d (sym e)))) there
 
 -- ---- leave: the caller's entry call is given up, and nobody is inside
 
@@ -225,40 +220,14 @@ pub record HasReturned (n : ℕ) (x old : Process) : Type 0 where
 module _ (g : Ground) (p : Program) (l : Layouts) (s : State) (m : Machine) (q : ℕ) (x : Process) (t : Thread) (n j : ℕ) (rep : Represents g p l s m)
     (own : OwnNumbers g) (is : (component_at g.tables n).kind ≡ kind.Monitor j) (known : j < length m.monitors) (there_n : n < length s.components)
     (there : q < length s.processes) (was : (named.process_at s.processes q).status ≡ ready) (returned : HasReturned n x (named.process_at s.processes q)) (exclusive : OthersOutside n q s.processes) where
-  pub leaves : x.status ≡ ready → t.status ≡ status.Ready → ProcessIs g p l q x t →
+  pub leaves : x.status ≡ ready → ProcessIs g p l q x t →
       Represents g p l (record s { processes = slice_set s.processes q x }) (record m { threads = slice_set m.threads q t; monitors = slice_set m.monitors j (record { holder = None; line = (monitor_at m j).line }) })
-  leaves now now_slot stands =
-      moved g p l s m q x t s.components (slice_set m.monitors j (record { holder = None; line = (monitor_at m j).line })) s.pending m.pending rep
-      (record {
-        there = there;
-        was_started = λ e. cc;
-        was_undelayed = λ k e. cc;
-        started = λ e. cc;
-        undelayed = λ k e. cc;
-        undelayed_slot = λ c e. cc;
-        stands = stands;
-        count = refl;
-        same_status = λ k. refl;
-        same_environment = λ k. refl;
-        monitors = λ k h. monitors_change g s (record s { processes = slice_set s.processes q x }) m (record m { threads = slice_set m.threads q t; monitors = slice_set m.monitors j (record { holder = None; line = (monitor_at m j).line }) }) n j own is (record { holder = None; line = (monitor_at m j).line }) known refl
-            here.0 holder_here (λ i d. refl) holders_there k (component_at g.tables k).kind refl (rep.monitors k h);
-        pending = rep.pending;
-      })
+  leaves now stands =
+      gate_changes g p l s m q x t n j rep own is known there_n there (ready_awake _ was) (ready_awake x.status now) stands s.components (record { holder = None; line = (monitor_at m j).line }) (unlined n s.components)
+      (monitor_at_first g p l s m q x t n j rep own is known there_n there).0 (sym (none_left n q x s.processes there exclusive (ap (λ (b : Bool). b && not (waits_at n x.status)) returned.out))) same_there
     where
-      here : MonitorIs s m n (kind.Monitor j)
-      here = subst (MonitorIs s m n) is (rep.monitors n there_n)
-
-      outside_now : is_inside n x ≡ false
-      outside_now = ap (λ (b : Bool). b && not (waits_at n x.status)) returned.out
-
-      holder_here : None ≡ first_inside n (slice_set s.processes q x)
-      holder_here = sym (none_left n q x s.processes there exclusive outside_now)
-
       same_there : (k : ℕ) → k ≢ n → is_inside k x ≡ is_inside k (named.process_at s.processes q)
       same_there k d = ap (λ (v : Status). has_entry k x.calls && not (waits_at k v)) now ∙ (ap (λ (b : Bool). b && true) (returned.others k d) ∙ sym (ap (λ (v : Status). has_entry k (named.process_at s.processes q).calls && not (waits_at k v)) was))
-
-      holders_there : (k : ℕ) → k ≢ n → first_inside k (slice_set s.processes q x) ≡ first_inside k s.processes
-      holders_there k d = inside_same k q x s.processes (same_there k d) there
 
 -- ---- who waits at the gate of a monitor in which nobody is goes in
 
@@ -277,42 +246,11 @@ module _ (g : Ground) (p : Program) (l : Layouts) (s : State) (m : Machine) (r :
     where
       of_gate : (u : slot_status.Status) → StatusIs g p l r (named.process_at s.processes r) (thread_at m.threads r) (at_gate n) u → Runs g p l goes goes_slot
       of_gate (status.AtGate i) h = record { stack = h.1.stack; calls = h.1.calls }
-      of_gate status.Unstarted h = absurd h
-      of_gate status.Ready h = absurd h
-      of_gate (status.Delayed c) h = absurd h
-      of_gate status.Ended h = absurd h
+      of_gate _ h = absurd h
 
   pub goes_in : Represents g p l (record s { processes = slice_set s.processes r (record (named.process_at s.processes r) { status = ready }); components = with_line s.components n line })
       (record m { threads = slice_set m.threads r (record (thread_at m.threads r) { status = status.Ready }); monitors = slice_set m.monitors j (record { holder = Some r; line = line }) })
   goes_in =
-      moved g p l s m r goes goes_slot (with_line s.components n line) (slice_set m.monitors j (record { holder = Some r; line = line })) s.pending m.pending rep
-      (record {
-        there = there;
-        was_started = λ e. cc;
-        was_undelayed = λ k e. cc;
-        started = λ e. cc;
-        undelayed = λ k e. cc;
-        undelayed_slot = λ c e. cc;
-        stands = runs_ready;
-        count = length-set s.components n _;
-        same_status = line_keeps s n there_n (λ c. c.status) line (λ c. refl);
-        same_environment = line_keeps s n there_n (λ c. c.environment) line (λ c. refl);
-        monitors = λ k h. monitors_change g s (record s { processes = slice_set s.processes r goes; components = with_line s.components n line }) m (record m { threads = slice_set m.threads r goes_slot; monitors = slice_set m.monitors j (record { holder = Some r; line = line }) }) n j own is (record { holder = Some r; line = line }) known refl
-            line_here holder_here lines_there holders_there k (component_at g.tables k).kind refl (rep.monitors k (let e = length-set s.components n (record (named.component_at s.components n) { line = line }) in omega (arith, e, h)));
-        pending = rep.pending;
-      })
-    where
-      line_here : line ≡ (named.component_at (with_line s.components n line) n).line
-      line_here = sym (ap (λ (c : Component). c.line) (set_here s.components n (record (named.component_at s.components n) { line = line }) no_component there_n))
-
-      lines_there : (k : ℕ) → k ≢ n → (named.component_at (with_line s.components n line) k).line ≡ (named.component_at s.components k).line
-      lines_there k d = ap (λ (c : Component). c.line) (set_there s.components n k (record (named.component_at s.components n) { line = line }) no_component d)
-
-      holder_here : Some r ≡ first_inside n (slice_set s.processes r goes)
-      holder_here = sym (only_one n r goes s.processes there (λ k h d. all_outside n s.processes free k h) (ap (λ (b : Bool). b && true) called))
-
-      same_there : (k : ℕ) → k ≢ n → is_inside k goes ≡ is_inside k (named.process_at s.processes r)
-      same_there k d = sym (ap (λ (v : Status). has_entry k (named.process_at s.processes r).calls && not (waits_at k v)) waits ∙ ap (λ (b : Bool). has_entry k (named.process_at s.processes r).calls && not b) (differs n k (λ e. d (sym e))))
-
-      holders_there : (k : ℕ) → k ≢ n → first_inside k (slice_set s.processes r goes) ≡ first_inside k s.processes
-      holders_there k d = inside_same k r goes s.processes (same_there k d) there
+      gate_changes g p l s m r goes goes_slot n j rep own is known there_n there (gate_awake n _ waits) (ready_awake ready refl) runs_ready (with_line s.components n line) (record { holder = Some r; line = line }) (lined n s.components line there_n)
+      (sym (new_line n s.components line there_n)) (sym (only_one n r goes s.processes there (λ k h d. all_outside n s.processes free k h) (ap (λ (b : Bool). b && true) called)))
+      (λ k d. sym (ap (λ (v : Status). has_entry k (named.process_at s.processes r).calls && not (waits_at k v)) waits ∙ ap (λ (b : Bool). has_entry k (named.process_at s.processes r).calls && not b) (differs n k (λ e. d (sym e)))))

@@ -1,46 +1,18 @@
 -- The line of a monitor in which nobody is is let in, under both kinds of gates.
-use Rattle.cp_refine.proofs.Words.{◌≡◌, ◌∙◌, ℕ, ◌<◌, true, List, [], ◌∷◌, Option, Some, None, ap, sym, refl, subst, length, slice_set, Program, ComponentKind}
-use Rattle.cp_refine.proofs.Words.{component_at, Machine, Monitor, no_monitor, monitor_at, first_inside, Layouts, Ground, gates_of, HasBegun, ComponentIs, MonitorIs}
-use Rattle.cp_refine.proofs.Words.{PendingIs, Represents, set-get_or, at_gate, has_entry, Gates, first_gates, any_gates, ComponentStatus, uninitialised, State}
+use Rattle.cp_refine.proofs.Words.{◌≡◌, ◌∙◌, ℕ, ◌<◌, true, List, [], ◌∷◌, Option, Some, None, ap, sym, refl, subst, length, slice_set, Program}
+use Rattle.cp_refine.proofs.Words.{component_at, Machine, Monitor, no_monitor, monitor_at, first_inside, Layouts, Ground, gates_of, MonitorIs}
+use Rattle.cp_refine.proofs.Words.{PendingIs, Represents, set-get_or, at_gate, has_entry, Gates, first_gates, any_gates, State}
 use Rattle.cp_slots.specs.declared.tables.ComponentKind.TheVariants as kind
 use Rattle.cp_machine.specs.Kernel as machine
 use Rattle.cp_meaning.specs.Kernel as meaning
 use Rattle.cp_meaning.specs.State as named
+use Rattle.cp_refine.proofs.control.Moving.{represents_with}
 use Rattle.cp_refine.proofs.gates.Gates.{OwnNumbers, goes_in}
 
 -- ---- what is pending is no part of anything else
 
-begun_kept : (s : State) (o : Option ℕ) (k : ComponentKind) (u : ComponentStatus) → HasBegun (record s { pending = o }) k u → HasBegun s k u
-begun_kept s o (kind.Monitor j) uninitialised b = b
-begun_kept s o kind.Class uninitialised b = b
-begun_kept s o _ _ b = b
-
-monitor_kept : (s : State) (m : Machine) (o u : Option ℕ) (n : ℕ) (k : ComponentKind) → MonitorIs s m n k → MonitorIs (record s { pending = o }) (record m { pending = u }) n k
-monitor_kept s m o u n (kind.Process j) h = h
-monitor_kept s m o u n _ h = h
-
 pub pending_is : (g : Ground) (p : Program) (l : Layouts) (s : State) (m : Machine) (o u : Option ℕ) → PendingIs g o u → Represents g p l s m → Represents g p l (record s { pending = o }) (record m { pending = u })
-pending_is g p l s m o u e rep =
-    record {
-      process_count = rep.process_count;
-      component_count = rep.component_count;
-      processes = rep.processes;
-      components = λ n h. component n (rep.components n h);
-      monitors = λ n h. monitor_kept s m o u n (component_at g.tables n).kind (rep.monitors n h);
-      queues = record { waiting = rep.queues.waiting; queued = rep.queues.queued };
-      pending = e;
-      gates = rep.gates;
-      output = rep.output;
-    }
-  where
-    component : (n : ℕ) → ComponentIs g p l s m n → ComponentIs g p l (record s { pending = o }) (record m { pending = u }) n
-    component n c =
-        record {
-          phase = c.phase;
-          variables = c.variables;
-          parts = λ y w k b. c.parts y w k (begun_kept s o (component_at g.tables n).kind (named.component_at s.components n).status b);
-          others = c.others;
-        }
+pending_is g p l s m o u e rep = represents_with g p l s m s.output m.output o u rep.output e rep
 
 -- ---- the line
 

@@ -1,19 +1,19 @@
 -- A process is delayed: it waits in a queue of its monitor, in which nobody is then.
 use Rattle.std.proofs.Common.{◌≡◌, ◌≢◌, ◌∙◌, ℕ, ◌+◌, ◌<◌, ◌⊎◌, inl, inr, true, false, List, [], Some, None, ap, sym, refl, subst, arith, length, length-set, eq-eqb}
-use Rattle.cp_refine.proofs.Words.{◌&&◌, not, slice_set, bytes_eq-Decides, Program, ComponentKind, component_at, Permanent, Entry, Machine, Thread, no_thread, monitor_at}
+use Rattle.cp_refine.proofs.Words.{some_same, ◌&&◌, not, slice_set, bytes_eq-Decides, Program, component_at, Permanent, Entry, Machine, Thread, monitor_at}
 use Rattle.cp_refine.proofs.Words.{thread_at, Name, same_name, Ty, queue_type, Value, queue_value, Choice, part_at, View, value_at, first_inside, Layouts, look, Chosen}
-use Rattle.cp_refine.proofs.Words.{chosen_at, Ground, further, StackIs, ProcessIs, CallsHold, MonitorIs, HasBegun, BeginsAt, PlaceAt, frames_of, own_memory, Represents}
+use Rattle.cp_refine.proofs.Words.{chosen_at, Ground, further, StackIs, ProcessIs, CallsHold, MonitorIs, BeginsAt, PlaceAt, frames_of, own_memory, Represents}
 use Rattle.cp_slots.specs.declared.tables.ComponentKind.TheVariants as kind
 use Rattle.cp_machine.specs.declared.process.Status.TheVariants as status
 use Rattle.cp_machine.specs.Kernel as machine
 use Rattle.cp_meaning.specs.State as named
-use Rattle.cp_meaning.specs.State.{Holder, in_call, in_component, Place, ComponentStatus, uninitialised, unstarted, ready, delayed, Status, Item, Process, no_process, State, has_entry, is_inside, waits_at}
+use Rattle.cp_meaning.specs.State.{Holder, in_call, in_component, Place, ready, delayed, Status, Item, Process, State, has_entry, is_inside, waits_at}
 use Rattle.cp_meaning.specs.Kernel as meaning
 use Rattle.cp_refine.proofs.control.Control.{Goes}
 use Rattle.cp_refine.proofs.gates.Gates.{OwnNumbers, OthersOutside, none_left, monitors_change, and_false}
 use Rattle.cp_refine.proofs.gates.LettingIn.{FirstWaits, lets_in}
-use Rattle.cp_refine.proofs.control.Moving.{set_here, set_there, same_or_other, inside_same}
-use Rattle.cp_refine.proofs.queues.QueueWriting.{old, components_after, permanents_after, line_same, count_same, components_stand, IsWritten, written_value, old_written, queue_kept, cell, there_named}
+use Rattle.cp_refine.proofs.control.Moving.{same_or_other, inside_same, here_process, here_thread, counts_stand, still_there, processes_stand, unstarted_still, delayed_before, delayed_after}
+use Rattle.cp_refine.proofs.queues.QueueWriting.{old, components_after, permanents_after, line_same, components_stand, IsWritten, written_value, old_written, queue_kept, cell, there_named}
 use Rattle.cp_refine.proofs.calls.Returning.{let_in_freed, first_waits_kept}
 use Rattle.cp_refine.proofs.assignments.Writing.{ComponentsApart}
 use Rattle.cp_refine.proofs.expressions.Members.{not_equal as differs}
@@ -61,46 +61,10 @@ module _ (g : Ground) (p : Program) (l : Layouts) (s : State) (m : Machine) (q :
     abbrev machine_freed : Machine
     machine_freed = record machine_out { monitors = slice_set m.monitors j (record { holder = None; line = (monitor_at m j).line }) }
 
-    many : q < length m.threads
-    many = let e = k.rep.process_count in let a = k.there in omega (arith, e, a)
-
-    here_process : named.process_at (slice_set s.processes q new_process) q ≡ new_process
-    here_process = set_here s.processes q new_process no_process k.there
-
-    here_thread : thread_at (slice_set m.threads q new_thread) q ≡ new_thread
-    here_thread = set_here m.threads q new_thread no_thread many
-
-    there_process : (i : ℕ) → i ≢ q → named.process_at (slice_set s.processes q new_process) i ≡ named.process_at s.processes i
-    there_process i d = set_there s.processes q i new_process no_process d
-
-    there_thread : (i : ℕ) → i ≢ q → thread_at (slice_set m.threads q new_thread) i ≡ thread_at m.threads i
-    there_thread i d = set_there m.threads q i new_thread no_thread d
-
     -- ---- processes
 
     stands : ProcessIs g p l q new_process new_thread
     stands = record { component = (k.rep.processes q k.there).component; status = record { stack = stack; calls = subst (λ fs. CallsHold g.tables l (own_memory thread) before.calls fs) (sym frames) k.calls } }
-
-    processes_stand : (i : ℕ) → i < length (slice_set s.processes q new_process) → ProcessIs g p l i (named.process_at (slice_set s.processes q new_process) i) (thread_at (slice_set m.threads q new_thread) i)
-    processes_stand i h = go (same_or_other i q)
-      where
-        go : (i ≡ q) ⊎ (i ≢ q) → ProcessIs g p l i (named.process_at (slice_set s.processes q new_process) i) (thread_at (slice_set m.threads q new_thread) i)
-        go (inl d) =
-            subst (λ a. ProcessIs g p l a (named.process_at (slice_set s.processes q new_process) a) (thread_at (slice_set m.threads q new_thread) a)) (sym d)
-            (subst (λ (x : Process). ProcessIs g p l q x (thread_at (slice_set m.threads q new_thread) q)) (sym here_process) (subst (λ (t : Thread). ProcessIs g p l q new_process t) (sym here_thread) stands))
-        go (inr d) =
-            let less : i < length s.processes = (let e = length-set s.processes q new_process in omega (arith, e, h)) in
-            subst (λ (x : Process). ProcessIs g p l i x (thread_at (slice_set m.threads q new_thread) i)) (sym (there_process i d)) (subst (λ (t : Thread). ProcessIs g p l i (named.process_at s.processes i) t) (sym (there_thread i d)) (k.rep.processes i less))
-
-    begun : (i : ℕ) (c : ComponentKind) (w : ComponentStatus) → HasBegun state_out c w → HasBegun s c w
-    begun i (kind.Process r) w b = λ e. go (same_or_other r q) e
-      where
-        go : (r ≡ q) ⊎ (r ≢ q) → (named.process_at s.processes r).status ≡ unstarted → ⊥
-        go (inl d) e = let a : (named.process_at s.processes q).status ≡ unstarted = subst (λ i. (named.process_at s.processes i).status ≡ unstarted) d e in let w = k.was in cc
-        go (inr d) e = b (ap (λ (x : Process). x.status) (there_process r d) ∙ e)
-    begun i (kind.Monitor r) uninitialised b = b
-    begun i kind.Class uninitialised b = b
-    begun i _ _ b = b
 
     -- ---- monitors
 
@@ -159,6 +123,13 @@ module _ (g : Ground) (p : Program) (l : Layouts) (s : State) (m : Machine) (q :
     here_waits : (v : View) → v.components ≡ state_out.components → Waits q n at v
     here_waits v c = (place, refl, place_stands, written_value g p l s m k.rep may.apart may.parts_apart n y u choices offset (Some q) there known chosen v place n c refl (record { component = refl; name = refl; parts = refl }) named_same)
 
+    abbrev IsDelayed : (r i a : ℕ) → Type 0
+    IsDelayed r i a = (r < length (slice_set s.processes q new_process)) × ((named.process_at (slice_set s.processes q new_process) r).status ≡ delayed i) × ((thread_at (slice_set m.threads q new_thread) r).status ≡ status.Delayed a)
+
+    here_delayed : IsDelayed q n at
+    here_delayed =
+        (let e = length-set s.processes q new_process in let a = k.there in omega (arith, e, a), ap (λ (x : Process). x.status) (here_process g p l s m k.rep q k.there new_process new_thread), ap (λ (t : Thread). t.status) (here_thread g p l s m k.rep q k.there new_process new_thread))
+
     waiting : (r i a : ℕ) (v : View) → r < length (slice_set s.processes q new_process) → (named.process_at (slice_set s.processes q new_process) r).status ≡ delayed i → (thread_at (slice_set m.threads q new_thread) r).status ≡ status.Delayed a → v.components ≡ state_out.components → Waits r i a v
     waiting r i a v h e f c = go (same_or_other r q)
       where
@@ -174,22 +145,16 @@ module _ (g : Ground) (p : Program) (l : Layouts) (s : State) (m : Machine) (q :
 
         go : (r ≡ q) ⊎ (r ≢ q) → Waits r i a v
         go (inl d) =
-            let of : n ≡ i = delayed_is n i (sym (ap (λ b. (named.process_at (slice_set s.processes q new_process) b).status) d ∙ ap (λ (x : Process). x.status) here_process) ∙ e) in
-            let in_cell : at ≡ a = cell_is at a (sym (ap (λ b. (thread_at (slice_set m.threads q new_thread) b).status) d ∙ ap (λ (t : Thread). t.status) here_thread) ∙ f) in
+            let of : n ≡ i = delayed_is n i (sym (ap (λ b. (named.process_at (slice_set s.processes q new_process) b).status) d ∙ here_delayed.1) ∙ e) in
+            let in_cell : at ≡ a = cell_is at a (sym (ap (λ b. (thread_at (slice_set m.threads q new_thread) b).status) d ∙ here_delayed.2) ∙ f) in
             subst (λ b. Waits b i a v) (sym d) (subst (λ b. Waits q b a v) of (subst (λ b. Waits q n b v) in_cell (here_waits v c)))
         go (inr d) =
-            let less : r < length s.processes = (let b = length-set s.processes q new_process in omega (arith, b, h)) in
-            let w = k.rep.queues.waiting r i a (old_view v) less (sym (ap (λ (x : Process). x.status) (there_process r d)) ∙ e) (sym (ap (λ (t : Thread). t.status) (there_thread r d)) ∙ f) refl in
-            by_kept w (kept v w.0 i a c w.1 w.2)
-
-    type_is : (a b : Ty) → Some a ≡ Some b → a ≡ b
-    type_is a b e = cc
+            let w = delayed_before g p l s m k.rep q k.there new_process new_thread r i a d e f in
+            let u = k.rep.queues.waiting r i a (old_view v) (still_there g p l s m k.rep q k.there new_process new_thread r h) w.0 w.1 refl in
+            by_kept u (kept v u.0 i a c u.1 u.2)
 
     permanent_is : (a b : ℕ) → Permanent a ≡ Permanent b → a ≡ b
     permanent_is a b e = cc
-
-    chosen_is : (a b : Chosen) → Some a ≡ Some b → a ≡ b
-    chosen_is a b e = cc
 
     -- the queue that is written lies in its cell alone
     in_cell : (x : Place) (i a : ℕ) → x.holder ≡ in_component i → Written x i → PlaceAt g.tables l [] x queue_type (Permanent a) → at ≡ a
@@ -199,20 +164,14 @@ module _ (g : Ground) (p : Program) (l : Layouts) (s : State) (m : Machine) (q :
         go (in_call b) d begins = absurd (cc)
         go (in_component c) d begins =
             let same : c ≡ n = holder_is c i d ∙ w.component in
-            let whole : h.whole ≡ u = type_is h.whole u (sym begins.known ∙ (ap (λ b. look x.name (l.systems (component_at g.tables b).system).variables) same ∙ (ap (λ z. look z (l.systems (component_at g.tables n).system).variables) w.name ∙ known))) in
-            let further_is : h.offset ≡ offset = ap (λ (c : Chosen). c.0) (chosen_is (h.offset, queue_type) (offset, queue_type) (sym (subst (λ t. chosen_at t x.choices ≡ Some (h.offset, queue_type)) whole h.chosen) ∙ (ap (chosen_at u) w.parts ∙ chosen))) in
+            let whole : h.whole ≡ u = some_same h.whole u (sym begins.known ∙ (ap (λ b. look x.name (l.systems (component_at g.tables b).system).variables) same ∙ (ap (λ z. look z (l.systems (component_at g.tables n).system).variables) w.name ∙ known))) in
+            let further_is : h.offset ≡ offset = ap (λ (c : Chosen). c.0) (some_same (h.offset, queue_type) (offset, queue_type) (sym (subst (λ t. chosen_at t x.choices ≡ Some (h.offset, queue_type)) whole h.chosen) ∙ (ap (chosen_at u) w.parts ∙ chosen))) in
             let first : h.first ≡ Permanent ((component_at g.tables n).base + (l.systems (component_at g.tables n).system).slots y) =
             begins.address ∙ (ap (λ b. Permanent ((component_at g.tables b).base + (l.systems (component_at g.tables b).system).slots x.name)) same ∙ ap (λ z. Permanent ((component_at g.tables n).base + (l.systems (component_at g.tables n).system).slots z)) w.name) in
             sym (permanent_is a at (h.address ∙ (ap (λ b. further b h.offset) first ∙ ap (λ o. Permanent ((component_at g.tables n).base + (l.systems (component_at g.tables n).system).slots y + o)) further_is)))
           where
             holder_is : (a b : ℕ) → in_component a ≡ in_component b → a ≡ b
             holder_is a b e = cc
-
-    abbrev IsDelayed : (r i a : ℕ) → Type 0
-    IsDelayed r i a = (r < length (slice_set s.processes q new_process)) × ((named.process_at (slice_set s.processes q new_process) r).status ≡ delayed i) × ((thread_at (slice_set m.threads q new_thread) r).status ≡ status.Delayed a)
-
-    here_delayed : IsDelayed q n at
-    here_delayed = (let e = length-set s.processes q new_process in let a = k.there in omega (arith, e, a), ap (λ (x : Process). x.status) here_process, ap (λ (t : Thread). t.status) here_thread)
 
     queued : (x : Place) (r i a : ℕ) (v : View) → v.components ≡ state_out.components → x.holder ≡ in_component i → PlaceAt g.tables l [] x queue_type (Permanent a) → value_at v x ≡ queue_value (Some r) → IsDelayed r i a
     queued x r i a v c e h w = go (kept v x i a c e h)
@@ -226,19 +185,18 @@ module _ (g : Ground) (p : Program) (l : Layouts) (s : State) (m : Machine) (q :
             subst (λ b. IsDelayed b i a) same (subst (λ b. IsDelayed q b a) (sym d.0.component) (subst (λ b. IsDelayed q n b) (in_cell x i a e d.0 h) here_delayed))
         go (inr d) =
             let old = k.rep.queues.queued x r i a (old_view v) refl e h (sym d ∙ w) in
-            let other : r ≢ q = (λ f. absurd (let b : ready ≡ delayed i = sym k.was ∙ (sym (ap (λ b. (named.process_at s.processes b).status) f) ∙ old.1) in cc)) in
-            (let b = old.0 in let z = length-set s.processes q new_process in omega (arith, b, z), ap (λ (x : Process). x.status) (there_process r other) ∙ old.1, ap (λ (t : Thread). t.status) (there_thread r other) ∙ old.2)
+            delayed_after g p l s m k.rep q k.there new_process new_thread r i a (λ f. absurd (let b : ready ≡ delayed i = sym k.was ∙ (sym (ap (λ b. (named.process_at s.processes b).status) f) ∙ old.1) in cc)) old
 
     -- ---- all of it
 
     delayed_freed : Represents g p l state_out machine_freed
     delayed_freed =
         record {
-          process_count = length-set s.processes q new_process ∙ (k.rep.process_count ∙ sym (length-set m.threads q new_thread));
-          component_count = count_same g p l s m k.rep may.apart may.parts_apart n y u choices offset (Some q) there known chosen ∙ k.rep.component_count;
-          processes = processes_stand;
-          components = components_stand g p l s m k.rep may.apart may.parts_apart n y u choices offset (Some q) there known chosen state_out machine_freed refl refl refl refl begun;
-          monitors = λ i h. monitors_stand i (let e = count_same g p l s m k.rep may.apart may.parts_apart n y u choices offset (Some q) there known chosen in omega (arith, e, h));
+          process_count = counts_stand g p l s m k.rep q k.there new_process new_thread;
+          component_count = length-set s.components n _ ∙ k.rep.component_count;
+          processes = processes_stand g p l s m k.rep q k.there new_process new_thread stands;
+          components = components_stand g p l s m k.rep may.apart may.parts_apart n y u choices offset (Some q) there known chosen state_out machine_freed (unstarted_still g p l s m k.rep q k.there new_process new_thread (λ e. (let w = k.was in cc)));
+          monitors = λ i h. monitors_stand i (let e : length state_out.components ≡ length s.components = length-set s.components n _ in omega (arith, e, h));
           queues = record { waiting = waiting; queued = queued };
           pending = k.rep.pending;
           gates = k.rep.gates;
@@ -253,4 +211,4 @@ module _ (g : Ground) (p : Program) (l : Layouts) (s : State) (m : Machine) (q :
     delayed_out =
         subst (λ w. Represents g p l (meaning.let_in s.gates state_out n) w) (let_in_freed machine_out j may.known)
         (lets_in g p l state_out machine_freed n j delayed_freed may.own may.is (let e = length-set m.monitors j (record { holder = None; line = (monitor_at m j).line }) in let w = may.known in omega (arith, e, w))
-        (subst (λ c. n < c) (sym (count_same g p l s m k.rep may.apart may.parts_apart n y u choices offset (Some q) there known chosen)) there_component) nobody line_waits)
+        (subst (λ c. n < c) (sym (length-set s.components n _)) there_component) nobody line_waits)

@@ -2,7 +2,7 @@
 use Rattle.std.proofs.Common.{◌≡◌, ◌∙◌, ℕ, ◌+◌, ℤ, Bool, true, false, if◌then◌else◌, [], ◌∷◌, Option, Some, None, ap, sym, refl, subst}
 use Rattle.cp_tree.specs.Syntax.{Expression, no_expressions, Designator, designator, Selectors, no_selectors, more_selectors, Selector, field, index}
 use Rattle.cp_slots.specs.Code as code
-use Rattle.cp_refine.proofs.Words.{Name, the_field, View, range_of_base, name_of, variable_in, Chosen, field_chosen, then_chosen, Here, is_indexed, is_free, IsFit}
+use Rattle.cp_refine.proofs.Words.{some_same, Name, the_field, View, range_of_base, name_of, variable_in, Chosen, field_chosen, then_chosen, Here, is_indexed, is_free, IsFit}
 use Rattle.cp_refine.proofs.Words.{free_part, second_true, Base, Ty, ordinal, queue_type, array_over, record_with, component_of, FieldTypes, is_within, HasQueue}
 use Rattle.cp_meaning.specs.Scopes.{Meaning, constant_meaning, type_meaning, local_variable, permanent_variable, routine_meaning, standard_meaning, find}
 use Rattle.cp_meaning.specs.Lifting.{is_call, is_call_meant, last_field}
@@ -73,9 +73,6 @@ IsQueue p o = o ≡ Some (record { ty = queue_type; form = as_place p })
 
 form_type : (t : Ty) (f : Form) (p : code.Place) → IsQueue p (Some (record { ty = t; form = f })) → t ≡ queue_type
 form_type t f p e = ap (λ (x : Formed). x.ty) (some_same _ _ e)
-  where
-    some_same : (x y : Formed) → Some x ≡ Some y → x ≡ y
-    some_same x y g = cc
 
 no_constant : (b : Base) (z : ℤ) (p : code.Place) → IsQueue p (constant_form b z) → ⊥
 no_constant b z p e = go (is_within (range_of_base b) z) e

@@ -1,19 +1,19 @@
 -- A queue is emptied: who waited in it is ready and inside its monitor, where nobody was.
 use Rattle.std.proofs.Common.{◌≡◌, ◌≢◌, ◌∙◌, ℕ, suc, zero, ◌+◌, ◌<◌, ◌==◌, ◌⊎◌, inl, inr, Bool, true, false, cond, ltb, List, [], ◌∷◌, Some, None, ap, sym, refl, subst, arith, length, length-set, eq-eqb}
 use Rattle.std.specs.Prelude.{◌&&◌, not, position, pos, slice_index_or, slice_set}
-use Rattle.cp_refine.proofs.Words.{position_or_len, eqb-true, lt-ltb, le-ltb, Program, ComponentKind, component_at, Address, Permanent, Name, same_name, Ty, queue_type}
+use Rattle.cp_refine.proofs.Words.{position_or_len, eqb-true, lt-ltb, le-ltb, Program, component_at, Address, Permanent, Name, same_name, Ty, queue_type}
 use Rattle.cp_refine.proofs.Words.{Value, queue_value, Choice, part_at, View, content_of, value_held, environment_of, value_at, first_inside, Layouts, look, chosen_at}
-use Rattle.cp_refine.proofs.Words.{Ground, further, LiesAt, StatusIs, ProcessIs, MonitorIs, HasBegun, BeginsAt, PlaceAt, all_permanents, Represents}
+use Rattle.cp_refine.proofs.Words.{Ground, further, LiesAt, StatusIs, ProcessIs, MonitorIs, BeginsAt, PlaceAt, all_permanents, Represents}
 use Rattle.cp_slots.specs.declared.tables.ComponentKind.TheVariants as kind
 use Rattle.cp_machine.specs.declared.process.Status as slot_status
 use Rattle.cp_machine.specs.declared.process.Status.TheVariants as status
 use Rattle.cp_machine.specs.Kernel as machine
 use Rattle.cp_machine.specs.Machine.{Machine, Thread, no_thread, monitor_at, thread_at, is_delayed_at}
 use Rattle.cp_meaning.specs.State as named
-use Rattle.cp_meaning.specs.State.{Holder, in_call, in_component, Place, Component, ComponentStatus, uninitialised, unstarted, ready, at_gate, delayed, ended, Status, Process, no_process, State, has_entry, waits_at}
+use Rattle.cp_meaning.specs.State.{Holder, in_call, in_component, Place, Component, ready, delayed, Status, Process, State, has_entry, waits_at}
 use Rattle.cp_refine.proofs.gates.Gates.{OwnNumbers, all_outside, only_one, monitors_change}
-use Rattle.cp_refine.proofs.control.Moving.{set_here, set_there, same_or_other, inside_same}
-use Rattle.cp_refine.proofs.queues.QueueWriting.{old, components_after, permanents_after, old_lies, line_same, count_same, components_stand, variables_after, IsWritten, written_value, old_written, queue_kept, cell, there_named}
+use Rattle.cp_refine.proofs.control.Moving.{set_here, same_or_other, inside_same, monitor_from, delayed_process, here_process, counts_stand, still_there, processes_stand, unstarted_still, delayed_before, delayed_after}
+use Rattle.cp_refine.proofs.queues.QueueWriting.{old, components_after, permanents_after, old_lies, line_same, components_stand, variables_after, IsWritten, written_value, old_written, queue_kept, cell, there_named}
 use Rattle.cp_refine.proofs.expressions.Reading.{part_lies}
 use Rattle.cp_refine.proofs.assignments.Writing.{ComponentsApart}
 use Rattle.cp_refine.proofs.expressions.Members.{not_equal as differs}
@@ -74,7 +74,7 @@ module _ (g : Ground) (p : Program) (l : Layouts) (s : State) (m : Machine) (rep
   there_component = there_named g p l s m rep apart parts_apart n y u choices offset None there known chosen
 
   pub count : length emptied ≡ length s.components
-  count = count_same g p l s m rep apart parts_apart n y u choices offset None there known chosen
+  count = length-set s.components n _
 
   pub lines_same : (i : ℕ) → (named.component_at emptied i).line ≡ (named.component_at s.components i).line
   lines_same i = line_same g p l s m rep apart parts_apart n y u choices offset None there known chosen i
@@ -130,17 +130,6 @@ module _ (g : Ground) (p : Program) (l : Layouts) (s : State) (m : Machine) (rep
       go v c w (inl d) = sym (was_old v w.0 i w.1 d.0) ∙ w.3
       go v c w (inr d) = absurd (nobody_there v w.0 i r c w.1 w.2 (d ∙ w.3))
 
-  -- a thread that is delayed is a process that is
-  delayed_process : (r a : ℕ) → r < length s.processes → (thread_at m.threads r).status ≡ status.Delayed a → (i : ℕ) × ((named.process_at s.processes r).status ≡ delayed i)
-  delayed_process r a h f = go (named.process_at s.processes r).status refl (subst (λ w. StatusIs g p l r (named.process_at s.processes r) (thread_at m.threads r) (named.process_at s.processes r).status w) f (rep.processes r h).status)
-    where
-      go : (w : Status) → (named.process_at s.processes r).status ≡ w → StatusIs g p l r (named.process_at s.processes r) (thread_at m.threads r) w (status.Delayed a) → (i : ℕ) × ((named.process_at s.processes r).status ≡ delayed i)
-      go unstarted e h = absurd h
-      go ready e h = absurd h
-      go (at_gate i) e h = absurd h
-      go (delayed i) e h = (i, e)
-      go ended e h = absurd h
-
   not_waiting : (r : ℕ) → r < length m.threads → (old_queue ≡ queue_value (Some r) → ⊥) → is_delayed_at at (thread_at m.threads r).status ≡ false
   not_waiting r h never = go (thread_at m.threads r).status refl
     where
@@ -149,7 +138,7 @@ module _ (g : Ground) (p : Program) (l : Layouts) (s : State) (m : Machine) (rep
 
       by_cell : (a : ℕ) → (thread_at m.threads r).status ≡ status.Delayed a → (b : Bool) → a == at ≡ b → a == at ≡ false
       by_cell a e false d = d
-      by_cell a e true d = (let w = delayed_process r a less e in absurd (never (waits_here r w.0 less w.1 (e ∙ ap status.Delayed (eqb-true a at d)))))
+      by_cell a e true d = (let w = delayed_process g p l r (named.process_at s.processes r) (thread_at m.threads r) a (rep.processes r less) e in absurd (never (waits_here r w.0 less w.1 (e ∙ ap status.Delayed (eqb-true a at d)))))
 
       go : (w : slot_status.Status) → (thread_at m.threads r).status ≡ w → is_delayed_at at w ≡ false
       go (status.Delayed a) e = by_cell a e (a == at) refl
@@ -169,11 +158,6 @@ module _ (g : Ground) (p : Program) (l : Layouts) (s : State) (m : Machine) (rep
       let w = is_waiting r e in
       position_found (λ (t : Thread). is_delayed_at at t.status) m.threads r no_thread (let a = w.0 in let b = rep.process_count in omega (arith, a, b)) (ap (is_delayed_at at) w.2 ∙ eq-eqb at at refl)
       (λ i h other. not_waiting i h (λ f. other (let same : queue_value (Some i) ≡ queue_value (Some r) = sym f ∙ e in cc)))
-
-  begun_same : (c : ComponentKind) (w : ComponentStatus) → HasBegun (record s { components = emptied }) c w → HasBegun s c w
-  begun_same (kind.Monitor i) uninitialised b = b
-  begun_same kind.Class uninitialised b = b
-  begun_same _ _ b = b
 
   process_is : (a b : ℕ) → queue_value (Some a) ≡ queue_value (Some b) → a ≡ b
   process_is a b e = cc
@@ -206,18 +190,14 @@ module _ (g : Ground) (p : Program) (l : Layouts) (s : State) (m : Machine) (rep
     never_here : (r : ℕ) → old_queue ≡ queue_value (Some r) → ⊥
     never_here r e = let none : queue_value None ≡ queue_value (Some r) = sym nobody ∙ e in cc
 
-    monitor_kept : (i : ℕ) (c : ComponentKind) → MonitorIs s m i c → MonitorIs (record s { components = emptied }) memory_after i c
-    monitor_kept i (kind.Monitor k) h = (h.0 ∙ sym (lines_same i), h.1)
-    monitor_kept i _ h = tt
-
     pub emptied_none : Represents g p l (record s { components = emptied }) memory_after
     emptied_none =
         record {
           process_count = rep.process_count;
           component_count = count ∙ rep.component_count;
           processes = rep.processes;
-          components = components_stand g p l s m rep apart parts_apart n y u choices offset None there known chosen (record s { components = emptied }) memory_after refl refl refl refl (λ i c w b. begun_same c w b);
-          monitors = λ i h. monitor_kept i (component_at g.tables i).kind (rep.monitors i (let e = count in omega (arith, e, h)));
+          components = components_stand g p l s m rep apart parts_apart n y u choices offset None there known chosen (record s { components = emptied }) memory_after (λ i e. e);
+          monitors = λ i h. monitor_from s (record s { components = emptied }) m memory_after i (component_at g.tables i).kind refl (lines_same i) (λ a e. refl) (rep.monitors i (let e = count in omega (arith, e, h)));
           queues = record {
             waiting = λ r i a v h e f c. still_waits r i a v c (never_here r) (rep.queues.waiting r i a (old_view v) h e f refl);
             queued = λ x r i a v c e h w. rep.queues.queued x r i a (old_view v) refl e h (waited x r i a v c e h w);
@@ -245,52 +225,16 @@ module _ (g : Ground) (p : Program) (l : Layouts) (s : State) (m : Machine) (rep
     was : before.status ≡ delayed n
     was = (is_waiting r somebody).1
 
-    many : r < length m.threads
-    many = let e = rep.process_count in let a = there_r in omega (arith, e, a)
-
     abbrev state_on : State
     state_on = record s { processes = slice_set s.processes r process_on; components = emptied }
 
     abbrev machine_on : Machine
     machine_on = record memory_after { threads = slice_set m.threads r thread_on; monitors = slice_set m.monitors j (record { holder = Some r; line = (monitor_at m j).line }) }
 
-    here_process : named.process_at (slice_set s.processes r process_on) r ≡ process_on
-    here_process = set_here s.processes r process_on no_process there_r
-
-    here_thread : thread_at (slice_set m.threads r thread_on) r ≡ thread_on
-    here_thread = set_here m.threads r thread_on no_thread many
-
-    there_process : (i : ℕ) → i ≢ r → named.process_at (slice_set s.processes r process_on) i ≡ named.process_at s.processes i
-    there_process i d = set_there s.processes r i process_on no_process d
-
-    there_thread : (i : ℕ) → i ≢ r → thread_at (slice_set m.threads r thread_on) i ≡ thread_at m.threads i
-    there_thread i d = set_there m.threads r i thread_on no_thread d
-
     runs_on : ProcessIs g p l r process_on thread_on
     runs_on =
         let runs = subst (λ w. StatusIs g p l r before (thread_at m.threads r) (delayed n) w) (is_waiting r somebody).2 (subst (λ w. StatusIs g p l r before (thread_at m.threads r) w (thread_at m.threads r).status) was (rep.processes r there_r).status) in
         record { component = (rep.processes r there_r).component; status = record { stack = runs.stack; calls = runs.calls } }
-
-    processes_on : (i : ℕ) → i < length (slice_set s.processes r process_on) → ProcessIs g p l i (named.process_at (slice_set s.processes r process_on) i) (thread_at (slice_set m.threads r thread_on) i)
-    processes_on i h = go (same_or_other i r)
-      where
-        go : (i ≡ r) ⊎ (i ≢ r) → ProcessIs g p l i (named.process_at (slice_set s.processes r process_on) i) (thread_at (slice_set m.threads r thread_on) i)
-        go (inl d) =
-            subst (λ a. ProcessIs g p l a (named.process_at (slice_set s.processes r process_on) a) (thread_at (slice_set m.threads r thread_on) a)) (sym d)
-            (subst (λ (x : Process). ProcessIs g p l r x (thread_at (slice_set m.threads r thread_on) r)) (sym here_process) (subst (λ (t : Thread). ProcessIs g p l r process_on t) (sym here_thread) runs_on))
-        go (inr d) =
-            let less : i < length s.processes = (let e = length-set s.processes r process_on in omega (arith, e, h)) in
-            subst (λ (x : Process). ProcessIs g p l i x (thread_at (slice_set m.threads r thread_on) i)) (sym (there_process i d)) (subst (λ (t : Thread). ProcessIs g p l i (named.process_at s.processes i) t) (sym (there_thread i d)) (rep.processes i less))
-
-    begun_on : (i : ℕ) (c : ComponentKind) (w : ComponentStatus) → HasBegun state_on c w → HasBegun s c w
-    begun_on i (kind.Process a) w b = λ e. go (same_or_other a r) e
-      where
-        go : (a ≡ r) ⊎ (a ≢ r) → (named.process_at s.processes a).status ≡ unstarted → ⊥
-        go (inl d) e = let f : before.status ≡ unstarted = subst (λ i. (named.process_at s.processes i).status ≡ unstarted) d e in let w = was in cc
-        go (inr d) e = b (ap (λ (x : Process). x.status) (there_process a d) ∙ e)
-    begun_on i (kind.Monitor a) uninitialised b = b
-    begun_on i kind.Class uninitialised b = b
-    begun_on i _ _ b = b
 
     monitor_here : MonitorIs s m n (kind.Monitor j)
     monitor_here = subst (MonitorIs s m n) is (rep.monitors n there_component)
@@ -305,26 +249,25 @@ module _ (g : Ground) (p : Program) (l : Layouts) (s : State) (m : Machine) (rep
     waiting_on k i a v h e f c = go (same_or_other k r)
       where
         go : (k ≡ r) ⊎ (k ≢ r) → Waits k i a v
-        go (inl d) = absurd (let w : ready ≡ delayed i = sym (ap (λ b. (named.process_at (slice_set s.processes r process_on) b).status) d ∙ ap (λ (x : Process). x.status) here_process) ∙ e in cc)
+        go (inl d) = absurd (let w : ready ≡ delayed i = sym (ap (λ b. (named.process_at (slice_set s.processes r process_on) b).status) d ∙ ap (λ (x : Process). x.status) (here_process g p l s m rep r there_r process_on thread_on)) ∙ e in cc)
         go (inr d) =
-            let less : k < length s.processes = (let b = length-set s.processes r process_on in omega (arith, b, h)) in
-            still_waits k i a v c (λ w. d (process_is k r (sym w ∙ somebody)))
-            (rep.queues.waiting k i a (old_view v) less (sym (ap (λ (x : Process). x.status) (there_process k d)) ∙ e) (sym (ap (λ (t : Thread). t.status) (there_thread k d)) ∙ f) refl)
+            let w = delayed_before g p l s m rep r there_r process_on thread_on k i a d e f in
+            still_waits k i a v c (λ w. d (process_is k r (sym w ∙ somebody))) (rep.queues.waiting k i a (old_view v) (still_there g p l s m rep r there_r process_on thread_on k h) w.0 w.1 refl)
 
     queued_on : (x : Place) (k i a : ℕ) (v : View) → v.components ≡ emptied → x.holder ≡ in_component i → PlaceAt g.tables l [] x queue_type (Permanent a) → value_at v x ≡ queue_value (Some k) →
         (k < length (slice_set s.processes r process_on)) × ((named.process_at (slice_set s.processes r process_on) k).status ≡ delayed i) × ((thread_at (slice_set m.threads r thread_on) k).status ≡ status.Delayed a)
     queued_on x k i a v c e h w =
         let old = rep.queues.queued x k i a (old_view v) refl e h (waited x k i a v c e h w) in
         let other : k ≢ r = (λ d. (let same : a ≡ at = cell_is a at (sym old.2 ∙ (ap (λ b. (thread_at m.threads b).status) d ∙ (is_waiting r somebody).2)) in nobody_there v x i k c e (subst (λ b. PlaceAt g.tables l [] x queue_type (Permanent b)) same h) w)) in
-        (let b = old.0 in let z = length-set s.processes r process_on in omega (arith, b, z), ap (λ (x : Process). x.status) (there_process k other) ∙ old.1, ap (λ (t : Thread). t.status) (there_thread k other) ∙ old.2)
+        delayed_after g p l s m rep r there_r process_on thread_on k i a other old
 
     pub resumed_some : Represents g p l state_on machine_on
     resumed_some =
         record {
-          process_count = length-set s.processes r process_on ∙ (rep.process_count ∙ sym (length-set m.threads r thread_on));
+          process_count = counts_stand g p l s m rep r there_r process_on thread_on;
           component_count = count ∙ rep.component_count;
-          processes = processes_on;
-          components = components_stand g p l s m rep apart parts_apart n y u choices offset None there known chosen state_on machine_on refl refl refl refl begun_on;
+          processes = processes_stand g p l s m rep r there_r process_on thread_on runs_on;
+          components = components_stand g p l s m rep apart parts_apart n y u choices offset None there known chosen state_on machine_on (unstarted_still g p l s m rep r there_r process_on thread_on (λ e. (let w = was in cc)));
           monitors = λ i h. monitors_change g s state_on m machine_on n j own is (record { holder = Some r; line = (monitor_at m j).line }) known_j refl (monitor_here.0 ∙ sym (lines_same n)) (sym inside_on) (λ a d. lines_same a) holders_on i (component_at g.tables i).kind refl (rep.monitors i (let e = count in omega (arith, e, h)));
           queues = record { waiting = waiting_on; queued = queued_on };
           pending = rep.pending;

@@ -1,21 +1,23 @@
 -- The components after the parameters of one are bound: that one has them, and all others are as they were.
-use Rattle.std.proofs.Common.{◌≡◌, ◌≢◌, ◌∙◌, ℕ, zero, suc, ◌+◌, ◌<◌, ◌≤◌, ◌⊎◌, inl, inr, List, [], ◌++◌, Option, Some, None, ap, sym, refl, subst, arith, length, length-set}
-use Rattle.cp_refine.proofs.Words.{pos, slice_index_or, slice_set, Program, Argument, IsTyped, component_at, system_at, Bound, Permanent, Memory, Machine, phase_at, Name}
-use Rattle.cp_refine.proofs.Words.{Ty, queue_type, Value, Choice, part_at, Parameter, View, content_of, value_held, environment_of, value_at, parameter_variables}
+use Rattle.std.proofs.Common.{◌≡◌, ◌≢◌, ◌∙◌, ℕ, ◌+◌, ◌<◌, ◌≤◌, ◌⊎◌, inl, inr, List, [], ◌++◌, Option, Some, None, ap, sym, refl, subst, arith, length, length-set}
+use Rattle.cp_refine.proofs.Words.{ℤ, slice_set, Program, Argument, IsTyped, component_at, system_at, Bound, Permanent, Memory, Machine, phase_at, Name}
+use Rattle.cp_refine.proofs.Words.{Ty, queue_type, Choice, part_at, Parameter, View, content_of, value_held, environment_of, value_at, parameter_variables}
 use Rattle.cp_refine.proofs.Words.{chosen_at, Ground, AreHanded, AreDifferent, content_second, cells_of, Layouts, SystemLayout, look, SystemParametersAre}
 use Rattle.cp_meaning.specs.State as named
 use Rattle.cp_meaning.specs.State.{Holder, in_call, in_component, Place, Content, knows, Environment, Component, no_component, ComponentStatus, State}
 use Rattle.cp_refine.specs.Represents.{LiesAt, BeginsAt, PlaceAt, PhaseIs, HasBegun, ComponentIs, all_permanents, Represents}
 use Rattle.cp_refine.proofs.starts.Handing.{CanHand, Hands, handed_memory, handed_bindings, hands_all, variables_handed, parts_handed, others_handed, not_found}
-use Rattle.cp_refine.proofs.control.Moving.{set_here, set_there, same_or_other}
+use Rattle.cp_refine.proofs.assignments.Writing.{side as below_or_above}
+use Rattle.cp_refine.proofs.control.Moving.{set_here, set_there, same_or_other, set_keeps}
+use Rattle.cp_refine.proofs.control.Running.{permanent_lies}
 use Rattle.cp_refine.proofs.expressions.Parts.{encode_length}
 
 -- what has to be known of the component whose parameters are bound
-pub record CanStart (g : Ground) (l : Layouts) (s : State) (m : Machine) (mem : Memory) (d : ℕ) (qs : List Parameter) : Type 0 where
+pub record CanStart (g : Ground) (l : Layouts) (permanents : List ℤ) (bindings : List ℕ) (mem : Memory) (d : ℕ) (qs : List Parameter) : Type 0 where
   pub there : d < length g.tables.components
-  pub permanents : mem.permanents ≡ m.permanents
+  pub same : mem.permanents ≡ permanents
   pub typed : IsTyped g.tables
-  pub hand : CanHand (l.systems (component_at g.tables d).system) mem m.bindings (component_at g.tables d).base (system_at g.tables (component_at g.tables d).system).own
+  pub hand : CanHand (l.systems (component_at g.tables d).system) mem bindings (component_at g.tables d).base (system_at g.tables (component_at g.tables d).system).own
   -- what components have lies in their own cells
   pub cells : (i : ℕ) → i < length g.tables.components → (x : Name) (t : Ty) → look x (l.systems (component_at g.tables i).system).variables ≡ Some t → (l.systems (component_at g.tables i).system).slots x + cells_of t ≤ (system_at g.tables (component_at g.tables i).system).own
   pub inside : (i : ℕ) → i < length g.tables.components → (x : Name) (t : Ty) → look x (l.systems (component_at g.tables i).system).parts ≡ Some t → (l.systems (component_at g.tables i).system).slots x < (system_at g.tables (component_at g.tables i).system).own
@@ -26,7 +28,7 @@ pub record CanStart (g : Ground) (l : Layouts) (s : State) (m : Machine) (mem : 
   -- no parameter has a queue
   pub unqueued : (x : Name) (t u : Ty) (cs : List Choice) (o : ℕ) → look x (parameter_variables qs) ≡ Some u → look x (l.systems (component_at g.tables d).system).variables ≡ Some t → chosen_at t cs ≡ Some (o, queue_type) → ⊥
 
-module _ (g : Ground) (p : Program) (l : Layouts) (s : State) (m : Machine) (rep : Represents g p l s m) (mem : Memory) (d : ℕ) (qs : List Parameter) (can : CanStart g l s m mem d qs)
+module _ (g : Ground) (p : Program) (l : Layouts) (s : State) (m : Machine) (rep : Represents g p l s m) (mem : Memory) (d : ℕ) (qs : List Parameter) (can : CanStart g l m.permanents m.bindings mem d qs)
     (e : Environment) (xs : List Argument) (bs : List Bound) (given : AreHanded mem (component_at g.tables d).base (system_at g.tables (component_at g.tables d).system).own (l.systems (component_at g.tables d).system).slots qs e xs bs) (u : ComponentStatus) where
   abbrev lay : SystemLayout
   lay = l.systems (component_at g.tables d).system
@@ -68,22 +70,9 @@ module _ (g : Ground) (p : Program) (l : Layouts) (s : State) (m : Machine) (rep
   other i away = set_there s.components d i changed no_component away
 
   pub line_same : (i : ℕ) → (named.component_at components_after i).line ≡ (named.component_at s.components i).line
-  line_same i = go (same_or_other i d)
-    where
-      go : (i ≡ d) ⊎ (i ≢ d) → (named.component_at components_after i).line ≡ (named.component_at s.components i).line
-      go (inl f) = ap (λ k. (named.component_at components_after k).line) f ∙ (ap (λ (c : Component). c.line) here ∙ ap (λ k. (named.component_at s.components k).line) (sym f))
-      go (inr f) = ap (λ (c : Component). c.line) (other i f)
+  line_same i = set_keeps (λ (c : Component). c.line) s.components d changed no_component there_d refl i
 
   -- the cells of another component
-  below_or_above : (n k : ℕ) → n ≢ k → (n < k) ⊎ (k < n)
-  below_or_above zero zero f = absurd (f refl)
-  below_or_above zero (suc k) f = inl (omega arith)
-  below_or_above (suc n) zero f = inr (omega arith)
-  below_or_above (suc n) (suc k) f = go (below_or_above n k (λ a. f (ap suc a)))
-    where
-      go : (n < k) ⊎ (k < n) → (suc n < suc k) ⊎ (suc k < suc n)
-      go (inl h) = inl (omega (arith, h))
-      go (inr h) = inr (omega (arith, h))
 
   away : (i j : ℕ) → i < length g.tables.components → i ≢ d → j < (system_at g.tables (component_at g.tables i).system).own → ((component_at g.tables i).base + j < base) ⊎ (base + own ≤ (component_at g.tables i).base + j)
   away i j less f small = go (below_or_above i d f)
@@ -92,81 +81,59 @@ module _ (g : Ground) (p : Program) (l : Layouts) (s : State) (m : Machine) (rep
       go (inl o) = inl (let a = can.typed.apart i d o can.there in omega (arith, a, small))
       go (inr o) = inr (let a = can.typed.apart d i o less in omega (arith, a))
 
-  module _ (s2 : State) (m2 : Machine) (components_are : s2.components ≡ components_after) (permanents_are : m2.permanents ≡ memory.permanents) (bindings_are : m2.bindings ≡ bindings)
-      (phase_here : PhaseIs (component_at g.tables d).kind u (phase_at m2 d)) (phases_there : (i : ℕ) → i ≢ d → phase_at m2 i ≡ phase_at m i)
+  module _ (s2 : State) (m2 : Machine) (phase_here : PhaseIs (component_at g.tables d).kind u (phase_at m2 d)) (phases_there : (i : ℕ) → i ≢ d → phase_at m2 i ≡ phase_at m i)
       (begun : (i : ℕ) → i < length g.tables.components → i ≢ d → (w : ComponentStatus) → HasBegun s2 (component_at g.tables i).kind w → HasBegun s (component_at g.tables i).kind w) where
-    seen : (i : ℕ) → named.component_at s2.components i ≡ named.component_at components_after i
-    seen i = ap (λ cs. named.component_at cs i) components_are
+    abbrev state_with : State
+    state_with = record s2 { components = components_after }
 
-    -- what lies in the permanent cells of the memory lies in those of the machine
-    lies_seen : (t : Ty) (w : Value) (a : ℕ) → LiesAt memory t w (Permanent a) → LiesAt (all_permanents m2) t w (Permanent a)
-    lies_seen t w a h =
-        record {
-          typed = h.typed;
-          cells = subst (λ cells. a + cells_of t ≤ length cells) (sym permanents_are) h.cells;
-          block = λ k less. ap (λ cells. slice_index_or cells (a + k) (pos 0)) permanents_are ∙ h.block k less;
-        }
+    abbrev machine_with : Machine
+    machine_with = record m2 { permanents = memory.permanents; bindings = bindings }
 
-    lies_first : (t : Ty) (w : Value) (a : ℕ) → LiesAt (all_permanents m) t w (Permanent a) → LiesAt mem t w (Permanent a)
-    lies_first t w a h =
-        record {
-          typed = h.typed;
-          cells = subst (λ cells. a + cells_of t ≤ length cells) (sym can.permanents) h.cells;
-          block = λ k less. ap (λ cells. slice_index_or cells (a + k) (pos 0)) can.permanents ∙ h.block k less;
-        }
-
-    component_here : ComponentIs g p l s2 m2 d
+    component_here : ComponentIs g p l state_with machine_with d
     component_here =
         let before = rep.components d there_d in
-        let all : named.component_at s2.components d ≡ changed = seen d ∙ here in
         record {
-          phase = subst (λ (c : Component). PhaseIs (component_at g.tables d).kind c.status (phase_at m2 d)) (sym all) phase_here;
+          phase = subst (λ (c : Component). PhaseIs (component_at g.tables d).kind c.status (phase_at m2 d)) (sym here) phase_here;
           variables = λ x t k.
-              subst (λ (c : Component). LiesAt (all_permanents m2) t (value_held (content_of x c.environment)) (Permanent (base + lay.slots x))) (sym all)
-              (lies_seen t (value_held (content_of x (e ++ old))) (base + lay.slots x)
-              (variables_handed lay mem m.bindings base own can.hand qs e old xs bs can.parameters can.distinct given can.not_both can.closed x t k (lies_first t (value_held (content_of x old)) (base + lay.slots x) (before.variables x t k))));
-          parts = λ x t k b. ap (λ (c : Component). content_of x c.environment) all ∙ (parts_handed lay mem m.bindings base own can.hand qs e old xs bs can.parameters can.distinct given can.not_both can.closed x t k
-              ∙ ap (λ ns. Some (knows (slice_index_or ns (base + lay.slots x) 0))) (sym bindings_are));
-          others = λ x a b. ap (λ (c : Component). content_of x c.environment) all ∙ others_handed lay mem m.bindings base own can.hand qs e old xs bs can.parameters can.distinct given can.not_both can.closed x a b (before.others x a b);
+              subst (λ (c : Component). LiesAt (all_permanents machine_with) t (value_held (content_of x c.environment)) (Permanent (base + lay.slots x))) (sym here)
+              (permanent_lies memory (all_permanents machine_with) t (value_held (content_of x (e ++ old))) (base + lay.slots x) refl
+              (variables_handed lay mem m.bindings base own can.hand qs e old xs bs can.parameters can.distinct given can.not_both can.closed x t k (permanent_lies (all_permanents m) mem t (value_held (content_of x old)) (base + lay.slots x) (sym can.same) (before.variables x t k))));
+          parts = λ x t k b. ap (λ (c : Component). content_of x c.environment) here ∙ parts_handed lay mem m.bindings base own can.hand qs e old xs bs can.parameters can.distinct given can.not_both can.closed x t k;
+          others = λ x a b. ap (λ (c : Component). content_of x c.environment) here ∙ others_handed lay mem m.bindings base own can.hand qs e old xs bs can.parameters can.distinct given can.not_both can.closed x a b (before.others x a b);
         }
 
-    component_there : (i : ℕ) → i < length s.components → i ≢ d → ComponentIs g p l s2 m2 i
+    component_there : (i : ℕ) → i < length s.components → i ≢ d → ComponentIs g p l state_with machine_with i
     component_there i h f =
         let before = rep.components i h in
         let less : i < length g.tables.components = (let a = rep.component_count in omega (arith, a, h)) in
-        let all : named.component_at s2.components i ≡ named.component_at s.components i = seen i ∙ other i f in
+        let same = other i f in
         record {
-          phase = subst (λ (c : Component). PhaseIs (component_at g.tables i).kind c.status (phase_at m2 i)) (sym all) (subst (λ w. PhaseIs (component_at g.tables i).kind (named.component_at s.components i).status w) (sym (phases_there i f)) before.phase);
+          phase = subst (λ (c : Component). PhaseIs (component_at g.tables i).kind c.status (phase_at m2 i)) (sym same) (subst (λ w. PhaseIs (component_at g.tables i).kind (named.component_at s.components i).status w) (sym (phases_there i f)) before.phase);
           variables = λ x t k.
-              subst (λ (c : Component). LiesAt (all_permanents m2) t (value_held (content_of x c.environment)) (Permanent ((component_at g.tables i).base + (l.systems (component_at g.tables i).system).slots x))) (sym all)
-              (let lies = before.variables x t k in
-              let len = encode_length t (value_held (content_of x (named.component_at s.components i).environment)) lies.typed in
-              lies_seen t (value_held (content_of x (named.component_at s.components i).environment)) ((component_at g.tables i).base + (l.systems (component_at g.tables i).system).slots x)
-              (record {
-                typed = lies.typed;
-                cells = (let a = (lies_first t _ _ lies).cells in let b = hands.many in omega (arith, a, b));
+              subst (λ (c : Component). LiesAt (all_permanents machine_with) t (value_held (content_of x c.environment)) (Permanent ((component_at g.tables i).base + (l.systems (component_at g.tables i).system).slots x))) (sym same)
+              (let first = permanent_lies (all_permanents m) mem t (value_held (content_of x (named.component_at s.components i).environment)) ((component_at g.tables i).base + (l.systems (component_at g.tables i).system).slots x) (sym can.same) (before.variables x t k) in
+              let len = encode_length t (value_held (content_of x (named.component_at s.components i).environment)) first.typed in
+              record {
+                typed = first.typed;
+                cells = (let a = first.cells in let b = hands.many in omega (arith, a, b));
                 block = λ j small.
                     (let room = can.cells i less x t k in
                     let at : (component_at g.tables i).base + ((l.systems (component_at g.tables i).system).slots x + j) ≡ (component_at g.tables i).base + (l.systems (component_at g.tables i).system).slots x + j = omega arith in
                     hands.outside ((component_at g.tables i).base + (l.systems (component_at g.tables i).system).slots x + j)
                     (subst (λ a. (a < base) ⊎ (base + own ≤ a)) at (away i ((l.systems (component_at g.tables i).system).slots x + j) less f (omega (arith, room, small, len))))
-                    ∙ (lies_first t _ _ lies).block j small);
-              }));
-          parts = λ x t k b. ap (λ (c : Component). content_of x c.environment) all ∙ (before.parts x t k (subst (λ w. HasBegun s (component_at g.tables i).kind w) (ap (λ (c : Component). c.status) all) (begun i less f (named.component_at s2.components i).status b))
-              ∙ ap (λ a. Some (knows a)) (sym (ap (λ ns. slice_index_or ns ((component_at g.tables i).base + (l.systems (component_at g.tables i).system).slots x) 0) bindings_are
-              ∙ hands.others ((component_at g.tables i).base + (l.systems (component_at g.tables i).system).slots x) (away i ((l.systems (component_at g.tables i).system).slots x) less f (can.inside i less x t k)))));
-          others = λ x a b. ap (λ (c : Component). content_of x c.environment) all ∙ before.others x a b;
+                    ∙ first.block j small);
+              });
+          parts = λ x t k b. ap (λ (c : Component). content_of x c.environment) same ∙ (before.parts x t k (subst (λ w. HasBegun s (component_at g.tables i).kind w) (ap (λ (c : Component). c.status) same) (begun i less f (named.component_at components_after i).status b))
+              ∙ ap (λ a. Some (knows a)) (sym (hands.others ((component_at g.tables i).base + (l.systems (component_at g.tables i).system).slots x) (away i ((l.systems (component_at g.tables i).system).slots x) less f (can.inside i less x t k)))));
+          others = λ x a b. ap (λ (c : Component). content_of x c.environment) same ∙ before.others x a b;
         }
 
-    pub components_stand : (i : ℕ) → i < length s2.components → ComponentIs g p l s2 m2 i
+    pub components_stand : (i : ℕ) → i < length components_after → ComponentIs g p l (record s2 { components = components_after }) (record m2 { permanents = memory.permanents; bindings = bindings }) i
     components_stand i h = go (same_or_other i d)
       where
-        less : i < length s.components
-        less = let a = count in subst (λ n. i < n) a (subst (λ cs. i < length cs) components_are h)
-
-        go : (i ≡ d) ⊎ (i ≢ d) → ComponentIs g p l s2 m2 i
-        go (inl f) = subst (λ a. ComponentIs g p l s2 m2 a) (sym f) component_here
-        go (inr f) = component_there i less f
+        go : (i ≡ d) ⊎ (i ≢ d) → ComponentIs g p l state_with machine_with i
+        go (inl f) = subst (λ a. ComponentIs g p l state_with machine_with a) (sym f) component_here
+        go (inr f) = component_there i (let a = count in omega (arith, a, h)) f
 
   -- ---- queues hold what they held
 

@@ -1,6 +1,6 @@
 -- The parameters of a component are bound: those with values lie in its permanent cells, and those that are components have their numbers.
 use Rattle.std.proofs.Common.{◌≡◌, ◌≢◌, ◌∙◌, ℕ, ◌+◌, ◌^◌, ◌<◌, ◌≤◌, ◌⊎◌, inl, inr, Bool, true, false, if◌then◌else◌, List, [], ◌∷◌, ◌++◌, Option, Some, None, ap, sym, refl, subst, arith, length, length-set}
-use Rattle.cp_refine.proofs.Words.{pos, slice_index_or, bytes_eq-Decides, Argument, Bound, Permanent, Local, Memory, onward, Name, same_name, Ty, component_of, Value}
+use Rattle.cp_refine.proofs.Words.{some_same, pos, slice_index_or, bytes_eq-Decides, Argument, Bound, Permanent, Local, Memory, onward, Name, same_name, Ty, component_of, Value}
 use Rattle.cp_refine.proofs.Words.{Parameter, Content, holds, refers, knows, Environment, content_of, value_held, parameter_variables, HasType, Few, IsOther}
 use Rattle.cp_refine.proofs.Words.{AreDifferent, LiesAt, content_second, onward_is, cells_of, SystemLayout, look}
 use Rattle.cp_store.specs.declared.argument.Bound.TheVariants.{Copy, Reference, Component}
@@ -224,47 +224,26 @@ module _ (lay : SystemLayout) (m : Memory) (bindings : List ℕ) (base own : ℕ
 
   -- ---- a parameter by its name
 
-  record Found (x : Name) (u : Ty) (e : Environment) (n : Memory) (ns : List ℕ) : Type 0 where
+  record Found (x : Name) (u : Ty) (n : Memory) (ns : List ℕ) : Type 0 where
     parameter : Parameter
     content : Content
     bound : Bound
-    has : content_of x e ≡ Some content
     named : parameter.name ≡ x
     typed : parameter.ty ≡ u
     lies : OneLies n ns parameter content
     known : SystemParameterIs lay parameter.ty parameter.name
     given : IsHanded m base own parameter content bound
 
-  found : (x : Name) (u : Ty) (qs : List Parameter) (e : Environment) (xs : List Argument) (bs : List Bound) (n : Memory) (ns : List ℕ) → Given qs e xs bs → SystemParametersAre lay qs → AllLie n ns qs e → look x (parameter_variables qs) ≡ Some u → Found x u e n ns
+  found : (x : Name) (u : Ty) (qs : List Parameter) (e : Environment) (xs : List Argument) (bs : List Bound) (n : Memory) (ns : List ℕ) → Given qs e xs bs → SystemParametersAre lay qs → AllLie n ns qs e → look x (parameter_variables qs) ≡ Some u → (w : Found x u n ns) × (content_of x e ≡ Some w.content)
   found x u [] e xs bs n ns is h a k = absurd (cc)
   found x u (q ∷ qs) (d ∷ e) (y ∷ xs) (b ∷ bs) n ns is h a k = go (same_name x q.name) refl (found x u qs e xs bs n ns is.3 h.1 a.1) k
     where
-      go : (w : Bool) → same_name x q.name ≡ w → (look x (parameter_variables qs) ≡ Some u → Found x u e n ns) → (if w then Some q.ty else look x (parameter_variables qs)) ≡ Some u → Found x u (d ∷ e) n ns
-      go true s ih k =
-          record {
-            parameter = q;
-            content = d.1;
-            bound = b;
-            has = ap (λ (w : Bool). if w then Some d.1 else content_of x e) (ap (same_name x) is.0 ∙ s);
-            named = sym ((bytes_eq-Decides x q.name).0 s);
-            typed = cc;
-            lies = a.0;
-            known = h.0;
-            given = is.2;
-          }
-      go false s ih k =
-          let w = ih k in
-          record {
-            parameter = w.parameter;
-            content = w.content;
-            bound = w.bound;
-            has = ap (λ (v : Bool). if v then Some d.1 else content_of x e) (ap (same_name x) is.0 ∙ s) ∙ w.has;
-            named = w.named;
-            typed = w.typed;
-            lies = w.lies;
-            known = w.known;
-            given = w.given;
-          }
+      go : (w : Bool) → same_name x q.name ≡ w → (look x (parameter_variables qs) ≡ Some u → (f : Found x u n ns) × (content_of x e ≡ Some f.content)) → (if w then Some q.ty else look x (parameter_variables qs)) ≡ Some u → (f : Found x u n ns) × (content_of x (d ∷ e) ≡ Some f.content)
+      go true s ih k = (
+        record { parameter = q; content = d.1; bound = b; named = sym ((bytes_eq-Decides x q.name).0 s); typed = cc; lies = a.0; known = h.0; given = is.2 },
+        ap (λ (w : Bool). if w then Some d.1 else content_of x e) (ap (same_name x) is.0 ∙ s),
+      )
+      go false s ih k = (let f = ih k in (f.0, ap (λ (v : Bool). if v then Some d.1 else content_of x e) (ap (same_name x) is.0 ∙ s) ∙ f.1))
   found x u (q ∷ qs) _ _ _ n ns is h a k = absurd is
 
   pub not_found : (x : Name) (qs : List Parameter) (e : Environment) (xs : List Argument) (bs : List Bound) → Given qs e xs bs → look x (parameter_variables qs) ≡ None → content_of x e ≡ None
@@ -275,9 +254,6 @@ module _ (lay : SystemLayout) (m : Memory) (bindings : List ℕ) (base own : ℕ
       go true s ih k = absurd (cc)
       go false s ih k = ap (λ (v : Bool). if v then Some d.1 else content_of x e) (ap (same_name x) is.0 ∙ s) ∙ ih k
   not_found x _ _ _ _ is k = absurd is
-
-  type_is : (a b : Ty) → Some a ≡ Some b → a ≡ b
-  type_is a b e = cc
 
   -- ---- what the component has then
 
@@ -298,7 +274,7 @@ module _ (lay : SystemLayout) (m : Memory) (bindings : List ℕ) (base own : ℕ
 
     value_lies : (x : Name) (t : Ty) (q : Parameter) (c : Content) (b : Bound) → look x lay.variables ≡ Some t → q.name ≡ x → SystemParameterIs lay q.ty q.name → OneLies handed_memory handed_bindings q c → IsHanded m base own q c b → LiesAt handed_memory t (value_held (Some c)) (Permanent (base + lay.slots x))
     value_lies x t q (holds w) b known same h lies is =
-        let ty : q.ty ≡ t = type_is q.ty t (sym (value_parameter lay q.ty q.name w h is.0.typed) ∙ (ap (λ z. look z lay.variables) same ∙ known)) in
+        let ty : q.ty ≡ t = some_same q.ty t (sym (value_parameter lay q.ty q.name w h is.0.typed) ∙ (ap (λ z. look z lay.variables) same ∙ known)) in
         subst (λ z. LiesAt handed_memory t w (Permanent (base + lay.slots z))) same (subst (λ u. LiesAt handed_memory u w (Permanent (base + lay.slots q.name))) ty lies)
     value_lies x t q (knows c) (Component d) known same h lies is =
         absurd (not_both q.name (component_of is.0) t (subst (λ u. SystemParameterIs lay u q.name) is.1 h) (ap (λ z. look z lay.variables) same ∙ known))
@@ -318,8 +294,8 @@ module _ (lay : SystemLayout) (m : Memory) (bindings : List ℕ) (base own : ℕ
               block = λ i less. all.cell (base + lay.slots x + i) (free_cells x t i qs e xs bs known (omega (arith, less, len)) (others_named x qs k) parameters given) ∙ lies.block i less;
             })
         by_look (Some u) k =
-            let w = found x u qs e xs bs handed_memory handed_bindings given parameters all.lies k in
-            subst (λ (v : Option Content). LiesAt handed_memory t (value_held v) (Permanent (base + lay.slots x))) (sym (content_first x e old w.content w.has)) (value_lies x t w.parameter w.content w.bound known w.named w.known w.lies w.given)
+            let f = found x u qs e xs bs handed_memory handed_bindings given parameters all.lies k in let w = f.0 in
+            subst (λ (v : Option Content). LiesAt handed_memory t (value_held v) (Permanent (base + lay.slots x))) (sym (content_first x e old w.content f.1)) (value_lies x t w.parameter w.content w.bound known w.named w.known w.lies w.given)
 
     part_known : (x : Name) (t : Ty) (q : Parameter) (c : Content) (b : Bound) → look x lay.parts ≡ Some t → q.name ≡ x → SystemParameterIs lay q.ty q.name → OneLies handed_memory handed_bindings q c → IsHanded m base own q c b → c ≡ knows (slice_index_or handed_bindings (base + lay.slots x) 0)
     part_known x t q (holds w) b known same h lies is = absurd (not_both x t q.ty known (ap (λ z. look z lay.variables) (sym same) ∙ value_parameter lay q.ty q.name w h is.0.typed))
@@ -329,8 +305,8 @@ module _ (lay : SystemLayout) (m : Memory) (bindings : List ℕ) (base own : ℕ
     -- a parameter that is a component has its number
     pub parts_handed : (x : Name) (t : Ty) → look x lay.parts ≡ Some t → content_of x (e ++ old) ≡ Some (knows (slice_index_or handed_bindings (base + lay.slots x) 0))
     parts_handed x t known =
-        let w = found x t qs e xs bs handed_memory handed_bindings given parameters all.lies (closed x t known) in
-        content_first x e old w.content w.has ∙ ap (λ (c : Content). Some c) (part_known x t w.parameter w.content w.bound known w.named w.known w.lies w.given)
+        let f = found x t qs e xs bs handed_memory handed_bindings given parameters all.lies (closed x t known) in let w = f.0 in
+        content_first x e old w.content f.1 ∙ ap (λ (c : Content). Some c) (part_known x t w.parameter w.content w.bound known w.named w.known w.lies w.given)
 
     -- a name of which the layout says nothing is no parameter
     pub others_handed : (x : Name) → look x lay.variables ≡ None → look x lay.parts ≡ None → content_of x old ≡ None → content_of x (e ++ old) ≡ None
@@ -343,4 +319,4 @@ module _ (lay : SystemLayout) (m : Memory) (bindings : List ℕ) (base own : ℕ
 
         by_look : (o : Option Ty) → look x (parameter_variables qs) ≡ o → content_of x (e ++ old) ≡ None
         by_look None k = content_second x e old (not_found x qs e xs bs given k) ∙ empty
-        by_look (Some u) k = (let w = found x u qs e xs bs handed_memory handed_bindings given parameters all.lies k in absurd (unknown w.parameter w.content w.bound w.named w.known w.given))
+        by_look (Some u) k = (let f = found x u qs e xs bs handed_memory handed_bindings given parameters all.lies k in let w = f.0 in absurd (unknown w.parameter w.content w.bound w.named w.known w.given))

@@ -1,5 +1,5 @@
 -- The step with which the initial statement of a class or monitor ends: the caller goes on, and the component is initialised.
-use Rattle.cp_refine.proofs.Words.{◌≡◌, ◌∙◌, ℕ, ◌^◌, ◌<◌, ◌==◌, true, false, List, ◌∷◌, None, ap, sym, refl, subst, length, ◌&&◌, ◌||◌, not, slice_set, Program}
+use Rattle.cp_refine.proofs.Words.{◌≡◌, ◌∙◌, ℕ, ◌^◌, ◌<◌, ◌==◌, false, List, ◌∷◌, None, ap, sym, refl, subst, length, ◌&&◌, ◌||◌, slice_set, Program}
 use Rattle.cp_refine.proofs.Words.{ComponentKind, component_at, Frame, Entry, InitEnd, Phase, StackFits, ThreadFits, Machine, Thread, is_uninitialised, phase_at}
 use Rattle.cp_refine.proofs.Words.{thread_at, with_thread, take_top, step_at, view_of, step_of, settled, Layouts, RoutineIs, Ground, takes, finished}
 use Rattle.cp_slots.specs.declared.tables.ComponentKind.TheVariants as kind
@@ -7,11 +7,11 @@ use Rattle.cp_machine.specs.declared.process.Status.TheVariants as status
 use Rattle.cp_machine.specs.declared.state.Phase.TheVariants as phase
 use Rattle.cp_machine.specs.Calls as calls
 use Rattle.cp_meaning.specs.State as named
-use Rattle.cp_meaning.specs.State.{ready, ComponentStatus, uninitialised, initialised, CallKind, Call, callers, Item, init_end, Process, State, has_entry, is_entry_kind, waits_at}
-use Rattle.cp_refine.specs.Represents.{StackIs, StatusIs, ProcessIs, PhaseIs, HasBegun, Runs, CallsHold, MonitorIs, frames_of, own_memory, Represents}
+use Rattle.cp_meaning.specs.State.{ready, ComponentStatus, uninitialised, initialised, CallKind, Call, callers, Item, init_end, Process, State, has_entry, is_entry_kind}
+use Rattle.cp_refine.specs.Represents.{StackIs, PhaseIs, HasBegun, Runs, CallsHold, frames_of, own_memory, Represents}
 use Rattle.cp_refine.proofs.control.Control.{StepIs}
 use Rattle.cp_refine.proofs.calls.GivenUp.{closed_calls}
-use Rattle.cp_refine.proofs.control.Moving.{inside_same, moved}
+use Rattle.cp_refine.proofs.control.Moving.{runs_now, goes_ready}
 use Rattle.cp_refine.proofs.starts.Phases.{phase_changed}
 
 -- a process whose next item is the end of an initial statement
@@ -38,7 +38,7 @@ module _ (g : Ground) (p : Program) (l : Layouts) (s : State) (m : Machine) (q :
   thread = thread_at m.threads q
 
   runs_before : Runs g p l before thread
-  runs_before = subst (λ u. StatusIs g p l q before thread ready u) k.was_slot (subst (λ u. StatusIs g p l q before thread u thread.status) k.was (k.rep.processes q k.there).status)
+  runs_before = runs_now g p l s m q k.rep k.there k.was k.was_slot
 
   stack_before : StackIs g p l thread.frame before.calls before.items (InitEnd caller n ∷ es)
   stack_before = subst (λ (fs : List Entry). StackIs g p l thread.frame before.calls before.items fs) k.stack runs_before.stack
@@ -72,37 +72,11 @@ module _ (g : Ground) (p : Program) (l : Layouts) (s : State) (m : Machine) (q :
   abbrev process_back : Process
   process_back = record { component = before.component; status = ready; calls = calls_around; items = items_after }
 
-  stands_back : ProcessIs g p l q process_back thread_back
-  stands_back =
-      record {
-        component = (k.rep.processes q k.there).component;
-        status = subst (λ u. StatusIs g p l q process_back thread_back ready u) (sym k.was_slot)
-            (record { stack = stack_before.6; calls = closed_calls g p l k.routines thread caller es call calls_around fits_before.2 fits_before.0.cells fits_before.0.references k.fits.cells k.few held_before });
-      }
-
-  inside_kept : (i : ℕ) (c : ComponentKind) → MonitorIs s m i c → MonitorIs (record s { processes = slice_set s.processes q process_back }) (with_thread m q thread_back) i c
-  inside_kept i (kind.Monitor j) h =
-      let entry : has_entry i calls_around ≡ has_entry i before.calls = sym (ap (has_entry i) calls_were ∙ ap (λ (c : CallKind). (is_entry_kind c && call.component == i) || has_entry i calls_around) stack_before.5) in
-      (h.0, h.1 ∙ sym (inside_same i q process_back s.processes (ap (λ b. b && true) entry ∙ sym (ap (λ u. has_entry i before.calls && not (waits_at i u)) k.was)) k.there))
-  inside_kept i _ h = tt
-
   back : Represents g p l (record s { processes = slice_set s.processes q process_back }) (with_thread m q thread_back)
   back =
-      moved g p l s m q process_back thread_back s.components m.monitors s.pending m.pending k.rep
-      (record {
-        there = k.there;
-        was_started = λ e. (let w = k.was in cc);
-        was_undelayed = λ i e. (let w = k.was in cc);
-        started = λ e. cc;
-        undelayed = λ i e. cc;
-        undelayed_slot = λ c e. (let w = k.was_slot in cc);
-        stands = stands_back;
-        count = refl;
-        same_status = λ i. refl;
-        same_environment = λ i. refl;
-        monitors = λ i h. inside_kept i (component_at g.tables i).kind (k.rep.monitors i h);
-        pending = k.rep.pending;
-      })
+      goes_ready g p l s m q k.rep k.there k.was k.was_slot calls_around items_after thread_back refl
+      (record { stack = stack_before.6; calls = closed_calls g p l k.routines thread caller es call calls_around fits_before.2 fits_before.0.cells fits_before.0.references k.fits.cells k.few held_before })
+      (λ i j e. sym (ap (has_entry i) calls_were ∙ ap (λ (c : CallKind). (is_entry_kind c && call.component == i) || has_entry i calls_around) stack_before.5))
 
   -- the component has begun
   phase_agrees : (c : ComponentKind) → PhaseIs c initialised phase.Initialised

@@ -1,9 +1,9 @@
 -- The initial statement of a class or monitor begins: its frame stands above those of its callers, and its end is that of an initial statement.
 use Rattle.cp_refine.proofs.Words.{◌≡◌, ◌∙◌, ℕ, ◌+◌, ◌<◌, ◌≤◌, List, [], ◌∷◌, ◌++◌, None, ap, sym, refl, subst, arith, length, pos, slice_index_or, slice_set}
-use Rattle.cp_refine.proofs.Words.{get_or_append_left, length-append, Program, Argument, component_at, routine_at, Bound, Permanent, Local, Frame, Memory, Entry, InitEnd}
+use Rattle.cp_refine.proofs.Words.{get_or_append_left, length-append, Program, Argument, routine_at, Bound, Permanent, Local, Frame, Memory, Entry, InitEnd}
 use Rattle.cp_refine.proofs.Words.{frame_behind, size_of, Machine, Thread, thread_at, with_thread, rest_of, Name, Ty, Value, Parameter, RoutineMeaning, system_of}
 use Rattle.cp_refine.proofs.Words.{items_of_all, Layouts, here, cell_named, first_values, initial_meaning, Ground, IsValue, Keeps, GivesValue, IsHanded, AreHanded}
-use Rattle.cp_refine.proofs.Words.{AreBound, ItemsAre, memory_at, frame_opened, StackIs, StatusIs, ProcessIs, CallIs, CallsHold, frames_of, own_memory, Represents}
+use Rattle.cp_refine.proofs.Words.{AreBound, ItemsAre, memory_at, frame_opened, StackIs, CallIs, CallsHold, frames_of, own_memory, Represents}
 use Rattle.cp_store.specs.declared.argument.Bound.TheVariants.{Copy, Reference, Component}
 use Rattle.cp_meaning.specs.State as named
 use Rattle.cp_meaning.specs.State.{Content, holds, knows, Environment, ready, initial_statement, Call, Item, init_end, Process, State}
@@ -11,7 +11,7 @@ use Rattle.cp_refine.proofs.calls.Calling.{CanCall}
 use Rattle.cp_refine.proofs.control.Control.{Goes}
 use Rattle.cp_refine.proofs.calls.FramesBelow.{lie_lower, frames_lie, calls_below}
 use Rattle.cp_refine.proofs.control.Lists.{all_items, stack_rest, frames_rest}
-use Rattle.cp_refine.proofs.control.Moving.{moved, stays_inside}
+use Rattle.cp_refine.proofs.control.Moving.{goes_ready}
 use Rattle.cp_refine.proofs.calls.NewFrame.{new_memory, bound_memory, binds_all, holds_new}
 use Rattle.cp_refine.proofs.control.Running.{calls_alike}
 
@@ -108,34 +108,14 @@ module _ (g : Ground) (p : Program) (l : Layouts) (s : State) (m : Machine) (q :
       (subst (λ (r : RoutineMeaning). ItemsAre g (here p l number) (routine_at g.tables number).body (items_of_all r.scope r.body) None) meaning (all_items g (here p l number) (routine_at g.tables number).body None (l.meanings number).body (can.routines number can.known).body))
       (initial_call, before.calls, zs, refl, refl, refl, is)
 
-  stands : ProcessIs g p l q process_in thread_in
-  stands =
-      record {
-        component = (k.rep.processes q k.there).component;
-        status = subst (λ u. StatusIs g p l q process_in thread_in ready u) (sym k.was_slot)
-            (record {
-              stack = stack_stands;
-              calls = subst (λ fs. CallsHold g.tables l (own_memory thread_in) (initial_call ∷ before.calls) fs) (sym (frames_rest frame (routine_at g.tables number).body (InitEnd thread.frame d ∷ rest) ∙ ap (λ fs. frame ∷ fs) same)) calls_hold;
-            });
-      }
-
   pub initial_opened : Represents g p l (record s { processes = slice_set s.processes q process_in }) (with_thread m q thread_in)
   initial_opened =
-      moved g p l s m q process_in thread_in s.components m.monitors s.pending m.pending k.rep
+      goes_ready g p l s m q k.rep k.there k.was k.was_slot (initial_call ∷ before.calls) process_in.items thread_in refl
       (record {
-        there = k.there;
-        was_started = λ a. (let w = k.was in cc);
-        was_undelayed = λ n a. (let w = k.was in cc);
-        started = λ a. cc;
-        undelayed = λ n a. cc;
-        undelayed_slot = λ n a. (let w = k.was_slot in cc);
-        stands = stands;
-        count = refl;
-        same_status = λ n. refl;
-        same_environment = λ n. refl;
-        monitors = λ n h. stays_inside s m q process_in thread_in n (component_at g.tables n).kind k.there k.was refl refl (k.rep.monitors n h);
-        pending = k.rep.pending;
+        stack = stack_stands;
+        calls = subst (λ fs. CallsHold g.tables l (own_memory thread_in) (initial_call ∷ before.calls) fs) (sym (frames_rest frame (routine_at g.tables number).body (InitEnd thread.frame d ∷ rest) ∙ ap (λ fs. frame ∷ fs) same)) calls_hold;
       })
+      (λ n j e. refl)
 
   -- the process has its cells, and those of the frame
   pub has_more : HasMore (memory_at m q) (new_memory g p l frames (memory_at m q) frame can.opens)

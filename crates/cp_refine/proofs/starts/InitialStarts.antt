@@ -1,34 +1,32 @@
 -- The whole step that starts a class or monitor: its parameters are bound, and its initial statement is executed.
-use Rattle.cp_refine.proofs.Words.{◌≡◌, ◌∙◌, ℕ, ◌<◌, Bool, true, false, if◌then◌else◌, List, ◌++◌, Option, ap, sym, refl, subst, arith, length, ℤ, Result, Ok, Err, map}
-use Rattle.cp_refine.proofs.Words.{replicate, slice_index, slice_set, SystemKind, Program, Start, Argument, ComponentPlace, ComponentKind, component_at, item_at}
+use Rattle.cp_refine.proofs.Words.{◌≡◌, ◌∙◌, ℕ, ◌<◌, Bool, true, false, if◌then◌else◌, List, ◌++◌, Option, ap, sym, refl, subst, arith, length, ℤ, Ok, Err}
+use Rattle.cp_refine.proofs.Words.{replicate, slice_index, slice_set, SystemKind, Program, Start, Argument, ComponentKind, component_at}
 use Rattle.cp_refine.proofs.Words.{routine_at, system_at, Bound, bound_in_component, bindings_after, Memory, nowhere, Entry, InitEnd, Phase, frame_behind, rest_of}
-use Rattle.cp_refine.proofs.Words.{step_at, Parameter, system_of, View, Target, component_there, Stepped, target_value, at_designator, view_of, step_of, settled, Layouts}
-use Rattle.cp_refine.proofs.Words.{initial_meaning, Ground, AreHanded, BoundsAgree, ComponentAgrees, SameKind, KindsAgree, PhaseIs, HasBegun, MonitorIs, frames_of}
+use Rattle.cp_refine.proofs.Words.{step_at, Parameter, system_of, View, at_designator, view_of, step_of, settled, Layouts}
+use Rattle.cp_refine.proofs.Words.{initial_meaning, Ground, SameKind, PhaseIs, frames_of}
 use Rattle.cp_refine.proofs.Words.{Represents, length-append, length-replicate, Machine, Thread, no_thread, thread_at, phase_at, with_phase, with_bindings, with_thread}
-use Rattle.cp_refine.proofs.Words.{Outcome, ◌>>=◌, init_twice, Environment, ComponentStatus, uninitialised, initialising, initialised, Item, start_item, Process, State}
+use Rattle.cp_refine.proofs.Words.{◌>>=◌, init_twice, Environment, ComponentStatus, uninitialised, initialising, initialised, Item, start_item, Process, State}
 use Rattle.cp_tree.specs.declared.declaration.SystemKind.TheVariants as system_kind
-use Rattle.cp_slots.specs.declared.item.Action.TheVariants as action
 use Rattle.cp_slots.specs.declared.tables.ComponentKind.TheVariants as kind
-use Rattle.cp_slots.specs.Code as code
-use Rattle.cp_store.specs.declared.error.ErrorName as slots
 use Rattle.cp_store.specs.declared.error.ErrorName.TheVariants as error
 use Rattle.cp_machine.specs.declared.state.Phase.TheVariants as phase
 use Rattle.cp_machine.specs.Calls as calls
 use Rattle.cp_machine.specs.Machine as slot_machine
-use Rattle.cp_machine.specs.Memory.{memory_at, component_of, arguments_of, with_memory, parameters_bound}
+use Rattle.cp_machine.specs.Memory.{memory_at, with_memory, parameters_bound}
 use Rattle.cp_machine.specs.Statements as statements
 use Rattle.cp_meaning.specs.State as named
-use Rattle.cp_meaning.specs.Calls.{bound, initial, is_uninitialised, initialised_in, started_as, started_at}
+use Rattle.cp_meaning.specs.Calls.{initial, is_uninitialised, initialised_in, started_as}
 use Rattle.cp_refine.proofs.assignments.Assigning.{set_set}
 use Rattle.cp_refine.proofs.calls.Calling.{CanCall}
-use Rattle.cp_refine.proofs.control.Control.{Taken, Goes, StepIs, goes, stack_after, takes_item, acts, fails}
+use Rattle.cp_refine.proofs.control.Control.{Taken, Goes, StepIs, goes, stack_after, fails}
 use Rattle.cp_refine.proofs.starts.Handed as handed
 use Rattle.cp_refine.proofs.starts.Handed.{CanStart, hands}
 use Rattle.cp_refine.proofs.starts.InitialOpened.{HasMore, all_more, process_in, thread_in, initial_opened, has_more}
 use Rattle.cp_refine.proofs.control.Lists.{frames_rest}
-use Rattle.cp_refine.proofs.control.Moving.{set_here, set_there}
+use Rattle.cp_refine.proofs.control.Moving.{set_here, set_there, begun_from, monitor_from}
 use Rattle.cp_refine.proofs.calls.NewFrame.{new_memory}
-use Rattle.cp_refine.proofs.starts.ProcessStarts.{is_start, memory_with}
+use Rattle.cp_refine.proofs.starts.ProcessStarts.{memory_with}
+use Rattle.cp_refine.proofs.starts.Starting as starting
 
 module _ (g : Ground) (p : Program) (l : Layouts) (s : State) (m : Machine) (q at : ℕ) (t : Start) (mid : Option ℕ) (es : List Entry) (xs ys : List Item) (k : Taken g p l s m q at (start_item t) mid es xs ys) where
   abbrev view : View
@@ -40,28 +38,24 @@ module _ (g : Ground) (p : Program) (l : Layouts) (s : State) (m : Machine) (q a
   abbrev routine : ℕ
   routine = (l.systems k.own.system).initial
 
-  abbrev pub IsFound : ℕ → Type 0
-  IsFound d = (place : ComponentPlace) × (code.component_seen place ≡ k.own.part) × (component_of m q place ≡ Ok d)
+  abbrev IsFound : ℕ → Type 0
+  IsFound d = starting.IsFound g p l s m q at t mid es xs ys k d
 
-  abbrev pub parameters_of : ℕ → List Parameter
+  abbrev parameters_of : ℕ → List Parameter
   parameters_of d = (system_of p (component_at g.tables d).system).parameters
 
-  abbrev pub AreGivenTo : Memory → ℕ → Environment → List Argument → List Bound → Type 0
-  AreGivenTo mem d e as' bs = AreHanded mem (component_at g.tables d).base (system_at g.tables (component_at g.tables d).system).own (l.systems (component_at g.tables d).system).slots (parameters_of d) e as' bs
+  abbrev AreGivenTo : Memory → ℕ → Environment → List Argument → List Bound → Type 0
+  AreGivenTo mem d e as' bs = starting.AreGivenTo g p l s m q at t mid es xs ys k mem d e as' bs
 
   -- what has to be known of the component that is started, which is a class or a monitor
   pub record InitialKnown : Type 0 where
-    pub component : (place : ComponentPlace) → code.component_seen place ≡ k.own.part → ComponentAgrees view (target_value view t.target) (component_of m q place)
-    pub arguments : (d : ℕ) → IsFound d → (as' : List Argument) → map code.argument_seen as' ≡ k.own.arguments → BoundsAgree (λ e bs. AreGivenTo (memory_at m q) d e as' bs) (bound view (parameters_of d) t.arguments) (arguments_of m q as')
-    pub kinds : KindsAgree g.tables s
-    pub can : (d : ℕ) → IsFound d → CanStart g l s m (memory_at m q) d (parameters_of d)
+    pub start : starting.CanBeStarted g p l s m q at t mid es xs ys k
     pub call : (d : ℕ) → IsFound d → CanCall g p l m q routine d es
-    pub system : (d : ℕ) → IsFound d → (named.component_at s.components d).system ≡ (component_at g.tables d).system
     pub statement : (d : ℕ) → IsFound d → l.meanings routine ≡ initial_meaning (system_of p (component_at g.tables d).system)
     pub no_process : (d r : ℕ) → IsFound d → (component_at g.tables d).kind ≡ kind.Process r → ⊥
     pub phases : (d : ℕ) → IsFound d → d < length m.phases
 
-  module _ (start : InitialKnown) (as' : List Argument) (args_are : map code.argument_seen as' ≡ k.own.arguments) (d : ℕ) (is_found : IsFound d) where
+  module _ (initial_known : InitialKnown) (as' : List Argument) (d : ℕ) (is_found : IsFound d) where
     abbrev rest : List Entry
     rest = rest_of mid es
 
@@ -72,13 +66,13 @@ module _ (g : Ground) (p : Program) (l : Layouts) (s : State) (m : Machine) (q a
     going = goes g p l s m q at (start_item t) mid es xs ys k
 
     abbrev can_call : CanCall g p l m q routine d es
-    can_call = start.call d is_found
+    can_call = initial_known.call d is_found
 
     abbrev Inside : Process
-    Inside = process_in g p l s m q es going (xs ++ ys) rest (stack_after g p l s m q at (start_item t) mid es xs ys k) (frames_rest thread.frame mid es) routine d (component_at g.tables d).system can_call (start.statement d is_found)
+    Inside = process_in g p l s m q es going (xs ++ ys) rest (stack_after g p l s m q at (start_item t) mid es xs ys k) (frames_rest thread.frame mid es) routine d (component_at g.tables d).system can_call (initial_known.statement d is_found)
 
     abbrev Above : Thread
-    Above = thread_in g p l s m q es going (xs ++ ys) rest (stack_after g p l s m q at (start_item t) mid es xs ys k) (frames_rest thread.frame mid es) routine d (component_at g.tables d).system can_call (start.statement d is_found)
+    Above = thread_in g p l s m q es going (xs ++ ys) rest (stack_after g p l s m q at (start_item t) mid es xs ys k) (frames_rest thread.frame mid es) routine d (component_at g.tables d).system can_call (initial_known.statement d is_found)
 
     abbrev state_in : State
     state_in = record s { processes = slice_set s.processes q Inside }
@@ -87,20 +81,20 @@ module _ (g : Ground) (p : Program) (l : Layouts) (s : State) (m : Machine) (q a
     machine_in = with_thread m q Above
 
     rep_in : Represents g p l state_in machine_in
-    rep_in = initial_opened g p l s m q es going (xs ++ ys) rest (stack_after g p l s m q at (start_item t) mid es xs ys k) (frames_rest thread.frame mid es) routine d (component_at g.tables d).system can_call (start.statement d is_found)
+    rep_in = initial_opened g p l s m q es going (xs ++ ys) rest (stack_after g p l s m q at (start_item t) mid es xs ys k) (frames_rest thread.frame mid es) routine d (component_at g.tables d).system can_call (initial_known.statement d is_found)
 
     abbrev mem : Memory
     mem = new_memory g p l (frames_of thread.frame es) (memory_at m q) (frame_behind g.tables thread routine d) can_call.opens
 
     more : HasMore (memory_at m q) mem
-    more = has_more g p l s m q es going (xs ++ ys) rest (stack_after g p l s m q at (start_item t) mid es xs ys k) (frames_rest thread.frame mid es) routine d (component_at g.tables d).system can_call (start.statement d is_found)
+    more = has_more g p l s m q es going (xs ++ ys) rest (stack_after g p l s m q at (start_item t) mid es xs ys k) (frames_rest thread.frame mid es) routine d (component_at g.tables d).system can_call (initial_known.statement d is_found)
 
-    can_in : CanStart g l state_in machine_in mem d (parameters_of d)
+    can_in : CanStart g l machine_in.permanents machine_in.bindings mem d (parameters_of d)
     can_in =
-        let c = start.can d is_found in
+        let c = initial_known.start.can d is_found in
         record {
           there = c.there;
-          permanents = refl;
+          same = refl;
           typed = c.typed;
           hand = record {
             cells = c.hand.cells;
@@ -150,25 +144,17 @@ module _ (g : Ground) (p : Program) (l : Layouts) (s : State) (m : Machine) (q a
       phase_agrees (kind.Process r) = tt
       phase_agrees _ = tt
 
-      begun_same : (c : ComponentKind) (w : ComponentStatus) → HasBegun state_started c w → HasBegun state_in c w
-      begun_same (kind.Monitor i) uninitialised b = b
-      begun_same kind.Class uninitialised b = b
-      begun_same _ _ b = b
-
-      monitor_kept : (i : ℕ) (c : ComponentKind) → MonitorIs state_in machine_in i c → MonitorIs state_started machine_started i c
-      monitor_kept i (kind.Monitor j) h = (h.0 ∙ sym (handed.line_same g p l state_in machine_in rep_in mem d (parameters_of d) can_in e as' bs given_in initialising i), h.1)
-      monitor_kept i _ h = tt
-
       started_stands : Represents g p l state_started machine_started
       started_stands =
           record {
             process_count = rep_in.process_count;
             component_count = handed.count g p l state_in machine_in rep_in mem d (parameters_of d) can_in e as' bs given_in initialising ∙ rep_in.component_count;
             processes = rep_in.processes;
-            components = handed.components_stand g p l state_in machine_in rep_in mem d (parameters_of d) can_in e as' bs given_in initialising state_started machine_started refl refl refl
-                (subst (λ w. PhaseIs (component_at g.tables d).kind initialising w) (sym (set_here m.phases d phase.Initialising phase.Uninitialised (start.phases d is_found))) (phase_agrees (component_at g.tables d).kind))
-                (λ i f. set_there m.phases d i phase.Initialising phase.Uninitialised f) (λ i less f w b. begun_same (component_at g.tables i).kind w b);
-            monitors = λ i h. monitor_kept i (component_at g.tables i).kind (rep_in.monitors i (let a = handed.count g p l state_in machine_in rep_in mem d (parameters_of d) can_in e as' bs given_in initialising in omega (arith, a, h)));
+            components = handed.components_stand g p l state_in machine_in rep_in mem d (parameters_of d) can_in e as' bs given_in initialising state_started machine_started
+                (subst (λ w. PhaseIs (component_at g.tables d).kind initialising w) (sym (set_here m.phases d phase.Initialising phase.Uninitialised (initial_known.phases d is_found))) (phase_agrees (component_at g.tables d).kind))
+                (λ i f. set_there m.phases d i phase.Initialising phase.Uninitialised f) (λ i less f w b. begun_from state_in state_started (λ j u. u) (component_at g.tables i).kind w b);
+            monitors = λ i h. monitor_from state_in state_started machine_in machine_started i (component_at g.tables i).kind refl (handed.line_same g p l state_in machine_in rep_in mem d (parameters_of d) can_in e as' bs given_in initialising i) (λ j f. refl)
+                (rep_in.monitors i (let a = handed.count g p l state_in machine_in rep_in mem d (parameters_of d) can_in e as' bs given_in initialising in omega (arith, a, h)));
             queues = record {
               waiting = λ r i a v h f z c.
                   (let w = rep_in.queues.waiting r i a (record { program = v.program; calls = v.calls; components = s.components }) h f z refl in
@@ -200,7 +186,7 @@ module _ (g : Ground) (p : Program) (l : Layouts) (s : State) (m : Machine) (q a
       started_so : StepIs g p l q line (settled p s q (Ok (initial view d (system_of p (named.component_at s.components d).system) (xs ++ ys) e)))
           (statements.local (with_phase (parameters_bound (calls.opened g.tables m q routine d (InitEnd thread.frame d) rest) q (component_at g.tables d).base as' bs) d phase.Initialising))
       started_so =
-          subst (λ n. StepIs g p l q line (settled p s q (Ok (initial view d (system_of p n) (xs ++ ys) e))) (statements.local (with_phase (parameters_bound machine_in q (component_at g.tables d).base as' bs) d phase.Initialising))) (sym (start.system d is_found))
+          subst (λ n. StepIs g p l q line (settled p s q (Ok (initial view d (system_of p n) (xs ++ ys) e))) (statements.local (with_phase (parameters_bound machine_in q (component_at g.tables d).base as' bs) d phase.Initialising))) (sym (initial_known.start.system d is_found))
           (record { state = subst (λ w. Represents g p l state_started w) (sym machine_is) started_stands; event = refl })
 
       -- whether it was started before
@@ -217,7 +203,7 @@ module _ (g : Ground) (p : Program) (l : Layouts) (s : State) (m : Machine) (q a
       inside_so : StepIs g p l q line (settled p s q (initialised_in view d (system_of p (named.component_at s.components d).system) (xs ++ ys) e)) (calls.start_inside g.tables m q line routine d as' bs rest)
       inside_so =
           subst (λ b. StepIs g p l q line (settled p s q (if b then Ok (initial view d (system_of p (named.component_at s.components d).system) (xs ++ ys) e) else Err init_twice)) (calls.start_inside g.tables m q line routine d as' bs rest))
-          (sym (status_same (component_at g.tables d).kind (named.component_at s.components d).status (phase_at m d) (λ r f. start.no_process d r is_found f) (k.rep.components d there_d).phase)) (go (slot_machine.is_uninitialised (phase_at m d)))
+          (sym (status_same (component_at g.tables d).kind (named.component_at s.components d).status (phase_at m d) (λ r f. initial_known.no_process d r is_found f) (k.rep.components d there_d).phase)) (go (slot_machine.is_uninitialised (phase_at m d)))
         where
           go : (b : Bool) → StepIs g p l q line (settled p s q (if b then Ok (initial view d (system_of p (named.component_at s.components d).system) (xs ++ ys) e) else Err init_twice))
               (if b then statements.local (with_phase (parameters_bound (calls.opened g.tables m q routine d (InitEnd thread.frame d) rest) q (component_at g.tables d).base as' bs) d phase.Initialising) else statements.fault m q line error.InitTwice)
@@ -228,44 +214,10 @@ module _ (g : Ground) (p : Program) (l : Layouts) (s : State) (m : Machine) (q a
           StepIs g p l q line (settled p s q (started_as a view d (system_of p (named.component_at s.components d).system) (xs ++ ys) e)) (calls.started g.tables m q line c routine d as' bs rest)
       by_kind (kind.Monitor j) f system_kind.Monitor w = inside_so
       by_kind kind.Class f system_kind.Class w = inside_so
-      by_kind (kind.Process r) f a w = absurd (start.no_process d r is_found f)
+      by_kind (kind.Process r) f a w = absurd (initial_known.no_process d r is_found f)
       by_kind c f a w = absurd w
 
-    -- ---- the arguments
-
-    by_bounds : (o : Outcome Environment) (b : Result (List Bound) slots.ErrorName) → BoundsAgree (λ e bs. AreGivenTo (memory_at m q) d e as' bs) o b →
-        StepIs g p l q line (settled p s q (o >>= λ e. started_as (named.component_at s.components d).kind view d (system_of p (named.component_at s.components d).system) (xs ++ ys) e))
-        (statements.with_value b (statements.fault m q line) (λ bs. calls.started g.tables m q line (component_at g.tables d).kind routine d as' bs rest))
-    by_bounds (Err e) (Err f) h = fails g p l s m q at (start_item t) mid es xs ys k line e f h
-    by_bounds (Ok e) (Ok bs) h = by_kind e bs h (component_at g.tables d).kind refl (named.component_at s.components d).kind (start.kinds d can_call.there)
-    by_bounds _ _ h = absurd h
-
-    found_so : StepIs g p l q line (settled p s q (started_at view d (system_of p (named.component_at s.components d).system) t.arguments (xs ++ ys)))
-        (statements.with_value (arguments_of m q as') (statements.fault m q line) (λ bs. calls.started g.tables m q line (component_at g.tables d).kind routine d as' bs rest))
-    found_so =
-        by_bounds (bound view (system_of p (named.component_at s.components d).system).parameters t.arguments) (arguments_of m q as')
-        (subst (λ n. BoundsAgree (λ e bs. AreGivenTo (memory_at m q) d e as' bs) (bound view (system_of p n).parameters t.arguments) (arguments_of m q as')) (sym (start.system d is_found)) (start.arguments d is_found as' args_are))
-
-  -- ---- the component's place
-
-  by_place : (start : InitialKnown) (place : ComponentPlace) (as' : List Argument) → code.component_seen place ≡ k.own.part → map code.argument_seen as' ≡ k.own.arguments → (o : Outcome Target) (b : Result ℕ slots.ErrorName) → component_of m q place ≡ b → ComponentAgrees view o b →
-      StepIs g p l q line (settled p s q (o >>= λ u. started_at view (component_there view u.place) (system_of p (named.component_at s.components (component_there view u.place)).system) t.arguments (xs ++ ys)))
-      (statements.with_value b (statements.fault m q line) (λ component. statements.with_value (arguments_of m q as') (statements.fault m q line) (λ bs. calls.started g.tables m q line (component_at g.tables component).kind routine component as' bs (rest_of mid es))))
-  by_place start place as' place_is args_are (Err e) (Err f) same h = fails g p l s m q at (start_item t) mid es xs ys k line e f h
-  by_place start place as' place_is args_are (Ok u) (Ok d) same h =
-      subst (λ c. StepIs g p l q line (settled p s q (started_at view c (system_of p (named.component_at s.components c).system) t.arguments (xs ++ ys))) (statements.with_value (arguments_of m q as') (statements.fault m q line) (λ bs. calls.started g.tables m q line (component_at g.tables d).kind routine d as' bs (rest_of mid es)))) (sym h)
-      (found_so start as' args_are d (place, place_is, same))
-  by_place start place as' place_is args_are _ _ same h = absurd h
-
   pub start_initial_step : InitialKnown → StepIs g p l q line (step_of p s q) (step_at g.tables m q)
-  start_initial_step start =
-      takes_item g p l s m q at (start_item t) mid es xs ys k line
-      (let a = is_start (item_at g.tables at).action k.own.part routine k.own.arguments k.own.item.action in
-      acts g p l s m q at (start_item t) mid es xs ys k line (at_designator t.target) (code.start k.own.part routine k.own.arguments) (action.Start a.0 routine a.1) _ k.own.item a.2
-      (λ item o w.
-      subst (λ (i : ℕ). StepIs g p l q line result (calls.start g.tables m q i a.0 routine a.1.items (rest_of item.next es))) (sym w)
-      (subst (λ (i : Option ℕ). StepIs g p l q line result (calls.start g.tables m q line a.0 routine a.1.items (rest_of i es))) (sym o)
-      (by_place start a.0 a.1.items a.3 a.4 (target_value view t.target) (component_of m q a.0) refl (start.component a.0 a.3)))))
-    where
-      result : Stepped
-      result = settled p s q (target_value view t.target >>= λ u. started_at view (component_there view u.place) (system_of p (named.component_at s.components (component_there view u.place)).system) t.arguments (xs ++ ys))
+  start_initial_step known =
+      starting.start_step g p l s m q at t mid es xs ys k known.start
+      (λ d f as' e bs given. by_kind known as' d f e bs given (component_at g.tables d).kind refl (named.component_at s.components d).kind (known.start.kinds d (known.start.can d f).there))

@@ -14,14 +14,14 @@ start_arguments_known r l fs v base own (q ∷ qs) (more_expressions e es) typed
 start_arguments_known r l fs v base own _ _ typed h = tt
 
 pub can_start : (t : Tree) (r : Tables) (l : Layouts) → Prepared t r l → (s : State) (m : Machine) (q : ℕ) → MachineFits r m → q < length m.threads → (d : ℕ) → d < length r.components →
-    CanStart (ground_of t r) l s m (memory_at m q) d (system_of t.program (component_at r d).system).parameters
+    CanStart (ground_of t r) l m.permanents m.bindings (memory_at m q) d (system_of t.program (component_at r d).system).parameters
 can_start t r l prepared s m q fits many d there =
     let own = systems_stand t r l prepared d there in
     let k = (component_at r d).system in
     let owns = prepared.sound.typed.components d there in
     record {
       there = there;
-      permanents = refl;
+      same = refl;
       typed = prepared.sound.typed;
       hand = record {
         cells = own.cells;

@@ -7,7 +7,7 @@ use Rattle.cp_machine.specs.Memory.{memory_at, component_of, arguments_of}
 use Rattle.cp_refine.proofs.expressions.ComponentPlaces.{ComponentsKnown, component_agrees}
 use Rattle.cp_refine.proofs.control.Control.{Taken}
 use Rattle.cp_refine.proofs.calls.Kept.{kept_left, kept_right}
-use Rattle.cp_refine.proofs.starts.ProcessStarts.{IsFound, AreGivenTo, parameters_of}
+use Rattle.cp_refine.proofs.starts.Starting.{IsFound, AreGivenTo, parameters_of}
 use Rattle.cp_refine.proofs.control.Running.{Executes, frames_below, sees_now}
 use Rattle.cp_refine.proofs.starts.StartArguments.{StartArgumentsKnown, start_arguments_agree}
 
@@ -31,7 +31,7 @@ module _ (g : Ground) (p : Program) (l : Layouts) (s : State) (m : Machine) (q a
     pub start_arguments : (d : ℕ) → IsFound g p l s m q at t mid es xs ys k d → (component_at g.tables d).system ≡ k.own.system →
         StartArgumentsKnown g.tables l frames (view_of p s q) (component_at g.tables d).base (system_at g.tables (component_at g.tables d).system).own (parameters_of g p l s m q at t mid es xs ys k d) t.arguments →
         (as' : List Argument) → map code.argument_seen as' ≡ k.own.arguments →
-        BoundsAgree (λ (e : Environment) (bs : List Bound). AreGivenTo g p l s m q at t mid es xs ys k d e as' bs) (bound (view_of p s q) (parameters_of g p l s m q at t mid es xs ys k d) t.arguments) (arguments_of m q as')
+        BoundsAgree (λ (e : Environment) (bs : List Bound). AreGivenTo g p l s m q at t mid es xs ys k (memory_at m q) d e as' bs) (bound (view_of p s q) (parameters_of g p l s m q at t mid es xs ys k d) t.arguments) (arguments_of m q as')
     start_arguments d found same fit as' is =
         start_arguments_agree g.tables l frames (view_of p s q) (memory_at m q) (thread_at m.threads q).frame this seen m.bindings known (component_at g.tables d).base (system_at g.tables (component_at g.tables d).system).own
         (l.systems (component_at g.tables d).system).slots (parameters_of g p l s m q at t mid es xs ys k d) t.arguments k.own.arguments as' is

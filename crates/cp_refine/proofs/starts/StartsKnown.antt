@@ -31,7 +31,7 @@ use Rattle.cp_refine.proofs.HoldsInReached.{HoldsInReached, reached_stands}
 use Rattle.cp_refine.proofs.calls.Kept.{kept_right}
 use Rattle.cp_refine.proofs.reached.KnownItems.{start_in, within_one}
 use Rattle.cp_refine.proofs.reached.NextInReached.{Executed, executed}
-use Rattle.cp_refine.proofs.starts.ProcessStarts.{is_start}
+use Rattle.cp_refine.proofs.starts.Starting.{is_start}
 use Rattle.cp_refine.proofs.trees.ProgramOfTree.{prepared_of_tree}
 use Rattle.cp_refine.proofs.reached.ReadyInReached.{ReadyInReached, ready_in_reached}
 use Rattle.cp_refine.proofs.control.Running.{Executes, frames_below, sees_now}

@@ -1,7 +1,7 @@
 -- A start leads to a component of an earlier system type than the one that is executed, and nothing that a name designates lies in its cells.
 use Rattle.std.proofs.Common.{◌≡◌, ◌≢◌, ◌∙◌, ℕ, ◌+◌, ◌<◌, ◌≤◌, ◌⊎◌, inl, inr, Bool, true, false, if◌then◌else◌, List, [], ◌∷◌, ◌++◌, length, Option, Some, None, Ok, ap, sym, refl, subst, arith}
 use Rattle.std.proofs.lemmas.Bool.{eq-eqb}
-use Rattle.cp_refine.proofs.Words.{Identifier, Tree, Program, Designator, designator, Selectors, Tables, component_at, system_at, Copy, Address, Permanent, Frame}
+use Rattle.cp_refine.proofs.Words.{some_same, Identifier, Tree, Program, Designator, designator, Selectors, Tables, component_at, system_at, Copy, Address, Permanent, Frame}
 use Rattle.cp_refine.proofs.Words.{MachineFits, Machine, thread_at, Reaches, Name, same_name, Parameter, target_value, Meaning, local_variable, permanent_variable, find}
 use Rattle.cp_refine.proofs.Words.{Holder, in_call, in_component, Place, State, current, parameter_variables, view_of, system_of, Ty, array_over, component_of, Choice}
 use Rattle.cp_refine.proofs.Words.{a_component, designator_form, chosen_at, cells_of, Here, here, is_parameter, Layouts, look, SystemIs, NamesKnown, IsOutside, ground_of}
@@ -29,11 +29,8 @@ earlier_parameter : (k j : ℕ) (x : Name) (qs : List Parameter) → HasEarlier 
 earlier_parameter k j x [] h e = absurd (cc)
 earlier_parameter k j x (q ∷ qs) h e = go (same_name x q.name) e (earlier_parameter k j x qs h.1)
   where
-    some : (a b : Ty) → Some a ≡ Some b → a ≡ b
-    some a b f = cc
-
     go : (b : Bool) → (if b then Some q.ty else look x (parameter_variables qs)) ≡ Some (component_of j) → (look x (parameter_variables qs) ≡ Some (component_of j) → j < k) → j < k
-    go true f rest = h.0 j (some q.ty (component_of j) f)
+    go true f rest = h.0 j (some_same q.ty (component_of j) f)
     go false f rest = rest f
 
 -- a place of the component that is executed, at a name without a content

@@ -13,7 +13,7 @@ use Rattle.cp_slots.specs.declared.item.Action.TheVariants as action
 use Rattle.cp_slots.specs.declared.tables.ComponentKind.TheVariants as kind
 use Rattle.cp_slots.specs.Tables.{Tables, item_at, component_at, process_at, routine_at, system_at}
 use Rattle.cp_store.specs.declared.error.ErrorName as slots
-use Rattle.cp_machine.specs.Memory.{component_of, arguments_of}
+use Rattle.cp_machine.specs.Memory.{memory_at, component_of, arguments_of}
 use Rattle.cp_refine.specs.Followed.{AreArguments, IsStartable}
 use Rattle.cp_meaning.specs.State as named
 use Rattle.cp_refine.specs.ItemsKnown.{StartKnown}
@@ -27,7 +27,8 @@ use Rattle.cp_refine.proofs.steps.Found.{action_fits_here, action_names, found_o
 use Rattle.cp_refine.proofs.steps.Going.{Going}
 use Rattle.cp_refine.proofs.HoldsInReached.{HoldsInReached}
 use Rattle.cp_refine.proofs.starts.InitialStarts.{start_initial_step}
-use Rattle.cp_refine.proofs.starts.ProcessStarts.{IsFound, AreGivenTo, parameters_of, is_start, start_process_step}
+use Rattle.cp_refine.proofs.starts.ProcessStarts.{start_process_step}
+use Rattle.cp_refine.proofs.starts.Starting.{IsFound, AreGivenTo, parameters_of, CanBeStarted, is_start}
 use Rattle.cp_refine.proofs.reached.ReadyInReached.{ReadyInReached}
 use Rattle.cp_refine.proofs.control.Running.{Executes}
 use Rattle.cp_refine.proofs.starts.StartFitting.{start_arguments_known, can_start}
@@ -114,13 +115,23 @@ module _ (t : Tree) (r : Tables) (l : Layouts) (prepared : Prepared t r l) (s : 
       (states.starts q d x (record { there = going.there; ready_now = going.was; items = xs ++ ys; next = k.items; target = w.target; found = w.is; component = w.component }))
 
   handed : (d : ℕ) → IsFound g p l s m q at x mid es xs ys k d → (as' : List Argument) → map code.argument_seen as' ≡ k.own.arguments →
-      BoundsAgree (λ (e : Environment) (bs : List Bound). AreGivenTo g p l s m q at x mid es xs ys k d e as' bs) (bound (view_of p s q) (parameters_of g p l s m q at x mid es xs ys k d) x.arguments) (arguments_of m q as')
+      BoundsAgree (λ (e : Environment) (bs : List Bound). AreGivenTo g p l s m q at x mid es xs ys k (memory_at m q) d e as' bs) (bound (view_of p s q) (parameters_of g p l s m q at x mid es xs ys k d) x.arguments) (arguments_of m q as')
   handed d f as' seen =
       start_arguments g p l s m q at x mid es xs ys k ex names_here d f (found_system d f)
       (start_arguments_known r l ((thread_at m.threads q).frame ∷ (top_frame (thread_at m.threads q).frame es).0) (view_of p s q) (component_at r d).base (system_at r (component_at r d).system).own (parameters_of g p l s m q at x mid es xs ys k d) x.arguments
       (prepared.program.systems.typed (component_at r d).system)
       (subst (λ fs. AreHandedSo r l fs (view_of p s q) (component_at r d).base (system_at r (component_at r d).system).own (system_of p (component_at r d).system).parameters x.arguments) (top_frame (thread_at m.threads q).frame es).1 (handed_so d f)))
       as' seen
+
+  can_be_started : CanBeStarted g p l s m q at x mid es xs ys k
+  can_be_started =
+      record {
+        component = leads;
+        arguments = handed;
+        kinds = ready.kinds;
+        can = λ d f. can_start t r l prepared s m q fits going.many d (found d f).0;
+        system = λ d f. ready.systems d (found d f).0;
+      }
 
   -- ---- a process
 
@@ -152,11 +163,7 @@ module _ (t : Tree) (r : Tables) (l : Layouts) (prepared : Prepared t r l) (s : 
     start_process_so =
         start_process_step g p l s m q at x mid es xs ys k
         (record {
-          component = leads;
-          arguments = handed;
-          kinds = ready.kinds;
-          can = λ d f. can_start t r l prepared s m q fits going.many d (found d f).0;
-          system = λ d f. ready.systems d (found d f).0;
+          start = can_be_started;
           number = λ d. number_of (component_at r d).kind;
           process = process_found;
           known = λ d f. (numbered d f).0;
@@ -170,12 +177,8 @@ module _ (t : Tree) (r : Tables) (l : Layouts) (prepared : Prepared t r l) (s : 
   start_initial_so never =
       start_initial_step g p l s m q at x mid es xs ys k
       (record {
-        component = leads;
-        arguments = handed;
-        kinds = ready.kinds;
-        can = λ d f. can_start t r l prepared s m q fits going.many d (found d f).0;
+        start = can_be_started;
         call = λ d f. can_call t r l prepared m q fits going.many (item_at r at).need routine act_is.1.items room es (below_fits t r l prepared s m q at fits going.many mid es xs ys k.stack) d (found d f);
-        system = λ d f. ready.systems d (found d f).0;
         statement = λ d f. system_is.statement ∙ ap (λ a. initial_meaning (system_of p a)) (sym (found_system d f));
         no_process = λ d j f e. never (ap (λ a. (system_of p a).kind) (sym (found_system d f)) ∙ process_type t r l prepared s known m ready d (found d f).0 j e);
         phases = λ d f. (let a = fits.phases in let b = (found d f).0 in omega (arith, a, b));
