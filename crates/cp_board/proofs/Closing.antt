@@ -4,10 +4,7 @@ use mathlib.Core.Option.{some, some-injective, some-ne-none}
 use lib.ListN.{get_elem?}
 use Rattle.std.proofs.lemmas.List.Sums.{sum_by-cons, sum_by-append}
 use Rattle.std.proofs.lemmas.List.Elements.{All-weaker, All-nil, All-cons, All-head, All-tail}
-use Rattle.cp_board.specs.declared.views.Note.{Note}
-use Rattle.cp_board.specs.declared.views.View.{View}
-use Rattle.cp_board.specs.Views.{NotesOnce, NotesEachOnce, IsTotal, Settles}
-use Rattle.cp_board.specs.Rule.{IsFair, Keeps, IsRuled, together, nobody}
+use Rattle.cp_board.proofs.Words.{Note, View, NotesOnce, NotesEachOnce, IsTotal, Settles, IsFair, Keeps, IsRuled, together, nobody}
 use Rattle.cp_board.proofs.Lists.{at_sum}
 use Rattle.cp_board.proofs.Moves.{lengths, mine, my_totals}
 

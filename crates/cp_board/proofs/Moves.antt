@@ -2,15 +2,13 @@
 use Rattle.std.proofs.Common.{◌≡◌, ◌≢◌, ℕ, suc, ◌+◌, ◌*◌, ◌%◌, ◌<◌, ◌≤◌, min, cond, eqb, nat_le, List, [], ◌∷◌, ◌++◌, length, set, sum_by, All, sym, refl, ap, ◌∙◌, subst, ⊎_elim, arith, length-append, mod-eq_of_lt, mul-le-mul_right}
 use mathlib.Core.Option.{some}
 use lib.ListN.{get_elem?}
-use Rattle.std.specs.List.{range_with_len}
+use Rattle.cp_board.proofs.Words.{range_with_len, Note, View}
 use Rattle.std.proofs.lemmas.List.Sums.{sum_by-cons, sum_by-append, sum_by_push, sum_by-le}
 use Rattle.std.proofs.lemmas.List.Elements.{All-set, All-push, All-weaker, All-append, All-nil, All-head, All-tail}
 use Rattle.std.proofs.lemmas.List.FromFn.{length-range_with_len}
 use Rattle.std.proofs.lemmas.Bool.{cases_lt, le-leb, lt-leb}
 use Rattle.atomic_table.specs.Table.{State, Me, Act, Step, step, keeps, Allows, Splits, Joins, Valid, stepped}
 use Rattle.atomic_table.proofs.Lists.{at_set}
-use Rattle.cp_board.specs.declared.views.Note.{Note}
-use Rattle.cp_board.specs.declared.views.View.{View}
 use Rattle.cp_board.specs.declared.views.Terms.{Terms}
 use Rattle.cp_board.specs.Views.{note, rows_noted, rows_until, times_noted, last_of, NotesOnce, HasOpenTask, IsTotal, drew, ran_dry, noted_by}
 use Rattle.cp_board.specs.Rule.{IsFair, Keeps, IsRuled, opening_view, claims, notes, keeper, dealt, together, nobody}
@@ -140,9 +138,8 @@ claim_allows k slots id me st one_part not_spent same s (next, noted, words, kee
     (cases_lt next k.tasks))
 
 pub last_of-push : (xs : List ℕ) (x : ℕ) → last_of (xs ++ x ∷ []) ≡ x
-last_of-push [] x = refl
-last_of-push (y ∷ []) x = refl
 last_of-push (y ∷ z ∷ xs) x = last_of-push (z ∷ xs) x
+last_of-push _ x = refl
 
 -- a draw that was not noted is open
 pub opens : (v : View) (t : ℕ) → v.spent ≡ 0 → times_noted t v.notes ≡ 0 → HasOpenTask (drew v t)

@@ -1,18 +1,13 @@
 -- Loops over the parts of expressions: what is left leads where all lead.
-use Rattle.std.proofs.Common.{◌≡◌, ℕ, suc, ◌+◌, ◌<◌, ◌≤◌, List, [], ◌∷◌, ◌++◌, length, get_or, drop, Bool, false, ◌&&◌, Option, Some, Ok, Err, refl, sym, ap, subst, ◌∙◌, add-one, append_assoc}
-use Rattle.cp_check.proofs.Words.{drop-cons, CheckFault, Scopes, Judged, both, ◌>>=◌, Refuses, Context, Operand}
-use Rattle.std.proofs.lemmas.List.{drop_all, append-nil}
+use Rattle.std.proofs.Common.{◌≡◌, ℕ, ◌+◌, ◌<◌, ◌≤◌, List, [], ◌∷◌, ◌++◌, length, get_or, drop, Bool, false, ◌&&◌, Option, Some, Ok, Err, refl, sym, ap, subst, ◌∙◌, add-one, append_assoc}
+use Rattle.cp_check.proofs.Words.{drop-cons, CheckFault, Scopes, Judged, both, ◌>>=◌, Refuses, Context, Operand, drop_all, append-nil}
 use Rattle.cp_scope.specs.declared.types.Parameter.{Parameter}
-use Rattle.cp_tree.specs.declared.expression.Addition.{Addition}
-use Rattle.cp_tree.specs.declared.expression.Multiplication.{Multiplication}
 use Rattle.cp_tree.specs.declared.expression.Expression as tree_expression
 use Rattle.cp_tree.specs.declared.expression.Term as tree_term
-use Rattle.cp_tree.specs.declared.expression.Factor as tree_factor
 use Rattle.cp_tree.specs.declared.expression.Sum as tree_sum
 use Rattle.cp_check.proofs.Folded.{sum_shown, term_shown}
-use Rattle.cp_tree.specs.declared.expression.Selector as tree_selector
 use Rattle.cp_tree.specs.Syntax.{Terms, no_terms, more_terms as terms_more, Factors, no_factors, more_factors as factors_more, Selectors, no_selectors, more_selectors, Selector, field, index}
-use Rattle.cp_tree.specs.View.{expression_view, expressions_view, expressions_of, sum_view, term_view, terms_view, terms_of, factor_view, factors_view, factors_of, selector_view, selectors_view, selectors_of}
+use Rattle.cp_tree.specs.View.{expression_view, expressions_view, expressions_of, sum_view, term_view, terms_view, terms_of, factor_view, factors_view, factors_of}
 use Rattle.cp_check.specs.declared.operand.DesignatedName.{DesignatedName}
 use Rattle.cp_check.specs.Operations as operations
 use Rattle.cp_check.specs.Names.{selected}
@@ -32,72 +27,19 @@ unfolding selectors
 selectors_refuse s w e j no_selectors h = h
 selectors_refuse s w e j (more_selectors x ss) h = selectors_refuse s w e (selector s w j x) ss (selector_refuses s w e j x h)
 
-module _ (s : Scopes) (w : Context) (d : DesignatedName) (xs : List tree_selector.Selector) (i : ℕ) (x : tree_selector.Selector) (within : i < length xs) (here : x ≡ get_or xs i x) where
-  selectors_split : selectors s w (Ok d) (selectors_of (selectors_view (drop i xs))) ≡ selectors s w (selector s w (Ok d) (selector_view x)) (selectors_of (selectors_view (drop (i + 1) xs)))
-  unfolding selectors
-  selectors_split = rw (add-one, drop-cons xs i x, ← here) refl
-
-  pub selectors_passed : (new : DesignatedName) → selector s w (Ok d) (selector_view x) ≡ Ok new → selectors s w (Ok d) (selectors_of (selectors_view (drop i xs))) ≡ selectors s w (Ok new) (selectors_of (selectors_view (drop (i + 1) xs)))
-  selectors_passed new h = selectors_split ∙ ap (λ (j : Judged DesignatedName). selectors s w j (selectors_of (selectors_view (drop (i + 1) xs)))) h
-
-  pub selectors_refused : (e : CheckFault) → Refuses e (selector s w (Ok d) (selector_view x)) → Refuses e (selectors s w (Ok d) (selectors_of (selectors_view (drop i xs))))
-  selectors_refused e h = subst (λ (j : Judged DesignatedName). Refuses e j) (sym selectors_split) (selectors_refuse s w e _ _ h)
-
-pub selectors_none : (s : Scopes) (w : Context) (d : DesignatedName) (xs : List tree_selector.Selector) (i : ℕ) → length xs ≤ i → selectors s w (Ok d) (selectors_of (selectors_view (drop i xs))) ≡ Ok d
-unfolding selectors
-selectors_none s w d xs i h = rw (drop_all i xs h) refl
-
 -- ---- factors
 
-factors_refuse : (s : Scopes) (w : Context) (at : ℕ) (e : CheckFault) (j : Judged (Option Operand)) (fs : Factors) → Refuses e j → Refuses e (more_factors s w at j fs)
+pub factors_refuse : (s : Scopes) (w : Context) (at : ℕ) (e : CheckFault) (j : Judged (Option Operand)) (fs : Factors) → Refuses e j → Refuses e (more_factors s w at j fs)
 unfolding more_factors
 factors_refuse s w at e j no_factors h = h
 factors_refuse s w at e j (factors_more m f fs) h = factors_refuse s w at e (both j (factor s w false f) >>= multiplied at m) fs (refuses_both e j _ (multiplied at m) h)
 
-module _ (s : Scopes) (w : Context) (at : ℕ) (total : Option Operand) (xs : List (Multiplication × tree_factor.Factor)) (i : ℕ) (x : Multiplication × tree_factor.Factor) (within : i < length xs) (here : x ≡ get_or xs i x) where
-  factors_split : more_factors s w at (Ok total) (factors_of (factors_view (drop i xs))) ≡ more_factors s w at (factor s w false (factor_view x.1) >>= (λ o. Ok (operations.multiplied at x.0 total o))) (factors_of (factors_view (drop (i + 1) xs)))
-  unfolding more_factors
-  factors_split = rw (add-one, drop-cons xs i x, ← here) (ap (λ (j : Judged (Option Operand)). more_factors s w at j (factors_of (factors_view (drop (suc i) xs)))) (with_total (factor s w false (factor_view x.1))))
-    where
-      with_total : (k : Judged Operand) → both (Ok total) k >>= multiplied at x.0 ≡ k >>= (λ o. Ok (operations.multiplied at x.0 total o))
-      with_total (Ok o) = refl
-      with_total (Err fs) = refl
-
-  pub factors_passed : (o : Operand) → factor s w false (factor_view x.1) ≡ Ok o → more_factors s w at (Ok total) (factors_of (factors_view (drop i xs))) ≡ more_factors s w at (Ok (operations.multiplied at x.0 total o)) (factors_of (factors_view (drop (i + 1) xs)))
-  factors_passed o h = factors_split ∙ ap (λ (k : Judged Operand). more_factors s w at (k >>= (λ p. Ok (operations.multiplied at x.0 total p))) (factors_of (factors_view (drop (i + 1) xs)))) h
-
-  pub factors_refused : (e : CheckFault) → Refuses e (factor s w false (factor_view x.1)) → Refuses e (more_factors s w at (Ok total) (factors_of (factors_view (drop i xs))))
-  factors_refused e h = subst (λ (j : Judged (Option Operand)). Refuses e j) (sym factors_split) (factors_refuse s w at e _ _ (refuses_bind e _ (λ o. Ok (operations.multiplied at x.0 total o)) h))
-
-pub factors_none : (s : Scopes) (w : Context) (at : ℕ) (total : Option Operand) (xs : List (Multiplication × tree_factor.Factor)) (i : ℕ) → length xs ≤ i → more_factors s w at (Ok total) (factors_of (factors_view (drop i xs))) ≡ Ok total
-unfolding more_factors
-factors_none s w at total xs i h = rw (drop_all i xs h) refl
-
 -- ---- terms
 
-terms_refuse : (s : Scopes) (w : Context) (at : ℕ) (e : CheckFault) (j : Judged (Option Operand)) (ts : Terms) → Refuses e j → Refuses e (more_terms s w at j ts)
+pub terms_refuse : (s : Scopes) (w : Context) (at : ℕ) (e : CheckFault) (j : Judged (Option Operand)) (ts : Terms) → Refuses e j → Refuses e (more_terms s w at j ts)
 unfolding more_terms
 terms_refuse s w at e j no_terms h = h
 terms_refuse s w at e j (terms_more a t ts) h = terms_refuse s w at e (both j (term_value s w false t) >>= added at a) ts (refuses_both e j _ (added at a) h)
-
-module _ (s : Scopes) (w : Context) (at : ℕ) (total : Option Operand) (xs : List (Addition × tree_term.Term)) (i : ℕ) (x : Addition × tree_term.Term) (within : i < length xs) (here : x ≡ get_or xs i x) where
-  terms_split : more_terms s w at (Ok total) (terms_of (terms_view (drop i xs))) ≡ more_terms s w at (term_value s w false (term_view x.1) >>= (λ o. Ok (operations.added at x.0 total o))) (terms_of (terms_view (drop (i + 1) xs)))
-  unfolding more_terms
-  terms_split = rw (add-one, drop-cons xs i x, ← here) (ap (λ (j : Judged (Option Operand)). more_terms s w at j (terms_of (terms_view (drop (suc i) xs)))) (with_total (term_value s w false (term_view x.1))))
-    where
-      with_total : (k : Judged Operand) → both (Ok total) k >>= added at x.0 ≡ k >>= (λ o. Ok (operations.added at x.0 total o))
-      with_total (Ok o) = refl
-      with_total (Err fs) = refl
-
-  pub terms_passed : (o : Operand) → term_value s w false (term_view x.1) ≡ Ok o → more_terms s w at (Ok total) (terms_of (terms_view (drop i xs))) ≡ more_terms s w at (Ok (operations.added at x.0 total o)) (terms_of (terms_view (drop (i + 1) xs)))
-  terms_passed o h = terms_split ∙ ap (λ (k : Judged Operand). more_terms s w at (k >>= (λ p. Ok (operations.added at x.0 total p))) (terms_of (terms_view (drop (i + 1) xs)))) h
-
-  pub terms_refused : (e : CheckFault) → Refuses e (term_value s w false (term_view x.1)) → Refuses e (more_terms s w at (Ok total) (terms_of (terms_view (drop i xs))))
-  terms_refused e h = subst (λ (j : Judged (Option Operand)). Refuses e j) (sym terms_split) (terms_refuse s w at e _ _ (refuses_bind e _ (λ o. Ok (operations.added at x.0 total o)) h))
-
-pub terms_none : (s : Scopes) (w : Context) (at : ℕ) (total : Option Operand) (xs : List (Addition × tree_term.Term)) (i : ℕ) → length xs ≤ i → more_terms s w at (Ok total) (terms_of (terms_view (drop i xs))) ≡ Ok total
-unfolding more_terms
-terms_none s w at total xs i h = rw (drop_all i xs h) refl
 
 -- ---- arguments
 

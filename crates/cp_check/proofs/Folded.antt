@@ -1,10 +1,9 @@
 -- What a fold shows of terms and factors in pairs.
-use Rattle.std.proofs.Common.{◌≡◌, rules}
+use Rattle.cp_check.proofs.Words.{◌≡◌, rules, factor_view, term_view, sum_view, factors_of, factors_view, terms_of, terms_view}
 use Rattle.cp_tree.specs.declared.expression.Term as tree_term
 use Rattle.cp_tree.specs.declared.expression.Sum as tree_sum
 use Rattle.cp_tree.specs.declared.expression.FactorKind.{the_lemmas}
 use Rattle.cp_tree.specs.Syntax.{term, sum}
-use Rattle.cp_tree.specs.View.{factor_view, term_view, sum_view, factors_of, factors_view, terms_of, terms_view}
 
 pub term_shown : (t : tree_term.Term) → term_view t ≡ term (tree_term.out-Term t).at (factor_view (tree_term.out-Term t).first) (factors_of (factors_view (tree_term.out-Term t).more.items))
 term_shown t = search (rules, the_lemmas)

@@ -1,14 +1,10 @@
--- Labels of a `case`: what is left leads where all lead.
-use Rattle.std.proofs.Common.{◌≡◌, ℕ, ◌+◌, ◌<◌, ◌≤◌, true, ◌&&◌, List, [], ◌∷◌, ◌++◌, length, get_or, drop, Ok, Err, refl, sym, ap, subst, ◌∙◌, add-one, append_assoc}
-use Rattle.cp_check.proofs.Words.{drop-cons, CheckFault, Base, Scopes, Judged, both, ◌>>=◌, Refuses, Label}
-use Rattle.std.proofs.lemmas.List.{drop_all, append-nil}
+-- Labels of an arm: what is left leads where all lead.
+use Rattle.std.proofs.Common.{◌≡◌, ℕ, ◌+◌, ◌<◌, ◌≤◌, List, [], ◌∷◌, ◌++◌, length, get_or, drop, Ok, Err, refl, sym, ap, subst, ◌∙◌, add-one, append_assoc}
+use Rattle.cp_check.proofs.Words.{drop-cons, CheckFault, Scopes, Judged, both, ◌>>=◌, Refuses, Label, drop_all, append-nil}
 use Rattle.cp_tree.specs.declared.constant.Constant.{Constant}
-use Rattle.cp_scope.specs.Types.{same_base}
-use Rattle.cp_check.specs.Cases.{one_label, labels, before, are_labels, twice_faults}
+use Rattle.cp_check.specs.Cases.{one_label, labels, before}
 use Rattle.cp_check.proofs.Judging.{refuses_both}
 use Rattle.cp_check.proofs.Fronts.{with_front, front_refuses}
-
--- ---- labels of an arm
 
 with_more : (front : List Label) (l : Label) (j : Judged (List Label)) → with_front front (both (Ok l) j >>= before) ≡ with_front (front ++ l ∷ []) j
 with_more front l (Ok ls) = ap (λ (ms : List Label). Ok ms) (sym (append_assoc front (l ∷ []) ls))
@@ -28,19 +24,3 @@ module _ (s : Scopes) (front : List Label) (xs : List Constant) (i : ℕ) (x : C
 pub labels_none : (s : Scopes) (front : List Label) (xs : List Constant) (i : ℕ) → length xs ≤ i → with_front front (labels s (drop i xs)) ≡ Ok front
 unfolding labels
 labels_none s front xs i h = rw (drop_all i xs h, append-nil front) refl
-
--- ---- labels of a `case`
-
-module _ (ls : List Label) (i : ℕ) (l : Label) (within : i < length ls) (here : l ≡ get_or ls i l) where
-  label_here : drop i ls ≡ l ∷ drop (i + 1) ls
-  label_here = rw (add-one, drop-cons ls i l, ← here) refl
-
-  pub agree_split : (b : Base) → are_labels b (drop i ls) ≡ same_base l.number.base b && are_labels b (drop (i + 1) ls)
-  agree_split b = ap (are_labels b) label_here
-
-pub agree_none : (b : Base) (ls : List Label) (i : ℕ) → length ls ≤ i → are_labels b (drop i ls) ≡ true
-agree_none b ls i h = rw (drop_all i ls h) refl
-
-pub twice_none : (ms ls : List Label) (i : ℕ) → length ls ≤ i → twice_faults ms (drop i ls) ≡ []
-unfolding twice_faults
-twice_none ms ls i h = rw (drop_all i ls h) refl

@@ -1,7 +1,5 @@
 -- Lists of syntax that are not empty.
-use Rattle.std.proofs.Common.{◌≡◌, ◌≤◌, false, List, [], ◌∷◌, length, refl, arith}
-use Rattle.cp_tree.specs.declared.expression.Addition.{Addition}
-use Rattle.cp_tree.specs.declared.expression.Multiplication.{Multiplication}
+use Rattle.cp_check.proofs.Words.{◌≡◌, ◌≤◌, false, List, [], ◌∷◌, length, refl, arith, Addition, Multiplication}
 use Rattle.cp_tree.specs.declared.expression.Expression as tree_expression
 use Rattle.cp_tree.specs.declared.expression.Term as tree_term
 use Rattle.cp_tree.specs.declared.expression.Factor as tree_factor

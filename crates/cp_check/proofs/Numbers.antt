@@ -17,27 +17,19 @@ use Rattle.cp_check.specs.Cases.{are_labels, AreOfOneBase, is_label, again_fault
 
 of_integer : (b : Base) → same_base b Integer ≡ true → b ≡ Integer
 of_integer Integer h = refl
-of_integer Boolean h = cc
-of_integer Char h = cc
-of_integer (Enumeration m k) h = cc
+of_integer _ h = cc
 
 of_boolean : (b : Base) → same_base b Boolean ≡ true → b ≡ Boolean
-of_boolean Integer h = cc
 of_boolean Boolean h = refl
-of_boolean Char h = cc
-of_boolean (Enumeration m k) h = cc
+of_boolean _ h = cc
 
 of_char : (b : Base) → same_base b Char ≡ true → b ≡ Char
-of_char Integer h = cc
-of_char Boolean h = cc
 of_char Char h = refl
-of_char (Enumeration m k) h = cc
+of_char _ h = cc
 
 of_enumeration : (b : Base) (n : ℕ) (l : ℤ) → same_base b (Enumeration n l) ≡ true → (k : ℤ) × (b ≡ Enumeration n k)
-of_enumeration Integer n l h = cc
-of_enumeration Boolean n l h = cc
-of_enumeration Char n l h = cc
 of_enumeration (Enumeration m k) n l h = (k, ap (λ (o : ℕ). Enumeration o k) (eqb-true m n h))
+of_enumeration _ n l h = cc
 
 one_kind : (b c d : Base) → same_base b d ≡ true → same_base c d ≡ true → same_base b c ≡ true
 one_kind b c Integer h k = rw (of_integer b h, of_integer c k) refl

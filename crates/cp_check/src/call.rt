@@ -24,7 +24,7 @@ fn fits(parameter: Parameter, operand: Operand) -> bool
 }
 
 /// Whether arguments fit parameters, of which there are as many.
-#[tactic(auto, using(crate::proofs::Arguments::fit_split, crate::proofs::Arguments::fit_none))]
+#[tactic(auto, using(crate::proofs::Left::left))]
 fn all_fit(parameters: &[Parameter], operands: &[Operand]) -> bool
     requires { length parameters.now ≡ length operands.now }
     ensures { result ≡ spec.all_fit parameters.now operands.now }
@@ -67,7 +67,7 @@ fn check_variable(parameter: Parameter, operand: Operand) -> Result<(), CheckFau
 }
 
 /// Arguments are variables where such are wanted.
-#[tactic(auto, using(crate::proofs::Arguments::variables_passed, crate::proofs::Arguments::variables_refused, crate::proofs::Arguments::variables_none))]
+#[tactic(auto, using(crate::proofs::Left::left))]
 fn check_variables(parameters: &[Parameter], operands: &[Operand]) -> Result<(), CheckFault>
     requires { length parameters.now ≡ length operands.now }
     ensures { Finds (spec.all_variable_faults parameters.now operands.now) result }
@@ -79,7 +79,7 @@ fn check_variables(parameters: &[Parameter], operands: &[Operand]) -> Result<(),
 }
 
 /// What operands take, besides something else.
-#[tactic(auto, using(crate::proofs::Arguments::total_none))]
+#[tactic(auto, using(crate::proofs::Left::read), unfolding(crate::specs::Calls::total_use))]
 pub fn total_use(uses: Use, operands: &[Operand]) -> Use
     ensures { result ≡ spec.total_use uses operands.now }
 {

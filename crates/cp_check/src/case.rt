@@ -47,7 +47,7 @@ pub fn labels(
 }
 
 /// Whether labels agree with a base.
-#[tactic(auto, using(crate::proofs::Labels::agree_split, crate::proofs::Labels::agree_none))]
+#[tactic(auto, using(crate::proofs::Left::left))]
 fn are_labels(base: Base, labels: &[Label]) -> bool
     ensures { result ≡ spec.are_labels base labels.now }
 {
@@ -78,7 +78,7 @@ fn check_labels(at: usize, selector: ValueType, labels: &[Label]) -> Result<(), 
 }
 
 /// Each label stands once, where all are of one base.
-#[tactic(auto, using(crate::proofs::Labels::twice_none))]
+#[tactic(auto, using(crate::proofs::Left::left), unfolding(crate::specs::Cases::twice_faults))]
 fn check_once(alloc: Global, labels: &[Label]) -> Result<(), CheckFault>
     requires agree { spec.AreOfOneBase labels.now }
     ensures { Finds (spec.twice_faults [] labels.now) result }

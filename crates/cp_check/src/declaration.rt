@@ -30,7 +30,7 @@ pub fn reserve_name(
 }
 
 /// Names of one type are being declared.
-#[tactic(auto, using(crate::proofs::Steps::names_passed, crate::proofs::Steps::names_refused, crate::proofs::Steps::names_none))]
+#[tactic(auto, using(crate::proofs::Left::left), unfolding(crate::specs::Declarations::reserve_names))]
 pub fn reserve_names(
     alloc: Global,
     table: &mut ScopeTable,
@@ -46,7 +46,7 @@ pub fn reserve_names(
 }
 
 /// Names of one meaning are declared.
-#[tactic(auto, unfolding(crate::specs::Declarations::add_all), using(crate::proofs::Steps::added_split, crate::proofs::Steps::added_none))]
+#[tactic(auto, using(crate::proofs::Left::left), unfolding(crate::specs::Declarations::add_all, crate::specs::Declarations::add_names))]
 pub fn add_all(
     alloc: Global,
     table: &mut ScopeTable,
@@ -99,7 +99,7 @@ fn constant_definition(
 }
 
 /// Definitions of constants.
-#[tactic(auto, using(crate::proofs::Steps::constants_passed, crate::proofs::Steps::constants_refused, crate::proofs::Steps::constants_none))]
+#[tactic(auto, using(crate::proofs::Left::left), unfolding(crate::specs::Declarations::constant_steps))]
 pub fn constant_definitions(
     alloc: Global,
     table: &mut ScopeTable,
@@ -129,7 +129,7 @@ fn type_definition(
 }
 
 /// Definitions of types.
-#[tactic(auto, using(crate::proofs::Steps::types_passed, crate::proofs::Steps::types_refused, crate::proofs::Steps::types_none))]
+#[tactic(auto, using(crate::proofs::Left::left), unfolding(crate::specs::Declarations::type_steps))]
 pub fn type_definitions(
     alloc: Global,
     table: &mut ScopeTable,
@@ -160,7 +160,7 @@ fn variable_group(
 }
 
 /// Groups of variables.
-#[tactic(auto, using(crate::proofs::Steps::variables_passed, crate::proofs::Steps::variables_refused, crate::proofs::Steps::variables_none))]
+#[tactic(auto, using(crate::proofs::Left::left), unfolding(crate::specs::Declarations::variable_steps))]
 pub fn variable_groups(
     alloc: Global,
     table: &mut ScopeTable,
@@ -189,7 +189,7 @@ fn part(alloc: Global, table: &mut ScopeTable, spot: Spot, node: &Part) -> Resul
 }
 
 /// The declarations of a system type or a routine, whose variables stand at a spot.
-#[tactic(auto, using(crate::proofs::Steps::parts_passed, crate::proofs::Steps::parts_refused, crate::proofs::Steps::parts_none))]
+#[tactic(auto, using(crate::proofs::Left::left), unfolding(crate::specs::Declarations::part_steps))]
 pub fn parts(
     alloc: Global,
     table: &mut ScopeTable,

@@ -78,7 +78,7 @@ fn value_in_parentheses(at: usize, operand: Operand) -> Operand
 }
 
 /// Whether elements agree with a base.
-#[tactic(auto, using(crate::proofs::Elements::elements_split, crate::proofs::Elements::elements_none))]
+#[tactic(auto, using(crate::proofs::Left::left))]
 fn are_elements(base: Base, operands: &[Operand]) -> bool
     ensures { result ≡ spec.are_elements base operands.now }
 {
@@ -121,7 +121,7 @@ fn is_var_at(parameters: &[Parameter], place: usize) -> bool
 }
 
 #[cycle(expression)]
-#[tactic(auto, using(crate::proofs::Expressions::selectors_passed, crate::proofs::Expressions::selectors_refused, crate::proofs::Expressions::selectors_none))]
+#[tactic(auto, using(crate::proofs::Left::left_total, crate::proofs::Expressions::selectors_refuse), unfolding(crate::specs::Expressions::selectors))]
 fn selectors(
     alloc: Global,
     table: &ScopeTable,
@@ -226,7 +226,7 @@ fn factor(
 }
 
 #[cycle(expression)]
-#[tactic(auto, using(crate::proofs::Expressions::factors_passed, crate::proofs::Expressions::factors_refused, crate::proofs::Expressions::factors_none))]
+#[tactic(auto, using(crate::proofs::Left::left_total, crate::proofs::Expressions::factors_refuse), unfolding(crate::specs::Expressions::more_factors))]
 fn more_factors(
     alloc: Global,
     table: &ScopeTable,
@@ -265,7 +265,7 @@ fn term(
 }
 
 #[cycle(expression)]
-#[tactic(auto, using(crate::proofs::Expressions::terms_passed, crate::proofs::Expressions::terms_refused, crate::proofs::Expressions::terms_none))]
+#[tactic(auto, using(crate::proofs::Left::left_total, crate::proofs::Expressions::terms_refuse), unfolding(crate::specs::Expressions::more_terms))]
 fn more_terms(
     alloc: Global,
     table: &ScopeTable,

@@ -64,7 +64,7 @@ fn group(
 }
 
 /// The parameters of a function.
-#[tactic(auto, using(crate::proofs::Routines::groups_passed, crate::proofs::Routines::groups_refused, crate::proofs::Routines::groups_none))]
+#[tactic(auto, using(crate::proofs::Left::left), unfolding(crate::specs::Headings::group_steps))]
 fn groups(alloc: Global, table: &mut ScopeTable, nodes: &[Group]) -> Result<(), CheckFault>
     ensures faults { Finds (spec.group_steps (scopes_of table.old) (map group_view nodes.now)).faults result }
     ensures scopes { OnOk result (scopes_of table.new ≡ (spec.group_steps (scopes_of table.old) (map group_view nodes.now)).scopes) }
@@ -76,7 +76,7 @@ fn groups(alloc: Global, table: &mut ScopeTable, nodes: &[Group]) -> Result<(), 
 }
 
 /// The parameters of a procedure.
-#[tactic(auto, using(crate::proofs::Routines::parameters_passed, crate::proofs::Routines::parameters_refused, crate::proofs::Routines::parameters_none))]
+#[tactic(auto, using(crate::proofs::Left::left), unfolding(crate::specs::Headings::parameter_steps))]
 fn parameters(
     alloc: Global,
     table: &mut ScopeTable,

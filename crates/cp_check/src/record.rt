@@ -23,7 +23,7 @@ fn reserve_field(alloc: Global, fields: &mut Scope, name: &Identifier) -> Result
 }
 
 /// The names of fields of one type are being declared.
-#[tactic(auto, using(crate::proofs::Fields::names_passed, crate::proofs::Fields::names_refused, crate::proofs::Fields::names_none))]
+#[tactic(auto, using(crate::proofs::Left::left), unfolding(crate::specs::Records::reserve_fields))]
 pub fn reserve_fields(
     alloc: Global,
     fields: &mut Scope,
@@ -39,7 +39,7 @@ pub fn reserve_fields(
 }
 
 /// Fields of one meaning are declared.
-#[tactic(auto, unfolding(crate::specs::Records::add_fields), using(crate::proofs::Fields::added_split, crate::proofs::Fields::added_none))]
+#[tactic(auto, using(crate::proofs::Left::left), unfolding(crate::specs::Records::add_fields, crate::specs::Records::with_fields))]
 pub fn add_fields(
     alloc: Global,
     fields: &mut Scope,

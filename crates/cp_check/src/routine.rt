@@ -93,7 +93,7 @@ fn routine(
 }
 
 /// The routines of a system type or of the program.
-#[tactic(auto, using(crate::proofs::Routines::routines_passed, crate::proofs::Routines::routines_refused, crate::proofs::Routines::routines_none))]
+#[tactic(auto, using(crate::proofs::Left::left), unfolding(crate::specs::Routines::routine_steps))]
 pub fn routines(
     alloc: Global,
     table: &mut ScopeTable,

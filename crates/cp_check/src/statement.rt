@@ -440,7 +440,7 @@ fn start(
     check_start(table, node.target.name.at, name, &operands)
 }
 
-#[tactic(auto, using(crate::proofs::Statements::starts_passed, crate::proofs::Statements::starts_refused, crate::proofs::Statements::starts_none))]
+#[tactic(auto, using(crate::proofs::Left::left_total, crate::proofs::Statements::starts_refuse), unfolding(crate::specs::Statements::starts))]
 fn starts(
     alloc: Global,
     table: &ScopeTable,
@@ -544,7 +544,7 @@ fn arm(
 
 /// The labels of arms, and what the arms take.
 #[cycle(statement)]
-#[tactic(auto, using(crate::proofs::Arms::arms_passed, crate::proofs::Arms::arms_refused, crate::proofs::Arms::arms_none))]
+#[tactic(auto, using(crate::proofs::Left::left_total, crate::proofs::Arms::arms_refuse), unfolding(crate::specs::Statements::arms))]
 fn arms(
     alloc: Global,
     table: &ScopeTable,
@@ -565,7 +565,7 @@ fn arms(
 
 /// Statements in their order.
 #[cycle(statement)]
-#[tactic(auto, using(crate::proofs::Statements::statements_passed, crate::proofs::Statements::statements_refused, crate::proofs::Statements::statements_none))]
+#[tactic(auto, using(crate::proofs::Left::left_total, crate::proofs::Statements::statements_refuse), unfolding(crate::specs::Statements::statements))]
 pub fn statements(
     alloc: Global,
     table: &ScopeTable,

@@ -76,7 +76,7 @@ fn group(
 }
 
 /// The parameters of a system type.
-#[tactic(auto, using(crate::proofs::Systems::groups_passed, crate::proofs::Systems::groups_refused, crate::proofs::Systems::groups_none))]
+#[tactic(auto, using(crate::proofs::Left::left), unfolding(crate::specs::Systems::group_steps))]
 fn groups(
     alloc: Global,
     table: &mut ScopeTable,
@@ -182,7 +182,7 @@ fn definition(
     add_one(alloc, table, &node.name, Meaning::Kind(value_type))
 }
 
-#[tactic(auto, using(crate::proofs::Systems::definitions_passed, crate::proofs::Systems::definitions_refused, crate::proofs::Systems::definitions_none))]
+#[tactic(auto, using(crate::proofs::Left::left), unfolding(crate::specs::Systems::definition_steps))]
 fn definitions(
     alloc: Global,
     table: &mut ScopeTable,
@@ -212,7 +212,7 @@ fn program_part(alloc: Global, table: &mut ScopeTable, node: &ProgramPart) -> Re
 }
 
 /// The declarations at the program's top.
-#[tactic(auto, using(crate::proofs::Systems::parts_passed, crate::proofs::Systems::parts_refused, crate::proofs::Systems::parts_none))]
+#[tactic(auto, using(crate::proofs::Left::left), unfolding(crate::specs::Systems::program_part_steps))]
 pub fn program_parts(
     alloc: Global,
     table: &mut ScopeTable,

@@ -238,7 +238,7 @@ fn member(
 }
 
 /// The constants of an enumeration.
-#[tactic(auto, using(crate::proofs::Members::members_passed, crate::proofs::Members::members_refused, crate::proofs::Members::members_none))]
+#[tactic(auto, using(crate::proofs::Left::left), unfolding(crate::specs::Types::members))]
 fn members(
     alloc: Global,
     table: &mut ScopeTable,
@@ -369,7 +369,7 @@ fn field_group(
 
 /// The fields of a record.
 #[cycle(types)]
-#[tactic(auto, using(crate::proofs::Fields::groups_passed, crate::proofs::Fields::groups_refused, crate::proofs::Fields::groups_none))]
+#[tactic(auto, using(crate::proofs::Left::left), unfolding(crate::specs::Types::groups_typed))]
 fn field_groups(
     alloc: Global,
     table: &mut ScopeTable,

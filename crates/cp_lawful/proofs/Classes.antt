@@ -342,10 +342,9 @@ admit_named ss o [] t b h = tt
 admit_named ss o (x ∷ xs) t b h = (h, admit_named ss o xs t b h)
 
 no_shared_class : (at : ℕ) (o k : SystemKind) (t : ValueType) → faults (systems.component_admitted at o k t) ≡ [] → (o ≡ system_kind.Class → ⊥) → k ≡ system_kind.Class → ⊥
-no_shared_class at o system_kind.Monitor t h other e = cc
-no_shared_class at o system_kind.Process t h other e = cc
 no_shared_class at system_kind.Class system_kind.Class t h other e = other refl
 no_shared_class at x system_kind.Class t h other e = absurd (let bad : check_fault.Rule at C14 ∷ [] ≡ [] = h in cc)
+no_shared_class at o _ t h other e = cc
 
 group_admits : (ss : List SystemMeaning) (o : SystemKind) (s : Scopes) (g : Group) (m : meant.Scope) → faults (systems.parameter_type o s g) ≡ [] → Knows ss m s → (k : ℕ) → type_named m g.type_name.name ≡ component_of k → (y : SystemMeaning) × ((slice_get ss k ≡ Some y) × ((o ≡ system_kind.Class → ⊥) → y.kind ≡ system_kind.Class → ⊥))
 unfolding systems.parameter_type typing.type_named names.visible

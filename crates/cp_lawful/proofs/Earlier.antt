@@ -20,12 +20,8 @@ TyBelow k (record_with ts) = Unit {0}
 TyBelow k (component_of j) = j < k
 
 abbrev MeaningBelow : ℕ → Meaning → Type 0
-MeaningBelow k (constant_meaning b z) = Unit {0}
 MeaningBelow k (type_meaning t) = TyBelow k t
-MeaningBelow k (local_variable t) = Unit {0}
-MeaningBelow k (permanent_variable t) = Unit {0}
-MeaningBelow k (routine_meaning r) = Unit {0}
-MeaningBelow k (standard_meaning s) = Unit {0}
+MeaningBelow k _ = Unit {0}
 
 abbrev ScopeBelow : ℕ → Scope → Type 0
 ScopeBelow k [] = Unit {0}

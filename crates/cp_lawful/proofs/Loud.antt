@@ -32,9 +32,8 @@ use Rattle.cp_check.specs.Statements as statements
 
 -- it stands for something, or has a fault
 abbrev pub Loud : {A : Type 0} → Judged A → Type 0
-Loud (Ok a) = Unit {0}
 Loud (Err []) = ⊥
-Loud (Err (f ∷ fs)) = Unit {0}
+Loud _ = Unit {0}
 
 pub loud_both : {A B : Type 0} (a : Judged A) (b : Judged B) → Loud a → Loud b → Loud (both a b)
 loud_both (Ok a) (Err []) h g = g

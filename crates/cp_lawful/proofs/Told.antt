@@ -46,9 +46,8 @@ Told s = NamesTold s.inner.names × AllTold s.outer
 -- ---- what is visible
 
 abbrev Said : Option (Option Meaning) → Type 0
-Said None = Unit {0}
 Said (Some None) = ⊥
-Said (Some (Some m)) = Unit {0}
+Said _ = Unit {0}
 
 said_told : (o : Option Meaning) → IsTold o → Said (Some o)
 said_told None h = h

@@ -4,11 +4,10 @@ use Rattle.std.specs.Prelude.{◌+ℤ◌, neg_ℤ, int_le, min, if◌then◌else
 use Rattle.std.specs.Fmt.{signed_decimal}
 use Rattle.std.specs.Int.{saturate_signed, w16}
 use Rattle.std.specs.Ordering.{int_eq}
-use Rattle.cp_meaning.specs.Names.{Name}
+use Rattle.cp_legend_laws.proofs.Words.{Name, is_bounded}
 use Rattle.cp_meaning.specs.Types.{Base, integers, booleans, characters, enumerated, Range, natural_of, length_of_range, is_within}
 use Rattle.cp_meaning.specs.Operations.{range_of_base}
 use Rattle.cp_resolved.specs.InStep.{Numbering, base_of, range_on}
-use Rattle.cp_resolved.specs.Standing.{is_bounded}
 use Rattle.cp_legend.specs.Values.{character_text, constant_text, ordinal_text}
 use Rattle.cp_legend.specs.Names as legend
 use Rattle.cp_legend_laws.specs.Paths.{value_text, index_text}

@@ -1,8 +1,7 @@
 -- The constants of the enumerations in the types of a program are numbered as they are written.
 use Rattle.std.proofs.Common.{◌≡◌, ℕ, zero, suc, ◌+◌, ◌<◌, ◌≤◌, pos, Bool, true, false, if◌then◌else◌, List, [], ◌∷◌, ◌++◌, length, Some, slice_get, refl, sym, ap, subst, ◌∙◌, append_assoc, arith, length-append}
 use Rattle.std.specs.Prelude.{min, ◌-◌, ◌^◌}
-use Rattle.std.proofs.lemmas.List.{length-map}
-use Rattle.cp_tree.specs.declared.constant.Identifier.{Identifier}
+use Rattle.cp_legend_laws.proofs.Words.{length-map, Identifier, Each, AreNumbered, HasFew}
 use Rattle.cp_tree.specs.declared.constant.ConstantKind.{ConstantKind}
 use Rattle.cp_tree.specs.declared.constant.ConstantKind.TheVariants as constant_kind
 use Rattle.cp_tree.specs.Syntax as syntax
@@ -14,8 +13,6 @@ use Rattle.cp_meaning.specs.Declarations.{Variable, Block, Heading, constant_mea
 use Rattle.cp_meaning.specs.Systems.{SystemMeaning, system_in, Declared, definition_in, definitions_in, program_part_in, program_parts_in, declared, own_meaning, or_own, system_of}
 use Rattle.cp_resolved.specs.Enumerations.{Enumerated, in_simple, in_type, in_groups, in_group, each_in, in_part, in_routine, in_definition, in_program_part, enumerations_of, names_among, constant_names}
 use Rattle.cp_resolved.specs.Fit.{nothing_declared}
-use Rattle.cp_resolved.specs.Small.{Each, AreNumbered}
-use Rattle.cp_resolved.specs.Tokens.{HasFew}
 
 each_left : {A : Type 0} (P : A → Type 0) (xs ys : List A) → Each P (xs ++ ys) → Each P xs
 each_left P [] ys h = tt
@@ -86,9 +83,8 @@ module _ (cs : List Name) (firsts : ℕ → ℕ) where
       go false rest = rest
 
   constant_known : (s : Scope) (c : ConstantKind) → KnownScope s → KnownBase (constant_of_kind s c).0
-  constant_known s (constant_kind.Number o n) h = tt
   constant_known s (constant_kind.Name o i) h = found_known i.name s h
-  constant_known s (constant_kind.Character c) h = tt
+  constant_known s _ h = tt
 
   named_known : (x : Name) (s : Scope) → KnownScope s → KnownType (type_named s x)
   named_known x [] h = tt

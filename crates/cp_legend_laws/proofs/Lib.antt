@@ -11,3 +11,4 @@ pub mod NotingRoutines
 pub mod PartSystems
 pub mod PathsOfTree
 pub mod Walking
+mod Words

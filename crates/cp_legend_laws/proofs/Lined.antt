@@ -1,15 +1,8 @@
 -- The components that a system type contains are those of the names that it declares, in their order.
 use Rattle.std.proofs.Common.{◌≡◌, ℕ, ◌+◌, ◌<◌, ◌≤◌, Bool, true, false, if◌then◌else◌, List, [], ◌∷◌, ◌++◌, length, Option, Some, None, slice_get, ◌==◌, refl, sym, ap, subst, ◌∙◌, ◌⊎◌, inl, inr, append_assoc, append-nil, arith, length-append}
-use Rattle.std.proofs.lemmas.Bool.{eq-eqb, eqb-true}
-use Rattle.std.proofs.lemmas.Option.{slice_get_within}
+use Rattle.cp_legend_laws.proofs.Words.{eq-eqb, eqb-true, slice_get_within, Contained, Compounds, Noted, Layer, System, own_system, nothing_laid, Each, last_or_before}
 use Rattle.cp_tree.specs.Syntax as syntax
-use Rattle.cp_layout.specs.declared.layer.Contained.{Contained}
-use Rattle.cp_symbols.specs.Kinds.{Compounds}
-use Rattle.cp_symbols.specs.Symbols.{Noted}
-use Rattle.cp_layout.specs.Layers.{Layer, System, own_system, nothing_laid}
 use Rattle.cp_layout.specs.LaidDeclarations.{Parameters, type_named, initial_statement, entered, system_groups, system_inside, system_of, system, definition, system_definition, system_definitions, program_part, program_parts, program, routines}
-use Rattle.cp_resolved.specs.Small.{Each}
-use Rattle.cp_resolved.proofs.names.Entries.{last_or_before}
 use Rattle.cp_legend_laws.proofs.Noting.{all_contents, contents_append, Noting, noting_trans, noting_name}
 use Rattle.cp_legend_laws.proofs.NotingDeclarations.{type_notes, constants_note, variables_note}
 use Rattle.cp_legend_laws.proofs.NotingRoutines.{initial_notes, routines_note, inside_notes}

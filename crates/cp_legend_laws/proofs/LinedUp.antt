@@ -1,13 +1,8 @@
 -- The components of the legend of a tree line up with those of its tables.
 use Rattle.std.proofs.Common.{◌≡◌, ℕ, ◌<◌, List, [], length, Some, None, ◌++◌, slice_get, sym, ap, subst, ◌∙◌, append-nil, arith}
-use Rattle.std.specs.Prelude.{◌-◌}
-use Rattle.std.proofs.lemmas.List.{length-map}
-use Rattle.std.proofs.lemmas.Option.{slice_get_within}
-use Rattle.cp_tree.specs.Syntax.{Tree}
-use Rattle.cp_slots.specs.declared.tables.Component.{Component}
+use Rattle.cp_legend_laws.proofs.Words.{◌-◌, length-map, slice_get_within, Tree, Component, Layer, System}
 use Rattle.cp_symbols.specs.declared.symbols.SystemSymbol.{SystemSymbol}
 use Rattle.cp_symbols.specs.declared.symbols.Symbols as code_symbols
-use Rattle.cp_layout.specs.Layers.{Layer, System}
 use Rattle.cp_layout.specs.Laid.{laid, whole, tables_laid}
 use Rattle.cp_layout.specs.Symbols.{AreSymbolsOf, system_named}
 use Rattle.cp_legend.specs.Names.{Source, source_seen, parts_of}

@@ -1,23 +1,15 @@
 -- The component variables that are noted are those of the language, each under its name and with its type.
 use Rattle.std.proofs.Common.{◌≡◌, ℕ, Bool, true, false, if◌then◌else◌, List, [], ◌∷◌, ◌++◌, length, Option, Some, None, refl, sym, ap, subst, ◌∙◌, inl, inr, append_assoc, append-nil, arith, length-append}
-use Rattle.std.proofs.lemmas.Option.{none-some}
-use Rattle.cp_tree.specs.declared.constant.Identifier.{Identifier}
+use Rattle.cp_legend_laws.proofs.Words.{none-some, Identifier, CellType, Contained, LayoutMeaning, Compounds, Noted, Layer, Variable, Block, names_of, named_variables}
 use Rattle.cp_tree.specs.Syntax as syntax
-use Rattle.cp_symbols.specs.declared.kinds.CellType.{CellType}
 use Rattle.cp_symbols.specs.declared.kinds.CellType.TheVariants as types
-use Rattle.cp_layout.specs.declared.layer.Contained.{Contained}
-use Rattle.cp_symbols.specs.declared.names.LayoutMeaning.{LayoutMeaning}
 use Rattle.cp_symbols.specs.declared.names.LayoutMeaning.TheVariants as meaning
-use Rattle.cp_symbols.specs.Kinds.{Compounds}
-use Rattle.cp_symbols.specs.Symbols.{Noted}
-use Rattle.cp_layout.specs.Layers.{Layer}
 use Rattle.cp_layout.specs.LaidTypes.{named_type, written_type}
 use Rattle.cp_layout.specs.LaidDeclarations.{Parameters, components_of, variable, variable_with, variables_of, variable_group, variables, constants, type_definitions, permanent_part, permanent_parts, entered, system_parameter, system_parameters_of, system_group, system_groups, initial_statement, routines, heading_with, with_new_frame, with_heading}
 use Rattle.cp_meaning.specs.Types.{Ty, has_components}
 use Rattle.cp_meaning.specs.Scopes as scopes
 use Rattle.cp_meaning.specs.Scopes.{Scope}
 use Rattle.cp_meaning.specs.Declarations as meant
-use Rattle.cp_meaning.specs.Declarations.{Variable, Block, names_of, named_variables}
 use Rattle.cp_resolved.specs.Begun.{parts_begun, system_begun, parameters_of}
 use Rattle.cp_resolved.specs.Enumerations.{in_type, each_in, in_part}
 use Rattle.cp_resolved.specs.InStep.{Numbering, TypeIs, InStep, AreOuter}
@@ -67,12 +59,7 @@ none_listed (Some c) x t e = absurd (let n : length (c ∷ []) ≡ 0 = ap (λ (z
 
 none_meant : (ts : Compounds) (x : List ℕ) (m : LayoutMeaning) → contents_of ts m ≡ [] → entries_meant ts x m ≡ []
 none_meant ts x (meaning.Contained n t) e = none_listed (components_of ts t) x t e
-none_meant ts x (meaning.Constant b z) e = refl
-none_meant ts x (meaning.Kind t) e = refl
-none_meant ts x (meaning.Variable o t) e = refl
-none_meant ts x (meaning.Bound n k) e = refl
-none_meant ts x (meaning.Routine n) e = refl
-none_meant ts x (meaning.Predeclared p) e = refl
+none_meant ts x _ e = refl
 
 no_entries : (ts : Compounds) (ds : List Noted) → all_contents ts ds ≡ [] → all_entries ts ds ≡ []
 no_entries ts [] e = refl
@@ -226,11 +213,7 @@ module _ (k : Numbering) where
 
   parameter_contained : (l : Layer) (ps : Parameters) (x : List ℕ) (t : CellType) → (system_parameter l ps x t).1.owned.contained ≡ l.owned.contained
   parameter_contained l ps x (types.System j) = refl
-  parameter_contained l ps x (types.Ordinal r) = refl
-  parameter_contained l ps x types.Queue = refl
-  parameter_contained l ps x (types.Set r) = refl
-  parameter_contained l ps x (types.Array n) = refl
-  parameter_contained l ps x (types.Record n) = refl
+  parameter_contained l ps x _ = refl
 
   parameters_contained : (l : Layer) (ps : Parameters) (t : CellType) (is : List Identifier) → (system_parameters_of l ps t is).1.owned.contained ≡ l.owned.contained
   unfolding system_parameters_of

@@ -1,29 +1,16 @@
 -- The paths of components by the names that are noted are those of the language.
 use Rattle.std.proofs.Common.{◌≡◌, ℕ, zero, suc, ◌+◌, ◌<◌, ◌≤◌, Bool, true, false, ◌&&◌, if◌then◌else◌, List, [], ◌∷◌, ◌++◌, length, map, Option, Some, None, slice_get, ◌==◌, refl, sym, ap, ap₂, subst, ◌∙◌, ◌⊎◌, inl, inr, append_assoc, append-nil, arith}
 use Rattle.std.specs.Prelude.{flat_map, ◌*◌}
-use Rattle.std.proofs.lemmas.Bool.{eqb-false, eqb-true}
-use Rattle.std.proofs.lemmas.List.{map-append}
-use Rattle.std.proofs.lemmas.Option.{none-some}
-use Rattle.cp_tree.specs.Syntax.{Program}
+use Rattle.cp_legend_laws.proofs.Words.{eqb-false, eqb-true, map-append, none-some, Program, CellType, Contained, LayoutMeaning, Compound, array, Noted, array_components}
+use Rattle.cp_legend_laws.proofs.Words.{components_in, components_of, Name, Variable, Numbering, range_on, TypeIs, Each}
 use Rattle.cp_symbols.specs.declared.kinds.ArrayType.{ArrayType}
-use Rattle.cp_symbols.specs.declared.kinds.CellType.{CellType}
 use Rattle.cp_symbols.specs.declared.kinds.CellType.TheVariants as types
-use Rattle.cp_layout.specs.declared.layer.Contained.{Contained}
-use Rattle.cp_symbols.specs.declared.names.LayoutMeaning.{LayoutMeaning}
 use Rattle.cp_symbols.specs.declared.names.LayoutMeaning.TheVariants as meaning
 use Rattle.cp_layout.specs.Kinds as kinds
-use Rattle.cp_symbols.specs.Kinds.{Compound, Compounds, array, record_with, count_of}
-use Rattle.cp_layout.specs.Kinds.{array_type}
-use Rattle.cp_symbols.specs.Symbols.{Noted}
-use Rattle.cp_layout.specs.LaidDeclarations.{array_components, components_in, components_of}
-use Rattle.cp_meaning.specs.Names.{Name}
 use Rattle.cp_meaning.specs.Types.{Range, Ty, array_over, component_of, has_components, length_of_range}
-use Rattle.cp_meaning.specs.Declarations.{Variable}
 use Rattle.cp_meaning.specs.Systems.{program_system, system_of}
 use Rattle.cp_meaning.specs.Components as language
 use Rattle.cp_meaning.specs.Components.{PathStep, Path, Listed, step_down, listed_elements, listed_variable, listed_variables, listed}
-use Rattle.cp_resolved.specs.InStep.{Numbering, range_on, TypeIs}
-use Rattle.cp_resolved.specs.Small.{Each}
 use Rattle.cp_resolved.specs.Standing.{is_bounded, are_few, is_indexed, is_standing, IsStandingVariable}
 use Rattle.cp_resolved.specs.Layouts.{cells_of}
 use Rattle.cp_resolved.proofs.frames.Cells.{count_same}
@@ -51,24 +38,16 @@ from_append s (e ∷ es) fs = ap (λ ps. parts_of_type s e.0 e.1 ++ ps) (from_ap
 
 no_element : (names : List (List ℕ)) (x : List ℕ) (a : ArrayType) (t : CellType) → array_components a t ≡ None → elements_of names x a.index t ≡ []
 no_element names x a (types.System k) h = absurd (none-some _ (sym h))
-no_element names x a (types.Ordinal r) h = refl
-no_element names x a types.Queue h = refl
-no_element names x a (types.Set r) h = refl
-no_element names x a (types.Array n) h = refl
-no_element names x a (types.Record n) h = refl
+no_element names x a _ h = refl
 
 no_array : (names : List (List ℕ)) (x : List ℕ) (o : Option Compound) → components_in (kinds.as_array o) ≡ None → array_parts names x (values.as_array o) ≡ []
-no_array names x None h = refl
 no_array names x (Some (array a)) h = no_element names x a a.element h
-no_array names x (Some (record_with fs n)) h = refl
+no_array names x _ h = refl
 
 no_parts : (s : Source) (x : List ℕ) (t : CellType) → components_of s.types t ≡ None → parts_of_type s x t ≡ []
 no_parts s x (types.System k) h = absurd (none-some _ (sym h))
 no_parts s x (types.Array n) h = no_array s.constants x (slice_get s.types n) h
-no_parts s x (types.Ordinal r) h = refl
-no_parts s x types.Queue h = refl
-no_parts s x (types.Set r) h = refl
-no_parts s x (types.Record n) h = refl
+no_parts s x _ h = refl
 
 entry_parts : (s : Source) (x : List ℕ) (t : CellType) (o : Option Contained) → components_of s.types t ≡ o → parts_of_type s x t ≡ parts_from s (entry_with o x t)
 entry_parts s x t None h = no_parts s x t h
@@ -76,12 +55,7 @@ entry_parts s x t (Some c) h = sym (append-nil (parts_of_type s x t))
 
 meant_parts : (s : Source) (x : List ℕ) (m : LayoutMeaning) → parts_meant s x m ≡ parts_from s (entries_meant s.types x m)
 meant_parts s x (meaning.Contained n t) = entry_parts s x t (components_of s.types t) refl
-meant_parts s x (meaning.Constant b z) = refl
-meant_parts s x (meaning.Kind t) = refl
-meant_parts s x (meaning.Variable o t) = refl
-meant_parts s x (meaning.Bound n k) = refl
-meant_parts s x (meaning.Routine n) = refl
-meant_parts s x (meaning.Predeclared p) = refl
+meant_parts s x _ = refl
 
 module _ (s : Source) (n : ℕ) (o : Option ℕ) (same : IsHome s n o) where
   either : (b : Bool) (d : Noted) (ds : List Noted) → (if b then parts_meant s d.name d.meaning else []) ++ parts_from s (home_entries s.types o ds) ≡ parts_from s (all_entries s.types (if b then d ∷ of_home o ds else of_home o ds))

@@ -1,20 +1,13 @@
 -- For each system type of a program, and for the program, the component variables that are noted are those of the language.
 use Rattle.std.proofs.Common.{◌≡◌, ℕ, ◌<◌, false, List, [], ◌∷◌, ◌++◌, length, Option, Some, None, slice_get, refl, sym, ap, subst, ◌∙◌, ◌⊎◌, inl, inr, append-nil, arith}
-use Rattle.std.proofs.lemmas.Bool.{eq-eqb}
-use Rattle.std.proofs.lemmas.Option.{none-some, slice_get_within}
+use Rattle.cp_legend_laws.proofs.Words.{eq-eqb, none-some, slice_get_within, Compounds, Noted, Layer, nothing_laid, Block, Numbering}
 use Rattle.cp_tree.specs.Syntax as syntax
-use Rattle.cp_symbols.specs.Kinds.{Compounds}
-use Rattle.cp_symbols.specs.Symbols.{Noted}
-use Rattle.cp_layout.specs.Layers.{Layer, nothing_laid}
 use Rattle.cp_layout.specs.LaidDeclarations.{type_named, constants, variables, entered, initial_statement, routines, system, definition, system_definition, system_definitions, program_part, program_parts, program}
 use Rattle.cp_meaning.specs.Scopes as scopes
-use Rattle.cp_meaning.specs.Scopes.{Scope}
-use Rattle.cp_meaning.specs.Declarations.{Block}
 use Rattle.cp_meaning.specs.Systems.{SystemMeaning, system_in, Declared, definition_in, definitions_in, program_part_in, program_parts_in, declared, program_system, own_meaning, or_own, system_of}
 use Rattle.cp_resolved.specs.Begun.{system_begun, parameters_of}
 use Rattle.cp_resolved.specs.Enumerations.{Enumerated, each_in, in_part, in_routine, in_definition, in_program_part, enumerations_of}
 use Rattle.cp_resolved.specs.Fit.{IsFitDefinition, AreFitDefinitions, IsFitPart, AreFitParts, nothing_declared}
-use Rattle.cp_resolved.specs.InStep.{Numbering}
 use Rattle.cp_resolved.specs.Openings.{Opening, definition_openings, definitions_openings, part_openings, parts_openings, routine_openings, initial_opening, openings_of, AreOpened}
 use Rattle.cp_resolved.specs.Small.{Each, IsSmallDefinition, IsSmallProgramPart, IsSmallProgram, AreNumbered}
 use Rattle.cp_resolved.proofs.components.Handed.{constants_owned}

@@ -1,18 +1,10 @@
 -- What is laid out notes names, and each component variable among them is a component that is contained.
 use Rattle.std.proofs.Common.{◌≡◌, ℕ, if◌then◌else◌, List, [], ◌∷◌, ◌++◌, length, Option, Some, None, slice_get, refl, sym, ap, ◌∙◌, append_assoc, append-nil}
-use Rattle.std.proofs.lemmas.Option.{none-some}
-use Rattle.cp_resolved.proofs.names.Entries.{still_there}
-use Rattle.cp_resolved.specs.Small.{Each}
-use Rattle.cp_symbols.specs.declared.kinds.CellType.{CellType}
+use Rattle.cp_legend_laws.proofs.Words.{none-some, still_there, Each, CellType, Contained, LayoutMeaning, Compound, Compounds, Noted, components_in, components_of}
 use Rattle.cp_symbols.specs.declared.kinds.CellType.TheVariants as types
-use Rattle.cp_layout.specs.declared.layer.Contained.{Contained}
-use Rattle.cp_symbols.specs.declared.names.LayoutMeaning.{LayoutMeaning}
 use Rattle.cp_symbols.specs.declared.names.LayoutMeaning.TheVariants as meaning
-use Rattle.cp_symbols.specs.Kinds.{Compound, Compounds}
 use Rattle.cp_layout.specs.Kinds.{as_array}
-use Rattle.cp_symbols.specs.Symbols.{Noted}
 use Rattle.cp_layout.specs.Layers.{Layer, Owned, Frame, own_system}
-use Rattle.cp_layout.specs.LaidDeclarations.{components_in, components_of}
 
 -- ---- what names stand for
 
@@ -39,12 +31,8 @@ array_grown ts later n c (Some x) e h = ap (λ o. components_in (as_array o)) (s
 
 -- the components of a type stay as they are
 pub components_grown : (ts later : Compounds) (t : CellType) (c : Contained) → components_of ts t ≡ Some c → components_of (ts ++ later) t ≡ Some c
-components_grown ts later (types.System k) c h = h
 components_grown ts later (types.Array n) c h = array_grown ts later n c (slice_get ts n) refl h
-components_grown ts later (types.Ordinal r) c h = h
-components_grown ts later types.Queue c h = h
-components_grown ts later (types.Set r) c h = h
-components_grown ts later (types.Record n) c h = h
+components_grown ts later _ c h = h
 
 -- ---- steps of laying out that leave the system types as they are
 

@@ -1,19 +1,12 @@
 -- The system types of the parts of a system type are those of the components that it contains, each as often as it is contained.
 use Rattle.std.proofs.Common.{◌≡◌, ℕ, zero, suc, ◌<◌, Bool, true, false, if◌then◌else◌, List, [], ◌∷◌, ◌++◌, length, map, Option, Some, None, slice_get, ◌==◌, refl, sym, ap, ◌∙◌, append_assoc, append-nil, arith}
-use Rattle.std.specs.Prelude.{flat_map}
-use Rattle.std.proofs.lemmas.Bool.{eq-eqb, eqb-true}
-use Rattle.std.proofs.lemmas.List.{map-append}
+use Rattle.cp_legend_laws.proofs.Words.{flat_map, eq-eqb, eqb-true, map-append, CellType, Contained, LayoutMeaning, Noted, array_components, components_in, components_of}
 use Rattle.cp_symbols.specs.declared.kinds.ArrayType.{ArrayType}
 use Rattle.cp_symbols.specs.declared.kinds.CellRange.{CellRange}
-use Rattle.cp_symbols.specs.declared.kinds.CellType.{CellType}
 use Rattle.cp_symbols.specs.declared.kinds.CellType.TheVariants as types
-use Rattle.cp_layout.specs.declared.layer.Contained.{Contained}
-use Rattle.cp_symbols.specs.declared.names.LayoutMeaning.{LayoutMeaning}
 use Rattle.cp_symbols.specs.declared.names.LayoutMeaning.TheVariants as meaning
 use Rattle.cp_layout.specs.Kinds as kinds
-use Rattle.cp_symbols.specs.Kinds.{Compound, Compounds, array, record_with, count_of}
-use Rattle.cp_symbols.specs.Symbols.{Noted}
-use Rattle.cp_layout.specs.LaidDeclarations.{array_components, components_in, components_of}
+use Rattle.cp_symbols.specs.Kinds.{Compound, array, count_of}
 use Rattle.cp_legend.specs.Values as values
 use Rattle.cp_legend.specs.Names.{Source, Part, home, elements_below, elements_of, array_parts, parts_of_type, parts_meant, parts_named, parts_of}
 use Rattle.cp_legend_laws.proofs.Noting.{as_list, contents_of, all_contents}
@@ -49,33 +42,20 @@ elements_systems names x r system (suc n) = map-append (λ (p : Part). p.system)
 
 element_systems : (names : List (List ℕ)) (x : List ℕ) (a : ArrayType) (t : CellType) → systems_of (elements_of names x a.index t) ≡ spread (as_list (array_components a t))
 element_systems names x a (types.System k) = elements_systems names x a.index k (count_of a.index) ∙ sym (spread_one (record { system = k; count = count_of a.index }))
-element_systems names x a (types.Ordinal r) = refl
-element_systems names x a types.Queue = refl
-element_systems names x a (types.Set r) = refl
-element_systems names x a (types.Array n) = refl
-element_systems names x a (types.Record n) = refl
+element_systems names x a _ = refl
 
 array_systems : (names : List (List ℕ)) (x : List ℕ) (o : Option Compound) → systems_of (array_parts names x (values.as_array o)) ≡ spread (as_list (components_in (kinds.as_array o)))
-array_systems names x None = refl
 array_systems names x (Some (array a)) = element_systems names x a a.element
-array_systems names x (Some (record_with fs n)) = refl
+array_systems names x _ = refl
 
 type_systems : (s : Source) (x : List ℕ) (t : CellType) → systems_of (parts_of_type s x t) ≡ spread (as_list (components_of s.types t))
 type_systems s x (types.System k) = sym (spread_one (record { system = k; count = 1 }) ∙ once k)
 type_systems s x (types.Array n) = array_systems s.constants x (slice_get s.types n)
-type_systems s x (types.Ordinal r) = refl
-type_systems s x types.Queue = refl
-type_systems s x (types.Set r) = refl
-type_systems s x (types.Record n) = refl
+type_systems s x _ = refl
 
 meant_systems : (s : Source) (x : List ℕ) (m : LayoutMeaning) → systems_of (parts_meant s x m) ≡ spread (contents_of s.types m)
 meant_systems s x (meaning.Contained n t) = type_systems s x t
-meant_systems s x (meaning.Constant b z) = refl
-meant_systems s x (meaning.Kind t) = refl
-meant_systems s x (meaning.Variable o t) = refl
-meant_systems s x (meaning.Bound n k) = refl
-meant_systems s x (meaning.Routine n) = refl
-meant_systems s x (meaning.Predeclared p) = refl
+meant_systems s x _ = refl
 
 -- a number of a system type, or that of the program, which is behind them
 pub record IsHome (s : Source) (n : ℕ) (o : Option ℕ) : Type 0 where

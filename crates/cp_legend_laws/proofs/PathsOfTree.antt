@@ -1,21 +1,14 @@
 -- The paths in the legend of a tree are those of the language.
 use Rattle.std.proofs.Common.{◌≡◌, ℕ, ◌<◌, ◌≤◌, Bool, true, false, if◌then◌else◌, List, [], ◌∷◌, ◌++◌, length, map, Option, Some, None, ◌==◌, refl, sym, ap, subst, ◌∙◌, arith}
-use Rattle.std.proofs.lemmas.Bool.{eqb-false, eqb-true}
-use Rattle.cp_tree.specs.Syntax.{Program, Tree}
+use Rattle.cp_legend_laws.proofs.Words.{eqb-false, eqb-true, Program, Tree, Layer, Variable, Numbering, Each, IsStandingVariable, HasFew}
 use Rattle.cp_symbols.specs.declared.symbols.Symbols as code_symbols
-use Rattle.cp_layout.specs.Layers.{Layer}
 use Rattle.cp_layout.specs.Laid.{PlainTables, laid, whole, tables_laid}
 use Rattle.cp_layout.specs.Symbols.{AreSymbolsOf}
-use Rattle.cp_meaning.specs.Declarations.{Variable}
 use Rattle.cp_meaning.specs.Systems.{declared, program_system, system_of}
 use Rattle.cp_resolved.specs.Declared.{AreOwn, IsVisible}
 use Rattle.cp_resolved.specs.Enumerations.{enumerations_of, constant_names}
-use Rattle.cp_resolved.specs.InStep.{Numbering}
 use Rattle.cp_resolved.specs.Names.{IsPlain}
 use Rattle.cp_resolved.specs.Openings.{numbering_of}
-use Rattle.cp_resolved.specs.Small.{Each}
-use Rattle.cp_resolved.specs.Standing.{IsStandingVariable}
-use Rattle.cp_resolved.specs.Tokens.{HasFew}
 use Rattle.cp_meaning.specs.Steps.{parameter_variables}
 use Rattle.cp_resolved.proofs.names.Opened.{opened_all}
 use Rattle.cp_resolved.proofs.names.StepsOfProgram.{names_laid}

@@ -1,15 +1,10 @@
 -- The walk that names components goes as the tables list them.
 use Rattle.std.proofs.Common.{◌≡◌, ℕ, zero, suc, ◌+◌, ◌<◌, ◌≤◌, Bool, true, false, if◌then◌else◌, List, [], ◌∷◌, ◌++◌, length, map, Option, Some, None, slice_get, ◌==◌, refl, sym, ap, subst, ◌∙◌, append_assoc, append-nil, arith, length-append}
 use Rattle.std.specs.Prelude.{unwrap_or}
-use Rattle.std.proofs.lemmas.Bool.{eq-eqb, eqb-false, eqb-true}
-use Rattle.std.proofs.lemmas.List.{length-map, map-append}
+use Rattle.cp_legend_laws.proofs.Words.{eq-eqb, eqb-false, eqb-true, length-map, map-append, Component, Contained, Compounds, Owned, System}
 use Rattle.cp_tree.specs.declared.declaration.SystemKind.{SystemKind}
 use Rattle.cp_tree.specs.declared.declaration.SystemKind.TheVariants as system_kind
-use Rattle.cp_slots.specs.declared.tables.Component.{Component}
 use Rattle.cp_slots.specs.declared.tables.ComponentKind.{ComponentKind}
-use Rattle.cp_layout.specs.declared.layer.Contained.{Contained}
-use Rattle.cp_symbols.specs.Kinds.{Compounds}
-use Rattle.cp_layout.specs.Layers.{Owned, System}
 use Rattle.cp_layout.specs.LaidComponents.{Listing, nothing_listed, contents_least, next_kind, with_component, component_with, again_and_again, contained_by, owned_by, system_by, listed_below, program_listed}
 use Rattle.cp_resolved.proofs.names.Entries.{there, still_there, last_entry}
 use Rattle.cp_legend.specs.Names.{Source, Part, Named, Naming, at_each, inside, named, monitor_of, parts_of, parts_by, next_by, parts_at, named_below, components_of}
@@ -55,8 +50,7 @@ each_grows one g (n ∷ ns) c = grows_trans c (one n c) (one_each one ns (one n 
 
 kind_components : (c : Listing) (k : SystemKind) (initial : ℕ) → (next_kind c k initial).1.components ≡ c.components
 kind_components c system_kind.Class initial = refl
-kind_components c system_kind.Monitor initial = refl
-kind_components c system_kind.Process initial = refl
+kind_components c _ initial = refl
 
 -- the component itself, before those that it contains
 abbrev pub begun : Compounds → ComponentKind × Listing → Owned → ℕ → Listing

@@ -308,10 +308,6 @@ withdraw s n = record { outer = s.outer; inner = record { names = without_meanin
 unfoldable pub keep : Scopes → ℕ → Shape → Scopes
 keep s n d = record { outer = s.outer; inner = s.inner; shapes = with_shape s.shapes n d }
 
--- out of a system type, which is written at a token and whose initial statement takes so much
-unfoldable pub leave_system : Scopes → ℕ → Heading → ℕ → Scopes
-leave_system s n h u = keep (leave s) n (system_shape s.inner h (census s.inner.names s.shapes) u)
-
 -- ---- the predeclared names
 
 abbrev pub no_names : Scopes

@@ -85,11 +85,8 @@ abbrev pub StartsBegin : List Kind → Type 0
 StartsBegin ks = first_mark ks ≡ Some mark.Begin
 
 body_unnamed : (ks : List Kind) → StartsBody ks → Unnamed ks
-body_unnamed [] e = refl
-body_unnamed (kind.Number n ∷ ks) e = refl
-body_unnamed (kind.Character c ∷ ks) e = refl
 body_unnamed (kind.Name n ∷ ks) e = absurd cc
-body_unnamed (kind.Mark m ∷ ks) e = refl
+body_unnamed _ e = refl
 
 abbrev NoParenthesis : List Kind → Type 0
 NoParenthesis ks = is_mark mark.OpenParenthesis (first_mark ks) ≡ false
@@ -118,22 +115,12 @@ StartsInside ks = starts_inside (first_mark ks) ≡ true
 inside_no_parenthesis : (o : Option Mark) → starts_inside o ≡ true → is_mark mark.OpenParenthesis o ≡ false
 unfolding same
 inside_no_parenthesis (Some mark.Const) e = refl
-inside_no_parenthesis (Some mark.Type) e = refl
-inside_no_parenthesis (Some mark.Var) e = refl
-inside_no_parenthesis (Some mark.Procedure) e = refl
-inside_no_parenthesis (Some mark.Function) e = refl
-inside_no_parenthesis (Some mark.Begin) e = refl
-inside_no_parenthesis _ e = absurd cc
+inside_no_parenthesis _ e = cc
 
 inside_no_semicolon : (o : Option Mark) → starts_inside o ≡ true → is_mark mark.Semicolon o ≡ false
 unfolding same
 inside_no_semicolon (Some mark.Const) e = refl
-inside_no_semicolon (Some mark.Type) e = refl
-inside_no_semicolon (Some mark.Var) e = refl
-inside_no_semicolon (Some mark.Procedure) e = refl
-inside_no_semicolon (Some mark.Function) e = refl
-inside_no_semicolon (Some mark.Begin) e = refl
-inside_no_semicolon _ e = absurd cc
+inside_no_semicolon _ e = cc
 
 optional_no_parenthesis : (c : Bool) (ks : List Kind) → StartsInside ks → NoParenthesis (put_optional mark.Semicolon c ks)
 optional_no_parenthesis true ks h = semicolon_no_parenthesis ks
@@ -149,13 +136,11 @@ routine_body (function gs i) = refl
 
 part_inside : (p : Part) (ks : List Kind) → StartsInside (put_part p ks)
 part_inside (constants at ds) ks = refl
-part_inside (types at ds) ks = refl
-part_inside (variables at gs) ks = refl
+part_inside _ ks = refl
 
 part_unnamed : (p : Part) (ks : List Kind) → Unnamed (put_part p ks)
 part_unnamed (constants at ds) ks = refl
-part_unnamed (types at ds) ks = refl
-part_unnamed (variables at gs) ks = refl
+part_unnamed _ ks = refl
 
 module _ (total : ℕ) where
   pub routines_start : (rs : List Routine) (ks : List Kind) → StartsBody ks → StartsBody (put_all put_routine rs ks)
@@ -199,43 +184,47 @@ module _ (total : ℕ) where
   variables_land : LandsAll total 50 (some_before (variable_group_shape total)) (one_or_more variable_item)
   variables_land = some_land total 50 (variable_group_shape total) variable_item variable_group_lands (λ g ks h. names_named total g.names (kind.Mark mark.Colon ∷ put_type g.variable_type (kind.Mark mark.Semicolon ∷ ks)) h.0) exceeds_variable_group
 
+  abbrev words_before : {P : Type 0} → Shape P → Shape (List P)
+  words_before s = before (all_of s) StartsBody
+
+  -- parts that begin with words
+  words_apart : {P : Type 0} (s : Shape P) → ((p : P) (ks : List Kind) → Unnamed (s.put p ks)) → IsApart (before s Unnamed) (words_before s)
+  words_apart s unnamed =
+      let listed : IsListed (before s Unnamed) (words_before s) = record { no_put = λ ks. refl; more_put = λ x xs ks. refl; no_depth = refl; more_depth = λ x xs. refl } in
+      record {
+        listed = listed;
+        first_indexed = λ x xs ks h. (h.0.0, follows (before s Unnamed) (words_before s) listed Unnamed unnamed xs ks (body_unnamed ks h.1));
+        rest_indexed = λ x xs ks h. (h.0.1, h.1);
+      }
+
+  -- a list after its word
+  word_lands : {D P : Type 0} (items : Shape (List D)) (p : Parser (List D)) (made : ℕ → List D → P) (at : ℕ) (ds : List D) → LandsOn total 50 items p ds
+      → (n : ℕ) (ks : List Kind) → n ≡ at → Begins total (n + 1) (items.put ds ks) → items.indexed ds ks → Lands total (50 < items.depth ds) (Some (made at ds)) ks ((p >>= (λ ds. pure (Some (made n ds)))) (on (n + 1) (items.put ds ks)))
+  word_lands items p made at ds law n ks same placed indexed =
+      land_one total 50 (50 < items.depth ds) (Some (made at ds)) items p (λ ds. Some (made n ds)) ds law (n + 1) ks placed indexed (λ d. d) (ap (λ a. Some (made a ds)) same)
+
+  abbrev constants_before : Shape (List ConstantDefinition)
+  constants_before = flat (some_before (constant_definition_shape total))
+
+  flat_constants_land : LandsAll total 50 constants_before (one_or_more constant_item)
+  flat_constants_land ds n ks placed indexed =
+      lands_map total (50 < deepest (λ (d : ConstantDefinition). 0) ds) (50 < 0) (one_or_more constant_item (on n (constants_before.put ds ks))) ds ks (constants_land ds n ks placed indexed) (λ d. flat_deepest ds d)
+
   abbrev part_before : Shape Part
   part_before = before (part_shape total) Unnamed
 
   abbrev pub parts_before : Shape (List Part)
-  parts_before = before (all_of (part_shape total)) StartsBody
-
-  parts_listed : IsListed part_before parts_before
-  parts_listed = record { no_put = λ ks. refl; more_put = λ x xs ks. refl; no_depth = refl; more_depth = λ x xs. refl }
-
-  parts_apart : IsApart part_before parts_before
-  parts_apart = record {
-    listed = parts_listed;
-    first_indexed = λ x xs ks h. (h.0.0, follows part_before parts_before parts_listed Unnamed part_unnamed xs ks (body_unnamed ks h.1));
-    rest_indexed = λ x xs ks h. (h.0.1, h.1);
-  }
+  parts_before = words_before (part_shape total)
 
   part_lands : (p : Part) → LandsItem total 50 part_before part_item p
   unfolding part_item Input.mark advance
-  part_lands (constants at ds) n ks placed indexed =
-      let same_at : n ≡ at = omega (arith, indexed.0.0) in
-      land_one total 50 (50 < 0) (Some (constants at ds)) (flat (some_before (constant_definition_shape total))) (one_or_more constant_item) (λ ds. Some (constants n ds)) ds
-      (λ n ks placed indexed. lands_map total (50 < deepest (λ (d : ConstantDefinition). 0) ds) (50 < 0) (one_or_more constant_item (on n ((some_of (constant_definition_shape total)).put ds ks))) ds ks (constants_land ds n ks placed indexed) (λ d. flat_deepest ds d))
-      (n + 1) ks (omega arith) (indexed.0.1, indexed.1) (λ d. d) (ap (λ a. Some (constants a ds)) same_at)
-  part_lands (types at ds) n ks placed indexed =
-      let same_at : n ≡ at = omega (arith, indexed.0.0) in
-      land_one total 50 (50 < deepest type_definition_depth ds) (Some (types at ds)) (some_before (type_definition_shape total)) (one_or_more type_item) (λ ds. Some (types n ds)) ds (types_land ds)
-      (n + 1) ks (omega arith) (indexed.0.1, indexed.1) (λ d. d) (ap (λ a. Some (types a ds)) same_at)
-  part_lands (variables at ds) n ks placed indexed =
-      let same_at : n ≡ at = omega (arith, indexed.0.0) in
-      land_one total 50 (50 < deepest variable_group_depth ds) (Some (variables at ds)) (some_before (variable_group_shape total)) (one_or_more variable_item) (λ ds. Some (variables n ds)) ds (variables_land ds)
-      (n + 1) ks (omega arith) (indexed.0.1, indexed.1) (λ d. d) (ap (λ a. Some (variables a ds)) same_at)
+  part_lands (constants at ds) n ks placed indexed = word_lands constants_before (one_or_more constant_item) constants at ds (flat_constants_land ds) n ks (omega (arith, indexed.0.0)) (omega arith) (indexed.0.1, indexed.1)
+  part_lands (types at ds) n ks placed indexed = word_lands (some_before (type_definition_shape total)) (one_or_more type_item) types at ds (types_land ds) n ks (omega (arith, indexed.0.0)) (omega arith) (indexed.0.1, indexed.1)
+  part_lands (variables at ds) n ks placed indexed = word_lands (some_before (variable_group_shape total)) (one_or_more variable_item) variables at ds (variables_land ds) n ks (omega (arith, indexed.0.0)) (omega arith) (indexed.0.1, indexed.1)
 
   no_part : (o : Option Mark) (n : ℕ) (i : Input) → starts_body o ≡ true → part_by n o i ≡ Ok (None, i)
-  no_part (Some mark.Procedure) n i e = refl
-  no_part (Some mark.Function) n i e = refl
   no_part (Some mark.Begin) n i e = refl
-  no_part _ n i e = absurd cc
+  no_part _ n i e = cc
 
   part_ends : (ks : List Kind) → StartsBody ks → EndsOn total part_item ks
   unfolding part_item Input.mark
@@ -243,7 +232,7 @@ module _ (total : ℕ) where
 
   parts_land : LandsAll total 50 parts_before parts
   unfolding parts
-  parts_land = many_lands total 50 part_before parts_before parts_apart part_item part_lands (λ ks h. part_ends ks h.1) exceeds_part
+  parts_land = many_lands total 50 part_before parts_before (words_apart (part_shape total) part_unnamed) part_item part_lands (λ ks h. part_ends ks h.1) exceeds_part
 
   -- ---- routines
 
@@ -383,40 +372,31 @@ module _ (total : ℕ) where
       (n + 1) ks (omega arith) ((indexed.1, optional_no_parenthesis s.has_semicolon inside starts), (λ e. inside_no_semicolon (first_mark inside) starts, ((indexed.2, routines_start s.routines end refl), ((indexed.3, refl), indexed.4)))) (λ d. omega arith)
       (ap (λ (a : ℕ). let t : System = record { at = a; kind = s.kind; parameters = s.parameters; has_semicolon = s.has_semicolon; parts = s.parts; routines = s.routines; body = s.body } in t) same_at)
 
-  system_some : (s : System) (n : ℕ) (ks : List Kind) → Begins total n (put_system s ks) → (system_shape total).indexed s ks
-      → Lands total (50 < system_depth s) (system_definition s) ks ((system_with s.kind n >>= (λ s. pure (system_definition s))) (on (n + 1) (put_parameters put_group s.parameters (put_optional mark.Semicolon s.has_semicolon (put_all put_part s.parts (put_all put_routine s.routines (put_body s.body ks)))))))
-  system_some s n ks placed indexed =
+  abbrev put_inside : System → List Kind → List Kind
+  put_inside s ks = put_parameters put_group s.parameters (put_optional mark.Semicolon s.has_semicolon (put_all put_part s.parts (put_all put_routine s.routines (put_body s.body ks))))
+
+  system_some : (s : System) (k : SystemKind) → s.kind ≡ k → (n : ℕ) (ks : List Kind) → Begins total n (put_system s ks) → (system_shape total).indexed s ks
+      → Lands total (50 < system_depth s) (system_definition s) ks ((system_with k n >>= (λ s. pure (system_definition s))) (on (n + 1) (put_inside s ks)))
+  system_some s k is n ks placed indexed =
       let E = 50 < system_depth s in
-      let tokens = put_parameters put_group s.parameters (put_optional mark.Semicolon s.has_semicolon (put_all put_part s.parts (put_all put_routine s.routines (put_body s.body ks)))) in
-      lands_then total E E (system_with s.kind n (on (n + 1) tokens)) (λ s. pure (system_definition s)) s ks (system_definition s) ks (system_given s n ks placed indexed) (λ d. d) (λ k here. (refl, refl, here))
+      subst (λ (k : SystemKind). Lands total E (system_definition s) ks ((system_with k n >>= (λ s. pure (system_definition s))) (on (n + 1) (put_inside s ks)))) is
+      (lands_then total E E (system_with s.kind n (on (n + 1) (put_inside s ks))) (λ s. pure (system_definition s)) s ks (system_definition s) ks (system_given s n ks placed indexed) (λ d. d) (λ k here. (refl, refl, here)))
 
   system_by_lands : (s : System) (k : SystemKind) → s.kind ≡ k → (n : ℕ) (ks : List Kind) → Begins total n (put_system s ks) → (system_shape total).indexed s ks
-      → Lands total (50 < system_depth s) (system_definition s) ks (definition_by n (system_kind_of (Some (system_mark k))) (on n (kind.Mark (system_mark k) ∷ put_parameters put_group s.parameters (put_optional mark.Semicolon s.has_semicolon (put_all put_part s.parts (put_all put_routine s.routines (put_body s.body ks)))))))
+      → Lands total (50 < system_depth s) (system_definition s) ks (definition_by n (system_kind_of (Some (system_mark k))) (on n (kind.Mark (system_mark k) ∷ put_inside s ks)))
   unfolding advance
-  system_by_lands s systems.Class is n ks placed indexed =
-      let tokens = put_parameters put_group s.parameters (put_optional mark.Semicolon s.has_semicolon (put_all put_part s.parts (put_all put_routine s.routines (put_body s.body ks)))) in
-      subst (λ (k : SystemKind). Lands total (50 < system_depth s) (system_definition s) ks ((system_with k n >>= (λ s. pure (system_definition s))) (on (n + 1) tokens))) is (system_some s n ks placed indexed)
-  system_by_lands s systems.Monitor is n ks placed indexed =
-      let tokens = put_parameters put_group s.parameters (put_optional mark.Semicolon s.has_semicolon (put_all put_part s.parts (put_all put_routine s.routines (put_body s.body ks)))) in
-      subst (λ (k : SystemKind). Lands total (50 < system_depth s) (system_definition s) ks ((system_with k n >>= (λ s. pure (system_definition s))) (on (n + 1) tokens))) is (system_some s n ks placed indexed)
-  system_by_lands s systems.Process is n ks placed indexed =
-      let tokens = put_parameters put_group s.parameters (put_optional mark.Semicolon s.has_semicolon (put_all put_part s.parts (put_all put_routine s.routines (put_body s.body ks)))) in
-      subst (λ (k : SystemKind). Lands total (50 < system_depth s) (system_definition s) ks ((system_with k n >>= (λ s. pure (system_definition s))) (on (n + 1) tokens))) is (system_some s n ks placed indexed)
+  system_by_lands s systems.Class is n ks placed indexed = system_some s systems.Class is n ks placed indexed
+  system_by_lands s systems.Monitor is n ks placed indexed = system_some s systems.Monitor is n ks placed indexed
+  system_by_lands s systems.Process is n ks placed indexed = system_some s systems.Process is n ks placed indexed
 
   sign_no_system : (o : Option Mark) → is_sign o ≡ true → system_kind_of o ≡ None
-  sign_no_system None e = refl
   sign_no_system (Some mark.Plus) e = refl
-  sign_no_system (Some mark.Minus) e = refl
-  sign_no_system _ e = absurd cc
+  sign_no_system _ e = cc
 
   -- A type does not begin as a system type does.
   type_no_system : (t : TypeTerm) (ks : List Kind) → system_kind_of (first_mark (put_type t ks)) ≡ None
-  type_no_system (simple at (type_name k n)) ks = refl
-  type_no_system (simple at (enumeration k ns)) ks = refl
   type_no_system (simple at (subrange k c d)) ks = let rest = kind.Mark mark.DoublePeriod ∷ put_constant d ks in sign_no_system (first_mark (put_constant c rest)) (constant_sign c.kind rest)
-  type_no_system (array_of at s t) ks = refl
-  type_no_system (set_type at s) ks = refl
-  type_no_system (record_of at gs c) ks = refl
+  type_no_system _ ks = refl
 
   abbrev definition_before : Shape Definition
   definition_before = before (definition_shape total) NoRange
@@ -445,48 +425,25 @@ module _ (total : ℕ) where
   program_part_before = before (program_part_shape total) Unnamed
 
   abbrev pub program_parts_before : Shape (List ProgramPart)
-  program_parts_before = before (all_of (program_part_shape total)) StartsBody
+  program_parts_before = words_before (program_part_shape total)
 
   program_part_unnamed : (p : ProgramPart) (ks : List Kind) → Unnamed (put_program_part p ks)
   program_part_unnamed (program_constants at ds) ks = refl
-  program_part_unnamed (program_types at ds) ks = refl
-  program_part_unnamed (program_variables at gs) ks = refl
-
-  program_parts_listed : IsListed program_part_before program_parts_before
-  program_parts_listed = record { no_put = λ ks. refl; more_put = λ x xs ks. refl; no_depth = refl; more_depth = λ x xs. refl }
-
-  program_parts_apart : IsApart program_part_before program_parts_before
-  program_parts_apart = record {
-    listed = program_parts_listed;
-    first_indexed = λ x xs ks h. (h.0.0, follows program_part_before program_parts_before program_parts_listed Unnamed program_part_unnamed xs ks (body_unnamed ks h.1));
-    rest_indexed = λ x xs ks h. (h.0.1, h.1);
-  }
+  program_part_unnamed _ ks = refl
 
   program_part_lands : (p : ProgramPart) → LandsItem total 50 program_part_before program_part_item p
   unfolding program_part_item Input.mark advance
-  program_part_lands (program_constants at ds) n ks placed indexed =
-      let same_at : n ≡ at = omega (arith, indexed.0.0) in
-      land_one total 50 (50 < 0) (Some (program_constants at ds)) (flat (some_before (constant_definition_shape total))) (one_or_more constant_item) (λ ds. Some (program_constants n ds)) ds
-      (λ n ks placed indexed. lands_map total (50 < deepest (λ (d : ConstantDefinition). 0) ds) (50 < 0) (one_or_more constant_item (on n ((some_of (constant_definition_shape total)).put ds ks))) ds ks (constants_land ds n ks placed indexed) (λ d. flat_deepest ds d))
-      (n + 1) ks (omega arith) (indexed.0.1, indexed.1) (λ d. d) (ap (λ a. Some (program_constants a ds)) same_at)
-  program_part_lands (program_types at ds) n ks placed indexed =
-      let same_at : n ≡ at = omega (arith, indexed.0.0) in
-      land_one total 50 (50 < deepest system_definition_depth ds) (Some (program_types at ds)) (some_before (system_definition_shape total)) (one_or_more system_item) (λ ds. Some (program_types n ds)) ds (systems_land ds)
-      (n + 1) ks (omega arith) (indexed.0.1, indexed.1) (λ d. d) (ap (λ a. Some (program_types a ds)) same_at)
-  program_part_lands (program_variables at ds) n ks placed indexed =
-      let same_at : n ≡ at = omega (arith, indexed.0.0) in
-      land_one total 50 (50 < deepest variable_group_depth ds) (Some (program_variables at ds)) (some_before (variable_group_shape total)) (one_or_more variable_item) (λ ds. Some (program_variables n ds)) ds (variables_land ds)
-      (n + 1) ks (omega arith) (indexed.0.1, indexed.1) (λ d. d) (ap (λ a. Some (program_variables a ds)) same_at)
+  program_part_lands (program_constants at ds) n ks placed indexed = word_lands constants_before (one_or_more constant_item) program_constants at ds (flat_constants_land ds) n ks (omega (arith, indexed.0.0)) (omega arith) (indexed.0.1, indexed.1)
+  program_part_lands (program_types at ds) n ks placed indexed = word_lands (some_before (system_definition_shape total)) (one_or_more system_item) program_types at ds (systems_land ds) n ks (omega (arith, indexed.0.0)) (omega arith) (indexed.0.1, indexed.1)
+  program_part_lands (program_variables at ds) n ks placed indexed = word_lands (some_before (variable_group_shape total)) (one_or_more variable_item) program_variables at ds (variables_land ds) n ks (omega (arith, indexed.0.0)) (omega arith) (indexed.0.1, indexed.1)
 
   no_program_part : (o : Option Mark) (n : ℕ) (i : Input) → starts_body o ≡ true → program_part_by n o i ≡ Ok (None, i)
-  no_program_part (Some mark.Procedure) n i e = refl
-  no_program_part (Some mark.Function) n i e = refl
   no_program_part (Some mark.Begin) n i e = refl
-  no_program_part _ n i e = absurd cc
+  no_program_part _ n i e = cc
 
   program_part_ends : (ks : List Kind) → StartsBody ks → EndsOn total program_part_item ks
   unfolding program_part_item Input.mark
   program_part_ends ks e n placed = subst (λ (r : Outcome (Option ProgramPart)). Lands total ⊥ None ks r) (sym (no_program_part (first_mark ks) n (on n ks) e)) (refl, refl, placed)
 
   pub program_parts_land : LandsAll total 50 program_parts_before (many program_part_item)
-  program_parts_land = many_lands total 50 program_part_before program_parts_before program_parts_apart program_part_item program_part_lands (λ ks h. program_part_ends ks h.1) exceeds_program_part
+  program_parts_land = many_lands total 50 program_part_before program_parts_before (words_apart (program_part_shape total) program_part_unnamed) program_part_item program_part_lands (λ ks h. program_part_ends ks h.1) exceeds_program_part

@@ -70,48 +70,29 @@ terms_back (more_terms a t ts) = ap (more_terms a t) (terms_back ts)
 addition_lands : (total : ℕ) (a : Addition) (n : ℕ) (ks : List Kind) → Begins total n (kind.Mark (addition_mark a) ∷ ks) → Lands total ⊥ (Some a) ks (addition (on n (kind.Mark (addition_mark a) ∷ ks)))
 unfolding addition Input.mark advance
 addition_lands total additions.Plus n ks placed = (refl, refl, omega arith)
-addition_lands total additions.Minus n ks placed = (refl, refl, omega arith)
-addition_lands total additions.Or n ks placed = (refl, refl, omega arith)
+addition_lands total _ n ks placed = (refl, refl, omega arith)
 
 multiplication_lands : (total : ℕ) (m : Multiplication) (n : ℕ) (ks : List Kind) → Begins total n (kind.Mark (multiplication_mark m) ∷ ks) → Lands total ⊥ (Some m) ks (multiplication (on n (kind.Mark (multiplication_mark m) ∷ ks)))
 unfolding multiplication Input.mark advance
 multiplication_lands total multiplications.Times n ks placed = (refl, refl, omega arith)
-multiplication_lands total multiplications.Div n ks placed = (refl, refl, omega arith)
-multiplication_lands total multiplications.Mod n ks placed = (refl, refl, omega arith)
-multiplication_lands total multiplications.And n ks placed = (refl, refl, omega arith)
+multiplication_lands total _ n ks placed = (refl, refl, omega arith)
 
 relation_lands : (total : ℕ) (r : Relation) (n : ℕ) (ks : List Kind) → Begins total n (kind.Mark (relation_mark r) ∷ ks) → Lands total ⊥ (Some r) ks (relation (on n (kind.Mark (relation_mark r) ∷ ks)))
 unfolding relation Input.mark advance
 relation_lands total relations.Equal n ks placed = (refl, refl, omega arith)
-relation_lands total relations.NotEqual n ks placed = (refl, refl, omega arith)
-relation_lands total relations.Less n ks placed = (refl, refl, omega arith)
-relation_lands total relations.Greater n ks placed = (refl, refl, omega arith)
-relation_lands total relations.AtMost n ks placed = (refl, refl, omega arith)
-relation_lands total relations.AtLeast n ks placed = (refl, refl, omega arith)
-relation_lands total relations.In n ks placed = (refl, refl, omega arith)
+relation_lands total _ n ks placed = (refl, refl, omega arith)
 
 unseen_multiplication : (o : Option Mark) → class o ≤ 2 → multiplication_of o ≡ None
 unseen_multiplication (Some mark.Times) h = absurd (omega arith)
-unseen_multiplication (Some mark.Div) h = absurd (omega arith)
-unseen_multiplication (Some mark.Mod) h = absurd (omega arith)
-unseen_multiplication (Some mark.And) h = absurd (omega arith)
-unseen_multiplication _ h = refl
+unseen_multiplication _ h = first_of (cc, grind arith)
 
 unseen_addition : (o : Option Mark) → class o ≤ 1 → addition_of o ≡ None
 unseen_addition (Some mark.Plus) h = absurd (omega arith)
-unseen_addition (Some mark.Minus) h = absurd (omega arith)
-unseen_addition (Some mark.Or) h = absurd (omega arith)
-unseen_addition _ h = refl
+unseen_addition _ h = first_of (cc, grind arith)
 
 unseen_relation : (o : Option Mark) → class o ≤ 0 → relation_of o ≡ None
 unseen_relation (Some mark.Equal) h = absurd (omega arith)
-unseen_relation (Some mark.NotEqual) h = absurd (omega arith)
-unseen_relation (Some mark.Less) h = absurd (omega arith)
-unseen_relation (Some mark.Greater) h = absurd (omega arith)
-unseen_relation (Some mark.AtMost) h = absurd (omega arith)
-unseen_relation (Some mark.AtLeast) h = absurd (omega arith)
-unseen_relation (Some mark.In) h = absurd (omega arith)
-unseen_relation _ h = refl
+unseen_relation _ h = first_of (cc, grind arith)
 
 unseen_parenthesis : (o : Option Mark) → class o ≤ 3 → is_mark mark.OpenParenthesis o ≡ false
 unfolding same
@@ -132,23 +113,15 @@ relation_ends total ks stops n placed = taken_ends total (relation_of (first_mar
 
 addition_class : (a : Addition) → class (Some (addition_mark a)) ≤ 2
 addition_class additions.Plus = omega arith
-addition_class additions.Minus = omega arith
-addition_class additions.Or = omega arith
+addition_class _ = omega arith
 
 multiplication_class : (m : Multiplication) → class (Some (multiplication_mark m)) ≤ 3
 multiplication_class multiplications.Times = omega arith
-multiplication_class multiplications.Div = omega arith
-multiplication_class multiplications.Mod = omega arith
-multiplication_class multiplications.And = omega arith
+multiplication_class _ = omega arith
 
 relation_class : (r : Relation) → class (Some (relation_mark r)) ≤ 1
 relation_class relations.Equal = omega arith
-relation_class relations.NotEqual = omega arith
-relation_class relations.Less = omega arith
-relation_class relations.Greater = omega arith
-relation_class relations.AtMost = omega arith
-relation_class relations.AtLeast = omega arith
-relation_class relations.In = omega arith
+relation_class _ = omega arith
 
 -- ---- shapes, with what may follow
 
@@ -242,21 +215,13 @@ selectors_apart total = record { listed = selectors_listed total; first_indexed 
 -- ---- where parts begin
 
 no_sign : (t : Term) (ks : List Kind) → sign_of (first_mark (put_term t ks)) ≡ None
-no_sign (term at (number k n) fs) ks = refl
-no_sign (term at (character k c) fs) ks = refl
 no_sign (term at (named k (designator i ss) es) fs) ks = refl
-no_sign (term at (group k e) fs) ks = refl
-no_sign (term at (negated k f) fs) ks = refl
-no_sign (term at (set_of k es) fs) ks = refl
+no_sign _ ks = refl
 
 term_open : (t : Term) (ks : List Kind) → is_mark mark.CloseBracket (first_mark (put_term t ks)) ≡ false
 unfolding same
-term_open (term at (number k n) fs) ks = refl
-term_open (term at (character k c) fs) ks = refl
 term_open (term at (named k (designator i ss) es) fs) ks = refl
-term_open (term at (group k e) fs) ks = refl
-term_open (term at (negated k f) fs) ks = refl
-term_open (term at (set_of k es) fs) ks = refl
+term_open _ ks = refl
 
 sum_open : (s : Sum) (ks : List Kind) → is_mark mark.CloseBracket (first_mark (put_sum s ks)) ≡ false
 unfolding same
@@ -391,8 +356,7 @@ module _ (total b : ℕ) (expression : Parser Expression) (law : LandsAll total 
 
   no_selector : (o : Option Mark) (i : Input) → class o ≤ 4 → selector_by expression o i ≡ Ok (None, i)
   no_selector (Some mark.Period) i h = absurd (omega arith)
-  no_selector (Some mark.OpenBracket) i h = absurd (omega arith)
-  no_selector _ i h = refl
+  no_selector _ i h = first_of (cc, grind arith)
 
   selector_ends : (ks : List Kind) → Stops 4 ks → EndsOn total (selector_with expression) ks
   unfolding selector_with Input.mark

@@ -69,10 +69,7 @@ Closes ks = Separates ks × (is_mark mark.Semicolon (first_mark ks) ≡ false)
 
 end_class : (o : Option Mark) → ends_statement o ≡ true → class o ≤ 0
 end_class (Some mark.Semicolon) e = omega arith
-end_class (Some mark.End) e = omega arith
-end_class (Some mark.Else) e = omega arith
-end_class (Some mark.Until) e = omega arith
-end_class _ e = absurd cc
+end_class _ e = first_of (omega arith, cc)
 
 end_stops : (k : ℕ) (ks : List Kind) → Ends ks → Stops k ks
 end_stops k ks e = omega (arith, end_class (first_mark ks) e)
@@ -80,18 +77,12 @@ end_stops k ks e = omega (arith, end_class (first_mark ks) e)
 end_no_comma : (o : Option Mark) → ends_statement o ≡ true → is_mark mark.Comma o ≡ false
 unfolding same
 end_no_comma (Some mark.Semicolon) e = refl
-end_no_comma (Some mark.End) e = refl
-end_no_comma (Some mark.Else) e = refl
-end_no_comma (Some mark.Until) e = refl
-end_no_comma _ e = absurd cc
+end_no_comma _ e = cc
 
 unseen_becomes : (o : Option Mark) → ends_statement o ≡ true → is_mark mark.Becomes o ≡ false
 unfolding same
 unseen_becomes (Some mark.Semicolon) e = refl
-unseen_becomes (Some mark.End) e = refl
-unseen_becomes (Some mark.Else) e = refl
-unseen_becomes (Some mark.Until) e = refl
-unseen_becomes _ e = absurd cc
+unseen_becomes _ e = cc
 
 no_becomes : (es : List Expression) (ks : List Kind) → Ends ks → is_mark mark.Becomes (first_mark (put_arguments (expressions_of es) ks)) ≡ false
 unfolding same
@@ -206,10 +197,8 @@ starts_apart_led total = record {
 -- a label does not begin with `end`
 sign_no_end : (o : Option Mark) → is_sign o ≡ true → is_mark mark.End o ≡ false
 unfolding same
-sign_no_end None e = refl
 sign_no_end (Some mark.Plus) e = refl
-sign_no_end (Some mark.Minus) e = refl
-sign_no_end _ e = absurd cc
+sign_no_end _ e = cc
 
 arm_no_end : (b : Arm) (ks : List Kind) → is_mark mark.End (first_mark (put_arm b ks)) ≡ false
 unfolding same
@@ -331,15 +320,11 @@ module _ (total b : ℕ) (expression : Parser Expression) (inner : Parser Statem
       (n + 1) ks (omega arith) ((indexed.0.0.1, omega arith), (tt, (((indexed.0.0.2, optional_separates c ks), ks, refl), tt))) (λ d. omega arith) (ap (λ a. case_of a e (arms_of bs) c) same_at)
 
   empty_lands : (D : Type 0) (n at : ℕ) (ks : List Kind) → Begins total n ks → Begins total at ks → Ends ks → Lands total D (empty at) ks (statement_by expression inner n (first ks) (on n ks))
-  empty_lands D n at [] placed indexed ends = absurd cc
-  empty_lands D n at (kind.Number m ∷ ks) placed indexed ends = absurd cc
-  empty_lands D n at (kind.Character m ∷ ks) placed indexed ends = absurd cc
-  empty_lands D n at (kind.Name m ∷ ks) placed indexed ends = absurd cc
   empty_lands D n at (kind.Mark mark.Semicolon ∷ ks) placed indexed ends = let same_at : n ≡ at = omega arith in (ap empty same_at, refl, placed)
   empty_lands D n at (kind.Mark mark.End ∷ ks) placed indexed ends = let same_at : n ≡ at = omega arith in (ap empty same_at, refl, placed)
   empty_lands D n at (kind.Mark mark.Else ∷ ks) placed indexed ends = let same_at : n ≡ at = omega arith in (ap empty same_at, refl, placed)
   empty_lands D n at (kind.Mark mark.Until ∷ ks) placed indexed ends = let same_at : n ≡ at = omega arith in (ap empty same_at, refl, placed)
-  empty_lands D n at (kind.Mark m ∷ ks) placed indexed ends = absurd cc
+  empty_lands D n at _ placed indexed ends = absurd cc
 
   pub statement_with_lands : (s : Statement) → Given s
   unfolding statement_with next advance if_with while_with for_with init_with
@@ -382,17 +367,7 @@ module _ (total b : ℕ) (expression : Parser Expression) (inner : Parser Statem
 
 at_least_one : (s : Statement) → 0 < statement_depth s
 at_least_one (empty at) = omega arith
-at_least_one (assign at d e) = omega arith
-at_least_one (invoke at d es) = omega arith
-at_least_one (block at ss) = omega arith
-at_least_one (if_then at e s) = omega arith
-at_least_one (if_else at e s t) = omega arith
-at_least_one (case_of at e bs c) = omega arith
-at_least_one (while_do at e s) = omega arith
-at_least_one (repeat_until at ss e) = omega arith
-at_least_one (for_do at i e d f s) = omega arith
-at_least_one (cycle at ss) = omega arith
-at_least_one (init at ss) = omega arith
+at_least_one _ = omega arith
 
 pub statement_lands : (total b : ℕ) → LandsAll total b (statement_before total) (statement b)
 unfolding statement

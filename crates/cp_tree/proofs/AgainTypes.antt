@@ -69,20 +69,14 @@ is_sign (Some mark.Minus) = true
 is_sign _ = false
 
 pub constant_sign : (c : ConstantKind) (ks : List Kind) → is_sign (first_mark (put_constant_kind c ks)) ≡ true
-constant_sign (constant_kind.Number None n) ks = refl
 constant_sign (constant_kind.Number (Some signs.Plus) n) ks = refl
-constant_sign (constant_kind.Number (Some signs.Minus) n) ks = refl
-constant_sign (constant_kind.Name None n) ks = refl
 constant_sign (constant_kind.Name (Some signs.Plus) n) ks = refl
-constant_sign (constant_kind.Name (Some signs.Minus) n) ks = refl
-constant_sign (constant_kind.Character c) ks = refl
+constant_sign _ ks = refl
 
 sign_no_parenthesis : (o : Option Mark) → is_sign o ≡ true → is_mark mark.OpenParenthesis o ≡ false
 unfolding same
-sign_no_parenthesis None e = refl
 sign_no_parenthesis (Some mark.Plus) e = refl
-sign_no_parenthesis (Some mark.Minus) e = refl
-sign_no_parenthesis _ e = absurd cc
+sign_no_parenthesis _ e = cc
 
 -- ---- simple types
 
@@ -166,9 +160,8 @@ module _ (total b : ℕ) (inner : Parser TypeTerm) (law : LandsAll total b (type
 
   -- where a simple type stands, one is read
   by_simple : (s : Simple) (ks : List Kind) (n : ℕ) (i : Input) → type_by inner n (first_mark (put_simple s ks)) i ≡ (simple_type >>= (λ s. pure (simple n s))) i
-  by_simple (type_name at m) ks n i = refl
-  by_simple (enumeration at ns) ks n i = refl
   by_simple (subrange at c d) ks n i = let rest = kind.Mark mark.DoublePeriod ∷ put_constant d ks in sign_simple (first_mark (put_constant c rest)) n i (constant_sign c.kind rest)
+  by_simple _ ks n i = refl
 
   field_group_lands : LandsAll total b (field_group_before total) (field_group_with inner)
   unfolding field_group_with
@@ -206,9 +199,7 @@ module _ (total b : ℕ) (inner : Parser TypeTerm) (law : LandsAll total b (type
 
 at_least_one : (t : TypeTerm) → 0 < type_depth t
 at_least_one (simple at s) = omega arith
-at_least_one (array_of at s t) = omega arith
-at_least_one (set_type at s) = omega arith
-at_least_one (record_of at gs c) = omega arith
+at_least_one _ = omega arith
 
 pub type_lands : (total b : ℕ) → LandsAll total b (type_before total) (type_term b)
 unfolding type_term

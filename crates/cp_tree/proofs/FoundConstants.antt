@@ -34,11 +34,8 @@ names_shape total = flat (separated_of mark.Comma (identifier_shape total))
 
 identifier_list : (total b at : ℕ) (ks : List Kind) → Begins total at ks → let i : Input = record { at = at; rest = ks } in Found total (Taken total b (identifier_shape total) i) (identifier i)
 unfolding identifier next advance
-identifier_list total b at [] placed = omega arith
 identifier_list total b at (kind.Name n ∷ ks) placed = (record { spelled = refl; indexed = placed; shallow = omega arith }, omega arith)
-identifier_list total b at (kind.Number n ∷ ks) placed = omega arith
-identifier_list total b at (kind.Character c ∷ ks) placed = omega arith
-identifier_list total b at (kind.Mark m ∷ ks) placed = omega arith
+identifier_list total b at _ placed = omega arith
 
 pub identifier_takes : (total b : ℕ) → Takes total b (identifier_shape total) identifier
 identifier_takes total b i placed = identifier_list total b i.at i.rest placed
@@ -74,12 +71,11 @@ constant_shape total = record { put = put_constant; indexed = IsIndexedConstant 
 
 constant_by_found : (total b : ℕ) (i : Input) (o : Option Sign) (n : ℕ) (ks : List Kind) → At total i → let k : Input = record { at = n; rest = ks } in Taken total b sign_shape i o k → Found total (Taken total b (constant_shape total) i) (constant_by i.at o (first ks) k)
 unfolding identifier next advance
-constant_by_found total b i o n [] placed q = let p = q.1 in omega arith
 constant_by_found total b i o n (kind.Number m ∷ ks) placed q = let s = q.0 in let p = q.1 in (record { spelled = s.spelled; indexed = (begins total i _ placed s.spelled, tt); shallow = omega arith }, omega arith)
 constant_by_found total b i o n (kind.Name m ∷ ks) placed q = let s = q.0 in let p = q.1 in (record { spelled = s.spelled; indexed = (begins total i _ placed s.spelled, p); shallow = omega arith }, omega arith)
 constant_by_found total b i None n (kind.Character m ∷ ks) placed q = let s = q.0 in let p = q.1 in (record { spelled = s.spelled; indexed = (begins total i _ placed s.spelled, tt); shallow = omega arith }, omega arith)
 constant_by_found total b i (Some s) n (kind.Character m ∷ ks) placed q = let p = q.1 in omega arith
-constant_by_found total b i o n (kind.Mark m ∷ ks) placed q = let p = q.1 in omega arith
+constant_by_found total b i o n _ placed q = let p = q.1 in omega arith
 
 pub constant_takes : (total b : ℕ) → Takes total b (constant_shape total) constant
 unfolding constant next

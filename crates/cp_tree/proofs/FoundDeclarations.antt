@@ -19,7 +19,7 @@ use Rattle.cp_tree.specs.SpellingIndexed.{Begins, IsIndexedConstantDefinition, I
 use Rattle.cp_tree.specs.SpellingLevel.{type_definition_depth, variable_group_depth, part_depth, body_depth, routine_depth, system_depth, definition_depth, system_definition_depth, program_part_depth, program_depth}
 use Rattle.cp_tree.proofs.Shapes.{Shape, mark_shape, pair_of, behind_of, all_of, some_of, separated_of}
 use Rattle.cp_tree.proofs.Steps.{Found, found_then, found_map, At, begins, took_onto, Taken, Takes, Passed, sees_passes, expect_takes, joined, found_one, found_two, found_three, found_four, found_five, found_seven}
-use Rattle.cp_tree.proofs.FoundLists.{IsItem, MayTake, all_built, some_built, separated_built, named_takes, option_shape, eat_takes, many_takes, first_and_many_takes, separated_takes}
+use Rattle.cp_tree.proofs.FoundLists.{IsItem, MayTake, made_of, made_after, all_built, some_built, separated_built, named_takes, option_shape, eat_takes, many_takes, first_and_many_takes, separated_takes}
 use Rattle.cp_tree.proofs.FoundConstants.{identifier_shape, names_shape, identifier_takes, identifiers_take, constant_shape, constant_takes}
 use Rattle.cp_tree.proofs.FoundTypes.{type_shape, type_takes}
 use Rattle.cp_tree.proofs.FoundStatements.{statements_shape, statements_at_take}
@@ -81,26 +81,21 @@ module _ (total : ℕ) where
   constant_definition_takes i placed =
       found_four total 50 (Taken total 50 (constant_definition_shape total) i) (identifier_shape total) (mark_shape mark.Equal) (constant_shape total) (mark_shape mark.Semicolon) identifier (expect mark.Equal) constant (expect mark.Semicolon) (λ n u c v. record { name = n; value = c })
       (identifier_takes total 50) (expect_takes total 50 mark.Equal) (constant_takes total 50) (expect_takes total 50 mark.Semicolon) i placed (λ n u c v j t.
-      let all = t.0 in
-      (record { spelled = all.spelled; indexed = (all.indexed.0, all.indexed.1.1.0); shallow = omega arith }, t.1))
+      made_of total 50 _ _ _ i j _ _ placed t refl (λ p h. (h.0, h.1.1.0)) (λ d. omega arith))
 
   type_definition_takes : Takes total 50 (type_definition_shape total) type_item
   unfolding type_item
   type_definition_takes i placed =
       found_four total 50 (Taken total 50 (type_definition_shape total) i) (identifier_shape total) (mark_shape mark.Equal) (type_shape total) (mark_shape mark.Semicolon) identifier (expect mark.Equal) (type_term 50) (expect mark.Semicolon) (λ n u c v. record { name = n; value = c })
       (identifier_takes total 50) (expect_takes total 50 mark.Equal) (type_takes total 50) (expect_takes total 50 mark.Semicolon) i placed (λ n u c v j t.
-      let all = t.0 in
-      let shallow = all.shallow in
-      (record { spelled = all.spelled; indexed = (all.indexed.0, all.indexed.1.1.0); shallow = omega (arith, shallow) }, t.1))
+      made_of total 50 _ _ _ i j _ _ placed t refl (λ p h. (h.0, h.1.1.0)) (λ d. omega arith))
 
   variable_group_takes : Takes total 50 (variable_group_shape total) variable_item
   unfolding variable_item
   variable_group_takes i placed =
       found_four total 50 (Taken total 50 (variable_group_shape total) i) (names_shape total) (mark_shape mark.Colon) (type_shape total) (mark_shape mark.Semicolon) identifiers (expect mark.Colon) (type_term 50) (expect mark.Semicolon) (λ n u c v. record { names = n; variable_type = c })
       (identifiers_take total 50) (expect_takes total 50 mark.Colon) (type_takes total 50) (expect_takes total 50 mark.Semicolon) i placed (λ n u c v j t.
-      let all = t.0 in
-      let shallow = all.shallow in
-      (record { spelled = all.spelled; indexed = (all.indexed.0, all.indexed.1.1.0); shallow = omega (arith, shallow) }, t.1))
+      made_of total 50 _ _ _ i j _ _ placed t refl (λ p h. (h.0, h.1.1.0)) (λ d. omega arith))
 
   constants_take : Takes total 50 (some_of (constant_definition_shape total)) (one_or_more constant_item)
   constants_take = some_take total 50 (constant_definition_shape total) constant_item constant_definition_takes
@@ -111,34 +106,27 @@ module _ (total : ℕ) where
   variables_take : Takes total 50 (some_of (variable_group_shape total)) (one_or_more variable_item)
   variables_take = some_take total 50 (variable_group_shape total) variable_item variable_group_takes
 
+  -- a word, and then a list
+  worded : {D P : Type 0} (m : Mark) (items : Shape (List D)) (p : Parser (List D)) (shape : Shape P) (made : ℕ → List D → P) (at : ℕ) (ks : List Kind)
+      → ((ds : List D) (rest : List Kind) → kind.Mark m ∷ items.put ds rest ≡ shape.put (made at ds) rest)
+      → ((ds : List D) (rest : List Kind) → Begins total at (kind.Mark m ∷ items.put ds rest) → items.indexed ds rest → shape.indexed (made at ds) rest)
+      → ((ds : List D) → shape.depth (made at ds) ≤ items.depth ds) → Takes total 50 items p → Begins total at (kind.Mark m ∷ ks)
+      → let i : Input = record { at = at; rest = kind.Mark m ∷ ks } in Found total (λ o j. IsItem (Taken total 50 shape) i o j) ((p >>= (λ ds. pure (Some (made at ds)))) (record { at = at + 1; rest = ks }))
+  worded m items p shape made at ks put indexed depth law placed =
+      let i : Input = record { at = at; rest = kind.Mark m ∷ ks } in
+      let k : Input = record { at = at + 1; rest = ks } in
+      found_one total 50 (λ o j. IsItem (Taken total 50 shape) i o j) items p (λ ds. Some (made at ds)) law k (omega arith) (λ ds j t.
+      made_after total 50 50 m items shape i k j ds (made at ds) placed (record { rest = refl; placed = omega arith }) t (put ds j.rest) (indexed ds j.rest) (λ d. omega (arith, d, depth ds)))
+
   abbrev MayBePart : Input → Option Part → Input → Type 0
   MayBePart i o j = IsItem (Taken total 50 (part_shape total)) i o j
 
   part_found : (at : ℕ) (ks : List Kind) → Begins total at ks → let i : Input = record { at = at; rest = ks } in Found total (MayBePart i) (part_by at (first_mark ks) i)
   unfolding advance
-  part_found at [] placed = refl
-  part_found at (kind.Number n ∷ ks) placed = refl
-  part_found at (kind.Character c ∷ ks) placed = refl
-  part_found at (kind.Name n ∷ ks) placed = refl
-  part_found at (kind.Mark mark.Const ∷ ks) placed =
-      let i : Input = record { at = at; rest = kind.Mark mark.Const ∷ ks } in
-      found_one total 50 (MayBePart i) (some_of (constant_definition_shape total)) (one_or_more constant_item) (λ ds. Some (constants at ds)) constants_take (record { at = at + 1; rest = ks }) (omega arith) (λ ds j t.
-      let all = t.0 in
-      let spelled = ap (λ (ks : List Kind). kind.Mark mark.Const ∷ ks) all.spelled in
-      (record { spelled = spelled; indexed = (begins total i _ placed spelled, all.indexed); shallow = omega arith }, t.1))
-  part_found at (kind.Mark mark.Type ∷ ks) placed =
-      let i : Input = record { at = at; rest = kind.Mark mark.Type ∷ ks } in
-      found_one total 50 (MayBePart i) (some_of (type_definition_shape total)) (one_or_more type_item) (λ ds. Some (types at ds)) types_take (record { at = at + 1; rest = ks }) (omega arith) (λ ds j t.
-      let all = t.0 in
-      let spelled = ap (λ (ks : List Kind). kind.Mark mark.Type ∷ ks) all.spelled in
-      (record { spelled = spelled; indexed = (begins total i _ placed spelled, all.indexed); shallow = all.shallow }, t.1))
-  part_found at (kind.Mark mark.Var ∷ ks) placed =
-      let i : Input = record { at = at; rest = kind.Mark mark.Var ∷ ks } in
-      found_one total 50 (MayBePart i) (some_of (variable_group_shape total)) (one_or_more variable_item) (λ ds. Some (variables at ds)) variables_take (record { at = at + 1; rest = ks }) (omega arith) (λ ds j t.
-      let all = t.0 in
-      let spelled = ap (λ (ks : List Kind). kind.Mark mark.Var ∷ ks) all.spelled in
-      (record { spelled = spelled; indexed = (begins total i _ placed spelled, all.indexed); shallow = all.shallow }, t.1))
-  part_found at (kind.Mark m ∷ ks) placed = refl
+  part_found at (kind.Mark mark.Const ∷ ks) placed = worded mark.Const (some_of (constant_definition_shape total)) (one_or_more constant_item) (part_shape total) constants at ks (λ ds r. refl) (λ ds r b h. (b, h)) (λ ds. omega arith) constants_take placed
+  part_found at (kind.Mark mark.Type ∷ ks) placed = worded mark.Type (some_of (type_definition_shape total)) (one_or_more type_item) (part_shape total) types at ks (λ ds r. refl) (λ ds r b h. (b, h)) (λ ds. omega arith) types_take placed
+  part_found at (kind.Mark mark.Var ∷ ks) placed = worded mark.Var (some_of (variable_group_shape total)) (one_or_more variable_item) (part_shape total) variables at ks (λ ds r. refl) (λ ds r b h. (b, h)) (λ ds. omega arith) variables_take placed
+  part_found at _ placed = refl
 
   part_takes : MayTake total 50 (part_shape total) part_item
   unfolding part_item Input.mark
@@ -155,25 +143,21 @@ module _ (total : ℕ) where
   body_takes i placed =
       found_three total 50 (Taken total 50 (body_shape total) i) (mark_shape mark.Begin) (statements_shape total) (mark_shape mark.End) (expect mark.Begin) (statements_at 50) (expect mark.End) (λ u ss v. record { at = i.at; statements = statements_of ss })
       (expect_takes total 50 mark.Begin) (statements_at_take total 50) (expect_takes total 50 mark.End) i placed (λ u ss v j t.
-      let all = t.0 in
-      let shallow = all.shallow in
-      (record { spelled = all.spelled; indexed = (begins total i _ placed all.spelled, all.indexed.1.0); shallow = omega (arith, shallow) }, t.1))
+      made_of total 50 _ _ _ i j _ _ placed t refl (λ p h. (p, h.1.0)) (λ d. omega arith))
 
   group_takes : Takes total 50 (group_shape total) group_item
   unfolding group_item
   group_takes i placed =
       found_three total 50 (Taken total 50 (group_shape total) i) (names_shape total) (mark_shape mark.Colon) (identifier_shape total) identifiers (expect mark.Colon) identifier (λ ns u n. record { names = ns; type_name = n })
       (identifiers_take total 50) (expect_takes total 50 mark.Colon) (identifier_takes total 50) i placed (λ ns u n j t.
-      let all = t.0 in
-      (record { spelled = all.spelled; indexed = (all.indexed.0, all.indexed.1.1); shallow = omega arith }, t.1))
+      made_of total 50 _ _ _ i j _ _ placed t refl (λ p h. (h.0, h.1.1)) (λ d. omega arith))
 
   parameter_takes : Takes total 50 (parameter_group_shape total) parameter_item
   unfolding parameter_item
   parameter_takes i placed =
       found_two total 50 (Taken total 50 (parameter_group_shape total) i) (option_shape mark.Var) (group_shape total) (eat mark.Var) group_item (λ c g. record { at = i.at; is_var = c; group = g })
       (eat_takes total 50 mark.Var) group_takes i placed (λ c g j t.
-      let all = t.0 in
-      (record { spelled = all.spelled; indexed = (begins total i _ placed all.spelled, all.indexed.1); shallow = omega arith }, t.1))
+      made_of total 50 _ _ _ i j _ _ placed t refl (λ p h. (p, h.1)) (λ d. omega arith))
 
   parameters_made : {A : Type 0} (s : Shape A) (i k j : Input) (xs : List A) → Passed total mark.OpenParenthesis i k → Taken total 50 (pair_of (separated_of mark.Semicolon s) (mark_shape mark.CloseParenthesis)) k (xs, tt) j → Taken total 50 (parameters_of s) i xs j
   parameters_made s i k j [] q t = absurd (t.0.indexed.0)
@@ -199,16 +183,14 @@ module _ (total : ℕ) where
   unfolding procedure_kind
   procedure_takes i placed =
       found_one total 50 (Taken total 50 (routine_kind_shape total mark.Procedure) i) (parameters_of (parameter_group_shape total)) (parenthesised parameter_item) (λ gs. procedure gs) (parenthesised_takes (parameter_group_shape total) parameter_item parameter_takes) i placed (λ gs j t.
-      let all = t.0 in
-      (record { spelled = all.spelled; indexed = (all.indexed, refl); shallow = omega arith }, t.1))
+      made_of total 50 _ _ _ i j _ _ placed t refl (λ p h. (h, refl)) (λ d. omega arith))
 
   function_takes : Takes total 50 (routine_kind_shape total mark.Function) function_kind
   unfolding function_kind
   function_takes i placed =
       found_three total 50 (Taken total 50 (routine_kind_shape total mark.Function) i) (parameters_of (group_shape total)) (mark_shape mark.Colon) (identifier_shape total) (parenthesised group_item) (expect mark.Colon) identifier (λ gs u n. function gs n)
       (parenthesised_takes (group_shape total) group_item group_takes) (expect_takes total 50 mark.Colon) (identifier_takes total 50) i placed (λ gs u n j t.
-      let all = t.0 in
-      (record { spelled = all.spelled; indexed = ((all.indexed.0, all.indexed.1.1), refl); shallow = omega arith }, t.1))
+      made_of total 50 _ _ _ i j _ _ placed t refl (λ p h. ((h.0, h.1.1), refl)) (λ d. omega arith))
 
   routine_found : (m : Mark) (heading : Parser RoutineKind) → Takes total 50 (routine_kind_shape total m) heading → (i k : Input) → At total i → Passed total m i k → Found total (Taken total 50 (routine_shape total) i) (routine_with heading i.at k)
   unfolding routine_with
@@ -231,13 +213,9 @@ module _ (total : ℕ) where
 
   routine_by_found : (at : ℕ) (ks : List Kind) → Begins total at ks → let i : Input = record { at = at; rest = ks } in Found total (MayBeRoutine i) (routine_by at (first_mark ks) i)
   unfolding advance
-  routine_by_found at [] placed = refl
-  routine_by_found at (kind.Number n ∷ ks) placed = refl
-  routine_by_found at (kind.Character c ∷ ks) placed = refl
-  routine_by_found at (kind.Name n ∷ ks) placed = refl
   routine_by_found at (kind.Mark mark.Procedure ∷ ks) placed = routine_some mark.Procedure procedure_kind procedure_takes (record { at = at; rest = kind.Mark mark.Procedure ∷ ks }) (record { at = at + 1; rest = ks }) placed (record { rest = refl; placed = omega arith })
   routine_by_found at (kind.Mark mark.Function ∷ ks) placed = routine_some mark.Function function_kind function_takes (record { at = at; rest = kind.Mark mark.Function ∷ ks }) (record { at = at + 1; rest = ks }) placed (record { rest = refl; placed = omega arith })
-  routine_by_found at (kind.Mark m ∷ ks) placed = refl
+  routine_by_found at _ placed = refl
 
   routine_takes : MayTake total 50 (routine_shape total) routine_item
   unfolding routine_item Input.mark
@@ -255,34 +233,25 @@ module _ (total : ℕ) where
       found_five total 50 (Taken total 50 (system_shape total) i) (parameters_of (group_shape total)) (option_shape mark.Semicolon) (all_of (part_shape total)) (all_of (routine_shape total)) (body_shape total)
       (parenthesised group_item) (eat mark.Semicolon) parts routines body (λ gs c ps rs d. record { at = i.at; kind = s; parameters = gs; has_semicolon = c; parts = ps; routines = rs; body = d })
       (parenthesised_takes (group_shape total) group_item group_takes) (eat_takes total 50 mark.Semicolon) parts_take routines_take body_takes k q.placed (λ gs c ps rs d j t.
-      let all = t.0 in
-      let shallow = all.shallow in
-      let spelled = q.rest ∙ ap (λ (ks : List Kind). kind.Mark (system_mark s) ∷ ks) all.spelled in
-      (record { spelled = spelled; indexed = (begins total i _ placed spelled, all.indexed.0, all.indexed.1.1.0, all.indexed.1.1.1.0, all.indexed.1.1.1.1); shallow = omega (arith, shallow) }, t.1))
+      made_after total 50 _ (system_mark s) _ _ i k j _ _ placed q t refl (λ p h. (p, h.0, h.1.1.0, h.1.1.1.0, h.1.1.1.1)) (λ d. omega arith))
 
   abbrev IsDefinition : Input → Definition → Input → Type 0
   IsDefinition i d j = Taken total 50 (definition_shape total) i d j
 
   system_definition_found : (s : SystemKind) (i k : Input) → At total i → Passed total (system_mark s) i k → Found total (IsDefinition i) ((system_with s i.at >>= (λ d. pure (system_definition d))) k)
   system_definition_found s i k placed q = found_then total (Taken total 50 (system_shape total) i) (IsDefinition i) (system_with s i.at k) (λ d. pure (system_definition d)) (system_found s i k placed q) (λ d j t.
-      let all = t.0 in
-      (record { spelled = all.spelled; indexed = all.indexed; shallow = all.shallow }, t.1))
+      made_of total 50 _ _ _ i j _ _ placed t refl (λ p h. h) (λ d. d))
 
   type_definition_found : (i : Input) → At total i → Found total (IsDefinition i) ((type_term 50 >>= (λ t. pure (type_definition t))) i)
   type_definition_found i placed = found_one total 50 (IsDefinition i) (type_shape total) (type_term 50) (λ t. type_definition t) (type_takes total 50) i placed (λ d j t.
-      let all = t.0 in
-      (record { spelled = all.spelled; indexed = all.indexed; shallow = all.shallow }, t.1))
+      made_of total 50 _ _ _ i j _ _ placed t refl (λ p h. h) (λ d. d))
 
   definition_found : (at : ℕ) (ks : List Kind) → Begins total at ks → let i : Input = record { at = at; rest = ks } in Found total (IsDefinition i) (definition_by at (system_kind_of (first_mark ks)) i)
   unfolding advance
-  definition_found at [] placed = type_definition_found (record { at = at; rest = [] }) placed
-  definition_found at (kind.Number n ∷ ks) placed = type_definition_found (record { at = at; rest = kind.Number n ∷ ks }) placed
-  definition_found at (kind.Character c ∷ ks) placed = type_definition_found (record { at = at; rest = kind.Character c ∷ ks }) placed
-  definition_found at (kind.Name n ∷ ks) placed = type_definition_found (record { at = at; rest = kind.Name n ∷ ks }) placed
   definition_found at (kind.Mark mark.Class ∷ ks) placed = system_definition_found systems.Class (record { at = at; rest = kind.Mark mark.Class ∷ ks }) (record { at = at + 1; rest = ks }) placed (record { rest = refl; placed = omega arith })
   definition_found at (kind.Mark mark.Monitor ∷ ks) placed = system_definition_found systems.Monitor (record { at = at; rest = kind.Mark mark.Monitor ∷ ks }) (record { at = at + 1; rest = ks }) placed (record { rest = refl; placed = omega arith })
   definition_found at (kind.Mark mark.Process ∷ ks) placed = system_definition_found systems.Process (record { at = at; rest = kind.Mark mark.Process ∷ ks }) (record { at = at + 1; rest = ks }) placed (record { rest = refl; placed = omega arith })
-  definition_found at (kind.Mark m ∷ ks) placed = type_definition_found (record { at = at; rest = kind.Mark m ∷ ks }) placed
+  definition_found at ks placed = type_definition_found (record { at = at; rest = ks }) placed
 
   definition_takes : Takes total 50 (definition_shape total) definition
   unfolding definition Input.mark
@@ -293,9 +262,7 @@ module _ (total : ℕ) where
   system_definition_takes i placed =
       found_four total 50 (Taken total 50 (system_definition_shape total) i) (identifier_shape total) (mark_shape mark.Equal) (definition_shape total) (mark_shape mark.Semicolon) identifier (expect mark.Equal) definition (expect mark.Semicolon) (λ n u c v. record { name = n; value = c })
       (identifier_takes total 50) (expect_takes total 50 mark.Equal) definition_takes (expect_takes total 50 mark.Semicolon) i placed (λ n u c v j t.
-      let all = t.0 in
-      let shallow = all.shallow in
-      (record { spelled = all.spelled; indexed = (all.indexed.0, all.indexed.1.1.0); shallow = omega (arith, shallow) }, t.1))
+      made_of total 50 _ _ _ i j _ _ placed t refl (λ p h. (h.0, h.1.1.0)) (λ d. omega arith))
 
   -- ---- programs
 
@@ -307,29 +274,10 @@ module _ (total : ℕ) where
 
   program_part_found : (at : ℕ) (ks : List Kind) → Begins total at ks → let i : Input = record { at = at; rest = ks } in Found total (MayBeProgramPart i) (program_part_by at (first_mark ks) i)
   unfolding advance
-  program_part_found at [] placed = refl
-  program_part_found at (kind.Number n ∷ ks) placed = refl
-  program_part_found at (kind.Character c ∷ ks) placed = refl
-  program_part_found at (kind.Name n ∷ ks) placed = refl
-  program_part_found at (kind.Mark mark.Const ∷ ks) placed =
-      let i : Input = record { at = at; rest = kind.Mark mark.Const ∷ ks } in
-      found_one total 50 (MayBeProgramPart i) (some_of (constant_definition_shape total)) (one_or_more constant_item) (λ ds. Some (program_constants at ds)) constants_take (record { at = at + 1; rest = ks }) (omega arith) (λ ds j t.
-      let all = t.0 in
-      let spelled = ap (λ (ks : List Kind). kind.Mark mark.Const ∷ ks) all.spelled in
-      (record { spelled = spelled; indexed = (begins total i _ placed spelled, all.indexed); shallow = omega arith }, t.1))
-  program_part_found at (kind.Mark mark.Type ∷ ks) placed =
-      let i : Input = record { at = at; rest = kind.Mark mark.Type ∷ ks } in
-      found_one total 50 (MayBeProgramPart i) (some_of (system_definition_shape total)) (one_or_more system_item) (λ ds. Some (program_types at ds)) systems_take (record { at = at + 1; rest = ks }) (omega arith) (λ ds j t.
-      let all = t.0 in
-      let spelled = ap (λ (ks : List Kind). kind.Mark mark.Type ∷ ks) all.spelled in
-      (record { spelled = spelled; indexed = (begins total i _ placed spelled, all.indexed); shallow = all.shallow }, t.1))
-  program_part_found at (kind.Mark mark.Var ∷ ks) placed =
-      let i : Input = record { at = at; rest = kind.Mark mark.Var ∷ ks } in
-      found_one total 50 (MayBeProgramPart i) (some_of (variable_group_shape total)) (one_or_more variable_item) (λ ds. Some (program_variables at ds)) variables_take (record { at = at + 1; rest = ks }) (omega arith) (λ ds j t.
-      let all = t.0 in
-      let spelled = ap (λ (ks : List Kind). kind.Mark mark.Var ∷ ks) all.spelled in
-      (record { spelled = spelled; indexed = (begins total i _ placed spelled, all.indexed); shallow = all.shallow }, t.1))
-  program_part_found at (kind.Mark m ∷ ks) placed = refl
+  program_part_found at (kind.Mark mark.Const ∷ ks) placed = worded mark.Const (some_of (constant_definition_shape total)) (one_or_more constant_item) (program_part_shape total) program_constants at ks (λ ds r. refl) (λ ds r b h. (b, h)) (λ ds. omega arith) constants_take placed
+  program_part_found at (kind.Mark mark.Type ∷ ks) placed = worded mark.Type (some_of (system_definition_shape total)) (one_or_more system_item) (program_part_shape total) program_types at ks (λ ds r. refl) (λ ds r b h. (b, h)) (λ ds. omega arith) systems_take placed
+  program_part_found at (kind.Mark mark.Var ∷ ks) placed = worded mark.Var (some_of (variable_group_shape total)) (one_or_more variable_item) (program_part_shape total) program_variables at ks (λ ds r. refl) (λ ds r b h. (b, h)) (λ ds. omega arith) variables_take placed
+  program_part_found at _ placed = refl
 
   program_part_takes : MayTake total 50 (program_part_shape total) program_part_item
   unfolding program_part_item Input.mark

@@ -21,7 +21,7 @@ use Rattle.cp_tree.specs.SpellingIndexed.{Begins, IsIndexedExpression, IsIndexed
 use Rattle.cp_tree.specs.SpellingLevel.{expression_depth, sum_depth, terms_depth, term_depth, factors_depth, factor_depth, expressions_depth, designator_depth, selectors_depth, selector_depth}
 use Rattle.cp_tree.proofs.Shapes.{Shape, mark_shape, pair_of, behind_of}
 use Rattle.cp_tree.proofs.Steps.{Found, found_then, found_after, found_map, At, begins, took_onto, Taken, Takes, takes_deep, Passed, sees_passes, expect_takes, found_one, found_two, found_three}
-use Rattle.cp_tree.proofs.FoundLists.{IsBuilt, IsBuiltLed, IsItem, MayTake, IsTaken, taken_found, operator_of, operated_takes, many_takes, separated_takes}
+use Rattle.cp_tree.proofs.FoundLists.{made_of, made_after, IsBuilt, IsBuiltLed, IsItem, MayTake, IsTaken, taken_found, operator_of, operated_takes, many_takes, separated_takes}
 use Rattle.cp_tree.proofs.FoundConstants.{identifier_shape, identifier_takes, sign_shape, sign_takes}
 
 -- ---- operators
@@ -139,8 +139,7 @@ module _ (total b : ℕ) (factor : Parser Factor) (law : Takes total b (factor_s
   term_takes i placed =
       found_two total b (Taken total b (term_shape total) i) (factor_shape total) (factors_shape total) factor (many (next_factor factor)) (λ f fs. term i.at f (factors_of fs)) law
       (many_takes total b (operator_of multiplication_mark (factor_shape total)) (factors_shape total) (factors_built total) (next_factor factor) next_factor_takes) i placed (λ f fs j t.
-      let all = t.0 in
-      (record { spelled = all.spelled; indexed = (begins total i _ placed all.spelled, all.indexed.0, all.indexed.1); shallow = all.shallow }, t.1))
+      made_of total b _ _ _ i j _ _ placed t refl (λ p h. (p, h.0, h.1)) (λ d. d))
 
   next_term_takes : MayTake total b (operator_of addition_mark (term_shape total)) (next_term factor)
   unfolding next_term
@@ -151,9 +150,7 @@ module _ (total b : ℕ) (factor : Parser Factor) (law : Takes total b (factor_s
   sum_takes i placed =
       found_three total b (Taken total b (sum_shape total) i) sign_shape (term_shape total) (terms_shape total) sign (term_with factor) (many (next_term factor)) (λ o t ts. sum i.at o t (terms_of ts)) (sign_takes total b) term_takes
       (many_takes total b (operator_of addition_mark (term_shape total)) (terms_shape total) (terms_built total) (next_term factor) next_term_takes) i placed (λ o f fs j t.
-      let all = t.0 in
-      let shallow = all.shallow in
-      (record { spelled = all.spelled; indexed = (begins total i _ placed all.spelled, all.indexed.1.0, all.indexed.1.1); shallow = omega (arith, shallow) }, t.1))
+      made_of total b _ _ _ i j _ _ placed t refl (λ p h. (p, h.1.0, h.1.1)) (λ d. omega arith))
 
   -- an expression, one level up
   right_takes : MayTake total b (operator_of relation_mark (sum_shape total)) (relation >>= right_side factor)
@@ -213,31 +210,22 @@ module _ (total b : ℕ) (expression : Parser Expression) (law : Takes total b (
       elim (sees mark.CloseBracket i) as (λ c. sees mark.CloseBracket i ≡ c → Found total Q ((cond c (pure []) inside) (cond c (advance i) i))) [
         | true ↦ λ e. let q = sees_passes total mark.CloseBracket i placed e in (record { spelled = q.rest; indexed = tt; shallow = omega arith }, q.placed)
         | false ↦ λ e. found_two total b Q (expressions_shape total) (mark_shape mark.CloseBracket) (expressions_with expression) (expect mark.CloseBracket) (λ es u. es) expressions_take (expect_takes total b mark.CloseBracket) i placed (λ es u j t.
-            let all = t.0 in
-            let shallow = all.shallow in
-            (record { spelled = all.spelled; indexed = all.indexed.0.1; shallow = omega (arith, shallow) }, t.1))
+            made_of total b _ _ _ i j _ _ placed t refl (λ p h. h.0.1) (λ d. omega arith))
       ] refl
 
   selector_by_takes : (at : ℕ) (ks : List Kind) → Begins total at ks → let i : Input = record { at = at; rest = ks } in Found total (IsItem (Taken total b (selector_shape total)) i) (selector_by expression (first_mark ks) i)
   unfolding advance
-  selector_by_takes at [] placed = refl
-  selector_by_takes at (kind.Number n ∷ ks) placed = refl
-  selector_by_takes at (kind.Character c ∷ ks) placed = refl
-  selector_by_takes at (kind.Name n ∷ ks) placed = refl
   selector_by_takes at (kind.Mark mark.Period ∷ ks) placed =
       let i : Input = record { at = at; rest = kind.Mark mark.Period ∷ ks } in
       let k : Input = record { at = at + 1; rest = ks } in
       found_one total b (IsItem (Taken total b (selector_shape total)) i) (identifier_shape total) identifier (λ n. Some (field n)) (identifier_takes total b) k (omega arith) (λ n j t.
-      let all = t.0 in
-      (record { spelled = ap (λ (ks : List Kind). kind.Mark mark.Period ∷ ks) all.spelled; indexed = all.indexed; shallow = omega arith }, t.1))
+      made_after total b _ mark.Period _ _ i k j _ _ placed (record { rest = refl; placed = omega arith }) t refl (λ p h. h) (λ d. omega arith))
   selector_by_takes at (kind.Mark mark.OpenBracket ∷ ks) placed =
       let i : Input = record { at = at; rest = kind.Mark mark.OpenBracket ∷ ks } in
       let k : Input = record { at = at + 1; rest = ks } in
       found_two total b (IsItem (Taken total b (selector_shape total)) i) (expression_shape total) (mark_shape mark.CloseBracket) expression (expect mark.CloseBracket) (λ e u. Some (index e)) law (expect_takes total b mark.CloseBracket) k (omega arith) (λ e u j t.
-      let all = t.0 in
-      let shallow = all.shallow in
-      (record { spelled = ap (λ (ks : List Kind). kind.Mark mark.OpenBracket ∷ ks) all.spelled; indexed = all.indexed.0; shallow = omega (arith, shallow) }, t.1))
-  selector_by_takes at (kind.Mark m ∷ ks) placed = refl
+      made_after total b _ mark.OpenBracket _ _ i k j _ _ placed (record { rest = refl; placed = omega arith }) t refl (λ p h. h.0) (λ d. omega arith))
+  selector_by_takes at _ placed = refl
 
   selector_takes : MayTake total b (selector_shape total) (selector_with expression)
   unfolding selector_with Input.mark
@@ -248,44 +236,33 @@ module _ (total b : ℕ) (expression : Parser Expression) (law : Takes total b (
   designator_takes i placed =
       found_two total b (Taken total b (designator_shape total) i) (identifier_shape total) (selectors_shape total) identifier (many (selector_with expression)) (λ n ss. designator n (selectors_of ss)) (identifier_takes total b)
       (many_takes total b (selector_shape total) (selectors_shape total) (selectors_built total) (selector_with expression) selector_takes) i placed (λ n ss j t.
-      let all = t.0 in
-      let shallow = all.shallow in
-      (record { spelled = all.spelled; indexed = (all.indexed.0, all.indexed.1); shallow = omega (arith, shallow) }, t.1))
+      made_of total b _ _ _ i j _ _ placed t refl (λ p h. (h.0, h.1)) (λ d. omega arith))
 
   module _ (deeper : Parser Factor) (below : Takes total b (deeper_shape total) deeper) where
     factor_by_takes : (at : ℕ) (ks : List Kind) → Begins total at ks → let i : Input = record { at = at; rest = ks } in Found total (Taken total b (factor_shape total) i) (factor_by expression deeper at (first ks) i)
     unfolding advance
-    factor_by_takes at [] placed = omega arith
     factor_by_takes at (kind.Number n ∷ ks) placed = (record { spelled = refl; indexed = placed; shallow = omega arith }, omega arith)
     factor_by_takes at (kind.Character n ∷ ks) placed = (record { spelled = refl; indexed = placed; shallow = omega arith }, omega arith)
     factor_by_takes at (kind.Name n ∷ ks) placed =
         let i : Input = record { at = at; rest = kind.Name n ∷ ks } in
         found_two total b (Taken total b (factor_shape total) i) (designator_shape total) (arguments_shape total) (designator_with expression) (arguments_with expression) (λ d es. named at d (expressions_of es)) designator_takes arguments_take i placed (λ d es j t.
-        let all = t.0 in
-        (record { spelled = all.spelled; indexed = (begins total i _ placed all.spelled, all.indexed.0, all.indexed.1); shallow = all.shallow }, t.1))
+        made_of total b _ _ _ i j _ _ placed t refl (λ p h. (p, h.0, h.1)) (λ d. d))
     factor_by_takes at (kind.Mark mark.OpenParenthesis ∷ ks) placed =
         let i : Input = record { at = at; rest = kind.Mark mark.OpenParenthesis ∷ ks } in
         let k : Input = record { at = at + 1; rest = ks } in
         found_two total b (Taken total b (factor_shape total) i) (expression_shape total) (mark_shape mark.CloseParenthesis) expression (expect mark.CloseParenthesis) (λ e u. group at e) law (expect_takes total b mark.CloseParenthesis) k (omega arith) (λ e u j t.
-        let all = t.0 in
-        let shallow = all.shallow in
-        let spelled = ap (λ (ks : List Kind). kind.Mark mark.OpenParenthesis ∷ ks) all.spelled in
-        (record { spelled = spelled; indexed = (begins total i _ placed spelled, all.indexed.0); shallow = omega (arith, shallow) }, t.1))
+        made_after total b _ mark.OpenParenthesis _ _ i k j _ _ placed (record { rest = refl; placed = omega arith }) t refl (λ p h. (p, h.0)) (λ d. omega arith))
     factor_by_takes at (kind.Mark mark.OpenBracket ∷ ks) placed =
         let i : Input = record { at = at; rest = kind.Mark mark.OpenBracket ∷ ks } in
         let k : Input = record { at = at + 1; rest = ks } in
         found_one total b (Taken total b (factor_shape total) i) (elements_shape total) (elements_with expression) (λ es. set_of at (expressions_of es)) elements_take k (omega arith) (λ es j t.
-        let all = t.0 in
-        let spelled = ap (λ (ks : List Kind). kind.Mark mark.OpenBracket ∷ ks) all.spelled in
-        (record { spelled = spelled; indexed = (begins total i _ placed spelled, all.indexed); shallow = all.shallow }, t.1))
+        made_after total b _ mark.OpenBracket _ _ i k j _ _ placed (record { rest = refl; placed = omega arith }) t refl (λ p h. (p, h)) (λ d. d))
     factor_by_takes at (kind.Mark mark.Not ∷ ks) placed =
         let i : Input = record { at = at; rest = kind.Mark mark.Not ∷ ks } in
         let k : Input = record { at = at + 1; rest = ks } in
         found_one total b (Taken total b (factor_shape total) i) (deeper_shape total) deeper (λ f. negated at f) below k (omega arith) (λ f j t.
-        let all = t.0 in
-        let spelled = ap (λ (ks : List Kind). kind.Mark mark.Not ∷ ks) all.spelled in
-        (record { spelled = spelled; indexed = (begins total i _ placed spelled, all.indexed); shallow = all.shallow }, t.1))
-    factor_by_takes at (kind.Mark m ∷ ks) placed = omega arith
+        made_after total b _ mark.Not _ _ i k j _ _ placed (record { rest = refl; placed = omega arith }) t refl (λ p h. (p, h)) (λ d. d))
+    factor_by_takes at _ placed = omega arith
 
     pub factor_with_takes : Takes total b (factor_shape total) (factor_with expression deeper)
     unfolding factor_with next

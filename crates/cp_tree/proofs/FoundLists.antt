@@ -1,5 +1,5 @@
 -- What is read by the rules that are made of items: lists of them, and items that may be absent.
-use Rattle.std.proofs.Common.{◌≡◌, ℕ, zero, suc, Bool, true, false, cond, List, [], ◌∷◌, ◌++◌, length, Option, Some, None, Ok, refl, sym, ap, subst, ◌∙◌, arith, append_assoc}
+use Rattle.std.proofs.Common.{◌≡◌, ◌≤◌, ℕ, zero, suc, Bool, true, false, cond, List, [], ◌∷◌, ◌++◌, length, Option, Some, None, Ok, refl, sym, ap, subst, ◌∙◌, arith, append_assoc}
 use Rattle.std.proofs.lemmas.List.{append-nil}
 use Rattle.cp_text.specs.declared.token.Kind.{Kind}
 use Rattle.cp_text.specs.declared.token.Kind.TheVariants as kind
@@ -9,8 +9,9 @@ use Rattle.cp_tree.specs.Input.{Input, Outcome, Parser, and_then, ◌>>=◌, pur
 use Rattle.cp_tree.specs.Input as Input
 use Rattle.cp_tree.specs.Reading.{many_from, many_after, many, many_on, behind, some, separated, ended_from, ended_after, ended_list, where_named, taken}
 use Rattle.cp_tree.specs.Spelling.{put_optional}
+use Rattle.cp_tree.specs.SpellingIndexed.{Begins}
 use Rattle.cp_tree.proofs.Shapes.{Shape, pair_of, behind_of, all_of, some_of, separated_of, IsListed, IsLed, all_listed}
-use Rattle.cp_tree.proofs.Steps.{Found, found_then, found_map, At, took_onto, Taken, Takes, Passed, passed, sees_passes, joined}
+use Rattle.cp_tree.proofs.Steps.{Found, found_then, found_map, At, begins, took_onto, Taken, Takes, Passed, passed, sees_passes, joined}
 
 -- ---- lists that are built
 
@@ -30,9 +31,6 @@ all_built s = record { listed = all_listed s; no_indexed = λ ks. tt; more_index
 pub some_built : {A : Type 0} (s : Shape A) → IsBuiltLed s (all_of s) (some_of s)
 some_built s = record { led = record { led_put = λ x xs ks. refl; led_depth = λ x xs. refl }; led_indexed = λ x xs ks p q. (p, q) }
 
-behind_depth : {A : Type 0} (m : Mark) (s : Shape A) (xs : List A) → (all_of (behind_of m s)).depth xs ≡ (all_of s).depth xs
-behind_depth m s xs = refl
-
 pub separated_built : {A : Type 0} (m : Mark) (s : Shape A) → IsBuiltLed s (all_of (behind_of m s)) (separated_of m s)
 separated_built m s = record { led = record { led_put = λ x xs ks. refl; led_depth = λ x xs. refl }; led_indexed = λ x xs ks p q. (p, q) }
 
@@ -49,13 +47,22 @@ MayTake total b s item = (i : Input) → At total i → Found total (IsItem (Tak
 some_found : {A : Type 0} (total b : ℕ) (s : Shape A) (p : Parser A) → Takes total b s p → (i : Input) → At total i → Found total (IsItem (Taken total b s) i) (some p i)
 some_found total b s p law i placed = found_then total (Taken total b s i) (IsItem (Taken total b s) i) (p i) (λ x. pure (Some x)) (law i placed) (λ x j q. q)
 
-pub some_takes : {A : Type 0} (total b : ℕ) (s : Shape A) (p : Parser A) → Takes total b s p → MayTake total b s (some p)
-some_takes total b s p law i placed = some_found total b s p law i placed
-
 pub behind_passed : {A : Type 0} (total b : ℕ) (m : Mark) (s : Shape A) (i k j : Input) (x : A) → Passed total m i k → Taken total b s k x j → Taken total b (behind_of m s) i x j
 behind_passed total b m s i k j x q r =
     let one = r.0 in
     (record { spelled = q.rest ∙ ap (λ (ks : List Kind). kind.Mark m ∷ ks) one.spelled; indexed = one.indexed; shallow = one.shallow }, r.1)
+
+-- a value that is made of what was read: a node has the number of its first token
+pub made_of : {A C : Type 0} (total b c : ℕ) (s : Shape A) (shape : Shape C) (i j : Input) (x : A) (y : C) → At total i → Taken total b s i x j
+    → s.put x j.rest ≡ shape.put y j.rest → (Begins total i.at (s.put x j.rest) → s.indexed x j.rest → shape.indexed y j.rest) → (s.depth x ≤ b → shape.depth y ≤ c) → Taken total c shape i y j
+made_of total b c s shape i j x y placed t put indexed shallow =
+    let one = t.0 in
+    (record { spelled = one.spelled ∙ put; indexed = indexed (begins total i _ placed one.spelled) one.indexed; shallow = shallow one.shallow }, t.1)
+
+-- the same after a mark
+pub made_after : {A C : Type 0} (total b c : ℕ) (m : Mark) (s : Shape A) (shape : Shape C) (i k j : Input) (x : A) (y : C) → At total i → Passed total m i k → Taken total b s k x j
+    → kind.Mark m ∷ s.put x j.rest ≡ shape.put y j.rest → (Begins total i.at (kind.Mark m ∷ s.put x j.rest) → s.indexed x j.rest → shape.indexed y j.rest) → (s.depth x ≤ b → shape.depth y ≤ c) → Taken total c shape i y j
+made_after total b c m s shape i k j x y placed q t put indexed shallow = made_of total b c (behind_of m s) shape i j x y placed (behind_passed total b m s i k j x q t) put indexed shallow
 
 pub behind_takes : {A : Type 0} (total b : ℕ) (m : Mark) (s : Shape A) (p : Parser A) → Takes total b s p → MayTake total b (behind_of m s) (behind m p)
 unfolding after

@@ -16,7 +16,7 @@ use Rattle.cp_tree.specs.SpellingIndexed.{Begins, ends_open, IsIndexedStart, IsI
 use Rattle.cp_tree.specs.SpellingLevel.{start_depth, statement_depth, statements_depth, arms_depth, arm_depth}
 use Rattle.cp_tree.proofs.Shapes.{Shape, mark_shape, pair_of, behind_of, all_of, separated_of}
 use Rattle.cp_tree.proofs.Steps.{Found, found_then, At, begins, Taken, Takes, takes_deep, Passed, sees_passes, expect_takes, joined, found_one, found_two, found_three, found_four, found_seven}
-use Rattle.cp_tree.proofs.FoundLists.{IsBuilt, IsBuiltLed, all_built, separated_built, behind_passed, separated_takes, ended_of, ended_takes}
+use Rattle.cp_tree.proofs.FoundLists.{made_of, made_after, IsBuilt, IsBuiltLed, all_built, separated_built, behind_passed, separated_takes, ended_of, ended_takes}
 use Rattle.cp_tree.proofs.FoundConstants.{identifier_shape, identifier_takes, labels_shape, labels_take}
 use Rattle.cp_tree.proofs.FoundExpressions.{expression_shape, arguments_shape, designator_shape, arguments_take, designator_takes, expression_takes}
 
@@ -63,13 +63,9 @@ arms_led total = record { led = record { led_put = λ x xs ks. refl; led_depth =
 
 direction_found : (total b at : ℕ) (ks : List Kind) → Begins total at ks → let i : Input = record { at = at; rest = ks } in Found total (Taken total b direction_shape i) (direction_by (first_mark ks) i)
 unfolding advance
-direction_found total b at [] placed = omega arith
-direction_found total b at (kind.Number n ∷ ks) placed = omega arith
-direction_found total b at (kind.Character c ∷ ks) placed = omega arith
-direction_found total b at (kind.Name n ∷ ks) placed = omega arith
 direction_found total b at (kind.Mark mark.To ∷ ks) placed = (record { spelled = refl; indexed = tt; shallow = omega arith }, omega arith)
 direction_found total b at (kind.Mark mark.Downto ∷ ks) placed = (record { spelled = refl; indexed = tt; shallow = omega arith }, omega arith)
-direction_found total b at (kind.Mark m ∷ ks) placed = omega arith
+direction_found total b at _ placed = omega arith
 
 direction_takes : (total b : ℕ) → Takes total b direction_shape direction
 unfolding direction Input.mark
@@ -86,8 +82,7 @@ module _ (total b : ℕ) (expression : Parser Expression) (law : Takes total b (
   start_takes i placed =
       found_two total b (Taken total b (start_shape total) i) (designator_shape total) (arguments_shape total) (designator_with expression) (arguments_with expression) (λ d es. record { target = d; arguments = expressions_of es })
       (designator_takes total b expression law) (arguments_take total b expression law) i placed (λ d es j t.
-      let all = t.0 in
-      (record { spelled = all.spelled; indexed = (all.indexed.0, all.indexed.1); shallow = all.shallow }, t.1))
+      made_of total b _ _ _ i j _ _ placed t refl (λ p h. (h.0, h.1)) (λ d. d))
 
   init_found : (i k : Input) → At total i → Passed total mark.Init i k → Found total (StatementTaken i) (init_with expression i.at k)
   unfolding init_with
@@ -95,10 +90,7 @@ module _ (total b : ℕ) (expression : Parser Expression) (law : Takes total b (
       let s = start_shape total in
       found_one total b (StatementTaken i) (separated_of mark.Comma s) (separated mark.Comma (start_with expression)) (λ ss. init i.at ss)
       (separated_takes total b mark.Comma s (all_of (behind_of mark.Comma s)) (separated_of mark.Comma s) (all_built (behind_of mark.Comma s)) (separated_built mark.Comma s) (start_with expression) start_takes) k q.placed (λ ss j t.
-      let all = t.0 in
-      let shallow = all.shallow in
-      let spelled = q.rest ∙ ap (λ (ks : List Kind). kind.Mark mark.Init ∷ ks) all.spelled in
-      (record { spelled = spelled; indexed = ((begins total i _ placed spelled, all.indexed), λ e. absurd cc); shallow = omega (arith, shallow) }, t.1))
+      made_after total b _ mark.Init _ _ i k j _ _ placed q t refl (λ p h. ((p, h), λ e. absurd cc)) (λ d. omega arith))
 
   assign_found : (i k l : Input) (d : Designator) → At total i → Taken total b (designator_shape total) i d k → Passed total mark.Becomes k l → Found total (StatementTaken i) ((expression >>= (λ e. pure (assign i.at d e))) l)
   assign_found i k l d placed p q =
@@ -173,16 +165,9 @@ module _ (total b : ℕ) (expression : Parser Expression) (inner : Parser Statem
   if_made : (i k j : Input) (e : Expression) (s : Statement) (o : Option Statement) → At total i → Passed total mark.If i k
       → Taken total b (pair_of (expression_shape total) (pair_of (mark_shape mark.Then) (pair_of (statement_shape total) (else_shape total)))) k (e, (tt, (s, o))) j → Made i (if_of i.at e s o) j
   if_made i k j e s None placed q t =
-      let all = t.0 in
-      let shallow = all.shallow in
-      let unseen = all.indexed.1.1.1 in
-      let spelled = q.rest ∙ ap (λ (ks : List Kind). kind.Mark mark.If ∷ ks) all.spelled in
-      (record { spelled = spelled; indexed = ((begins total i _ placed spelled, all.indexed.0, all.indexed.1.1.0.0), λ e. unseen); shallow = omega (arith, shallow) }, t.1)
+      made_after total b _ mark.If _ _ i k j _ _ placed q t refl (λ p h. ((p, h.0, h.1.1.0.0), λ e. h.1.1.1)) (λ d. omega arith)
   if_made i k j e s (Some o) placed q t =
-      let all = t.0 in
-      let shallow = all.shallow in
-      let spelled = q.rest ∙ ap (λ (ks : List Kind). kind.Mark mark.If ∷ ks) all.spelled in
-      (record { spelled = spelled; indexed = ((begins total i _ placed spelled, all.indexed.0, all.indexed.1.1.0.0, all.indexed.1.1.1.0, closed s (put_statement o j.rest) all.indexed.1.1.0.1), all.indexed.1.1.1.1); shallow = omega (arith, shallow) }, t.1)
+      made_after total b _ mark.If _ _ i k j _ _ placed q t refl (λ p h. ((p, h.0, h.1.1.0.0, h.1.1.1.0, closed s (put_statement o j.rest) h.1.1.0.1), h.1.1.1.1)) (λ d. omega arith)
 
   if_found : (i k : Input) → At total i → Passed total mark.If i k → Found total (Made i) (if_with expression inner i.at k)
   unfolding if_with
@@ -194,10 +179,7 @@ module _ (total b : ℕ) (expression : Parser Expression) (inner : Parser Statem
   unfolding while_with
   while_found i k placed q =
       found_three total b (Made i) (expression_shape total) (mark_shape mark.Do) (statement_shape total) expression (expect mark.Do) inner (λ e u s. while_do i.at e s) law (expect_takes total b mark.Do) below k q.placed (λ e u s j t.
-      let all = t.0 in
-      let shallow = all.shallow in
-      let spelled = q.rest ∙ ap (λ (ks : List Kind). kind.Mark mark.While ∷ ks) all.spelled in
-      (record { spelled = spelled; indexed = ((begins total i _ placed spelled, all.indexed.0, all.indexed.1.1.0), all.indexed.1.1.1); shallow = omega (arith, shallow) }, t.1))
+      made_after total b _ mark.While _ _ i k j _ _ placed q t refl (λ p h. ((p, h.0, h.1.1.0), h.1.1.1)) (λ d. omega arith))
 
   for_found : (i k : Input) → At total i → Passed total mark.For i k → Found total (Made i) (for_with expression inner i.at k)
   unfolding for_with
@@ -205,64 +187,44 @@ module _ (total b : ℕ) (expression : Parser Expression) (inner : Parser Statem
       found_seven total b (Made i) (identifier_shape total) (mark_shape mark.Becomes) (expression_shape total) direction_shape (expression_shape total) (mark_shape mark.Do) (statement_shape total)
       identifier (expect mark.Becomes) expression direction expression (expect mark.Do) inner (λ n u e d f v s. for_do i.at n e d f s)
       (identifier_takes total b) (expect_takes total b mark.Becomes) law (direction_takes total b) law (expect_takes total b mark.Do) below k q.placed (λ n u e d f v s j t.
-      let all = t.0 in
-      let shallow = all.shallow in
-      let spelled = q.rest ∙ ap (λ (ks : List Kind). kind.Mark mark.For ∷ ks) all.spelled in
-      (record { spelled = spelled; indexed = ((begins total i _ placed spelled, all.indexed.0, all.indexed.1.1.0, all.indexed.1.1.1.1.0, all.indexed.1.1.1.1.1.1.0), all.indexed.1.1.1.1.1.1.1); shallow = omega (arith, shallow) }, t.1))
+      made_after total b _ mark.For _ _ i k j _ _ placed q t refl (λ p h. ((p, h.0, h.1.1.0, h.1.1.1.1.0, h.1.1.1.1.1.1.0), h.1.1.1.1.1.1.1)) (λ d. omega arith))
 
   repeat_found : (i k : Input) → At total i → Passed total mark.Repeat i k → Found total (Made i) (repeat_with expression inner i.at k)
   unfolding repeat_with
   repeat_found i k placed q =
       found_three total b (Made i) (statements_shape total) (mark_shape mark.Until) (expression_shape total) (separated mark.Semicolon inner) (expect mark.Until) expression (λ ss u e. repeat_until i.at (statements_of ss) e) statements_take (expect_takes total b mark.Until) law k q.placed (λ ss u e j t.
-      let all = t.0 in
-      let shallow = all.shallow in
-      let spelled = q.rest ∙ ap (λ (ks : List Kind). kind.Mark mark.Repeat ∷ ks) all.spelled in
-      (record { spelled = spelled; indexed = ((begins total i _ placed spelled, all.indexed.0, all.indexed.1.1), λ e. absurd cc); shallow = omega (arith, shallow) }, t.1))
+      made_after total b _ mark.Repeat _ _ i k j _ _ placed q t refl (λ p h. ((p, h.0, h.1.1), λ e. absurd cc)) (λ d. omega arith))
 
   block_found : (i k : Input) → At total i → Passed total mark.Begin i k → Found total (Made i) (block_with expression inner i.at k)
   unfolding block_with
   block_found i k placed q =
       found_two total b (Made i) (statements_shape total) (mark_shape mark.End) (separated mark.Semicolon inner) (expect mark.End) (λ ss u. block i.at (statements_of ss)) statements_take (expect_takes total b mark.End) k q.placed (λ ss u j t.
-      let all = t.0 in
-      let shallow = all.shallow in
-      let spelled = q.rest ∙ ap (λ (ks : List Kind). kind.Mark mark.Begin ∷ ks) all.spelled in
-      (record { spelled = spelled; indexed = ((begins total i _ placed spelled, all.indexed.0), λ e. absurd cc); shallow = omega (arith, shallow) }, t.1))
+      made_after total b _ mark.Begin _ _ i k j _ _ placed q t refl (λ p h. ((p, h.0), λ e. absurd cc)) (λ d. omega arith))
 
   cycle_found : (i k : Input) → At total i → Passed total mark.Cycle i k → Found total (Made i) (cycle_with expression inner i.at k)
   unfolding cycle_with
   cycle_found i k placed q =
       found_two total b (Made i) (statements_shape total) (mark_shape mark.End) (separated mark.Semicolon inner) (expect mark.End) (λ ss u. cycle i.at (statements_of ss)) statements_take (expect_takes total b mark.End) k q.placed (λ ss u j t.
-      let all = t.0 in
-      let shallow = all.shallow in
-      let spelled = q.rest ∙ ap (λ (ks : List Kind). kind.Mark mark.Cycle ∷ ks) all.spelled in
-      (record { spelled = spelled; indexed = ((begins total i _ placed spelled, all.indexed.0), λ e. absurd cc); shallow = omega (arith, shallow) }, t.1))
+      made_after total b _ mark.Cycle _ _ i k j _ _ placed q t refl (λ p h. ((p, h.0), λ e. absurd cc)) (λ d. omega arith))
 
   arm_takes : Takes total b (arm_shape total) (arm_with expression inner)
   unfolding arm_with labels
   arm_takes i placed =
       found_three total b (Taken total b (arm_shape total) i) (labels_shape total) (mark_shape mark.Colon) (statement_shape total) (separated mark.Comma constant) (expect mark.Colon) inner (λ cs u s. arm cs s) (labels_take total b) (expect_takes total b mark.Colon) below i placed (λ cs u s j t.
-      let all = t.0 in
-      let shallow = all.shallow in
-      (record { spelled = all.spelled; indexed = (all.indexed.0, all.indexed.1.1.0); shallow = omega (arith, shallow) }, t.1))
+      made_of total b _ _ _ i j _ _ placed t refl (λ p h. (h.0, h.1.1.0)) (λ d. omega arith))
 
   case_found : (i k : Input) → At total i → Passed total mark.Case i k → Found total (Made i) (case_with expression inner i.at k)
   unfolding case_with
   case_found i k placed q =
       found_four total b (Made i) (expression_shape total) (mark_shape mark.Of) (ended_of (arms_shape total)) (mark_shape mark.End) expression (expect mark.Of) (ended_list (arm_with expression inner)) (expect mark.End) (λ e u all v. case_of i.at e (arms_of all.0) all.1)
       law (expect_takes total b mark.Of) (ended_takes total b (arm_shape total) (more_arms_shape total) (arms_shape total) (arms_built total) (arms_led total) (arm_with expression inner) arm_takes) (expect_takes total b mark.End) k q.placed (λ e u bs v j t.
-      let all = t.0 in
-      let shallow = all.shallow in
-      let spelled = q.rest ∙ ap (λ (ks : List Kind). kind.Mark mark.Case ∷ ks) all.spelled in
-      (record { spelled = spelled; indexed = ((begins total i _ placed spelled, all.indexed.0, all.indexed.1.1.0.0), λ e. absurd cc); shallow = omega (arith, shallow) }, t.1))
+      made_after total b _ mark.Case _ _ i k j _ _ placed q t refl (λ p h. ((p, h.0, h.1.1.0.0), λ e. absurd cc)) (λ d. omega arith))
 
   empty_found : (i : Input) → At total i → Made i (empty i.at) i
   empty_found i placed = (record { spelled = refl; indexed = (placed, λ e. absurd cc); shallow = omega arith }, placed)
 
   statement_by_found : (at : ℕ) (ks : List Kind) → Begins total at ks → let i : Input = record { at = at; rest = ks } in Found total (Made i) (statement_by expression inner at (first ks) i)
   unfolding advance
-  statement_by_found at [] placed = empty_found (record { at = at; rest = [] }) placed
-  statement_by_found at (kind.Number n ∷ ks) placed = empty_found (record { at = at; rest = kind.Number n ∷ ks }) placed
-  statement_by_found at (kind.Character c ∷ ks) placed = empty_found (record { at = at; rest = kind.Character c ∷ ks }) placed
   statement_by_found at (kind.Name n ∷ ks) placed = named_found total b expression law (record { at = at; rest = kind.Name n ∷ ks }) placed
   statement_by_found at (kind.Mark mark.Begin ∷ ks) placed = block_found (record { at = at; rest = kind.Mark mark.Begin ∷ ks }) (record { at = at + 1; rest = ks }) placed (record { rest = refl; placed = omega arith })
   statement_by_found at (kind.Mark mark.If ∷ ks) placed = if_found (record { at = at; rest = kind.Mark mark.If ∷ ks }) (record { at = at + 1; rest = ks }) placed (record { rest = refl; placed = omega arith })
@@ -272,7 +234,7 @@ module _ (total b : ℕ) (expression : Parser Expression) (inner : Parser Statem
   statement_by_found at (kind.Mark mark.For ∷ ks) placed = for_found (record { at = at; rest = kind.Mark mark.For ∷ ks }) (record { at = at + 1; rest = ks }) placed (record { rest = refl; placed = omega arith })
   statement_by_found at (kind.Mark mark.Cycle ∷ ks) placed = cycle_found (record { at = at; rest = kind.Mark mark.Cycle ∷ ks }) (record { at = at + 1; rest = ks }) placed (record { rest = refl; placed = omega arith })
   statement_by_found at (kind.Mark mark.Init ∷ ks) placed = init_found total b expression law (record { at = at; rest = kind.Mark mark.Init ∷ ks }) (record { at = at + 1; rest = ks }) placed (record { rest = refl; placed = omega arith })
-  statement_by_found at (kind.Mark m ∷ ks) placed = empty_found (record { at = at; rest = kind.Mark m ∷ ks }) placed
+  statement_by_found at ks placed = empty_found (record { at = at; rest = ks }) placed
 
   pub statement_with_takes : Takes total (suc b) (statement_shape total) (statement_with expression inner)
   unfolding statement_with next

@@ -17,7 +17,7 @@ use Rattle.cp_tree.specs.SpellingIndexed.{Begins, IsIndexedSimple, IsIndexedType
 use Rattle.cp_tree.specs.SpellingLevel.{type_depth, field_groups_depth, field_group_depth}
 use Rattle.cp_tree.proofs.Shapes.{Shape, mark_shape, behind_of}
 use Rattle.cp_tree.proofs.Steps.{Found, found_then, At, begins, Taken, Takes, takes_deep, Passed, sees_passes, expect_takes, joined, found_one, found_two, found_three, found_five}
-use Rattle.cp_tree.proofs.FoundLists.{IsBuilt, IsBuiltLed, behind_passed, ended_of, ended_takes}
+use Rattle.cp_tree.proofs.FoundLists.{made_of, made_after, IsBuilt, IsBuiltLed, behind_passed, ended_of, ended_takes}
 use Rattle.cp_tree.proofs.FoundConstants.{names_shape, identifiers_take, constant_shape, constant_takes}
 
 abbrev pub simple_shape : ℕ → Shape Simple
@@ -45,9 +45,7 @@ field_groups_led total = record { led = record { led_put = λ x xs ks. refl; led
 
 named_found : (total b at : ℕ) (c : ConstantKind) (i j : Input) → At total i → Taken total b (constant_shape total) i (record { at = at; kind = c }) j → Found total (Taken total b (simple_shape total) i) (type_named i.at (name_of c) j)
 named_found total b at (constant_kind.Name None n) i j placed p = let one = p.0 in (record { spelled = one.spelled; indexed = begins total i _ placed one.spelled; shallow = omega arith }, p.1)
-named_found total b at (constant_kind.Name (Some s) n) i j placed p = let here = p.1 in omega arith
-named_found total b at (constant_kind.Number s n) i j placed p = let here = p.1 in omega arith
-named_found total b at (constant_kind.Character c) i j placed p = let here = p.1 in omega arith
+named_found total b at _ i j placed p = let here = p.1 in omega arith
 
 simple_from_found : (total b : ℕ) (i k : Input) (c : Constant) → At total i → Taken total b (constant_shape total) i c k → Found total (Taken total b (simple_shape total) i) (simple_from i.at c k)
 unfolding simple_from after
@@ -73,9 +71,7 @@ simple_takes total b i placed =
       | true ↦ λ e.
           let q = sees_passes total mark.OpenParenthesis i placed e in
           found_two total b Q (names_shape total) (mark_shape mark.CloseParenthesis) identifiers (expect mark.CloseParenthesis) (λ ns u. enumeration i.at ns) (identifiers_take total b) (expect_takes total b mark.CloseParenthesis) (advance i) q.placed (λ ns u j t.
-          let all = t.0 in
-          let spelled = q.rest ∙ ap (λ (ks : List Kind). kind.Mark mark.OpenParenthesis ∷ ks) all.spelled in
-          (record { spelled = spelled; indexed = (begins total i _ placed spelled, all.indexed.0); shallow = omega arith }, t.1))
+          made_after total b _ mark.OpenParenthesis _ _ i (advance i) j _ _ placed q t refl (λ p h. (p, h.0)) (λ d. omega arith))
       | false ↦ λ e. found_then total (Taken total b (constant_shape total) i) Q (constant i) (simple_from i.at) (constant_takes total b i placed) (λ c k p. simple_from_found total b i k c placed p)
     ] refl
 
@@ -91,54 +87,39 @@ module _ (total b : ℕ) (inner : Parser TypeTerm) (law : Takes total b (type_sh
       found_five total b (TypeTaken i) (mark_shape mark.OpenBracket) (simple_shape total) (mark_shape mark.CloseBracket) (mark_shape mark.Of) (type_shape total)
       (expect mark.OpenBracket) simple_type (expect mark.CloseBracket) (expect mark.Of) inner (λ u s v w t. array_of i.at s t)
       (expect_takes total b mark.OpenBracket) (simple_takes total b) (expect_takes total b mark.CloseBracket) (expect_takes total b mark.Of) law k q.placed (λ u s v w t j taken.
-      let all = taken.0 in
-      let shallow = all.shallow in
-      let spelled = q.rest ∙ ap (λ (ks : List Kind). kind.Mark mark.Array ∷ ks) all.spelled in
-      (record { spelled = spelled; indexed = (begins total i _ placed spelled, all.indexed.1.0, all.indexed.1.1.1.1); shallow = omega (arith, shallow) }, taken.1))
+      made_after total b _ mark.Array _ _ i k j _ _ placed q taken refl (λ p h. (p, h.1.0, h.1.1.1.1)) (λ d. omega arith))
 
   set_found : (i k : Input) → At total i → Passed total mark.Set i k → Found total (TypeTaken i) (set_at i.at k)
   unfolding set_at
   set_found i k placed q =
       found_two total b (TypeTaken i) (mark_shape mark.Of) (simple_shape total) (expect mark.Of) simple_type (λ u s. set_type i.at s) (expect_takes total b mark.Of) (simple_takes total b) k q.placed (λ u s j t.
-      let all = t.0 in
-      let spelled = q.rest ∙ ap (λ (ks : List Kind). kind.Mark mark.Set ∷ ks) all.spelled in
-      (record { spelled = spelled; indexed = (begins total i _ placed spelled, all.indexed.1); shallow = omega arith }, t.1))
+      made_after total b _ mark.Set _ _ i k j _ _ placed q t refl (λ p h. (p, h.1)) (λ d. omega arith))
 
   field_group_takes : Takes total b (field_group_shape total) (field_group_with inner)
   unfolding field_group_with
   field_group_takes i placed =
       found_three total b (Taken total b (field_group_shape total) i) (names_shape total) (mark_shape mark.Colon) (type_shape total) identifiers (expect mark.Colon) inner (λ ns u t. fields ns t)
       (identifiers_take total b) (expect_takes total b mark.Colon) law i placed (λ ns u t j taken.
-      let all = taken.0 in
-      let shallow = all.shallow in
-      (record { spelled = all.spelled; indexed = (all.indexed.0, all.indexed.1.1); shallow = omega (arith, shallow) }, taken.1))
+      made_of total b _ _ _ i j _ _ placed taken refl (λ p h. (h.0, h.1.1)) (λ d. omega arith))
 
   record_found : (i k : Input) → At total i → Passed total mark.Record i k → Found total (TypeTaken i) (record_with inner i.at k)
   unfolding record_with
   record_found i k placed q =
       found_two total b (TypeTaken i) (ended_of (field_groups_shape total)) (mark_shape mark.End) (ended_list (field_group_with inner)) (expect mark.End) (λ gs u. record_of i.at (field_groups_of gs.0) gs.1)
       (ended_takes total b (field_group_shape total) (more_field_groups_shape total) (field_groups_shape total) (field_groups_built total) (field_groups_led total) (field_group_with inner) field_group_takes) (expect_takes total b mark.End) k q.placed (λ gs u j t.
-      let all = t.0 in
-      let shallow = all.shallow in
-      let spelled = q.rest ∙ ap (λ (ks : List Kind). kind.Mark mark.Record ∷ ks) all.spelled in
-      (record { spelled = spelled; indexed = (begins total i _ placed spelled, all.indexed.0.0); shallow = omega (arith, shallow) }, t.1))
+      made_after total b _ mark.Record _ _ i k j _ _ placed q t refl (λ p h. (p, h.0.0)) (λ d. omega arith))
 
   simple_found : (i : Input) → At total i → Found total (TypeTaken i) ((simple_type >>= (λ s. pure (simple i.at s))) i)
   simple_found i placed =
       found_one total b (TypeTaken i) (simple_shape total) simple_type (λ s. simple i.at s) (simple_takes total b) i placed (λ s j t.
-      let all = t.0 in
-      (record { spelled = all.spelled; indexed = (begins total i _ placed all.spelled, all.indexed); shallow = omega arith }, t.1))
+      made_of total b _ _ _ i j _ _ placed t refl (λ p h. (p, h)) (λ d. omega arith))
 
   type_by_found : (at : ℕ) (ks : List Kind) → Begins total at ks → let i : Input = record { at = at; rest = ks } in Found total (TypeTaken i) (type_by inner at (first_mark ks) i)
   unfolding advance
-  type_by_found at [] placed = simple_found (record { at = at; rest = [] }) placed
-  type_by_found at (kind.Number n ∷ ks) placed = simple_found (record { at = at; rest = kind.Number n ∷ ks }) placed
-  type_by_found at (kind.Character c ∷ ks) placed = simple_found (record { at = at; rest = kind.Character c ∷ ks }) placed
-  type_by_found at (kind.Name n ∷ ks) placed = simple_found (record { at = at; rest = kind.Name n ∷ ks }) placed
   type_by_found at (kind.Mark mark.Array ∷ ks) placed = array_found (record { at = at; rest = kind.Mark mark.Array ∷ ks }) (record { at = at + 1; rest = ks }) placed (record { rest = refl; placed = omega arith })
   type_by_found at (kind.Mark mark.Set ∷ ks) placed = set_found (record { at = at; rest = kind.Mark mark.Set ∷ ks }) (record { at = at + 1; rest = ks }) placed (record { rest = refl; placed = omega arith })
   type_by_found at (kind.Mark mark.Record ∷ ks) placed = record_found (record { at = at; rest = kind.Mark mark.Record ∷ ks }) (record { at = at + 1; rest = ks }) placed (record { rest = refl; placed = omega arith })
-  type_by_found at (kind.Mark m ∷ ks) placed = simple_found (record { at = at; rest = kind.Mark m ∷ ks }) placed
+  type_by_found at ks placed = simple_found (record { at = at; rest = ks }) placed
 
   pub type_with_takes : Takes total (suc b) (type_shape total) (type_with inner)
   unfolding type_with Input.mark

@@ -75,12 +75,11 @@ mutual
   grows_factors (more_factors m f fs) rest = omega (arith, grows_factor f (put_factors fs rest), grows_factors fs rest)
 
   pub grows_factor : (x : Factor) (rest : List Kind) → length rest ≤ length (put_factor x rest)
-  grows_factor (number at n) rest = omega arith
-  grows_factor (character at c) rest = omega arith
   grows_factor (named at d es) rest = omega (arith, grows_designator d (put_arguments es rest), grows_arguments es rest)
   grows_factor (group at e) rest = omega (arith, grows_expression e (kind.Mark mark.CloseParenthesis ∷ rest))
   grows_factor (negated at f) rest = omega (arith, grows_factor f rest)
   grows_factor (set_of at es) rest = omega (arith, grows_expressions es (kind.Mark mark.CloseBracket ∷ rest))
+  grows_factor _ rest = omega arith
 
   pub grows_arguments : (x : Expressions) (rest : List Kind) → length rest ≤ length (put_arguments x rest)
   grows_arguments no_expressions rest = omega arith

@@ -67,93 +67,27 @@ says ks = record { found = program_found ks; other = λ q indexed e. lands ks q 
 -- ---- what is answered
 
 -- The answer is the tree that spells the tokens, or a fault that tells why there is none.
-pub record Answered (ks : List Kind) (r : Result Program ParseFault) : Type 0 where
-  pub proper : IfOk r (λ p. IsProper p × (ks ≡ spell p))
-  pub only : IfOk r (λ p. (other : Program) → IsIndexed other → ks ≡ spell other → p ≡ other)
-  pub unexpected : (at : ℕ) → r ≡ Err (Unexpected at) → (other : Program) → IsIndexed other → ks ≢ spell other
-  pub outside : (at : ℕ) → r ≡ Err (OutsideProfile at) → (other : Program) → IsIndexed other → ks ≢ spell other
-  pub left_out : (at : ℕ) → r ≡ Err (OutsideProfile at) → is_left_out (slice_get ks at) ≡ true
-  pub not_left_out : (at : ℕ) → r ≡ Err (Unexpected at) → is_left_out (slice_get ks at) ≡ false
-  pub too_deep : (at : ℕ) → r ≡ Err (TooDeep at) → (other : Program) → IsProper other → ks ≢ spell other
-  pub within : (at : ℕ) → r ≡ Err (Unexpected at) → at ≤ length ks
-  pub outside_within : (at : ℕ) → r ≡ Err (OutsideProfile at) → at ≤ length ks
-
-found_answered : (ks : List Kind) (p : Program) (j : Input) → Says ks (Ok (p, j)) → Answered ks (Ok p)
-found_answered ks p j s = record {
-  proper = proper_read ks p s.found;
-  only = λ other indexed e. (s.other other indexed e).0;
-  unexpected = λ at e. absurd cc;
-  outside = λ at e. absurd cc;
-  left_out = λ at e. absurd cc;
-  not_left_out = λ at e. absurd cc;
-  too_deep = λ at e. absurd cc;
-  within = λ at e. absurd cc;
-  outside_within = λ at e. absurd cc;
-}
-
-deep_answered : (ks : List Kind) (n : ℕ) → Says ks (Err (TooDeep n)) → Answered ks (Err (TooDeep n))
-deep_answered ks n s = record {
-  proper = tt;
-  only = tt;
-  unexpected = λ at e. absurd cc;
-  outside = λ at e. absurd cc;
-  left_out = λ at e. absurd cc;
-  not_left_out = λ at e. absurd cc;
-  too_deep = λ at e other proper is. let deep : 50 < program_depth other = s.other other proper.indexed is in omega (arith, proper.shallow, deep);
-  within = λ at e. absurd cc;
-  outside_within = λ at e. absurd cc;
-}
-
-same_place : (n at : ℕ) → ◌≡◌ {A = Result Program ParseFault} (Err (Unexpected n)) (Err (Unexpected at)) → n ≡ at
-same_place n at e = cc
-
-same_outside : (n at : ℕ) → ◌≡◌ {A = Result Program ParseFault} (Err (OutsideProfile n)) (Err (OutsideProfile at)) → n ≡ at
-same_outside n at e = cc
-
-unexpected_answered : (ks : List Kind) (n : ℕ) → Says ks (Err (Unexpected n)) → is_left_out (slice_get ks n) ≡ false → Answered ks (Err (Unexpected n))
-unexpected_answered ks n s out = record {
-  proper = tt;
-  only = tt;
-  unexpected = λ at e other indexed is. s.other other indexed is;
-  outside = λ at e. absurd cc;
-  left_out = λ at e. absurd cc;
-  not_left_out = λ at e. subst (λ (m : ℕ). is_left_out (slice_get ks m) ≡ false) (same_place n at e) out;
-  too_deep = λ at e. absurd cc;
-  within = λ at e. subst (λ (m : ℕ). m ≤ length ks) (same_place n at e) s.found;
-  outside_within = λ at e. absurd cc;
-}
-
-outside_answered : (ks : List Kind) (n : ℕ) → Says ks (Err (Unexpected n)) → is_left_out (slice_get ks n) ≡ true → Answered ks (Err (OutsideProfile n))
-outside_answered ks n s out = record {
-  proper = tt;
-  only = tt;
-  unexpected = λ at e. absurd cc;
-  outside = λ at e other indexed is. s.other other indexed is;
-  left_out = λ at e. subst (λ (m : ℕ). is_left_out (slice_get ks m) ≡ true) (same_outside n at e) out;
-  not_left_out = λ at e. absurd cc;
-  too_deep = λ at e. absurd cc;
-  within = λ at e. absurd cc;
-  outside_within = λ at e. subst (λ (m : ℕ). m ≤ length ks) (same_outside n at e) s.found;
-}
+abbrev pub Answered : List Kind → Result Program ParseFault → Type 0
+Answered ks (Ok p) = (IsProper p × (ks ≡ spell p)) × ((other : Program) → IsIndexed other → ks ≡ spell other → p ≡ other)
+Answered ks (Err (Unexpected at)) = ((other : Program) → IsIndexed other → ks ≢ spell other) × (is_left_out (slice_get ks at) ≡ false) × (at ≤ length ks)
+Answered ks (Err (OutsideProfile at)) = ((other : Program) → IsIndexed other → ks ≢ spell other) × (is_left_out (slice_get ks at) ≡ true)
+Answered ks (Err (TooDeep at)) = (other : Program) → IsProper other → ks ≢ spell other
+Answered ks (Err Memory) = Unit {0}
 
 answered_of : (ks : List Kind) (outcome : Outcome Program) → Says ks outcome → Answered ks (answer_of ks outcome)
-answered_of ks (Ok p) s = found_answered ks p.0 p.1 s
-answered_of ks (Err (TooDeep n)) s = deep_answered ks n s
-answered_of ks (Err (OutsideProfile n)) s = absurd s.found
-answered_of ks (Err Memory) s = absurd s.found
+answered_of ks (Ok p) s = (proper_read ks p.0 s.found, λ other indexed is. (s.other other indexed is).0)
+answered_of ks (Err (TooDeep n)) s = λ other proper is. (let deep : 50 < program_depth other = s.other other proper.indexed is in omega (arith, proper.shallow, deep))
 answered_of ks (Err (Unexpected n)) s =
     elim (is_left_out (slice_get ks n)) as (λ c. is_left_out (slice_get ks n) ≡ c → Answered ks (Err (cond c (OutsideProfile n) (Unexpected n)))) [
-      | true ↦ λ e. outside_answered ks n s e
-      | false ↦ λ e. unexpected_answered ks n s e
+      | true ↦ λ e. (λ other indexed is. s.other other indexed is, e)
+      | false ↦ λ e. (λ other indexed is. s.other other indexed is, e, s.found)
     ] refl
+answered_of ks _ s = absurd s.found
 
 pub answered : (ks : List Kind) → Answered ks (answer ks)
 answered ks = answered_of ks (program (start_of ks)) (says ks)
 
 -- ---- the clauses of a parser that answers so, unless memory fails
-
-abbrev Faults : List Kind → Result tree_tree.Tree ParseFault → ParseFault → Type 0
-Faults ks r e = r ≡ Err e → Answered ks (Err e)
 
 not_memory : (ks : List Kind) (r : Result tree_tree.Tree ParseFault) (e : ParseFault) → Answers ks r → r ≡ Err e → e ≢ Memory → Answered ks (Err e)
 not_memory ks r e h is known =
@@ -163,53 +97,39 @@ not_memory ks r e h is known =
 tree_answered : (ks : List Kind) (t : tree_tree.Tree) → Answers ks (Ok t) → Answered ks (Ok (program_view t.program))
 tree_answered ks t h = subst (λ (a : Result Program ParseFault). Answered ks a) h (answered ks)
 
-unexpected_known : (at : ℕ) → Unexpected at ≢ Memory
-unexpected_known at e = cc
-
-outside_known : (at : ℕ) → OutsideProfile at ≢ Memory
-outside_known at e = cc
-
-deep_known : (at : ℕ) → TooDeep at ≢ Memory
-deep_known at e = cc
-
 module _ (ks : List Kind) where
   pub proper : (r : Result tree_tree.Tree ParseFault) → Answers ks r → IfOk r (λ t. IsProper (program_view t.program) × (ks ≡ spell (program_view t.program)))
-  proper (Ok t) h = (tree_answered ks t h).proper
+  proper (Ok t) h = (tree_answered ks t h).0
   proper (Err e) h = tt
 
   pub only : (r : Result tree_tree.Tree ParseFault) → Answers ks r → IfOk r (λ t. (other : Program) → IsIndexed other → ks ≡ spell other → program_view t.program ≡ other)
-  only (Ok t) h = (tree_answered ks t h).only
+  only (Ok t) h = (tree_answered ks t h).1
   only (Err e) h = tt
 
   pub unexpected : (r : Result tree_tree.Tree ParseFault) → Answers ks r → (at : ℕ) → r ≡ Err (Unexpected at) → (other : Program) → IsIndexed other → ks ≢ spell other
-  unexpected r h at is = (not_memory ks r (Unexpected at) h is (unexpected_known at)).unexpected at refl
+  unexpected r h at is = (not_memory ks r (Unexpected at) h is (λ e. absurd cc)).0
 
   pub outside : (r : Result tree_tree.Tree ParseFault) → Answers ks r → (at : ℕ) → r ≡ Err (OutsideProfile at) → (other : Program) → IsIndexed other → ks ≢ spell other
-  outside r h at is = (not_memory ks r (OutsideProfile at) h is (outside_known at)).outside at refl
+  outside r h at is = (not_memory ks r (OutsideProfile at) h is (λ e. absurd cc)).0
 
   pub left_out : (r : Result tree_tree.Tree ParseFault) → Answers ks r → (at : ℕ) → r ≡ Err (OutsideProfile at) → is_left_out (slice_get ks at) ≡ true
-  left_out r h at is = (not_memory ks r (OutsideProfile at) h is (outside_known at)).left_out at refl
+  left_out r h at is = (not_memory ks r (OutsideProfile at) h is (λ e. absurd cc)).1
 
   pub not_left_out : (r : Result tree_tree.Tree ParseFault) → Answers ks r → (at : ℕ) → r ≡ Err (Unexpected at) → is_left_out (slice_get ks at) ≡ false
-  not_left_out r h at is = (not_memory ks r (Unexpected at) h is (unexpected_known at)).not_left_out at refl
+  not_left_out r h at is = (not_memory ks r (Unexpected at) h is (λ e. absurd cc)).1
 
   pub too_deep : (r : Result tree_tree.Tree ParseFault) → Answers ks r → (at : ℕ) → r ≡ Err (TooDeep at) → (other : Program) → IsProper other → ks ≢ spell other
-  too_deep r h at is = (not_memory ks r (TooDeep at) h is (deep_known at)).too_deep at refl
+  too_deep r h at is = not_memory ks r (TooDeep at) h is (λ e. absurd cc)
 
   pub within : (r : Result tree_tree.Tree ParseFault) → Answers ks r → (at : ℕ) → r ≡ Err (Unexpected at) → at ≤ length ks
-  within r h at is = (not_memory ks r (Unexpected at) h is (unexpected_known at)).within at refl
-
-  pub outside_within : (r : Result tree_tree.Tree ParseFault) → Answers ks r → (at : ℕ) → r ≡ Err (OutsideProfile at) → at ≤ length ks
-  outside_within r h at is = (not_memory ks r (OutsideProfile at) h is (outside_known at)).outside_within at refl
+  within r h at is = (not_memory ks r (Unexpected at) h is (λ e. absurd cc)).2
 
 -- ---- trees and their spelling
 
 both_land : (p q : Program) (n m : ℕ) (outcome : Outcome Program) → program_depth p ≤ 50 → Lands n (50 < program_depth p) p [] outcome → Lands m (50 < program_depth q) q [] outcome → p ≡ q
 both_land p q n m (Ok x) shallow h g = sym h.0 ∙ g.0
 both_land p q n m (Err (TooDeep k)) shallow h g = absurd (omega (arith, shallow, h))
-both_land p q n m (Err (Unexpected k)) shallow h g = absurd h
-both_land p q n m (Err (OutsideProfile k)) shallow h g = absurd h
-both_land p q n m (Err Memory) shallow h g = absurd h
+both_land p q n m _ shallow h g = absurd h
 
 -- Two proper trees with one spelling are equal.
 pub one_tree : (p q : Program) → IsProper p → IsProper q → spell p ≡ spell q → p ≡ q
@@ -221,5 +141,5 @@ one_tree p q one two e =
 -- what is answered to the tokens of a text was read
 pub read_of : (ts : List Token) → AreOfText ts → (p : Program) → answer (kinds ts) ≡ Ok p → read.IsRead p
 read_of ts text p h =
-    let both : IsProper p × (kinds ts ≡ spell p) = subst (λ (r : Result Program ParseFault). IfOk r (λ q. IsProper q × (kinds ts ≡ spell q))) h (answered (kinds ts)).proper in
+    let both : IsProper p × (kinds ts ≡ spell p) = (subst (λ (r : Result Program ParseFault). Answered (kinds ts) r) h (answered (kinds ts))).0 in
     record { tokens = ts; text = text; spelled = both.1; proper = both.0 }

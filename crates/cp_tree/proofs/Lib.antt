@@ -14,7 +14,6 @@ pub mod Lands
 pub mod LandsLists
 pub mod Laws
 pub mod LineLaws
-pub mod ListTurns
 pub mod Places
 pub mod Shapes
 pub mod Steps

@@ -85,11 +85,8 @@ unfolding same
 same_is m n e = same_true the_type (search rules) _ _ e
 
 passed_list : (total : ℕ) (m : Mark) (at : ℕ) (ks : List Kind) → Begins total at ks → first_mark ks ≡ Some m → Passed total m (record { at = at; rest = ks }) (move at ks)
-passed_list total m at [] p e = absurd cc
 passed_list total m at (kind.Mark n ∷ ks) p e = record { rest = cc; placed = omega arith }
-passed_list total m at (kind.Number n ∷ ks) p e = absurd cc
-passed_list total m at (kind.Character n ∷ ks) p e = absurd cc
-passed_list total m at (kind.Name n ∷ ks) p e = absurd cc
+passed_list total m at _ p e = absurd cc
 
 pub passed : (total : ℕ) (m : Mark) (i : Input) → At total i → mark i ≡ Some m → Passed total m i (advance i)
 unfolding mark advance

@@ -26,7 +26,7 @@ pub fn identifier(alloc: Global, cursor: &mut Cursor<'_>) -> Result<Identifier, 
 }
 
 /// Names with commas between them.
-#[tactic(auto, unfolding(crate::specs::Reading::identifiers, crate::specs::Reading::separated))]
+#[tactic(auto, using(crate::proofs::Turns::turns), unfolding(crate::specs::Reading::identifiers, crate::specs::Reading::separated))]
 pub fn identifiers(alloc: Global, cursor: &mut Cursor<'_>) -> Result<Vec<Identifier>, ParseFault>
     ensures { Reads (λ v. v.items) (spec.identifiers cursor.old) result cursor.new }
 {

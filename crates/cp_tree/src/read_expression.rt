@@ -151,7 +151,7 @@ fn sum(alloc: Global, cursor: &mut Cursor<'_>, budget: usize) -> Result<Sum, Par
 }
 
 #[cycle(expression)]
-#[tactic(auto, unfolding(crate::specs::ReadingExpressions::term_at, crate::specs::ReadingExpressions::next_term))]
+#[tactic(auto, using(crate::proofs::Turns::turns), unfolding(crate::specs::ReadingExpressions::term_at, crate::specs::ReadingExpressions::next_term))]
 fn added_terms(
     alloc: Global,
     cursor: &mut Cursor<'_>,
@@ -181,7 +181,7 @@ fn term(alloc: Global, cursor: &mut Cursor<'_>, budget: usize) -> Result<Term, P
 }
 
 #[cycle(expression)]
-#[tactic(auto, unfolding(crate::specs::ReadingExpressions::next_factor))]
+#[tactic(auto, using(crate::proofs::Turns::turns), unfolding(crate::specs::ReadingExpressions::next_factor))]
 fn multiplied_factors(
     alloc: Global,
     cursor: &mut Cursor<'_>,
@@ -316,7 +316,7 @@ pub fn arguments(
 
 // Expressions with commas between them.
 #[cycle(expression)]
-#[tactic(auto, unfolding(crate::specs::ReadingExpressions::expressions_at, crate::specs::ReadingExpressions::expressions_with, crate::specs::Reading::separated))]
+#[tactic(auto, using(crate::proofs::Turns::turns), unfolding(crate::specs::ReadingExpressions::expressions_at, crate::specs::ReadingExpressions::expressions_with, crate::specs::Reading::separated))]
 fn expressions(
     alloc: Global,
     cursor: &mut Cursor<'_>,
@@ -351,6 +351,7 @@ pub fn designator(
 }
 
 #[cycle(expression)]
+#[tactic(auto, using(crate::proofs::Turns::turns))]
 fn selectors(
     alloc: Global,
     cursor: &mut Cursor<'_>,

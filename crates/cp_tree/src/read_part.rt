@@ -55,7 +55,7 @@ fn variable_group(alloc: Global, cursor: &mut Cursor<'_>) -> Result<VariableGrou
 }
 
 /// Constant definitions, as long as a name comes next.
-#[tactic(auto, unfolding(crate::specs::ReadingDeclarations::one_or_more))]
+#[tactic(auto, using(crate::proofs::Turns::turns), unfolding(crate::specs::ReadingDeclarations::one_or_more))]
 pub fn constant_definitions(
     alloc: Global,
     cursor: &mut Cursor<'_>,
@@ -73,7 +73,7 @@ pub fn constant_definitions(
     Ok(found)
 }
 
-#[tactic(auto, unfolding(crate::specs::ReadingDeclarations::one_or_more))]
+#[tactic(auto, using(crate::proofs::Turns::turns), unfolding(crate::specs::ReadingDeclarations::one_or_more))]
 fn type_definitions(
     alloc: Global,
     cursor: &mut Cursor<'_>,
@@ -92,7 +92,7 @@ fn type_definitions(
 }
 
 /// Variables, as long as a name comes next.
-#[tactic(auto, unfolding(crate::specs::ReadingDeclarations::one_or_more))]
+#[tactic(auto, using(crate::proofs::Turns::turns), unfolding(crate::specs::ReadingDeclarations::one_or_more))]
 pub fn variable_groups(
     alloc: Global,
     cursor: &mut Cursor<'_>,
@@ -134,7 +134,7 @@ fn part(alloc: Global, cursor: &mut Cursor<'_>) -> Result<Option<Part>, ParseFau
 }
 
 /// The parts of a routine or a system type.
-#[tactic(auto, unfolding(crate::specs::ReadingDeclarations::parts))]
+#[tactic(auto, using(crate::proofs::Turns::turns), unfolding(crate::specs::ReadingDeclarations::parts))]
 pub fn parts(alloc: Global, cursor: &mut Cursor<'_>) -> Result<Vec<Part>, ParseFault>
     ensures { Reads (λ v. map part_view v.items) (spec.parts cursor.old) result cursor.new }
 {

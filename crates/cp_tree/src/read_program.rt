@@ -80,7 +80,7 @@ fn system_definition(alloc: Global, cursor: &mut Cursor<'_>) -> Result<SystemDef
     value_before(cursor, SystemDefinition { name, value }, Mark::Semicolon)
 }
 
-#[tactic(auto, unfolding(crate::specs::ReadingDeclarations::one_or_more))]
+#[tactic(auto, using(crate::proofs::Turns::turns), unfolding(crate::specs::ReadingDeclarations::one_or_more))]
 fn system_definitions(
     alloc: Global,
     cursor: &mut Cursor<'_>,
@@ -121,6 +121,7 @@ fn program_part(alloc: Global, cursor: &mut Cursor<'_>) -> Result<Option<Program
     Ok(Some(ProgramPart { at, kind }))
 }
 
+#[tactic(auto, using(crate::proofs::Turns::turns))]
 fn program_parts(alloc: Global, cursor: &mut Cursor<'_>) -> Result<Vec<ProgramPart>, ParseFault>
     ensures { Reads (λ v. map program_part_view v.items) (lists.many spec.program_part_item cursor.old) result cursor.new }
 {

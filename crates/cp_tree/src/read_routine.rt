@@ -38,7 +38,7 @@ fn group(alloc: Global, cursor: &mut Cursor<'_>) -> Result<Group, ParseFault>
     Ok(Group { names, type_name })
 }
 
-#[tactic(auto, unfolding(crate::specs::Reading::separated))]
+#[tactic(auto, using(crate::proofs::Turns::turns), unfolding(crate::specs::Reading::separated))]
 fn group_list(alloc: Global, cursor: &mut Cursor<'_>) -> Result<Vec<Group>, ParseFault>
     ensures { Reads (λ v. map group_view v.items) (lists.separated mark.Semicolon spec.group_item cursor.old) result cursor.new }
 {
@@ -75,7 +75,7 @@ fn parameter_group(alloc: Global, cursor: &mut Cursor<'_>) -> Result<ParameterGr
     Ok(ParameterGroup { at, is_var, group })
 }
 
-#[tactic(auto, unfolding(crate::specs::Reading::separated))]
+#[tactic(auto, using(crate::proofs::Turns::turns), unfolding(crate::specs::Reading::separated))]
 fn parameter_list(alloc: Global, cursor: &mut Cursor<'_>) -> Result<Vec<ParameterGroup>, ParseFault>
     ensures { Reads (λ v. map parameter_group_view v.items) (lists.separated mark.Semicolon spec.parameter_item cursor.old) result cursor.new }
 {
@@ -181,7 +181,7 @@ fn routine(alloc: Global, cursor: &mut Cursor<'_>) -> Result<Option<Routine>, Pa
 }
 
 /// The routines that come next.
-#[tactic(auto, unfolding(crate::specs::ReadingDeclarations::routines))]
+#[tactic(auto, using(crate::proofs::Turns::turns), unfolding(crate::specs::ReadingDeclarations::routines))]
 pub fn routines(alloc: Global, cursor: &mut Cursor<'_>) -> Result<Vec<Routine>, ParseFault>
     ensures { Reads (λ v. map routine_view v.items) (spec.routines cursor.old) result cursor.new }
 {

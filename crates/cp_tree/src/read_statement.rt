@@ -87,7 +87,7 @@ fn assignment_or_call(
 
 /// Statements with semicolons between them.
 #[cycle(statement)]
-#[tactic(auto, unfolding(crate::specs::ReadingStatements::statements_at, crate::specs::Reading::separated))]
+#[tactic(auto, using(crate::proofs::Turns::turns), unfolding(crate::specs::ReadingStatements::statements_at, crate::specs::Reading::separated))]
 pub fn statements(
     alloc: Global,
     cursor: &mut Cursor<'_>,
@@ -281,7 +281,7 @@ fn case(alloc: Global, cursor: &mut Cursor<'_>, budget: usize) -> Result<Stateme
 
 // Arms, and whether a semicolon stands before the `end`.
 #[cycle(statement)]
-#[tactic(auto, unfolding(crate::specs::Reading::ended_list))]
+#[tactic(auto, using(crate::proofs::Turns::ended_turns), unfolding(crate::specs::Reading::ended_list))]
 fn arms(
     alloc: Global,
     cursor: &mut Cursor<'_>,
@@ -314,7 +314,7 @@ fn arm(alloc: Global, cursor: &mut Cursor<'_>, budget: usize) -> Result<Arm, Par
     Ok(Arm { labels, body })
 }
 
-#[tactic(auto, unfolding(crate::specs::ReadingStatements::labels, crate::specs::Reading::separated))]
+#[tactic(auto, using(crate::proofs::Turns::turns), unfolding(crate::specs::ReadingStatements::labels, crate::specs::Reading::separated))]
 fn labels(alloc: Global, cursor: &mut Cursor<'_>) -> Result<Vec<Constant>, ParseFault>
     ensures { Reads (λ v. v.items) (spec.labels cursor.old) result cursor.new }
 {
@@ -343,7 +343,7 @@ fn init(alloc: Global, cursor: &mut Cursor<'_>, budget: usize) -> Result<Stateme
     })
 }
 
-#[tactic(auto, unfolding(crate::specs::Reading::separated))]
+#[tactic(auto, using(crate::proofs::Turns::turns), unfolding(crate::specs::Reading::separated))]
 fn starts(alloc: Global, cursor: &mut Cursor<'_>, budget: usize) -> Result<Vec<Start>, ParseFault>
     ensures { Reads (λ v. map start_view v.items) (lists.separated mark.Comma (spec.start_at budget) cursor.old) result cursor.new }
 {

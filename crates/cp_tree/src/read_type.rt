@@ -154,7 +154,7 @@ fn record(
 
 // Fields, and whether a semicolon stands before the `end`.
 #[cycle(types)]
-#[tactic(auto, unfolding(crate::specs::Reading::ended_list))]
+#[tactic(auto, using(crate::proofs::Turns::ended_turns), unfolding(crate::specs::Reading::ended_list))]
 fn field_groups(
     alloc: Global,
     cursor: &mut Cursor<'_>,

@@ -1,5 +1,4 @@
-use Rattle.std.proofs.Common.{◌≡◌, drop}
-use Rattle.cp_scope.specs.View.{scopes_of}
+use Rattle.cp_check.proofs.Words.{◌≡◌, drop, scopes_of}
 use Rattle.cp_check.specs.Cases as spec
 use Rattle.cp_check.proofs.Fronts.{with_front}
 use Rattle.cp_check.proofs.case.labels.Given as goal

@@ -1,5 +1,4 @@
-use Rattle.std.proofs.Common.{◌≡◌, drop, Some}
-use Rattle.cp_scope.specs.View.{scopes_of}
+use Rattle.cp_check.proofs.Words.{◌≡◌, drop, Some, scopes_of}
 use Rattle.cp_check.specs.Declarations as spec
 use Rattle.cp_check.proofs.declaration.add_all.Given as goal
 

@@ -1,5 +1,4 @@
-use Rattle.std.proofs.Common.{◌≡◌, drop}
-use Rattle.cp_scope.specs.View.{scopes_of}
+use Rattle.cp_check.proofs.Words.{◌≡◌, drop, scopes_of}
 use Rattle.cp_check.specs.Declarations as spec
 use Rattle.cp_check.proofs.declaration.reserve_names.Given as goal
 

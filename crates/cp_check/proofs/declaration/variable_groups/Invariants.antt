@@ -1,5 +1,4 @@
-use Rattle.std.proofs.Common.{◌≡◌, drop, map}
-use Rattle.cp_scope.specs.View.{scopes_of}
+use Rattle.cp_check.proofs.Words.{◌≡◌, drop, map, scopes_of}
 use Rattle.cp_tree.specs.View.{variable_group_view}
 use Rattle.cp_check.specs.Declarations as spec
 use Rattle.cp_check.proofs.declaration.variable_groups.Given as goal

@@ -1,5 +1,4 @@
-use Rattle.std.proofs.Common.{◌≡◌, drop, Ok, Some}
-use Rattle.cp_scope.specs.View.{scopes_of}
+use Rattle.cp_check.proofs.Words.{◌≡◌, drop, Ok, Some, scopes_of}
 use Rattle.cp_tree.specs.View.{expressions_view, expressions_of, terms_view, terms_of, factors_view, factors_of, selectors_view, selectors_of}
 use Rattle.cp_check.specs.Expressions as spec
 use Rattle.cp_check.proofs.Fronts.{with_front}

@@ -1,5 +1,4 @@
-use Rattle.std.proofs.Common.{◌≡◌, drop, Some}
-use Rattle.cp_scope.specs.View.{scope_of}
+use Rattle.cp_check.proofs.Words.{◌≡◌, drop, Some, scope_of}
 use Rattle.cp_check.specs.Records as spec
 use Rattle.cp_check.proofs.record.add_fields.Given as goal
 

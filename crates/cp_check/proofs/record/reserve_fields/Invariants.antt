@@ -1,5 +1,4 @@
-use Rattle.std.proofs.Common.{◌≡◌, drop}
-use Rattle.cp_scope.specs.View.{scope_of}
+use Rattle.cp_check.proofs.Words.{◌≡◌, drop, scope_of}
 use Rattle.cp_check.specs.Records as spec
 use Rattle.cp_check.proofs.record.reserve_fields.Given as goal
 

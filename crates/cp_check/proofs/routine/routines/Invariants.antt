@@ -1,5 +1,4 @@
-use Rattle.std.proofs.Common.{◌≡◌, drop, map}
-use Rattle.cp_scope.specs.View.{scopes_of}
+use Rattle.cp_check.proofs.Words.{◌≡◌, drop, map, scopes_of}
 use Rattle.cp_tree.specs.View.{routine_view}
 use Rattle.cp_check.specs.Routines as spec
 use Rattle.cp_check.proofs.routine.routines.Given as goal

@@ -1,5 +1,4 @@
-use Rattle.std.proofs.Common.{rules, arith}
-use Rattle.cp_scope.specs.View.{scopes_of}
+use Rattle.cp_check.proofs.Words.{rules, arith, scopes_of}
 use Rattle.cp_check.proofs.Branches.{else_first, else_second}
 use Rattle.cp_check.proofs.statement.+statement.Goals as goal
 

@@ -1,7 +1,4 @@
-use Rattle.std.proofs.Common.{◌≡◌, [], drop, Ok}
-use Rattle.cp_scope.specs.Counts.{no_use}
-use Rattle.cp_scope.specs.View.{scopes_of}
-use Rattle.cp_tree.specs.View.{statements_view, statements_of, arms_view, arms_of}
+use Rattle.cp_check.proofs.Words.{◌≡◌, [], drop, Ok, no_use, scopes_of, statements_view, statements_of, arms_view, arms_of}
 use Rattle.cp_check.specs.Statements as spec
 use Rattle.cp_check.proofs.statement.+statement.Given as goal
 

@@ -1,7 +1,4 @@
-use Rattle.std.proofs.Common.{◌≡◌, drop, map, Ok}
-use Rattle.cp_scope.specs.Counts.{no_use}
-use Rattle.cp_scope.specs.View.{scopes_of}
-use Rattle.cp_tree.specs.View.{start_view}
+use Rattle.cp_check.proofs.Words.{◌≡◌, drop, map, Ok, no_use, scopes_of, start_view}
 use Rattle.cp_check.specs.Statements as spec
 use Rattle.cp_check.proofs.statement.starts.Given as goal
 

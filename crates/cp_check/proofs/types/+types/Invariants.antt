@@ -1,5 +1,4 @@
-use Rattle.std.proofs.Common.{◌≡◌, drop}
-use Rattle.cp_scope.specs.View.{scope_of, scopes_of}
+use Rattle.cp_check.proofs.Words.{◌≡◌, drop, scope_of, scopes_of}
 use Rattle.cp_tree.specs.View.{field_groups_of, field_groups_view}
 use Rattle.cp_check.specs.Types as spec
 use Rattle.cp_check.proofs.types.+types.Given as goal

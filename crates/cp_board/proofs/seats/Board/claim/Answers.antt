@@ -1,7 +1,5 @@
-use Rattle.std.proofs.Common.{[], ◌∷◌, length, length-append, ◌<◌, cond, sym, ap, ◌∙◌, subst, arith}
+use Rattle.cp_board.proofs.Words.{[], ◌∷◌, length, length-append, ◌<◌, cond, sym, ap, ◌∙◌, subst, arith, step, HasOpenTask}
 use mathlib.Core.Option.{none}
-use Rattle.atomic_table.specs.Table.{step}
-use Rattle.cp_board.specs.Views.{HasOpenTask}
 use Rattle.cp_board.proofs.Moves.{claim_allows, opens}
 use Rattle.cp_board.proofs.seats.Board.claim.Goals as goal
 

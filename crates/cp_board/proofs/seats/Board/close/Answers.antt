@@ -1,10 +1,7 @@
 use Rattle.std.proofs.Common.{cond, eqb, ◌≡◌, ◌<◌, [], ◌∷◌, ◌++◌, map, min, List, length, All, sym, ap, ◌∙◌, subst, arith, append_assoc}
-use Rattle.std.proofs.lemmas.List.Elements.{All-cons}
+use Rattle.cp_board.proofs.Words.{All-cons, Seat, NotesOnce, NotesEachOnce, Settles, together}
 use Rattle.std.proofs.lemmas.List.{length-map}
 use Rattle.std.specs.Slots.{slots_items}
-use Rattle.cp_board.specs.declared.seats.Seat.{Seat}
-use Rattle.cp_board.specs.Views.{NotesOnce, NotesEachOnce, Settles}
-use Rattle.cp_board.specs.Rule.{together}
 use Rattle.cp_board.specs.Seats.{IsSeatOf, view_of}
 use Rattle.cp_board.proofs.Moves.{joins}
 use Rattle.cp_board.proofs.Closing.{in_middle, gathered-cons, nothing_left, closes, each_once}

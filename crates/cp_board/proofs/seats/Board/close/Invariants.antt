@@ -1,8 +1,5 @@
-use Rattle.std.proofs.Common.{◌≡◌, ◌<◌, [], ◌++◌, List, map, length, All}
-use Rattle.cp_board.specs.declared.seats.Seat.{Seat}
-use Rattle.cp_board.specs.Views.{NotesOnce}
+use Rattle.cp_board.proofs.Words.{◌≡◌, ◌<◌, [], ◌++◌, List, map, length, All, Seat, NotesOnce, view_of}
 use Rattle.cp_board.proofs.Closing.{gathered}
-use Rattle.cp_board.specs.Seats.{view_of}
 use Rattle.cp_board.proofs.seats.Board.close.Given as goal
 
 abbrev pub invariant-loop-seat : goal.invariant-loop-seat

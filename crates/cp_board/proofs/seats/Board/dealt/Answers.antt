@@ -1,9 +1,4 @@
-use Rattle.std.proofs.Common.{◌≡◌, [], ◌∷◌, All, length, sym, refl, ap, ◌∙◌, subst, arith, length-append}
-use Rattle.std.proofs.lemmas.List.Elements.{All-push, All-weaker}
-use Rattle.cp_board.specs.declared.seats.Seat.{Seat}
-use Rattle.cp_board.specs.Views.{view}
-use Rattle.cp_board.specs.Rule.{keeper, dealt}
-use Rattle.cp_board.specs.Seats.{view_of}
+use Rattle.cp_board.proofs.Words.{◌≡◌, [], ◌∷◌, All, length, sym, refl, ap, ◌∙◌, subst, arith, length-append, All-push, All-weaker, Seat, view, keeper, dealt, view_of}
 use Rattle.cp_board.proofs.Moves.{splits}
 use Rattle.cp_board.proofs.seats.Board.dealt.Goals as goal
 

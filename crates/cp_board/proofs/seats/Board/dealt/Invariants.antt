@@ -1,5 +1,4 @@
-use Rattle.std.proofs.Common.{◌≡◌, ◌+◌, [], length, All}
-use Rattle.cp_board.specs.Views.{view}
+use Rattle.cp_board.proofs.Words.{◌≡◌, ◌+◌, [], length, All, view}
 use Rattle.cp_board.proofs.seats.Board.dealt.Given as goal
 
 abbrev pub invariant-loop : goal.invariant-loop

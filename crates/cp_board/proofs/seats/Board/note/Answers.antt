@@ -1,8 +1,5 @@
-use Rattle.std.proofs.Common.{◌+◌, sym, ap, ◌∙◌, subst, arith}
+use Rattle.cp_board.proofs.Words.{◌+◌, sym, ap, ◌∙◌, subst, arith, Me, step, View, NotesOnce}
 use mathlib.Core.Option.{none}
-use Rattle.atomic_table.specs.Table.{Me, step}
-use Rattle.cp_board.specs.declared.views.View.{View}
-use Rattle.cp_board.specs.Views.{NotesOnce}
 use Rattle.cp_board.proofs.Moves.{note_allows, note_once}
 use Rattle.cp_board.proofs.seats.Board.note.Goals as goal
 
