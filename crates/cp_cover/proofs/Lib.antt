@@ -3,5 +3,4 @@ pub mod FromLayer
 pub mod FromState
 pub mod Processes
 pub mod Stretches
-pub mod Wanted
 mod Words

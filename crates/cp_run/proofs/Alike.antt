@@ -26,8 +26,7 @@ NodesAlike R (Choosing s) (Choosing t) = R s t
 
 among_alike : {S : Type 0} (sys : System S) (s t : S) (kernel : Bool) (p : ℕ) (ready : List ℕ) → sys.waits t ≡ sys.waits s → turn_among sys t kernel p ready ≡ turn_among sys s kernel p ready
 among_alike sys s t kernel p [] e = ap (λ b. if b then Over AllWaiting else Over Finished) e
-among_alike sys s t kernel p (q ∷ []) e = refl
-among_alike sys s t kernel p (q ∷ r ∷ qs) e = refl
+among_alike sys s t kernel p _ e = refl
 
 settled_alike : {S : Type 0} (sys : System S) (R : S → S → Type 0) → Simulates sys R → (s t : S) (kernel : Bool) (p : ℕ) → R s t → settled_turn sys t kernel p ≡ settled_turn sys s kernel p
 settled_alike sys R sim s t kernel p h =

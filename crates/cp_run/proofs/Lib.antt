@@ -1,5 +1,7 @@
 pub mod Alike
+pub mod Choosable
 pub mod Choosing
+pub mod DueChoices
 pub mod Failing
 pub mod Owning
 pub mod Prefixes

@@ -9,13 +9,11 @@ use Rattle.cp_run.specs.Table.{Line, words, lines_of, each, table, IsAmong, Here
 -- the word is wholly used
 abbrev pub UsesWholly : List ℕ → Answer → Type 0
 UsesWholly word (Ended outcome used) = used ≡ length word
-UsesWholly word (Wants ready) = ⊥
-UsesWholly word (NotReady place) = ⊥
+UsesWholly word _ = ⊥
 
 later_uses : (p : ℕ) (word : List ℕ) (a : Answer) → UsesWholly (p ∷ word) (later a) → UsesWholly word a
 later_uses p word (Ended outcome used) h = omega (arith, h)
-later_uses p word (Wants ready) h = h
-later_uses p word (NotReady place) h = h
+later_uses p word _ h = h
 
 -- a run that ends with its word ends with each longer one too, and uses no more
 pub goes_no_further : {S : Type 0} (sys : System S) (steps choices : ℕ) (word rest : List ℕ) (node : Node S) → UsesWholly word (run_from sys steps choices word node) → run_from sys steps choices (word ++ rest) node ≡ run_from sys steps choices word node
@@ -47,8 +45,7 @@ among_one P l m false h i = elim i [ ]
 of_lines : {S : Type 0} (sys : System S) (choices steps : ℕ) (l : Line) (word : List ℕ) (a : Answer) → run sys choices steps word ≡ a → IsAmong l (lines_of word a) → UsesWholly l.word (run sys choices steps l.word)
 of_lines sys choices steps l word (Ended outcome used) e i =
     among_one (λ m. UsesWholly m.word (run sys choices steps m.word)) l (record { word = word; outcome = outcome }) (used == length word) (λ h. subst (UsesWholly word) (sym e) (eqb-true used (length word) h)) i
-of_lines sys choices steps l word (Wants ready) e i = elim i [ ]
-of_lines sys choices steps l word (NotReady place) e i = elim i [ ]
+of_lines sys choices steps l word _ e i = elim i [ ]
 
 pub of_table : {S : Type 0} (sys : System S) (choices steps : ℕ) (l : Line) → IsAmong l (table sys choices steps) → UsesWholly l.word (run sys choices steps l.word)
 unfolding table
@@ -60,8 +57,7 @@ none_left (p ∷ rest) h = absurd (omega (arith, h))
 
 both_use : (word rest : List ℕ) (a : Answer) → UsesWholly word a → UsesWholly (word ++ rest) a → rest ≡ []
 both_use word rest (Ended outcome used) h k = none_left rest (omega (arith, h, k, length-append word rest))
-both_use word rest (Wants ready) h k = absurd h
-both_use word rest (NotReady place) h k = absurd h
+both_use word rest _ h k = absurd h
 
 pub prefix_free : {S : Type 0} (sys : System S) (choices steps : ℕ) → IsPrefixFree (table sys choices steps)
 prefix_free sys choices steps l m rest i j e =

@@ -46,10 +46,9 @@ at_due sys s kernel p h = λ free. settled_due sys s kernel p (sym (ap (λ b. if
 
 after_due : {S : Type 0} (sys : System S) (t : S) (p : ℕ) (e : Event) → turn_after sys t p e ≡ Due → Stands sys (Choosing t)
 after_due sys t p Local h = at_due sys t false p h
-after_due sys t p (Kernel call) h = at_due sys t true p h
-after_due sys t p Ended h = at_due sys t true p h
 after_due sys t p (Fault x) h = absurd (cc)
 after_due sys t p OutputFull h = absurd (cc)
+after_due sys t p _ h = at_due sys t true p h
 
 stands_at : {S : Type 0} (sys : System S) (t : S) (on : ℕ → Node S) (turn : Turn) → ((q : ℕ) → Stands sys (on q)) → (turn ≡ Due → Stands sys (Choosing t)) → Stands sys (node_at t on turn)
 stands_at sys t on (Over kind) h due = tt

@@ -17,9 +17,8 @@ step_few sys t p (Fault e) = omega arith
 step_few sys t p OutputFull = omega arith
 
 on_few : (on : ℕ → List TraceLine) (n : ℕ) (turn : Turn) → ((q : ℕ) → length (on q) ≤ n) → length (lines_on on turn) ≤ n
-on_few on n (Over kind) h = omega arith
-on_few on n Due h = omega arith
 on_few on n (Goes q) h = h q
+on_few on n _ h = omega arith
 
 stretch_few : {S : Type 0} (sys : System S) (steps : ℕ) (s : S) (p : ℕ) → length (stretch_lines sys steps s p) ≤ steps
 unfolding stretch_lines

@@ -12,19 +12,16 @@ among_nobody sys s kernel p (q ∷ []) e = absurd (cc)
 among_nobody sys s kernel p (q ∷ r ∷ qs) e = absurd (cc)
 
 abbrev the_one : Readiness → ℕ
-the_one Nobody = 0
 the_one (One p) = p
-the_one Several = 0
+the_one _ = 0
 
 pub among_one : {S : Type 0} (sys : System S) (s : S) (kernel : Bool) (p : ℕ) (ready : List ℕ) (q : ℕ) → readiness_of ready ≡ One q → turn_among sys s kernel p ready ≡ Goes q
-among_one sys s kernel p [] q e = absurd (cc)
 among_one sys s kernel p (r ∷ []) q e = ap (λ x. Goes (the_one x)) e
-among_one sys s kernel p (r ∷ t ∷ qs) q e = absurd (cc)
+among_one sys s kernel p _ q e = absurd (cc)
 
 pub among_several : {S : Type 0} (sys : System S) (s : S) (kernel : Bool) (p : ℕ) (ready : List ℕ) → readiness_of ready ≡ Several → turn_among sys s kernel p ready ≡ (if kernel then Due else Goes p)
-among_several sys s kernel p [] e = absurd (cc)
-among_several sys s kernel p (q ∷ []) e = absurd (cc)
 among_several sys s kernel p (q ∷ r ∷ qs) e = refl
+among_several sys s kernel p _ e = absurd (cc)
 
 among_append : {A : Type 0} (P : A → Type 0) (x : A) (xs ys : List A) → (IsAmong x xs → P x) → (IsAmong x ys → P x) → IsAmong x (xs ++ ys) → P x
 among_append P x [] ys h k i = k i

@@ -1,10 +1,16 @@
 -- Processes that become others one by one, and the state that has done so.
 use Rattle.std.proofs.Common.{◌≡◌, ◌∙◌, ◌+◌, ◌<◌, ◌≤◌, ℕ, [], ◌∷◌, List, ap, arith, length, map, refl, reverse, subst, sym}
-use Rattle.std.specs.Prelude.{slice_index_or, slice_set, vec_capacity}
-use Rattle.std.proofs.lemmas.List.{ext_get_or, get_or-map, get_or-set_other, get_or_read, length-map, length-reverse, length-set}
+use Rattle.std.specs.Prelude.{slice_index_or, slice_set, vec_capacity, vec_len}
+use Rattle.std.specs.Vec.{with_items}
+use Rattle.std.proofs.lemmas.List.{ext_get_or, get_or-map, get_or-set_other, get_or_read, length-map, length-reverse, length-set, with_items_is}
 use Rattle.cp_machine.specs.declared.process.ProcessState.{ProcessState}
-use Rattle.cp_machine.specs.Fits.{HaveCells, HaveReferences, HaveStacks}
-use Rattle.cp_machine.specs.Machine.{Machine, Thread, no_thread, thread_at, thread_of}
+use Rattle.cp_slots.specs.Tables.{Tables}
+use Rattle.cp_key.specs.Room.{IsMachineOf}
+use Rattle.cp_key.proofs.Owned.{machine_room}
+use Rattle.cp_machine.specs.declared.state.State.{State}
+use Rattle.cp_machine.specs.Fits.{HaveCells, HaveReferences, HaveStacks, IsStateOf, LinesFit, MachineFits}
+use Rattle.cp_machine.specs.Machine.{Machine, Thread, machine_of, no_thread, thread_at, thread_of}
+use Rattle.cp_machine.specs.Reach.{Reaches}
 use Rattle.cp_machine.proofs.CopyLemmas.{set_each}
 use Rattle.cp_states.specs.declared.store.Store.{Store}
 use Rattle.cp_states.specs.Admitted.{admitted_by}
@@ -82,3 +88,60 @@ cells_kept threads old new n cells h few q d lt = let there : q < length old = o
 
 pub references_kept : (threads : ℕ → Thread) (old new : List ProcessState) (n references : ℕ) → AreTaken threads old new n → HaveReferences references old → HaveReferences references new
 references_kept threads old new n references h few q d lt = let there : q < length old = omega (arith, lt, h.count) in let a = few q d there in let b = (h.room q d there).references in omega (arith, a, b)
+
+-- ---- a state of the program's takes the parts of a row
+
+-- the thread that has a number in a row
+abbrev pub row_thread : Store → List ℕ → ℕ → Thread
+row_thread store row pid = thread_at (map thread_of store.threads.all.items) (number_at row (5 + pid))
+
+module _ (r : Tables) (m : Machine) (store : Store) (row : List ℕ) (s : State) (own : IsStateOf r s) (its : IsMachineOf r m) (is : IsRowOf store row m) where
+  as_many : length m.threads ≡ length s.processes.items
+  as_many = its.fits.threads ∙ sym own.fits.threads ∙ length-map s.processes.items thread_of
+
+  -- each process has a number, and room for the thread that has it
+  pub number_within : (ps : List ProcessState) → ps ≡ s.processes.items → (pid : ℕ) → pid < length ps → number_at row (5 + pid) < length store.threads.all.items
+  number_within ps same pid lt =
+      let there : pid < length m.threads = omega (arith, lt, ap length same, as_many) in
+      let within = (is.threads pid there).within in
+      omega (arith, within, length-map store.threads.all.items thread_of)
+
+  pub room_within : (ps : List ProcessState) → ps ≡ s.processes.items → (pid : ℕ) (d : ProcessState) → pid < length ps → HasRoomFor (slice_index_or ps pid d) (row_thread store row pid)
+  room_within ps same pid d lt =
+      let here : pid < length s.processes.items = omega (arith, lt, ap length same) in
+      let there : pid < length m.threads = omega (arith, here, as_many) in
+      let room = (machine_room r s m own its).threads.each pid d here in
+      subst (λ qs. HasRoomFor (slice_index_or qs pid d) (row_thread store row pid)) (sym same) (subst (HasRoomFor (slice_index_or s.processes.items pid d)) (sym (is.threads pid there).is) (record { stack = room.stack; cells = room.cells; references = room.references }))
+
+  module _ (ps new : List ProcessState) (same : ps ≡ s.processes.items) (taken : AreTaken (row_thread store row) ps new (length ps)) where
+    all_taken : AreTaken (row_thread store row) s.processes.items new (length s.processes.items)
+    all_taken = subst (λ qs. AreTaken (row_thread store row) qs new (length qs)) same taken
+
+    whole : (with_items s.processes new).items ≡ new
+    whole =
+        let size : vec_len s.processes ≡ length s.processes.items = s.processes.ok.0 in
+        with_items_is s.processes new (omega (arith, all_taken.count, size))
+
+    -- the processes that were taken are the machine's, and the state is the program's again
+    pub processes_taken : map thread_of (with_items s.processes new).items ≡ m.threads
+    processes_taken = ap (map thread_of) whole ∙ threads_taken (row_thread store row) s.processes.items new m.threads as_many (λ pid lt. (is.threads pid lt).is) all_taken
+
+    pub state_taken : (t : State) → machine_of t ≡ m → t.processes ≡ with_items s.processes new → t.bounds ≡ s.bounds → vec_capacity s.output ≤ vec_capacity t.output → IsStateOf r t
+    state_taken t became_ processes bounds output =
+        let here : t.processes.items ≡ new = ap (λ v. v.items) processes ∙ whole in
+        let long = ap (λ (x : Machine). length x.output) became_ in
+        let len : vec_len t.output ≡ length t.output.items = t.output.ok.0 in
+        record {
+          sound = own.sound;
+          fits = subst (MachineFits r) (sym became_) its.fits;
+          lines = subst LinesFit (sym became_) its.lines;
+          reach = subst (Reaches r) (sym became_) its.reach;
+          reserved = record {
+            stacks = subst (HaveStacks r.depth) (sym here) (stacks_kept (row_thread store row) s.processes.items new (length s.processes.items) r.depth all_taken own.reserved.stacks);
+            cells = subst (HaveCells r.cells) (sym here) (cells_kept (row_thread store row) s.processes.items new (length s.processes.items) r.cells all_taken own.reserved.cells);
+            references = subst (HaveReferences r.references) (sym here) (references_kept (row_thread store row) s.processes.items new (length s.processes.items) r.references all_taken own.reserved.references);
+            output = omega (arith, own.reserved.output, output);
+            shown = omega (arith, long, len, its.shown);
+            bounds = subst (λ v. r.arguments ≤ vec_capacity v) (sym bounds) own.reserved.bounds;
+          };
+        }

@@ -1,41 +1,15 @@
 -- The numbers that may be taken, one after the other.
-use Rattle.std.proofs.Common.{◌≡◌, ◌∙◌, ℕ, zero, suc, ◌<◌, ◌≤◌, ◌+◌, ◌⊎◌, ⊎_elim, Bool, true, false, ◌==◌, if◌then◌else◌, List, [], ◌∷◌, ◌++◌, length, map, take, flat_map, get_or, refl, sym, ap, subst, arith}
+use Rattle.std.proofs.Common.{◌≡◌, ◌∙◌, ℕ, zero, suc, ◌<◌, ◌≤◌, ◌+◌, Bool, true, false, ◌==◌, if◌then◌else◌, List, [], ◌∷◌, ◌++◌, length, map, take, flat_map, get_or, refl, sym, ap, subst, arith}
 use Rattle.std.proofs.Math.ListN.{get_or-append}
 use Rattle.std.proofs.Math.Seq.{get_or-append_seam, take-append_seam}
 use Rattle.std.proofs.lemmas.Grind.{flat_map-append}
 use Rattle.std.proofs.lemmas.List.{length-append, length-map, take-append-le, take_more}
-use Rattle.std.proofs.lemmas.Bool.{cases_lt}
 use Rattle.cp_walk.proofs.Words.{list_any, System, those_below, joined_below, Choosing, may, chosen, Line, beginnings, words_in, behind, walk, IsDue}
+use Rattle.cp_run.proofs.Choosable.{At, at_those}
 use Rattle.cp_run.proofs.Wanting.{any_wanted}
 use Rattle.cp_walk.proofs.Branches.{branch, walk_due, append_none, taken, too_many}
 use Rattle.cp_walk.proofs.Calling.{calls_all, calls_taken}
 use Rattle.cp_walk.proofs.Counted.{added}
-
--- the number at a place, and those before it
-abbrev At : (ℕ → Bool) → ℕ → ℕ → List ℕ → Type 0
-At f n i xs = (take i xs ≡ those_below (get_or xs i 0) f) × (f (get_or xs i 0) ≡ true) × (get_or xs i 0 < n)
-
-at_one_more : (f : ℕ → Bool) (n i : ℕ) (b : Bool) → f n ≡ b → (xs : List ℕ) → xs ≡ those_below n f → (i < length xs → At f n i xs) → i < length (xs ++ (if b then n ∷ [] else [])) → At f (suc n) i (xs ++ (if b then n ∷ [] else []))
-at_one_more f n i b e xs same on lt =
-    ⊎_elim
-    (λ (below : i < length xs).
-    let h = on below in
-    let tail : List ℕ = if b then n ∷ [] else [] in
-    let g : get_or (xs ++ tail) i 0 ≡ get_or xs i 0 = get_or-append xs tail 0 i below in
-    (take-append-le i xs tail (omega (arith, below)) ∙ h.0 ∙ ap (λ p. those_below p f) (sym g), ap f g ∙ h.1, omega (arith, g, h.2)))
-    (λ (above : length xs ≤ i). seam b e lt above)
-    (cases_lt i (length xs))
-  where
-    seam : (b : Bool) → f n ≡ b → i < length (xs ++ (if b then n ∷ [] else [])) → length xs ≤ i → At f (suc n) i (xs ++ (if b then n ∷ [] else []))
-    seam false e lt above = absurd (omega (arith, lt, above, ap length (append_none xs)))
-    seam true e lt above =
-        let at : i ≡ length xs = omega (arith, lt, above, length-append xs (n ∷ [])) in
-        let g : get_or (xs ++ n ∷ []) i 0 ≡ n = ap (λ k. get_or (xs ++ n ∷ []) k 0) at ∙ get_or-append_seam xs n [] 0 in
-        (ap (λ k. take k (xs ++ n ∷ [])) at ∙ take-append_seam xs (n ∷ []) ∙ same ∙ ap (λ p. those_below p f) (sym g), ap f g ∙ e, omega (arith, g))
-
-at_those : (f : ℕ → Bool) (n i : ℕ) → i < length (those_below n f) → At f n i (those_below n f)
-at_those f zero i lt = absurd (omega (arith, lt))
-at_those f (suc n) i lt = at_one_more f n i (f n) refl (those_below n f) refl (at_those f n i) lt
 
 -- what is joined of the numbers that may be
 joined_those : {A : Type 0} (f : ℕ → Bool) (h : ℕ → List A) (n : ℕ) → flat_map h (those_below n f) ≡ joined_below n (λ p. if f p then h p else [])

@@ -1,5 +1,5 @@
 -- A node like one that was walked has its rows, with another beginning of the words and of what was displayed.
-use Rattle.std.proofs.Common.{◌≡◌, ◌∙◌, ◌⊎◌, inl, inr, ◌+◌, ◌-◌, ◌<◌, ◌≤◌, ℕ, zero, suc, Bool, true, false, cond, if◌then◌else◌, Option, None, Some, unwrap_or, take_all, List, [], ◌∷◌, ◌++◌, get_or, length, map, take, drop, All, refl, sym, ap, subst, arith}
+use Rattle.std.proofs.Common.{◌≡◌, ◌∙◌, ◌⊎◌, inl, inr, Result, Ok, Err, IfOk, ◌+◌, ◌-◌, ◌<◌, ◌≤◌, ℕ, zero, suc, Bool, true, false, cond, if◌then◌else◌, Option, None, Some, unwrap_or, take_all, List, [], ◌∷◌, ◌++◌, get_or, length, map, take, drop, All, refl, sym, ap, subst, arith}
 use Rattle.std.specs.Prelude.{nat_eq, slice_index_or}
 use Rattle.cp_walk.proofs.Words.{list_any, lookup, pointwise, Tables, Shown, Choosing, slots, System, Line, each, beginnings, beginnings_of, with_new}
 use Rattle.cp_walk.proofs.Words.{words_in, line_of, Row}
@@ -129,6 +129,10 @@ module _ (sys : System Machine) (steps choices : ℕ) where
 
   pub walked_more : (rows more : List Line) (es : List (NodeKey × Span)) → AreWalked sys steps choices rows es → AreWalked sys steps choices (rows ++ more) es
   walked_more rows more es h = λ k d lt. walked_then rows more (slice_index_or es k d) (h k d lt)
+
+  pub walked_if : {A E : Type 0} (rows more new : List Line) (es : List (NodeKey × Span)) (r : Result A E) → IfOk r (λ _. new ≡ rows ++ more) → AreWalked sys steps choices rows es → IfOk r (λ _. AreWalked sys steps choices new es)
+  walked_if rows more new es (Ok x) is h = subst (λ ls. AreWalked sys steps choices ls es) (sym is) (walked_more rows more es h)
+  walked_if rows more new es (Err e) is h = tt
 
   rekeyed : (rows : List Line) (k j : NodeKey) (span : Span) → k.bytes.items ≡ j.bytes.items → IsWalked sys steps choices rows (k, span) → IsWalked sys steps choices rows (j, span)
   rekeyed rows k j span same h = record { state = h.state; left = h.left; before = h.before; key = sym same ∙ h.key; word = h.word; some = h.some; within = h.within; same = h.same }

@@ -1,10 +1,9 @@
 -- What a worker leaves.
 use Rattle.cp_walk.specs.declared.row.Row.{Row}
-use Rattle.std.specs.Prelude.{◌≡◌, ℕ, ◌<◌, ◌≤◌, List, [], length, map, take, All, Any}
-use Rattle.cp_board.specs.Views.{view}
+use Rattle.std.specs.Prelude.{◌≡◌, ℕ, ◌<◌, ◌≤◌, List, length, map, take, All, Any}
 use Rattle.cp_board.specs.declared.views.View.{View}
 use Rattle.cp_board.specs.declared.seats.Board.{Board}
-use Rattle.cp_board.specs.Seats.{IsSeatOf, tasks_of, view_of}
+use Rattle.cp_board.specs.Seats.{IsSeatOf, view_of}
 use Rattle.cp_walk.specs.declared.worker.TaskRows.{TaskRows}
 use Rattle.cp_walk.specs.declared.worker.Worked.{Worked}
 use Rattle.cp_walk.specs.declared.worker.WorkerEnd.{WorkerEnd}
@@ -35,7 +34,3 @@ IsKept Refused = ⊥
 
 abbrev pub HasWorked : (ℕ → List Row) → Board → Worked → Type 0
 HasWorked rows b w = IsSeatOf b w.seat × EndsAs rows (view_of w.seat) w.parts.items w.end
-
--- a desk at which nobody has worked
-abbrev pub IsFresh : Board → Worked → Type 0
-IsFresh b w = IsSeatOf b w.seat × (view_of w.seat ≡ view 1 (tasks_of b) [] [] 0) × (w.parts.items ≡ [])

@@ -1,8 +1,7 @@
 -- What rows and faults of the code stand for.
-use Rattle.std.specs.Prelude.{ℕ, ◌≤◌, List, map}
+use Rattle.std.specs.Prelude.{ℕ, ◌≤◌}
 use Rattle.cp_run.specs.declared.outcome.RunEnd.{RunEnd}
 use Rattle.cp_run.specs.declared.outcome.RunEnd.TheVariants as end
-use Rattle.std.specs.Borrow.{Bor}
 use Rattle.cp_run.specs.Table.{Line}
 use Rattle.cp_walk.specs.declared.row.Row.{Row}
 use Rattle.cp_walk.specs.declared.fault.ExploreFault.{ExploreFault}
@@ -14,10 +13,6 @@ line_of r = record { word = r.word.items; outcome = r.outcome }
 abbrev pub IsTooMany : ExploreFault → Type 0
 IsTooMany Memory = ⊥
 IsTooMany TooManyRows = Unit {0}
-
--- the rows that references point to
-abbrev pub lines_at : List (Bor Row) → List Line
-lines_at rows = map (λ r. line_of r.now) rows
 
 -- the part of the word that a run's end used is within this many numbers
 abbrev pub UsedWithin : RunEnd → ℕ → Type 0

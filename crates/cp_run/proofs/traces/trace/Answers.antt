@@ -9,29 +9,21 @@ use Rattle.cp_run.proofs.Tracing.{no_more}
 use Rattle.cp_run.proofs.Failing.{none_well}
 use Rattle.cp_run.proofs.traces.trace.Goals as goal
 
-pub returns-then-is_over-clause-lines : goal.returns-then-is_over-clause-lines
-returns-then-is_over-clause-lines g c =
+pub returns-then-is_over : goal.returns-then-is_over
+returns-then-is_over g c =
     let sys = slots c.args.program.now c.args.limits.gates in
     let k = c.args.limits.choices - c.loop-place.place in
     let w = drop c.loop-place.place c.args.word.now in
-    no_more (trace sys c.args.limits.choices c.args.limits.steps c.args.word.now) c.loop-place.lines.items (c.loop-place.invariant.lines ∙ ap (λ l. c.loop-place.lines.items ++ l) (over_lines sys c.args.limits.steps k w c.loop-place.halt (machine_of c.loop-place.state) (sym c.is_over.ensures ∙ c.if-is_over.true)))
+    let lines = no_more (trace sys c.args.limits.choices c.args.limits.steps c.args.word.now) c.loop-place.lines.items (c.loop-place.invariant.lines ∙ ap (λ l. c.loop-place.lines.items ++ l) (over_lines sys c.args.limits.steps k w c.loop-place.halt (machine_of c.loop-place.state) (sym c.is_over.ensures ∙ c.if-is_over.true))) in
+    record {
+      lines = lines;
+      answer = c.in_ok-end.ensures ∙ sym (c.loop-place.invariant.same ∙ ap (further c.loop-place.place) (over_run sys c.args.limits.steps k w c.loop-place.halt (machine_of c.loop-place.state) (sym c.is_over.ensures ∙ c.if-is_over.true)));
+      few = few_lines sys c.args.limits.steps c.args.limits.choices c.args.word.now c.loop-place.lines.items lines;
+      ticks = ticks_within _ _ _ _ _ c.loop-place.invariant.ticks c.loop-place.invariant.within;
+    }
 
-pub returns-then-is_over-clause-answer : goal.returns-then-is_over-clause-answer
-returns-then-is_over-clause-answer g c =
-    let sys = slots c.args.program.now c.args.limits.gates in
-    let k = c.args.limits.choices - c.loop-place.place in
-    let w = drop c.loop-place.place c.args.word.now in
-    c.in_ok-end.ensures ∙ sym (c.loop-place.invariant.same ∙ ap (further c.loop-place.place) (over_run sys c.args.limits.steps k w c.loop-place.halt (machine_of c.loop-place.state) (sym c.is_over.ensures ∙ c.if-is_over.true)))
-
-pub returns-then-is_over-clause-few : goal.returns-then-is_over-clause-few
-returns-then-is_over-clause-few g c =
-    let sys = slots c.args.program.now c.args.limits.gates in
-    let k = c.args.limits.choices - c.loop-place.place in
-    let w = drop c.loop-place.place c.args.word.now in
-    few_lines sys c.args.limits.steps c.args.limits.choices c.args.word.now c.loop-place.lines.items (no_more (trace sys c.args.limits.choices c.args.limits.steps c.args.word.now) c.loop-place.lines.items (c.loop-place.invariant.lines ∙ ap (λ l. c.loop-place.lines.items ++ l) (over_lines sys c.args.limits.steps k w c.loop-place.halt (machine_of c.loop-place.state) (sym c.is_over.ensures ∙ c.if-is_over.true))))
-
-pub returns-then-not-may-clause-lines : goal.returns-then-not-may-clause-lines
-returns-then-not-may-clause-lines g c =
+pub returns-then-not-may : goal.returns-then-not-may
+returns-then-not-may g c =
     let sys = slots c.args.program.now c.args.limits.gates in
     let m = machine_of c.loop-place.state in
     let n = c.loop-place.place in
@@ -41,31 +33,26 @@ returns-then-not-may-clause-lines g c =
     let p = get_or c.args.word.now n 0 in
     let going = sym c.is_over.ensures ∙ c.if-is_over.false in
     let more = some_left k c.loop-place.halt going in
-    no_more (trace sys c.args.limits.choices c.args.limits.steps c.args.word.now) c.loop-place.lines.items (c.loop-place.invariant.lines ∙ ap (λ h. c.loop-place.lines.items ++ trace_from sys c.args.limits.steps k w (node_of h m)) (not_over k c.loop-place.halt going) ∙ ap (λ l. c.loop-place.lines.items ++ l) (refused_lines sys c.args.limits.steps k (c.args.limits.choices - (n + 1)) p w rest m (omega (arith, more)) (drop_next c.args.word.now n (omega arith)) (sym c.may.ensures ∙ c.if-not-may.true)))
+    let lines = no_more (trace sys c.args.limits.choices c.args.limits.steps c.args.word.now) c.loop-place.lines.items (c.loop-place.invariant.lines ∙ ap (λ h. c.loop-place.lines.items ++ trace_from sys c.args.limits.steps k w (node_of h m)) (not_over k c.loop-place.halt going) ∙ ap (λ l. c.loop-place.lines.items ++ l) (refused_lines sys c.args.limits.steps k (c.args.limits.choices - (n + 1)) p w rest m (omega (arith, more)) (drop_next c.args.word.now n (omega arith)) (sym c.may.ensures ∙ c.if-not-may.true))) in
+    record {
+      lines = lines;
+      answer = sym (c.loop-place.invariant.same ∙ ap (λ h. further n (run_from sys c.args.limits.steps k w (node_of h m))) (not_over k c.loop-place.halt going) ∙ refused_at sys c.args.limits.steps k (c.args.limits.choices - (n + 1)) n p w rest m (omega (arith, more)) (drop_next c.args.word.now n (omega arith)) (sym c.may.ensures ∙ c.if-not-may.true));
+      few = few_lines sys c.args.limits.steps c.args.limits.choices c.args.word.now c.loop-place.lines.items lines;
+      ticks = ticks_within _ _ _ _ _ c.loop-place.invariant.ticks c.loop-place.invariant.within;
+    }
 
-pub returns-then-not-may-clause-answer : goal.returns-then-not-may-clause-answer
-returns-then-not-may-clause-answer g c =
-    let sys = slots c.args.program.now c.args.limits.gates in
-    let m = machine_of c.loop-place.state in
-    let n = c.loop-place.place in
-    let k = c.args.limits.choices - n in
-    let w = drop n c.args.word.now in
-    let rest = drop (n + 1) c.args.word.now in
-    let p = get_or c.args.word.now n 0 in
-    let going = sym c.is_over.ensures ∙ c.if-is_over.false in
-    let more = some_left k c.loop-place.halt going in
-    sym (c.loop-place.invariant.same ∙ ap (λ h. further n (run_from sys c.args.limits.steps k w (node_of h m))) (not_over k c.loop-place.halt going) ∙ refused_at sys c.args.limits.steps k (c.args.limits.choices - (n + 1)) n p w rest m (omega (arith, more)) (drop_next c.args.word.now n (omega arith)) (sym c.may.ensures ∙ c.if-not-may.true))
-
-pub returns-then-not-may-clause-few : goal.returns-then-not-may-clause-few
-returns-then-not-may-clause-few g c = few_lines (slots c.args.program.now c.args.limits.gates) c.args.limits.steps c.args.limits.choices c.args.word.now c.loop-place.lines.items (returns-then-not-may-clause-lines g c)
-
-pub returns-in_err-halt-2-clause-ticks : goal.returns-in_err-halt-2-clause-ticks
-returns-in_err-halt-2-clause-ticks g c =
+pub returns-in_err-halt-2 : goal.returns-in_err-halt-2
+returns-in_err-halt-2 g c =
     let more = some_left (c.args.limits.choices - c.loop-place.place) c.loop-place.halt (sym c.is_over.ensures ∙ c.if-is_over.false) in
     let so_far = c.loop-place.invariant.ticks in
     let added = c.trace_choice.ensures.steps in
     let within : c.loop-place.place + 2 ≤ c.args.limits.choices + 1 = omega (arith, more) in
-    omega (arith, so_far, added, mul-le-mul_right (c.args.limits.steps) within)
+    record {
+      lines = none_well c.from_residual-in_err-halt-2.result _ _ c.from_residual-in_err-halt-2.ensures.1;
+      answer = none_well c.from_residual-in_err-halt-2.result _ _ c.from_residual-in_err-halt-2.ensures.1;
+      few = none_well c.from_residual-in_err-halt-2.result _ _ c.from_residual-in_err-halt-2.ensures.1;
+      ticks = omega (arith, so_far, added, mul-le-mul_right (c.args.limits.steps) within);
+    }
 
 pub loop-place-preserved : goal.loop-place-preserved
 loop-place-preserved g c =
@@ -91,37 +78,35 @@ loop-place-preserved g c =
       ticks = omega (arith, so_far, added);
     }
 
-pub returns-clause-lines : goal.returns-clause-lines
-returns-clause-lines g c =
-    let sys = slots c.args.program.now c.args.limits.gates in
-    let n = c.loop-place.place in
-    no_more (trace sys c.args.limits.choices c.args.limits.steps c.args.word.now) c.loop-place.lines.items (c.loop-place.invariant.lines ∙ ap (λ l. c.loop-place.lines.items ++ l) (no_word_lines sys c.args.limits.steps (c.args.limits.choices - n) (drop n c.args.word.now) (node_of c.loop-place.halt (machine_of c.loop-place.state)) (drop_all c.args.word.now n (omega arith))))
-
-pub returns-clause-answer : goal.returns-clause-answer
-returns-clause-answer g c =
+pub returns : goal.returns
+returns g c =
     let sys = slots c.args.program.now c.args.limits.gates in
     let n = c.loop-place.place in
     let all : n ≡ length c.args.word.now = omega arith in
     let node = node_of c.loop-place.halt (machine_of c.loop-place.state) in
-    c.in_ok-end-2.ensures ∙ sym (c.loop-place.invariant.same ∙ ap (λ w. further n (run_from sys c.args.limits.steps (c.args.limits.choices - n) w node)) (drop_all c.args.word.now n all) ∙ ap (λ i. further i (run_from sys c.args.limits.steps (c.args.limits.choices - i) [] node)) all)
+    let lines = no_more (trace sys c.args.limits.choices c.args.limits.steps c.args.word.now) c.loop-place.lines.items (c.loop-place.invariant.lines ∙ ap (λ l. c.loop-place.lines.items ++ l) (no_word_lines sys c.args.limits.steps (c.args.limits.choices - n) (drop n c.args.word.now) (node_of c.loop-place.halt (machine_of c.loop-place.state)) (drop_all c.args.word.now n (omega arith)))) in
+    record {
+      lines = lines;
+      answer = c.in_ok-end-2.ensures ∙ sym (c.loop-place.invariant.same ∙ ap (λ w. further n (run_from sys c.args.limits.steps (c.args.limits.choices - n) w node)) (drop_all c.args.word.now n all) ∙ ap (λ i. further i (run_from sys c.args.limits.steps (c.args.limits.choices - i) [] node)) all);
+      few = few_lines sys c.args.limits.steps c.args.limits.choices c.args.word.now c.loop-place.lines.items lines;
+      ticks = ticks_within _ _ _ _ _ c.loop-place.invariant.ticks c.loop-place.invariant.within;
+    }
 
-pub returns-clause-few : goal.returns-clause-few
-returns-clause-few g c = few_lines (slots c.args.program.now c.args.limits.gates) c.args.limits.steps c.args.limits.choices c.args.word.now c.loop-place.lines.items (returns-clause-lines g c)
+pub returns-in_err-end : goal.returns-in_err-end
+returns-in_err-end g c = record {
+  lines = none_well c.from_residual-in_err-end.result _ _ c.from_residual-in_err-end.ensures.1;
+  answer = none_well c.from_residual-in_err-end.result _ _ c.from_residual-in_err-end.ensures.1;
+  few = none_well c.from_residual-in_err-end.result _ _ c.from_residual-in_err-end.ensures.1;
+  ticks = ticks_within _ _ _ _ _ c.loop-place.invariant.ticks c.loop-place.invariant.within;
+}
 
-pub returns-then-is_over-clause-ticks : goal.returns-then-is_over-clause-ticks
-returns-then-is_over-clause-ticks g c = ticks_within _ _ _ _ _ c.loop-place.invariant.ticks c.loop-place.invariant.within
-
-pub returns-then-not-may-clause-ticks : goal.returns-then-not-may-clause-ticks
-returns-then-not-may-clause-ticks g c = ticks_within _ _ _ _ _ c.loop-place.invariant.ticks c.loop-place.invariant.within
-
-pub returns-clause-ticks : goal.returns-clause-ticks
-returns-clause-ticks g c = ticks_within _ _ _ _ _ c.loop-place.invariant.ticks c.loop-place.invariant.within
-
-pub returns-in_err-end-clause-ticks : goal.returns-in_err-end-clause-ticks
-returns-in_err-end-clause-ticks g c = ticks_within _ _ _ _ _ c.loop-place.invariant.ticks c.loop-place.invariant.within
-
-pub returns-in_err-end-2-clause-ticks : goal.returns-in_err-end-2-clause-ticks
-returns-in_err-end-2-clause-ticks g c = ticks_within _ _ _ _ _ c.loop-place.invariant.ticks c.loop-place.invariant.within
+pub returns-in_err-end-2 : goal.returns-in_err-end-2
+returns-in_err-end-2 g c = record {
+  lines = none_well c.from_residual-in_err-end-2.result _ _ c.from_residual-in_err-end-2.ensures.1;
+  answer = none_well c.from_residual-in_err-end-2.result _ _ c.from_residual-in_err-end-2.ensures.1;
+  few = none_well c.from_residual-in_err-end-2.result _ _ c.from_residual-in_err-end-2.ensures.1;
+  ticks = ticks_within _ _ _ _ _ c.loop-place.invariant.ticks c.loop-place.invariant.within;
+}
 
 pub returns-in_err-state-clause-lines : goal.returns-in_err-state-clause-lines
 returns-in_err-state-clause-lines g c = none_well c.from_residual.result _ _ c.from_residual.ensures.1
@@ -140,30 +125,3 @@ returns-in_err-halt-clause-answer g c = none_well c.from_residual-in_err-halt.re
 
 pub returns-in_err-halt-clause-few : goal.returns-in_err-halt-clause-few
 returns-in_err-halt-clause-few g c = none_well c.from_residual-in_err-halt.result _ _ c.from_residual-in_err-halt.ensures.1
-
-pub returns-in_err-end-clause-lines : goal.returns-in_err-end-clause-lines
-returns-in_err-end-clause-lines g c = none_well c.from_residual-in_err-end.result _ _ c.from_residual-in_err-end.ensures.1
-
-pub returns-in_err-end-clause-answer : goal.returns-in_err-end-clause-answer
-returns-in_err-end-clause-answer g c = none_well c.from_residual-in_err-end.result _ _ c.from_residual-in_err-end.ensures.1
-
-pub returns-in_err-end-clause-few : goal.returns-in_err-end-clause-few
-returns-in_err-end-clause-few g c = none_well c.from_residual-in_err-end.result _ _ c.from_residual-in_err-end.ensures.1
-
-pub returns-in_err-halt-2-clause-lines : goal.returns-in_err-halt-2-clause-lines
-returns-in_err-halt-2-clause-lines g c = none_well c.from_residual-in_err-halt-2.result _ _ c.from_residual-in_err-halt-2.ensures.1
-
-pub returns-in_err-halt-2-clause-answer : goal.returns-in_err-halt-2-clause-answer
-returns-in_err-halt-2-clause-answer g c = none_well c.from_residual-in_err-halt-2.result _ _ c.from_residual-in_err-halt-2.ensures.1
-
-pub returns-in_err-halt-2-clause-few : goal.returns-in_err-halt-2-clause-few
-returns-in_err-halt-2-clause-few g c = none_well c.from_residual-in_err-halt-2.result _ _ c.from_residual-in_err-halt-2.ensures.1
-
-pub returns-in_err-end-2-clause-lines : goal.returns-in_err-end-2-clause-lines
-returns-in_err-end-2-clause-lines g c = none_well c.from_residual-in_err-end-2.result _ _ c.from_residual-in_err-end-2.ensures.1
-
-pub returns-in_err-end-2-clause-answer : goal.returns-in_err-end-2-clause-answer
-returns-in_err-end-2-clause-answer g c = none_well c.from_residual-in_err-end-2.result _ _ c.from_residual-in_err-end-2.ensures.1
-
-pub returns-in_err-end-2-clause-few : goal.returns-in_err-end-2-clause-few
-returns-in_err-end-2-clause-few g c = none_well c.from_residual-in_err-end-2.result _ _ c.from_residual-in_err-end-2.ensures.1

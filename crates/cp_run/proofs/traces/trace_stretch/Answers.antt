@@ -6,37 +6,39 @@ use Rattle.cp_run.proofs.Tracing.{counted, lines_further, lines_used_up, no_more
 use Rattle.cp_run.proofs.Failing.{none_well}
 use Rattle.cp_run.proofs.traces.trace_stretch.Goals as goal
 
-pub turn_of-requires-clause-goes_on : goal.turn_of-requires-clause-goes_on
-turn_of-requires-clause-goes_on g c =
-    local_ready c.args.program.now (machine_of c.loop.state) (machine_of c.step-event.new.state) c.loop.going c.step-event.result (ready_thread (machine_of c.loop.state) c.loop.going c.loop.invariant.ready) c.loop.invariant.ready c.step-event.ensures.after
+pub turn_of-requires : goal.turn_of-requires
+turn_of-requires g c = record {
+  own = c.step-event.ensures.own;
+  goes_on = local_ready c.args.program.now (machine_of c.loop.state) (machine_of c.step-event.new.state) c.loop.going c.step-event.result (ready_thread (machine_of c.loop.state) c.loop.going c.loop.invariant.ready) c.loop.invariant.ready c.step-event.ensures.after;
+}
 
-pub returns-in-Over-clause-node : goal.returns-in-Over-clause-node
-returns-in-Over-clause-node g c =
+pub returns-in-Over : goal.returns-in-Over
+returns-in-Over g c =
     let sys = slots c.args.program.now c.args.limits.gates in
     let lt : c.loop.counter < c.args.limits.steps = omega arith in
     let event = ap (λ (x : Stepped). x.event) (sym c.step-event.ensures.after) in
-    c.loop.invariant.node ∙ step_on sys c.args.limits.steps c.loop.counter (machine_of c.loop.state) (machine_of c.step-event.new.state) c.loop.going (Over c.in-Over.kind) lt (ap (λ (x : Stepped). x.machine) (sym c.step-event.ensures.after)) (c.in-Over.ensures.turn ∙ ap (turn_after sys (machine_of c.step-event.new.state) c.loop.going) event)
+    let added = counted (succeeds c.step-event.result) c.loop.steps c.step-event.new.ticks c.step-event.ensures.ticks in
+    let so_far = c.loop.invariant.steps in
+    record {
+      node = c.loop.invariant.node ∙ step_on sys c.args.limits.steps c.loop.counter (machine_of c.loop.state) (machine_of c.step-event.new.state) c.loop.going (Over c.in-Over.kind) lt (ap (λ (x : Stepped). x.machine) (sym c.step-event.ensures.after)) (c.in-Over.ensures.turn ∙ ap (turn_after sys (machine_of c.step-event.new.state) c.loop.going) event);
+      lines = no_more (c.args.lines.now.items ++ stretch_lines sys c.args.limits.steps (machine_of c.args.state.now) c.args.pid) c.push_step.new.lines.items (lines_further sys c.args.limits.steps c.loop.counter (machine_of c.loop.state) (machine_of c.step-event.new.state) c.loop.going c.step-event.result (Over c.in-Over.kind) (c.args.lines.now.items ++ stretch_lines sys c.args.limits.steps (machine_of c.args.state.now) c.args.pid) c.loop.lines.items c.push_step.new.lines.items lt (ap (λ (x : Stepped). x.machine) (sym c.step-event.ensures.after)) event (c.in-Over.ensures.turn ∙ ap (turn_after sys (machine_of c.step-event.new.state) c.loop.going) event) c.loop.invariant.lines c.in_ok-push_step.ensures);
+      own = c.step-event.ensures.own;
+      steps = omega (arith, added, so_far);
+    }
 
-pub returns-in-Over-clause-lines : goal.returns-in-Over-clause-lines
-returns-in-Over-clause-lines g c =
+pub returns-in-Due : goal.returns-in-Due
+returns-in-Due g c =
     let sys = slots c.args.program.now c.args.limits.gates in
     let lt : c.loop.counter < c.args.limits.steps = omega arith in
     let event = ap (λ (x : Stepped). x.event) (sym c.step-event.ensures.after) in
-    no_more (c.args.lines.now.items ++ stretch_lines sys c.args.limits.steps (machine_of c.args.state.now) c.args.pid) c.push_step.new.lines.items (lines_further sys c.args.limits.steps c.loop.counter (machine_of c.loop.state) (machine_of c.step-event.new.state) c.loop.going c.step-event.result (Over c.in-Over.kind) (c.args.lines.now.items ++ stretch_lines sys c.args.limits.steps (machine_of c.args.state.now) c.args.pid) c.loop.lines.items c.push_step.new.lines.items lt (ap (λ (x : Stepped). x.machine) (sym c.step-event.ensures.after)) event (c.in-Over.ensures.turn ∙ ap (turn_after sys (machine_of c.step-event.new.state) c.loop.going) event) c.loop.invariant.lines c.in_ok-push_step.ensures)
-
-pub returns-in-Due-clause-node : goal.returns-in-Due-clause-node
-returns-in-Due-clause-node g c =
-    let sys = slots c.args.program.now c.args.limits.gates in
-    let lt : c.loop.counter < c.args.limits.steps = omega arith in
-    let event = ap (λ (x : Stepped). x.event) (sym c.step-event.ensures.after) in
-    c.loop.invariant.node ∙ step_on sys c.args.limits.steps c.loop.counter (machine_of c.loop.state) (machine_of c.step-event.new.state) c.loop.going Due lt (ap (λ (x : Stepped). x.machine) (sym c.step-event.ensures.after)) (c.in-Due.ensures.turn ∙ ap (turn_after sys (machine_of c.step-event.new.state) c.loop.going) event)
-
-pub returns-in-Due-clause-lines : goal.returns-in-Due-clause-lines
-returns-in-Due-clause-lines g c =
-    let sys = slots c.args.program.now c.args.limits.gates in
-    let lt : c.loop.counter < c.args.limits.steps = omega arith in
-    let event = ap (λ (x : Stepped). x.event) (sym c.step-event.ensures.after) in
-    no_more (c.args.lines.now.items ++ stretch_lines sys c.args.limits.steps (machine_of c.args.state.now) c.args.pid) c.push_step.new.lines.items (lines_further sys c.args.limits.steps c.loop.counter (machine_of c.loop.state) (machine_of c.step-event.new.state) c.loop.going c.step-event.result Due (c.args.lines.now.items ++ stretch_lines sys c.args.limits.steps (machine_of c.args.state.now) c.args.pid) c.loop.lines.items c.push_step.new.lines.items lt (ap (λ (x : Stepped). x.machine) (sym c.step-event.ensures.after)) event (c.in-Due.ensures.turn ∙ ap (turn_after sys (machine_of c.step-event.new.state) c.loop.going) event) c.loop.invariant.lines c.in_ok-push_step.ensures)
+    let added = counted (succeeds c.step-event.result) c.loop.steps c.step-event.new.ticks c.step-event.ensures.ticks in
+    let so_far = c.loop.invariant.steps in
+    record {
+      node = c.loop.invariant.node ∙ step_on sys c.args.limits.steps c.loop.counter (machine_of c.loop.state) (machine_of c.step-event.new.state) c.loop.going Due lt (ap (λ (x : Stepped). x.machine) (sym c.step-event.ensures.after)) (c.in-Due.ensures.turn ∙ ap (turn_after sys (machine_of c.step-event.new.state) c.loop.going) event);
+      lines = no_more (c.args.lines.now.items ++ stretch_lines sys c.args.limits.steps (machine_of c.args.state.now) c.args.pid) c.push_step.new.lines.items (lines_further sys c.args.limits.steps c.loop.counter (machine_of c.loop.state) (machine_of c.step-event.new.state) c.loop.going c.step-event.result Due (c.args.lines.now.items ++ stretch_lines sys c.args.limits.steps (machine_of c.args.state.now) c.args.pid) c.loop.lines.items c.push_step.new.lines.items lt (ap (λ (x : Stepped). x.machine) (sym c.step-event.ensures.after)) event (c.in-Due.ensures.turn ∙ ap (turn_after sys (machine_of c.step-event.new.state) c.loop.going) event) c.loop.invariant.lines c.in_ok-push_step.ensures);
+      own = c.step-event.ensures.own;
+      steps = omega (arith, added, so_far);
+    }
 
 pub loop-preserved : goal.loop-preserved
 loop-preserved g c =
@@ -53,15 +55,15 @@ loop-preserved g c =
       steps = let more = counted (succeeds c.step-event.result) c.loop.steps c.step-event.new.ticks c.step-event.ensures.ticks in let so_far = c.loop.invariant.steps in omega (arith, more, so_far);
     }
 
-pub returns-clause-node : goal.returns-clause-node
-returns-clause-node g c =
+pub returns : goal.returns
+returns g c =
     let done : c.args.limits.steps - c.loop.counter ≡ 0 = omega arith in
-    c.loop.invariant.node ∙ used_up (slots c.args.program.now c.args.limits.gates) (c.args.limits.steps - c.loop.counter) (machine_of c.loop.state) c.loop.going done
-
-pub returns-clause-lines : goal.returns-clause-lines
-returns-clause-lines g c =
-    let done : c.args.limits.steps - c.loop.counter ≡ 0 = omega arith in
-    lines_used_up (slots c.args.program.now c.args.limits.gates) (c.args.limits.steps - c.loop.counter) (machine_of c.loop.state) c.loop.going _ c.loop.lines.items done c.loop.invariant.lines
+    record {
+      node = c.loop.invariant.node ∙ used_up (slots c.args.program.now c.args.limits.gates) (c.args.limits.steps - c.loop.counter) (machine_of c.loop.state) c.loop.going done;
+      lines = lines_used_up (slots c.args.program.now c.args.limits.gates) (c.args.limits.steps - c.loop.counter) (machine_of c.loop.state) c.loop.going _ c.loop.lines.items done c.loop.invariant.lines;
+      own = c.loop.invariant.own;
+      steps = omega arith;
+    }
 
 pub step-event-requires-clause-own : goal.step-event-requires-clause-own
 step-event-requires-clause-own g c = c.loop.invariant.own
@@ -69,23 +71,13 @@ step-event-requires-clause-own g c = c.loop.invariant.own
 pub push_step-requires : goal.push_step-requires
 push_step-requires g c = c.step-event.ensures.own
 
-pub returns-in_err-push_step-clause-node : goal.returns-in_err-push_step-clause-node
-returns-in_err-push_step-clause-node g c = none_well c.from_residual.result _ _ c.from_residual.ensures.1
-
-pub returns-in_err-push_step-clause-lines : goal.returns-in_err-push_step-clause-lines
-returns-in_err-push_step-clause-lines g c = none_well c.from_residual.result _ _ c.from_residual.ensures.1
-
-pub returns-in_err-push_step-clause-own : goal.returns-in_err-push_step-clause-own
-returns-in_err-push_step-clause-own g c = c.step-event.ensures.own
-
-pub turn_of-requires-clause-own : goal.turn_of-requires-clause-own
-turn_of-requires-clause-own g c = c.step-event.ensures.own
-
-pub returns-in-Over-clause-own : goal.returns-in-Over-clause-own
-returns-in-Over-clause-own g c = c.step-event.ensures.own
-
-pub returns-in-Due-clause-own : goal.returns-in-Due-clause-own
-returns-in-Due-clause-own g c = c.step-event.ensures.own
-
-pub returns-clause-own : goal.returns-clause-own
-returns-clause-own g c = c.loop.invariant.own
+pub returns-in_err-push_step : goal.returns-in_err-push_step
+returns-in_err-push_step g c =
+    let added = counted (succeeds c.step-event.result) c.loop.steps c.step-event.new.ticks c.step-event.ensures.ticks in
+    let so_far = c.loop.invariant.steps in
+    record {
+      node = none_well c.from_residual.result _ _ c.from_residual.ensures.1;
+      lines = none_well c.from_residual.result _ _ c.from_residual.ensures.1;
+      own = c.step-event.ensures.own;
+      steps = omega (arith, added, so_far);
+    }

@@ -22,18 +22,15 @@ returns-else-waits-clause-turn c =
     let alone : readiness_of (those_below (processes_of c.args.program.now) (is_ready m)) ≡ Nobody = ap readiness_of (sym (own_ready c.args.program.now c.args.state.now c.requires.own)) ∙ sym c.readiness.ensures ∙ c.in-Nobody.is in
     sym (among_nobody sys m c.args.kernel c.args.process (those_below (processes_of c.args.program.now) (is_ready m)) alone ∙ ap (λ b. if b then Over AllWaiting else Over Finished) (sym c.waits.ensures ∙ c.if-waits.false))
 
-pub returns-in-One-clause-turn : goal.returns-in-One-clause-turn
-returns-in-One-clause-turn c =
+pub returns-in-One : goal.returns-in-One
+returns-in-One c =
     let m = machine_of c.args.state.now in
     let sys = slots c.args.program.now c.args.limits.gates in
     let alone : readiness_of (those_below (processes_of c.args.program.now) (is_ready m)) ≡ One c.in-One.one = ap readiness_of (sym (own_ready c.args.program.now c.args.state.now c.requires.own)) ∙ sym c.readiness.ensures ∙ c.in-One.is in
-    sym (among_one sys m c.args.kernel c.args.process (those_below (processes_of c.args.program.now) (is_ready m)) c.in-One.one alone)
-
-pub returns-in-One-clause-ready : goal.returns-in-One-clause-ready
-returns-in-One-clause-ready c =
-    let m = machine_of c.args.state.now in
-    let alone : readiness_of (those_below (processes_of c.args.program.now) (is_ready m)) ≡ One c.in-One.one = ap readiness_of (sym (own_ready c.args.program.now c.args.state.now c.requires.own)) ∙ sym c.readiness.ensures ∙ c.in-One.is in
-    one_may (processes_of c.args.program.now) (is_ready m) c.in-One.one alone
+    record {
+      turn = sym (among_one sys m c.args.kernel c.args.process (those_below (processes_of c.args.program.now) (is_ready m)) c.in-One.one alone);
+      ready = one_may (processes_of c.args.program.now) (is_ready m) c.in-One.one alone;
+    }
 
 pub returns-in-Several-clause-turn : goal.returns-in-Several-clause-turn
 returns-in-Several-clause-turn c =

@@ -2,7 +2,7 @@ use Rattle.std.proofs.Common.{rules, ◌≡◌, ◌∙◌, ◌<◌, ℕ, List, t
 use Rattle.std.proofs.lemmas.List.{take_all, take_more}
 use Rattle.cp_cover.proofs.Words.{Machine, machine_of, chosen, may, those_below, slots, AddsNode, FromState, Adds, chosen_marks}
 use Rattle.cp_cover.proofs.FromState.{state_more, state_none}
-use Rattle.cp_cover.proofs.Wanted.{may_those}
+use Rattle.cp_run.proofs.Choosable.{may_those}
 use Rattle.cp_cover.proofs.search.CoverSearch.take_choices.Goals as goal
 
 pub loop-process-init : goal.loop-process-init
