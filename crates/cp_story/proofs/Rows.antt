@@ -1,7 +1,7 @@
 -- Texts of the elements of a list, and rows of a table: the first of those that are left, and none.
 use Rattle.std.proofs.Common.{◌≡◌, ℕ, suc, ◌+◌, ◌<◌, ◌≤◌, List, [], ◌∷◌, ◌++◌, length, get_or, map, drop, refl, sym, add-one, append_assoc, arith}
 use Rattle.std.proofs.Math.Seq.{drop-cons}
-use Rattle.std.proofs.lemmas.List.{drop_all, append-nil, map-append}
+use Rattle.std.proofs.lemmas.List.{drop_all, append-nil, get_or_default, map-append}
 use Rattle.std.specs.Prelude.{true, ◌&&◌, decimal, nat_lt, max, slice_get, slice_index_or}
 use Rattle.std.specs.String.{string_bytes}
 use Rattle.std.proofs.Math.Nat.{max-zero}
@@ -47,6 +47,16 @@ module _ {A : Type 0} (f : A → List ℕ) (xs : List A) (i : ℕ) (now : List �
 
   pub each_item_none : length xs ≤ i → now ++ each f (drop i xs) ≡ now
   each_item_none none = rw (drop_all i xs none) (append-nil now)
+
+  pub joined_item_step : (before between : List ℕ) (x : A) → i < length xs → x ≡ get_or xs i x → now ++ joined before between f (drop i xs) ≡ ((now ++ before) ++ f x) ++ joined between between f (drop (i + 1) xs)
+  joined_item_step before between x within here = rw (add-one, drop-cons xs i x within, ← here) (two_more now before (f x) (joined between between f (drop (suc i) xs)))
+
+  -- with the element as a read gives it
+  pub joined_element_step : (before between : List ℕ) (d : A) → i < length xs → now ++ joined before between f (drop i xs) ≡ ((now ++ before) ++ f (get_or xs i d)) ++ joined between between f (drop (i + 1) xs)
+  joined_element_step before between d within = joined_item_step before between (get_or xs i d) within (get_or_default xs i d (get_or xs i d) within)
+
+  pub joined_item_none : (before between : List ℕ) → length xs ≤ i → now ++ joined before between f (drop i xs) ≡ now
+  joined_item_none before between none = rw (drop_all i xs none) (append-nil now)
 
 -- ---- numbers
 

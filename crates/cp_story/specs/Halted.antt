@@ -1,17 +1,20 @@
 -- How a run stopped between two events, in words.
 use Rattle.std.specs.Prelude.{ℕ, ◌==◌, Bool, false, List, [], ◌++◌, Option, Some, None, option_map, find, codes}
 use Rattle.std.specs.String.{string_bytes}
+use Rattle.cp_slots.specs.Tables.{Tables}
 use Rattle.cp_legend.specs.Names.{Legend}
+use Rattle.cp_machine.specs.declared.gates.Gates.{Gates}
 use Rattle.cp_machine.specs.declared.process.Status.{Status}
 use Rattle.cp_machine.specs.declared.process.Status.TheVariants as status
 use Rattle.cp_run.specs.declared.outcome.OutcomeKind.{OutcomeKind}
 use Rattle.cp_run.specs.declared.outcome.OutcomeKind.TheVariants as kind
-use Rattle.cp_run.specs.declared.outcome.RunEnd.{RunEnd}
-use Rattle.cp_run.specs.declared.outcome.RunEnd.TheVariants as run_end
+use Rattle.cp_run.specs.Run.{Answer, Ended, run}
+use Rattle.cp_run.specs.Slots.{slots}
 use Rattle.cp_store.specs.declared.error.ErrorName.{ErrorName}
 use Rattle.cp_store.specs.declared.error.ErrorName.TheVariants.{Overflow, ZeroDivisor, Range, NoCase, QueueInUse, NotInit, InitTwice}
 use Rattle.cp_story.specs.Sentences.{cell_queue_text, process_text}
-use Rattle.cp_story.specs.Waiting.{Waiting}
+use Rattle.cp_story.specs.Story.{telling}
+use Rattle.cp_story.specs.Waiting.{Waiting, who_waits}
 use Rattle.cp_story.specs.declared.observer.Last.{Last}
 use Rattle.cp_story.specs.declared.stopping.AbruptEnd.{AbruptEnd}
 
@@ -84,6 +87,10 @@ halted_as l last ws kind.OutputLimit = Some (halted_after last (codes "displays 
 halted_as l last ws _ = None
 
 -- where no event tells of it: an error, or a limit of steps or of displayed values
-abbrev pub halted_at : Legend → RunEnd → Last → List Waiting → Option Halted
-halted_at l (run_end.Ended outcome used) last ws = halted_as l last ws outcome.kind
+abbrev pub halted_at : Legend → Answer → Last → List Waiting → Option Halted
+halted_at l (Ended outcome used) last ws = halted_as l last ws outcome.kind
 halted_at l _ last ws = None
+
+-- how the run of a word stopped: after its last step, where these wait
+abbrev pub how_halted : Legend → Tables → Gates → (choices steps : ℕ) → List ℕ → Option Halted
+how_halted l r gates choices steps word = halted_at l (run (slots r gates) choices steps word) (telling l r gates choices steps word).past.last (who_waits l r gates choices steps word)

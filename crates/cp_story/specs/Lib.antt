@@ -1,6 +1,7 @@
 pub mod Aimed
 pub mod Changes
 pub mod Columns
+pub mod Ends
 pub mod Events
 pub mod Fold
 pub mod Halted
@@ -13,3 +14,4 @@ pub mod Text
 pub mod Told
 pub mod Views
 pub mod Waiting
+pub mod Woken

@@ -1,10 +1,12 @@
--- What a story tells of a run: what each kernel call, process end and admission was, on which line and after which choice; what its call is given or gives
--- back; who goes on by it, and how the processes stand then; and which variables of monitors changed. It is told from the states of the slot machine before
--- and after it. Which queue a process is delayed in or continues is no part of it.
+-- What a story tells of a run: what each kernel call, process end and admission was, on which line and after which choice; in which queue a process is delayed,
+-- and which one it continues; what its call is given or gives back; who goes on by it, and how the processes stand then; and which variables of monitors
+-- changed. It is told from the states of the slot machine before and after it.
 use Rattle.std.specs.Prelude.{ℕ, List, [], ◌∷◌, ◌++◌, ◌-◌, ◌==◌, ◌&&◌, Bool, true, false, not, if◌then◌else◌, map, length, take, replicate, slice_get, slice_index_or, slice_set, Option, Some, None, unwrap_or, ℤ, pos}
 use Rattle.std.specs.List.{filter, range_with_len}
+use Rattle.std.specs.Option.{option_or, option_to_list}
 use Rattle.cp_slots.specs.Tables.{Tables}
 use Rattle.cp_legend.specs.Names.{Legend}
+use Rattle.cp_legend.specs.Places.{monitor_in, owner, permanent_name_in}
 use Rattle.cp_legend.specs.Values.{Value}
 use Rattle.cp_machine.specs.declared.event.Event.{Event}
 use Rattle.cp_machine.specs.declared.event.Event.TheVariants as step
@@ -23,11 +25,13 @@ use Rattle.cp_run.specs.declared.line.TraceEvent.TheVariants.{Kernel, End, Admit
 use Rattle.cp_run.specs.Run.{may, those_below}
 use Rattle.cp_run.specs.Slots.{slots}
 use Rattle.cp_run.specs.Trace.{holders_in}
-use Rattle.cp_story.specs.Aimed.{ends_call, line_of_top}
+use Rattle.cp_story.specs.Aimed.{aim_in, no_aim}
 use Rattle.cp_story.specs.Changes.{Changed, changes_in}
 use Rattle.cp_story.specs.Fold.{Fold, fold_run}
 use Rattle.cp_story.specs.Passed.{Given, arguments, given_back}
+use Rattle.cp_story.specs.declared.aim.Aim.{Aim}
 use Rattle.cp_story.specs.declared.event.OpenCall.{OpenCall}
+use Rattle.cp_story.specs.declared.observer.Last.{Last}
 
 -- a choice that was due: who could be chosen, who was, and whether one of a line was to be let in
 pub record Decision : Type 0 where
@@ -35,12 +39,18 @@ pub record Decision : Type 0 where
   pub number : ℕ
   pub at_gate : Bool
 
+-- a queue, by the monitor that it is in and its name there
+pub record NamedQueue : Type 0 where
+  pub monitor : ℕ
+  pub name : List ℕ
+
 pub data Happened : Type 0 where
   -- a monitor's entry is called, with these arguments, and whether the caller waits at the gate
   Enters : OpenCall → List Value → Bool → Happened
   Leaves : OpenCall → Happened
-  Delays : OpenCall → Happened
-  Continues : OpenCall → Happened
+  -- a process waits in this queue, or continues it
+  Delays : NamedQueue → OpenCall → Happened
+  Continues : NamedQueue → OpenCall → Happened
   Starts : ℕ → Happened
   Displays : Shown → Happened
   Ends : Happened
@@ -55,7 +65,7 @@ pub record Told : Type 0 where
   pub returned : List Given
   -- the choice that was taken since the event before
   pub choice : Option Decision
-  -- who was delayed and goes on, and who was at a gate and goes in
+  -- who waited in the queue that is continued, and who was at a gate and goes in
   pub woken : List ℕ
   pub let_in : List ℕ
   -- the status of each process, and the process inside each monitor
@@ -72,6 +82,8 @@ pub record Past : Type 0 where
   pub statuses : List Status
   -- what comes back from the call that ends with the step to come, if one does
   pub returned : List Given
+  -- the last step
+  pub last : Last
   -- the cells of all components
   pub cells : List ℤ
   -- what variables are called
@@ -112,6 +124,16 @@ monitor_left (e ∷ es) = monitor_left es
 abbrev pub call_begun : Thread → Option ℕ → OpenCall
 call_begun t line = record { monitor = monitor_left t.stack; routine = t.frame.routine; line = unwrap_or line 0 }
 
+-- ---- queues
+
+-- the queue of a permanent cell, by the monitor that has the cell and the cell's name there
+abbrev pub queue_at : Legend → (cell : ℕ) → NamedQueue
+queue_at l cell = record { monitor = unwrap_or (monitor_in (owner l.components cell)) 0; name = permanent_name_in l.constants l.shapes l.permanents (owner l.components cell) cell 1 }
+
+abbrev pub queue_told : Legend → (queue : Option ℕ) → NamedQueue
+queue_told l None = record { monitor = 0; name = [] }
+queue_told l (Some cell) = queue_at l cell
+
 -- ---- who goes on
 
 abbrev pub is_gated : Status → Bool
@@ -136,17 +158,17 @@ started_processes before t = filter (λ q. is_unstarted (slice_index_or before q
 abbrev pub last_or : {A : Type 0} → A → List A → A
 last_or d xs = slice_index_or xs (length xs - 1) d
 
--- ---- an event of process p, which stood at a line and came to the state t
+-- ---- an event of process p, which had this aim and came to the state t
 
-abbrev pub what_happened : TraceEvent → ℕ → Option ℕ → Machine → Past → Happened
-what_happened (Kernel Enter) p line t past = Enters (call_begun (thread_at t.threads p) line) (arguments past.legend (slice_get t.threads p)) (is_gated (thread_at t.threads p).status)
-what_happened (Kernel Leave) p line t past = Leaves (innermost_call past.calls p)
-what_happened (Kernel Delay) p line t past = Delays (innermost_call past.calls p)
-what_happened (Kernel Continue) p line t past = Continues (innermost_call past.calls p)
-what_happened (Kernel StartProcess) p line t past = Starts (last_or 0 (started_processes past.statuses t))
-what_happened (Kernel Display) p line t past = Displays (last_or (Integer (pos 0)) t.output)
-what_happened End p line t past = Ends
-what_happened Admit p line t past = IsAdmitted (innermost_call past.calls p)
+abbrev pub what_happened : TraceEvent → ℕ → Aim → Machine → Past → Happened
+what_happened (Kernel Enter) p aim t past = Enters (call_begun (thread_at t.threads p) aim.line) (arguments past.legend (slice_get t.threads p)) (is_gated (thread_at t.threads p).status)
+what_happened (Kernel Leave) p aim t past = Leaves (innermost_call past.calls p)
+what_happened (Kernel Delay) p aim t past = Delays (queue_told past.legend aim.queue) (innermost_call past.calls p)
+what_happened (Kernel Continue) p aim t past = Continues (queue_told past.legend aim.queue) (innermost_call past.calls p)
+what_happened (Kernel StartProcess) p aim t past = Starts (last_or 0 (started_processes past.statuses t))
+what_happened (Kernel Display) p aim t past = Displays (last_or (Integer (pos 0)) t.output)
+what_happened End p aim t past = Ends
+what_happened Admit p aim t past = IsAdmitted (innermost_call past.calls p)
 
 -- a return stands where its call does
 abbrev pub line_told : Happened → Option ℕ → Option ℕ
@@ -155,46 +177,56 @@ line_told Ends line = None
 line_told (IsAdmitted call) line = None
 line_told _ line = line
 
-abbrev pub calls_after : TraceEvent → ℕ → Option ℕ → Machine → List (List OpenCall) → List (List OpenCall)
-calls_after (Kernel Enter) p line t calls = with_call calls p (call_begun (thread_at t.threads p) line)
-calls_after (Kernel Leave) p line t calls = without_call calls p
-calls_after (Kernel Continue) p line t calls = without_call calls p
-calls_after _ p line t calls = calls
+abbrev pub calls_after : TraceEvent → ℕ → Aim → Machine → List (List OpenCall) → List (List OpenCall)
+calls_after (Kernel Enter) p aim t calls = with_call calls p (call_begun (thread_at t.threads p) aim.line)
+calls_after (Kernel Leave) p aim t calls = without_call calls p
+calls_after (Kernel Continue) p aim t calls = without_call calls p
+calls_after _ p aim t calls = calls
 
-abbrev pub told_event : List (Option ℕ) → TraceEvent → ℕ → Option ℕ → Machine → Past → Told
-told_event holders event p line t past =
+abbrev pub told_event : List (Option ℕ) → TraceEvent → ℕ → Aim → Machine → Past → Told
+told_event holders event p aim t past =
     record {
       process = p;
-      happened = what_happened event p line t past;
-      line = line_told (what_happened event p line t past) line;
+      happened = what_happened event p aim t past;
+      line = line_told (what_happened event p aim t past) aim.line;
       returned = past.returned;
       choice = past.choice;
-      woken = resumed_processes is_queued past.statuses t p;
+      woken = option_to_list aim.wakes;
       let_in = resumed_processes is_gated past.statuses t p;
       statuses = statuses_in t;
       holders = holders;
       changes = changes_in past.legend past.cells t.permanents;
     }
 
-abbrev pub past_after : TraceEvent → ℕ → Option ℕ → Machine → Past → Past
-past_after event p line t past = record past { choice = None; calls = calls_after event p line t past.calls; statuses = statuses_in t; returned = []; cells = t.permanents }
+abbrev pub past_after : TraceEvent → ℕ → Aim → Machine → Past → Past
+past_after event p aim t past = record past { choice = None; calls = calls_after event p aim t past.calls; statuses = statuses_in t; returned = []; cells = t.permanents }
 
-abbrev pub told_more : Tables → Gates → TraceEvent → ℕ → Option ℕ → Machine → Telling → Telling
-told_more r gates event p line t x = record { events = x.events ++ told_event (holders_in (slots r gates) t) event p line t x.past ∷ []; past = past_after event p line t x.past }
+abbrev pub told_more : Tables → Gates → TraceEvent → ℕ → Aim → Machine → Telling → Telling
+told_more r gates event p aim t x = record { events = x.events ++ told_event (holders_in (slots r gates) t) event p aim t x.past ∷ []; past = past_after event p aim t x.past }
 
 -- ---- a run
 
--- what is seen of a step of process p before it is made: what comes back from the call that ends with it
-abbrev pub past_before : (ends : Bool) → Machine → ℕ → Past → Past
-past_before ends s p past = if ends then record past { returned = given_back past.legend s.permanents (slice_get s.threads p) } else past
+-- the step of process p that is about to be made, after a last one: where it has no line, it is on the line that p came to last
+abbrev pub line_before : Last → ℕ → Option ℕ
+line_before last p = if last.process == p then last.line else None
 
-abbrev pub expecting : (ends : Bool) → Machine → ℕ → Telling → Telling
-expecting ends s p x = record { events = x.events; past = past_before ends s p x.past }
+abbrev pub last_with : Aim → ℕ → Last → Last
+last_with aim p last = record { process = p; line = option_or aim.line (line_before last p); queue = aim.queue }
 
-abbrev pub told_step : Tables → Gates → ℕ → Option ℕ → Event → Machine → Telling → Telling
-told_step r gates p line (step.Kernel call) t x = told_more r gates (Kernel call) p line t x
-told_step r gates p line step.Ended t x = told_more r gates End p line t x
-told_step r gates p line _ t x = x
+-- what is seen of it before it is made: which step it is, and what comes back from the call that ends with it
+abbrev pub past_with : Last → Past → Past
+past_with last past = record past { last = last }
+
+abbrev pub past_before : Aim → Machine → ℕ → Past → Past
+past_before aim s p past = past_with (last_with aim p past.last) (if aim.ends_call then record past { returned = given_back past.legend s.permanents (slice_get s.threads p) } else past)
+
+abbrev pub expecting : Aim → Machine → ℕ → Telling → Telling
+expecting aim s p x = record { events = x.events; past = past_before aim s p x.past }
+
+abbrev pub told_step : Tables → Gates → ℕ → Aim → Event → Machine → Telling → Telling
+told_step r gates p aim (step.Kernel call) t x = told_more r gates (Kernel call) p aim t x
+told_step r gates p aim step.Ended t x = told_more r gates End p aim t x
+told_step r gates p aim _ t x = x
 
 -- the choice that is due in a state
 abbrev pub decision_in : Tables → Gates → Machine → ℕ → Decision
@@ -206,13 +238,16 @@ choice_taken x d = record { events = x.events; past = record x.past { choice = S
 abbrev pub teller : Tables → Gates → Fold Machine Telling
 teller r gates =
     record {
-      on_step = λ s p event t x. let stack = (thread_at s.threads p).stack in told_step r gates p (line_of_top r stack) event t (expecting (ends_call r stack) s p x);
-      on_admission = λ p t x. told_more r gates Admit p None t x;
+      on_step = λ s p event t x. let aim = aim_in r s p in told_step r gates p aim event t (expecting aim s p x);
+      on_admission = λ p t x. told_more r gates Admit p (no_aim false) t x;
       on_choice = λ s number x. choice_taken x (decision_in r gates s number);
     }
 
+abbrev pub no_step : Last
+no_step = record { process = 0; line = None; queue = None }
+
 abbrev pub nothing_told : Legend → Machine → Telling
-nothing_told l m = record { events = []; past = record { choice = None; calls = replicate (length m.threads) []; statuses = statuses_in m; returned = []; cells = m.permanents; legend = l } }
+nothing_told l m = record { events = []; past = record { choice = None; calls = replicate (length m.threads) []; statuses = statuses_in m; returned = []; last = no_step; cells = m.permanents; legend = l } }
 
 -- what is told of the run of a word
 abbrev pub telling : Legend → Tables → Gates → (choices steps : ℕ) → List ℕ → Telling

@@ -1,9 +1,8 @@
 -- What is seen of a story's values.
-use Rattle.std.specs.Prelude.{List, Bool, map, option_map}
+use Rattle.std.specs.Prelude.{List, map, option_map}
 use Rattle.std.specs.String.{string_bytes}
 use Rattle.std.specs.declared.alloc.Global.{Global}
 use Rattle.std.specs.declared.vec.Vec.{Vec}
-use Rattle.cp_machine.specs.declared.process.Status.{Status}
 use Rattle.cp_legend.specs.Names.{legend_seen}
 use Rattle.cp_legend.specs.Values.{value_seen}
 use Rattle.cp_story.specs.Changes.{Changed}
@@ -13,23 +12,25 @@ use Rattle.cp_story.specs.declared.event.Choice.{Choice}
 use Rattle.cp_story.specs.declared.event.Happening.{Happening}
 use Rattle.cp_story.specs.declared.event.Happening.TheVariants as happening
 use Rattle.cp_story.specs.declared.event.OpenCall.{OpenCall}
+use Rattle.cp_story.specs.declared.event.Queue.{Queue}
 use Rattle.cp_story.specs.declared.event.Returned.{Returned}
 use Rattle.cp_story.specs.declared.event.StoryEvent.{StoryEvent}
 use Rattle.cp_story.specs.declared.observer.Observer.{Observer}
-use Rattle.cp_story.specs.declared.statuses.Waited.{Waited}
-use Rattle.cp_story.specs.declared.statuses.Waited.TheVariants as waited
 use Rattle.cp_story.specs.declared.story.Wait.{Wait}
 use Rattle.cp_story.specs.Waiting.{Waiting}
-use Rattle.cp_story.specs.Story.{Decision, Happened, Enters, Leaves, Delays, Continues, Starts, Displays, Ends, IsAdmitted, Told, Past, Telling, is_gated, is_queued}
+use Rattle.cp_story.specs.Story.{Decision, NamedQueue, Happened, Enters, Leaves, Delays, Continues, Starts, Displays, Ends, IsAdmitted, Told, Past, Telling}
 
 abbrev pub decision_of : Choice → Decision
 decision_of c = record { options = c.options.items; number = c.number; at_gate = c.at_gate }
 
+abbrev pub queue_seen : Queue → NamedQueue
+queue_seen q = record { monitor = q.monitor; name = string_bytes q.name }
+
 abbrev pub happened_of : Happening → Happened
 happened_of (happening.Enter call arguments waits) = Enters call (map value_seen arguments.items) waits
 happened_of (happening.Leave call) = Leaves call
-happened_of (happening.Delay queue call) = Delays call
-happened_of (happening.Continue queue call) = Continues call
+happened_of (happening.Delay queue call) = Delays (queue_seen queue) call
+happened_of (happening.Continue queue call) = Continues (queue_seen queue) call
 happened_of (happening.Start process) = Starts process
 happened_of (happening.Display value) = Displays value
 happened_of happening.End = Ends
@@ -60,14 +61,10 @@ abbrev pub items_of : Vec OpenCall Global → List OpenCall
 items_of calls = calls.items
 
 abbrev pub past_of : Observer → Past
-past_of o = record { choice = option_map decision_of o.choice; calls = map items_of o.calls.items; statuses = o.statuses.items; returned = map given_of o.returned.items; cells = o.permanents.items; legend = legend_seen o.legend.now }
+past_of o = record { choice = option_map decision_of o.choice; calls = map items_of o.calls.items; statuses = o.statuses.items; returned = map given_of o.returned.items; last = o.last; cells = o.permanents.items; legend = legend_seen o.legend.now }
 
 abbrev pub telling_of : Observer → List StoryEvent → Telling
 telling_of o events = record { events = map told_of events; past = past_of o }
-
-abbrev pub has_waited : Waited → Status → Bool
-has_waited waited.AtGate status = is_gated status
-has_waited waited.Delayed status = is_queued status
 
 abbrev pub wait_of : Wait → Waiting
 wait_of w = record { process = w.process; status = w.status; call = w.call; inside = w.inside.items }

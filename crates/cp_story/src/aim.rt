@@ -1,14 +1,16 @@
 //! What a process is about to do.
 
-ghost use Rattle.std.specs.Prelude.{◌≡◌, ◌∷◌, ◌<◌, ℕ, IsTrue, Some, drop, length, option_copied};
+ghost use Rattle.std.specs.Prelude.{◌≡◌, ◌∷◌, ◌<◌, ℕ, IfSome, IsTrue, Some, drop, length, option_copied, position};
 ghost use Rattle.cp_slots.specs.Tables.{Tables, item_at};
 ghost use Rattle.cp_machine.specs.Fits.{IsStateOf, IsTaken};
-ghost use Rattle.cp_machine.specs.Machine.{is_ready, machine_of, thread_at, under};
+ghost use Rattle.cp_machine.specs.Kernel.{waits_in};
+ghost use Rattle.cp_machine.specs.Machine.{is_delayed_at, is_ready, machine_of, thread_at, under};
+ghost use Rattle.cp_machine.specs.Memory.{address_of};
 ghost use Rattle.cp_machine.specs.Reach.{CanReach};
 ghost use Rattle.cp_machine.specs.Stack.{above};
 ghost use Rattle.cp_story.specs.Aimed as spec;
 
-use cp_machine::{Entry, State};
+use cp_machine::{Entry, ProcessState, State};
 use cp_slots::{Action, Item, Place, Resolved};
 use cp_store::{Address, address};
 
@@ -19,6 +21,8 @@ pub struct Aim {
     pub line: Option<u32>,
     /// The cell of the queue that it continues, or is delayed in.
     pub queue: Option<usize>,
+    /// Who waits in the queue that it continues.
+    pub wakes: Option<u8>,
     /// Whether a call of a monitor's entry ends by it.
     pub ends_call: bool,
 }
@@ -27,6 +31,7 @@ pub struct Aim {
 pub const NONE: Aim = Aim {
     line: None,
     queue: None,
+    wakes: None,
     ends_call: false,
 };
 
@@ -34,6 +39,7 @@ pub const NONE: Aim = Aim {
 const RETURN: Aim = Aim {
     line: None,
     queue: None,
+    wakes: None,
     ends_call: true,
 };
 
@@ -51,8 +57,7 @@ pub fn aim_of(program: &Resolved, state: &State, pid: u8) -> Aim
     requires own { IsStateOf program.now state.now }
     requires pid { pid < length state.now.processes.items }
     requires ready { IsTrue (is_ready (machine_of state.now) pid) }
-    ensures line { result.line ≡ spec.line_of_top program.now (thread_at (machine_of state.now).threads pid).stack }
-    ensures ends { result.ends_call ≡ spec.ends_call program.now (thread_at (machine_of state.now).threads pid).stack }
+    ensures { result ≡ spec.aim_in program.now (machine_of state.now) pid }
 {
     match top_of(state, pid) {
         Some(&Entry::Rest(at)) => aim_at(program, state, pid, at),
@@ -68,13 +73,14 @@ fn aim_at(program: &Resolved, state: &State, pid: u8, at: usize) -> Aim
     requires pid { pid < length state.now.processes.items }
     requires ready { IsTrue (is_ready (machine_of state.now) pid) }
     requires top { (thread_at (machine_of state.now).threads pid).stack ≡ Entry.Rest at ∷ under (machine_of state.now) pid }
-    ensures line { result.line ≡ Some (item_at program.now at).line }
-    ensures ends { result.ends_call ≡ spec.is_continue (item_at program.now at).action }
+    ensures { result ≡ spec.aim_at (machine_of state.now) pid (item_at program.now at) }
 {
     let item = program.item(at);
+    let queue = queue_of(state, pid, item);
     Aim {
         line: Some(item.line),
-        queue: process_to_continue(state, pid, item).or(queue_of_delay(state, pid, item)),
+        queue,
+        wakes: woken_by(state, item, queue),
         ends_call: is_continue(item),
     }
 }
@@ -85,22 +91,14 @@ fn is_continue(item: &Item) -> bool
     matches!(item.action, Action::Continue(_))
 }
 
-// The cell of the queue that an item continues.
-fn process_to_continue(state: &State, pid: u8, item: &Item) -> Option<usize>
+// The cell of the queue that an item delays in, or continues.
+fn queue_of(state: &State, pid: u8, item: &Item) -> Option<usize>
     requires { (r : Tables) × (at : ℕ) × IsTaken r state.now pid at item.now }
-{
-    match &item.action {
-        Action::Continue(place) => queue_cell(state, pid, place),
-        _ => None,
-    }
-}
-
-// The cell of the queue that an item delays in.
-fn queue_of_delay(state: &State, pid: u8, item: &Item) -> Option<usize>
-    requires { (r : Tables) × (at : ℕ) × IsTaken r state.now pid at item.now }
+    ensures { result ≡ spec.queue_of (machine_of state.now) pid item.now.action }
 {
     match &item.action {
         Action::Delay(place) => queue_cell(state, pid, place),
+        Action::Continue(place) => queue_cell(state, pid, place),
         _ => None,
     }
 }
@@ -109,10 +107,48 @@ fn queue_of_delay(state: &State, pid: u8, item: &Item) -> Option<usize>
 fn queue_cell(state: &State, pid: u8, place: &Place) -> Option<usize>
     requires pid { pid < length state.now.processes.items }
     requires reach { CanReach (machine_of state.now) pid place.now 1 }
+    ensures { result ≡ spec.permanent_cell (address_of (machine_of state.now) pid place.now) }
 {
     let process = &state.processes[pid as usize];
     match address(place, &state.permanents, &process.room, &process.frame) {
         Ok(Address::Permanent(cell)) => Some(cell),
         _ => None,
     }
+}
+
+// Who waits in the queue of a cell, if the item continues it.
+fn woken_by(state: &State, item: &Item, queue: Option<usize>) -> Option<u8>
+    ensures { result ≡ spec.woken_by (machine_of state.now) item.now.action queue }
+{
+    match item.action {
+        Action::Continue(_) => waiter_in(state, queue),
+        _ => None,
+    }
+}
+
+fn waiter_in(state: &State, queue: Option<usize>) -> Option<u8>
+    ensures { result ≡ spec.waiter_in (machine_of state.now) queue }
+{
+    match queue {
+        Some(cell) => waiter_of(state, cell),
+        None => None,
+    }
+}
+
+fn waiter_of(state: &State, cell: usize) -> Option<u8>
+    ensures { result ≡ waits_in (machine_of state.now) cell }
+{
+    match place_in_queue(&state.processes, cell) {
+        None => None,
+        Some(place) => Some(place as u8),
+    }
+}
+
+fn place_in_queue(processes: &[ProcessState], cell: usize) -> Option<usize>
+    ensures place { result ≡ position (λ p. is_delayed_at cell p.status) processes.now }
+    ensures within { IfSome result (λ place. place < length processes.now) }
+{
+    processes
+        .iter()
+        .position(|process| process.status.is_delayed_at(cell))
 }

@@ -5,6 +5,7 @@ pub mod aim;
 mod changes;
 pub mod event;
 pub mod happening;
+pub mod laws;
 pub mod objects;
 pub mod observer;
 mod open_calls;

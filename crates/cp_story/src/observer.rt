@@ -8,8 +8,8 @@ ghost use Rattle.cp_machine.specs.Machine.{machine_of, thread_at};
 ghost use Rattle.cp_run.specs.declared.line.TraceEvent.TheVariants as event;
 ghost use Rattle.cp_story.specs.Events.{event_of};
 ghost use Rattle.cp_story.specs.Passed as passed;
-ghost use Rattle.cp_story.specs.Story.{Enters, call_begun, calls_after, innermost_call, is_gated, last_or, line_told, no_call, nothing_told, past_after, past_before, statuses_in, told_event, what_happened, with_call, with_calls};
-ghost use Rattle.cp_story.specs.Views.{happened_of, past_of, told_of};
+ghost use Rattle.cp_story.specs.Story.{Enters, call_begun, calls_after, innermost_call, is_gated, last_or, last_with, line_told, no_call, nothing_told, past_after, past_before, queue_told, statuses_in, told_event, what_happened, with_call, with_calls};
+ghost use Rattle.cp_story.specs.Views.{happened_of, past_of, queue_seen, told_of};
 ghost use Rattle.cp_story.specs.Waiting.{innermost_open};
 
 use crate::aim::Aim;
@@ -19,7 +19,7 @@ use crate::happening::arguments;
 use crate::open_calls::{NO_CALL, call_begun, close_call, innermost_call, open_call};
 use crate::returned::values_returned;
 use crate::statuses::{
-    Waited, is_at_gate, resumed_processes, started_process, status_before, status_of, statuses_of,
+    is_at_gate, listed, processes_let_in, started_process, status_of, statuses_of,
 };
 use cp_legend::Legend;
 use cp_machine::{Kernel, Shown, State, Status};
@@ -40,11 +40,11 @@ pub struct Observer<'a> {
     pub permanents: Vec<i16>,
     /// What comes back from the call that ends with the step to come, if one does.
     returned: Vec<Returned>,
-    /// Who made the last step.
+    /// The last step that was made, or that is about to be.
     pub last: Last,
 }
 
-/// The process that made a step.
+/// A step.
 #[derive(Clone, Copy)]
 pub struct Last {
     pub process: u8,
@@ -86,22 +86,13 @@ impl<'a> Observer<'a> {
         process: u8,
         aim: Aim,
     ) -> Result<(), AllocError>
-        ensures seen { IfOk result (λ _. past_of self.new ≡ past_before aim.ends_call (machine_of state.now) process (past_of self.old)) }
+        ensures seen { IfOk result (λ _. past_of self.new ≡ past_before aim (machine_of state.now) process (past_of self.old)) }
         ensures failed { OnErr result (past_of self.new ≡ past_of self.old) }
     {
-        let before = if self.last.process == process {
-            self.last.line
-        } else {
-            None
-        };
-        self.last = Last {
-            process,
-            line: aim.line.or(before),
-            queue: aim.queue,
-        };
         if aim.ends_call {
             self.returned = values_returned(alloc, self.legend, state, process)?;
         }
+        self.last = last_with(aim, process, self.last);
         Ok(())
     }
 
@@ -122,13 +113,13 @@ impl<'a> Observer<'a> {
         aim: Aim,
     ) -> Result<StoryEvent, AllocError>
         ensures plain { IfOk result (λ e. e.plain ≡ plain) }
-        ensures told { IfOk result (λ e. told_of e ≡ told_event plain.holders plain.event plain.process aim.line (machine_of state.now) (past_of self.old)) }
-        ensures past { IfOk result (λ _. past_of self.new ≡ past_after plain.event plain.process aim.line (machine_of state.now) (past_of self.old)) }
+        ensures told { IfOk result (λ e. told_of e ≡ told_event plain.holders plain.event plain.process aim (machine_of state.now) (past_of self.old)) }
+        ensures past { IfOk result (λ _. past_of self.new ≡ past_after plain.event plain.process aim (machine_of state.now) (past_of self.old)) }
     {
         let process = plain.process;
         let changes = changes(alloc, self.legend, &self.permanents, &state.permanents)?;
-        let woken = resumed_processes(&self.statuses, state, process, Waited::Delayed);
-        let let_in = resumed_processes(&self.statuses, state, process, Waited::AtGate);
+        let woken = listed(aim.wakes);
+        let let_in = processes_let_in(&self.statuses, state, process);
         let happening = self.happening(alloc, state, process, plain.event, aim)?;
         let line = line_of(&happening, aim);
         let choice = self.choice.take();
@@ -164,8 +155,8 @@ impl<'a> Observer<'a> {
         aim: Aim,
     ) -> Result<Happening, AllocError>
         ensures kind { IfOk result (λ h. event_of h ≡ event) }
-        ensures happened { IfOk result (λ h. happened_of h ≡ what_happened event process aim.line (machine_of state.now) (past_of self.old)) }
-        ensures calls { IfOk result (λ _. past_of self.new ≡ with_calls (past_of self.old) (calls_after event process aim.line (machine_of state.now) (past_of self.old).calls)) }
+        ensures happened { IfOk result (λ h. happened_of h ≡ what_happened event process aim (machine_of state.now) (past_of self.old)) }
+        ensures calls { IfOk result (λ _. past_of self.new ≡ with_calls (past_of self.old) (calls_after event process aim (machine_of state.now) (past_of self.old).calls)) }
     {
         Ok(match event {
             TraceEvent::Kernel(Kernel::Enter) => self.enter(alloc, state, process, aim)?,
@@ -173,11 +164,11 @@ impl<'a> Observer<'a> {
                 Happening::Leave(close_call(&mut self.calls, process))
             }
             TraceEvent::Kernel(Kernel::Delay) => {
-                let queue = self.delay_queue(alloc, state, process)?;
+                let queue = self.queue(alloc, aim.queue)?;
                 Happening::Delay(queue, self.call_of(process).unwrap_or(NO_CALL))
             }
             TraceEvent::Kernel(Kernel::Continue) => {
-                let queue = self.continued_queue(alloc, state, aim)?;
+                let queue = self.queue(alloc, aim.queue)?;
                 Happening::Continue(queue, close_call(&mut self.calls, process))
             }
             TraceEvent::Kernel(Kernel::StartProcess) => {
@@ -209,28 +200,10 @@ impl<'a> Observer<'a> {
         })
     }
 
-    // The queue that a process is delayed in.
-    fn delay_queue(&self, alloc: Global, state: &State, process: u8) -> Result<Queue, AllocError> {
-        let cell = match status_of(state, process) {
-            Status::Delayed(cell) => Some(cell),
-            _ => None,
-        };
-        self.queue(alloc, cell)
-    }
-
-    // The queue that was continued: the one that somebody left, or that the statement names.
-    fn continued_queue(&self, alloc: Global, state: &State, aim: Aim) -> Result<Queue, AllocError> {
-        let mut left = None;
-        for (number, one) in state.processes.iter().enumerate() {
-            let before = status_before(&self.statuses, number);
-            if let (Status::Delayed(cell), Status::Ready) = (before, one.status) {
-                left = Some(cell);
-            }
-        }
-        self.queue(alloc, left.or(aim.queue))
-    }
-
-    fn queue(&self, alloc: Global, cell: Option<usize>) -> Result<Queue, AllocError> {
+    // The queue of a cell.
+    fn queue(&self, alloc: Global, cell: Option<usize>) -> Result<Queue, AllocError>
+        ensures { IfOk result (λ q. queue_seen q ≡ queue_told (past_of self.now).legend cell) }
+    {
         match cell {
             Some(cell) => Ok(Queue {
                 monitor: self.legend.monitor_of(cell).unwrap_or(0),
@@ -241,6 +214,22 @@ impl<'a> Observer<'a> {
                 name: String::new(alloc),
             }),
         }
+    }
+}
+
+// The step of a process that is about to be made, after a last one: where it has no line, it is on the line that its process came to.
+fn last_with(aim: Aim, process: u8, last: Last) -> Last
+    ensures { result ≡ last_with aim process last }
+{
+    let before = if last.process == process {
+        last.line
+    } else {
+        None
+    };
+    Last {
+        process,
+        line: aim.line.or(before),
+        queue: aim.queue,
     }
 }
 

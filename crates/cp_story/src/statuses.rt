@@ -1,44 +1,20 @@
 //! How the processes stand, and who goes on by an event.
 
+ghost use Rattle.std.specs.Option.{option_to_list};
 ghost use Rattle.std.specs.Prelude.{◌≡◌, ◌==◌, ◌&&◌, not, IfOk, slice_index_or};
 ghost use Rattle.cp_machine.specs.declared.process.Status.TheVariants as status;
 ghost use Rattle.cp_machine.specs.Machine.{is_ready_status, is_unstarted, machine_of, thread_at};
-ghost use Rattle.cp_story.specs.Story.{resumed_processes, is_gated, is_queued, last_or, started_processes, statuses_in};
-ghost use Rattle.cp_story.specs.Views.{has_waited};
+ghost use Rattle.cp_story.specs.Story.{resumed_processes, is_gated, last_or, started_processes, statuses_in};
 
 use arrayvec::ArrayVec;
 use cp_machine::{State, Status};
 use std::alloc::{AllocError, Global};
-
-/// How a process waited.
-#[derive(Clone, Copy)]
-pub enum Waited {
-    AtGate,
-    Delayed,
-}
-
-// Whether a process of this status waits so.
-fn has_waited(waited: Waited, status: Status) -> bool
-    ensures { result ≡ has_waited waited status }
-{
-    match waited {
-        Waited::AtGate => is_at_gate(status),
-        Waited::Delayed => is_delayed(status),
-    }
-}
 
 /// Whether a process of this status is at a gate.
 pub fn is_at_gate(status: Status) -> bool
     ensures { result ≡ is_gated status }
 {
     matches!(status, Status::AtGate(_))
-}
-
-/// Whether a process of this status is in a queue.
-pub fn is_delayed(status: Status) -> bool
-    ensures { result ≡ is_queued status }
-{
-    matches!(status, Status::Delayed(_))
 }
 
 fn is_unstarted(status: Status) -> bool
@@ -68,20 +44,18 @@ pub fn statuses_of(alloc: Global, state: &State) -> Result<Vec<Status>, AllocErr
     Ok(statuses)
 }
 
-/// What the process of a number did before.
-pub fn status_before(before: &[Status], number: usize) -> Status
+// What the process of a number did before.
+fn status_before(before: &[Status], number: usize) -> Status
     ensures { result ≡ slice_index_or before.now number status.Ended }
 {
     before.get(number).copied().unwrap_or(Status::Ended)
 }
 
-// Whether the process of a number, which does this now, goes on: it is another one, waited so before, and is ready.
-fn has_resumed(before: &[Status], number: usize, now: Status, process: u8, waited: Waited) -> bool
-    ensures { result ≡ (has_waited waited (slice_index_or before.now number status.Ended) && not (number == process) && is_ready_status now) }
+// Whether the process of a number, which does this now, was let in: it is another one, was at a gate before, and is ready.
+fn is_let_in(before: &[Status], number: usize, now: Status, process: u8) -> bool
+    ensures { result ≡ (is_gated (slice_index_or before.now number status.Ended) && not (number == process) && is_ready_status now) }
 {
-    has_waited(waited, status_before(before, number))
-        && number != process as usize
-        && now.is_ready()
+    is_at_gate(status_before(before, number)) && number != process as usize && now.is_ready()
 }
 
 // Whether the process of a number, which does this now, was unstarted before and is not.
@@ -91,22 +65,28 @@ fn has_started(before: &[Status], number: usize, now: Status) -> bool
     is_unstarted(status_before(before, number)) && !is_unstarted(now)
 }
 
-/// The processes other than one that waited so before and are ready now.
-pub fn resumed_processes(
-    before: &[Status],
-    state: &State,
-    process: u8,
-    waited: Waited,
-) -> ArrayVec<u8, 16>
-    ensures { result.items ≡ resumed_processes (has_waited waited) before.now (machine_of state.now) process }
+/// The processes other than one that were at a gate before and are ready now.
+pub fn processes_let_in(before: &[Status], state: &State, process: u8) -> ArrayVec<u8, 16>
+    ensures { result.items ≡ resumed_processes is_gated before.now (machine_of state.now) process }
 {
     let mut gone = ArrayVec::new();
     for (number, one) in state.processes.iter().enumerate() {
-        if has_resumed(before, number, one.status, process, waited) {
+        if is_let_in(before, number, one.status, process) {
             gone.push(number as u8);
         }
     }
     gone
+}
+
+/// A process, if there is one, as a list.
+pub fn listed(process: Option<u8>) -> ArrayVec<u8, 16>
+    ensures { result.items ≡ option_to_list process }
+{
+    let mut processes = ArrayVec::new();
+    if let Some(process) = process {
+        processes.push(process);
+    }
+    processes
 }
 
 /// The process that was not started before.

@@ -2,6 +2,7 @@
 
 ghost use Rattle.std.specs.Prelude.{◌≡◌, ◌++◌, map, option_map, string_bytes, IfOk, OnOk};
 ghost use Rattle.cp_legend.specs.Names.{legend_seen};
+ghost use Rattle.cp_run.specs.Code.{answer_of};
 ghost use Rattle.cp_story.specs.Halted as spec;
 ghost use Rattle.cp_story.specs.Halted.{halted_seen};
 ghost use Rattle.cp_story.specs.Views.{wait_of};
@@ -33,7 +34,7 @@ pub fn abrupt_end(
     last: Last,
     waits: &[Wait],
 ) -> Result<Option<AbruptEnd>, AllocError>
-    ensures { IfOk result (λ s. option_map halted_seen s ≡ spec.halted_at (legend_seen legend.now) end.now last (map wait_of waits.now)) }
+    ensures { IfOk result (λ s. option_map halted_seen s ≡ spec.halted_at (legend_seen legend.now) (answer_of end.now) last (map wait_of waits.now)) }
 {
     match end {
         RunEnd::Ended { outcome, .. } => abrupt_end_as(alloc, legend, outcome.kind, last, waits),

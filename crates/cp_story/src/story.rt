@@ -9,7 +9,8 @@ ghost use Rattle.cp_run.specs.Slots.{slots};
 ghost use Rattle.cp_run.specs.Code.{answer_of, node_of};
 ghost use Rattle.cp_run.specs.Trace.{holders_in, step_lines, stretch_lines, opened_lines, chosen_lines, trace};
 ghost use Rattle.cp_story.specs.Story.{nothing_told, story_of, decision_in, teller, telling, told_more, told_step};
-ghost use Rattle.cp_story.specs.Stop.{last_state};
+ghost use Rattle.cp_story.specs.Halted.{halted_at, halted_seen, how_halted};
+ghost use Rattle.cp_story.specs.Stop.{last_state, numbers_left};
 ghost use Rattle.cp_story.specs.Told.{lines_of};
 ghost use Rattle.cp_story.specs.Views.{past_of, decision_of, telling_of, told_of, wait_of};
 ghost use Rattle.cp_story.specs.Waiting as waiting;
@@ -93,7 +94,7 @@ fn push_event(
 ) -> Result<(), AllocError>
     requires { IsStateOf program.now state.now }
     ensures lines { IfOk result (λ _. lines_of events.new.items ≡ lines_of events.old.items ++ record { process = process; event = event; holders = holders_in (slots program.now limits.gates) (machine_of state.now) } ∷ []) }
-    ensures told { IfOk result (λ _. telling_of observer.new events.new.items ≡ told_more program.now limits.gates event process aim.line (machine_of state.now) (telling_of observer.old events.old.items)) }
+    ensures told { IfOk result (λ _. telling_of observer.new events.new.items ≡ told_more program.now limits.gates event process aim (machine_of state.now) (telling_of observer.old events.old.items)) }
 {
     let holders = holders(alloc, program, limits, state)?;
     let plain = TraceLine {
@@ -120,7 +121,7 @@ fn push_step(
 ) -> Result<(), AllocError>
     requires { IsStateOf program.now state.now }
     ensures lines { IfOk result (λ _. lines_of events.new.items ≡ lines_of events.old.items ++ step_lines (slots program.now limits.gates) (machine_of state.now) process event) }
-    ensures told { IfOk result (λ _. telling_of observer.new events.new.items ≡ told_step program.now limits.gates process aim.line event (machine_of state.now) (telling_of observer.old events.old.items)) }
+    ensures told { IfOk result (λ _. telling_of observer.new events.new.items ≡ told_step program.now limits.gates process aim event (machine_of state.now) (telling_of observer.old events.old.items)) }
 {
     let event = match event {
         Step::Kernel(call) => TraceEvent::Kernel(call),
@@ -383,6 +384,8 @@ pub fn tell<L: Ledger>(
     ensures choice { IfOk result (λ s. option_map decision_of s.last_choice ≡ (telling (legend_seen legend.now) program.now limits.gates limits.choices limits.steps word.now).past.choice) }
     ensures waits { IfOk result (λ s. map wait_of s.waits.items ≡ who_waits (legend_seen legend.now) program.now limits.gates limits.choices limits.steps word.now) }
     ensures answer { IfOk result (λ s. answer_of s.end ≡ run (slots program.now limits.gates) limits.choices limits.steps word.now) }
+    ensures stop { IfOk result (λ s. option_map halted_seen s.stop ≡ how_halted (legend_seen legend.now) program.now limits.gates limits.choices limits.steps word.now) }
+    ensures left { IfOk result (λ s. s.left ≡ numbers_left word.now (run (slots program.now limits.gates) limits.choices limits.steps word.now)) }
     ensures ticks { ticks.new ≤ ticks.old + (limits.choices + 1) * limits.steps }
 {
     let mut events = Vec::new(alloc);
@@ -403,7 +406,9 @@ pub fn tell<L: Ledger>(
 }
 
 // How many numbers of a word stand after those that a run used until it ended.
-fn count_left(word: &[u8], end: &RunEnd) -> usize {
+fn count_left(word: &[u8], end: &RunEnd) -> usize
+    ensures { result ≡ numbers_left word.now (answer_of end.now) }
+{
     match end {
         RunEnd::Ended { used, .. } => word.len().saturating_sub(*used),
         _ => 0,
@@ -427,6 +432,8 @@ fn finish_story(
     ensures choice { IfOk result (λ s. option_map decision_of s.last_choice ≡ (past_of observer.entry).choice) }
     ensures waits { IfOk result (λ s. map wait_of s.waits.items ≡ waits_in program.now (machine_of state.now) (past_of observer.entry).calls) }
     ensures end { IfOk result (λ s. s.end ≡ end) }
+    ensures stop { IfOk result (λ s. option_map halted_seen s.stop ≡ halted_at (legend_seen legend.now) (answer_of end) (past_of observer.entry).last (waits_in program.now (machine_of state.now) (past_of observer.entry).calls)) }
+    ensures left { IfOk result (λ s. s.left ≡ left) }
 {
     let waits = waits_of(alloc, program, state, &observer)?;
     let stop = abrupt_end(alloc, legend, &end, observer.last, &waits)?;

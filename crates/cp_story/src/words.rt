@@ -4,7 +4,9 @@ ghost use Rattle.std.specs.Prelude.{◌≡◌, ◌++◌, [], map, option_map, co
 ghost use Rattle.cp_legend.specs.Names.{legend_seen};
 ghost use Rattle.cp_legend.specs.Values.{value_seen};
 ghost use Rattle.cp_legend.specs.Written.{value_text};
+ghost use Rattle.cp_run.specs.Code.{answer_of};
 ghost use Rattle.cp_run.specs.Table.{each};
+ghost use Rattle.cp_story.specs.Ends as ends;
 ghost use Rattle.cp_story.specs.Joined.{joined};
 ghost use Rattle.cp_story.specs.Sentences as spec;
 ghost use Rattle.cp_story.specs.Views.{decision_of, wait_of};
@@ -370,7 +372,9 @@ fn push_inside(legend: &Legend, text: &mut String, inside: &[u8]) -> Result<(), 
 }
 
 /// The name of a run error, as the trace has it.
-pub fn error_words(name: ErrorName) -> &'static str {
+pub fn error_words(name: ErrorName) -> &'static str
+    ensures { result.now ≡ ends.error_name name }
+{
     match name {
         ErrorName::Overflow => "overflow",
         ErrorName::ZeroDivisor => "zero-divisor",
@@ -383,7 +387,9 @@ pub fn error_words(name: ErrorName) -> &'static str {
 }
 
 /// The kind of a run's end, as the trace has it.
-pub fn kind_words(kind: OutcomeKind) -> &'static str {
+pub fn kind_words(kind: OutcomeKind) -> &'static str
+    ensures { result.now ≡ ends.kind_name kind }
+{
     match kind {
         OutcomeKind::Finished => "finished",
         OutcomeKind::AllWaiting => "all-waiting",
@@ -395,22 +401,35 @@ pub fn kind_words(kind: OutcomeKind) -> &'static str {
 }
 
 /// The displayed values, or a hyphen.
-pub fn output_words(
-    alloc: Global,
-    legend: &Legend,
-    values: &[Shown],
-) -> Result<String, AllocError> {
+pub fn output_words(alloc: Global, legend: &Legend, values: &[Shown]) -> Result<String, AllocError>
+    ensures { IfOk result (λ t. string_bytes t ≡ ends.output_text (legend_seen legend.now) values.now) }
+{
     let mut text = String::new(alloc);
     if values.is_empty() {
         text.push('-')?;
-    }
-    for (place, value) in values.iter().enumerate() {
-        if place > 0 {
-            text.push(' ')?;
-        }
-        push_shown(legend, &mut text, *value)?;
+    } else {
+        push_values_shown(legend, &mut text, values)?;
     }
     Ok(text)
+}
+
+#[tactic(auto, using(crate::proofs::Rows::joined_element_step, crate::proofs::Rows::joined_item_none))]
+fn push_values_shown(legend: &Legend, text: &mut String, values: &[Shown]) -> Result<(), AllocError>
+    ensures { OnOk result (string_bytes text.new ≡ string_bytes text.old ++ joined [] (codes " ") (spec.shown_text (legend_seen legend.now)) values.now) }
+{
+    let mut before = "";
+    for value in values {
+        text.push_str(before)?;
+        push_value_shown(legend, text, value)?;
+        before = " ";
+    }
+    Ok(())
+}
+
+fn push_value_shown(legend: &Legend, text: &mut String, value: &Shown) -> Result<(), AllocError>
+    ensures { OnOk result (string_bytes text.new ≡ string_bytes text.old ++ spec.shown_text (legend_seen legend.now) value.now) }
+{
+    push_shown(legend, text, *value)
 }
 
 /// That so many last numbers of a schedule are not used, if there are some.
@@ -478,9 +497,11 @@ fn sign_before(place: usize, last: usize) -> &'static str
 }
 
 /// How a run stops, in the words of a lecture: `deadlock: all wait`.
-pub fn end_words(alloc: Global, story: &Story) -> Result<String, AllocError> {
+pub fn end_words(alloc: Global, story: &Story) -> Result<String, AllocError>
+    ensures { IfOk result (λ t. string_bytes t ≡ ends.end_text (answer_of story.now.end) (option_map decision_of story.now.last_choice)) }
+{
     match &story.end {
-        RunEnd::Ended { outcome, .. } => String::from_str(alloc, end_phrase(outcome.kind)),
+        RunEnd::Ended { outcome, .. } => String::from_str(alloc, kind_phrase(outcome.kind)),
         RunEnd::Wants { ready } => {
             let mut text = String::from_str(alloc, "to be chosen next: ")?;
             push_options(&mut text, ready.as_slice())?;
@@ -493,7 +514,9 @@ pub fn end_words(alloc: Global, story: &Story) -> Result<String, AllocError> {
     }
 }
 
-fn end_phrase(kind: OutcomeKind) -> &'static str {
+fn kind_phrase(kind: OutcomeKind) -> &'static str
+    ensures { result.now ≡ ends.kind_phrase kind }
+{
     match kind {
         OutcomeKind::Finished => "all have ended",
         OutcomeKind::AllWaiting => "deadlock: all wait",
@@ -504,7 +527,9 @@ fn end_phrase(kind: OutcomeKind) -> &'static str {
     }
 }
 
-fn error_phrase(name: ErrorName) -> &'static str {
+fn error_phrase(name: ErrorName) -> &'static str
+    ensures { result.now ≡ ends.error_phrase name }
+{
     match name {
         ErrorName::Overflow => "run error: a number out of reach",
         ErrorName::ZeroDivisor => "run error: division by zero",

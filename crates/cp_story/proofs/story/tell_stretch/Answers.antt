@@ -67,7 +67,7 @@ loop-preserved g c =
           let x = telling_of c.loop.observer c.loop.events.items in
           let y = telling_of c.expect.new.self c.loop.events.items in
           let z = telling_of c.push_step.new.observer c.push_step.new.events.items in
-          let now = step_told r gates p s t c.step-event.result c.aim_of-aim.result.line c.aim_of-aim.result.ends_call x y z c.aim_of-aim.ensures.line c.aim_of-aim.ensures.ends (step_expected c.loop.observer c.expect.new.self c.loop.events.items c.aim_of-aim.result.ends_call s p c.in_ok-expect.ensures.seen) c.in_ok-push_step.ensures.told in
+          let now = step_told r gates p s t c.step-event.result c.aim_of-aim.result x y z c.aim_of-aim.ensures (step_expected c.loop.observer c.expect.new.self c.loop.events.items c.aim_of-aim.result s p c.in_ok-expect.ensures.seen) c.in_ok-push_step.ensures.told in
           fold_further sys (teller r gates) c.args.limits.steps c.loop.counter s t p c.step-event.result (Goes c.in-Goes.next) _ x z lt machine event (c.in-Goes.ensures.turn ∙ ap (turn_after sys t p) event) c.loop.invariant.told now;
       steps = let more = counted (succeeds c.step-event.result) c.loop.steps c.step-event.new.ticks c.step-event.ensures.ticks in let so_far = c.loop.invariant.steps in omega (arith, more, so_far);
     }
@@ -122,7 +122,7 @@ returns-in-Over-clause-told g c =
     let z = telling_of c.push_step.new.observer c.push_step.new.events.items in
     let lt : c.loop.counter < c.args.limits.steps = omega arith in
     let event = ap (λ (x : Stepped). x.event) (sym c.step-event.ensures.after) in
-    let now = step_told r gates p s t c.step-event.result c.aim_of-aim.result.line c.aim_of-aim.result.ends_call x y z c.aim_of-aim.ensures.line c.aim_of-aim.ensures.ends (step_expected c.loop.observer c.expect.new.self c.loop.events.items c.aim_of-aim.result.ends_call s p c.in_ok-expect.ensures.seen) c.in_ok-push_step.ensures.told in
+    let now = step_told r gates p s t c.step-event.result c.aim_of-aim.result x y z c.aim_of-aim.ensures (step_expected c.loop.observer c.expect.new.self c.loop.events.items c.aim_of-aim.result s p c.in_ok-expect.ensures.seen) c.in_ok-push_step.ensures.told in
     sym (fold_further sys (teller r gates) c.args.limits.steps c.loop.counter s t p c.step-event.result (Over c.in-Over.kind) _ x z lt (ap (λ (x : Stepped). x.machine) (sym c.step-event.ensures.after)) event (c.in-Over.ensures.turn ∙ ap (turn_after sys t p) event) c.loop.invariant.told now)
 
 pub returns-in-Due-clause-told : goal.returns-in-Due-clause-told
@@ -138,7 +138,7 @@ returns-in-Due-clause-told g c =
     let z = telling_of c.push_step.new.observer c.push_step.new.events.items in
     let lt : c.loop.counter < c.args.limits.steps = omega arith in
     let event = ap (λ (x : Stepped). x.event) (sym c.step-event.ensures.after) in
-    let now = step_told r gates p s t c.step-event.result c.aim_of-aim.result.line c.aim_of-aim.result.ends_call x y z c.aim_of-aim.ensures.line c.aim_of-aim.ensures.ends (step_expected c.loop.observer c.expect.new.self c.loop.events.items c.aim_of-aim.result.ends_call s p c.in_ok-expect.ensures.seen) c.in_ok-push_step.ensures.told in
+    let now = step_told r gates p s t c.step-event.result c.aim_of-aim.result x y z c.aim_of-aim.ensures (step_expected c.loop.observer c.expect.new.self c.loop.events.items c.aim_of-aim.result s p c.in_ok-expect.ensures.seen) c.in_ok-push_step.ensures.told in
     sym (fold_further sys (teller r gates) c.args.limits.steps c.loop.counter s t p c.step-event.result Due _ x z lt (ap (λ (x : Stepped). x.machine) (sym c.step-event.ensures.after)) event (c.in-Due.ensures.turn ∙ ap (turn_after sys t p) event) c.loop.invariant.told now)
 
 pub returns-clause-told : goal.returns-clause-told

@@ -19,22 +19,25 @@ use Rattle.cp_story.proofs.Folding.{fold_over, fold_no_word, fold_refused, fold_
 use Rattle.cp_story.proofs.Stops.{stops_over, stops_with_word, stops_refused, stops_further}
 use Rattle.cp_story.proofs.story.tell_word.Goals as goal
 
-pub returns-then-is_over-clause-lines : goal.returns-then-is_over-clause-lines
-returns-then-is_over-clause-lines g c =
+pub returns-then-is_over : goal.returns-then-is_over
+returns-then-is_over g c =
     let sys = slots c.args.program.now c.args.limits.gates in
     let k = c.args.limits.choices - c.loop-place.place in
     let w = drop c.loop-place.place c.args.word.now in
-    no_more (trace sys c.args.limits.choices c.args.limits.steps c.args.word.now) (lines_of c.loop-place.events.items) (c.loop-place.invariant.lines ∙ ap (λ l. (lines_of c.loop-place.events.items) ++ l) (over_lines sys c.args.limits.steps k w c.loop-place.halt (machine_of c.loop-place.state) (sym c.is_over.ensures ∙ c.if-is_over.true)))
+    let n = c.loop-place.place in
+    let t = teller c.args.program.now c.args.limits.gates in
+    let x = telling_of c.loop-place.observer c.loop-place.events.items in
+    record {
+      lines = no_more (trace sys c.args.limits.choices c.args.limits.steps c.args.word.now) (lines_of c.loop-place.events.items) (c.loop-place.invariant.lines ∙ ap (λ l. (lines_of c.loop-place.events.items) ++ l) (over_lines sys c.args.limits.steps k w c.loop-place.halt (machine_of c.loop-place.state) (sym c.is_over.ensures ∙ c.if-is_over.true)));
+      told = sym (c.loop-place.invariant.told ∙ fold_over sys t c.args.limits.steps (c.args.limits.choices - c.loop-place.place) (drop c.loop-place.place c.args.word.now) c.loop-place.halt (machine_of c.loop-place.state) x (sym c.is_over.ensures ∙ c.if-is_over.true));
+      answer = c.in_ok-end.ensures ∙ sym (c.loop-place.invariant.same ∙ ap (further c.loop-place.place) (over_run sys c.args.limits.steps k w c.loop-place.halt (machine_of c.loop-place.state) (sym c.is_over.ensures ∙ c.if-is_over.true)));
+      stop = sym (c.loop-place.invariant.stop ∙ stops_over sys c.args.limits.steps (c.args.limits.choices - n) (drop n c.args.word.now) c.loop-place.halt (machine_of c.loop-place.state) (sym c.is_over.ensures ∙ c.if-is_over.true));
+      own = c.loop-place.invariant.own;
+      ticks = ticks_within _ _ _ _ _ c.loop-place.invariant.ticks c.loop-place.invariant.within;
+    }
 
-pub returns-then-is_over-clause-answer : goal.returns-then-is_over-clause-answer
-returns-then-is_over-clause-answer g c =
-    let sys = slots c.args.program.now c.args.limits.gates in
-    let k = c.args.limits.choices - c.loop-place.place in
-    let w = drop c.loop-place.place c.args.word.now in
-    c.in_ok-end.ensures ∙ sym (c.loop-place.invariant.same ∙ ap (further c.loop-place.place) (over_run sys c.args.limits.steps k w c.loop-place.halt (machine_of c.loop-place.state) (sym c.is_over.ensures ∙ c.if-is_over.true)))
-
-pub returns-then-not-may-clause-lines : goal.returns-then-not-may-clause-lines
-returns-then-not-may-clause-lines g c =
+pub returns-then-not-may : goal.returns-then-not-may
+returns-then-not-may g c =
     let sys = slots c.args.program.now c.args.limits.gates in
     let m = machine_of c.loop-place.state in
     let n = c.loop-place.place in
@@ -44,20 +47,16 @@ returns-then-not-may-clause-lines g c =
     let p = get_or c.args.word.now n 0 in
     let going = sym c.is_over.ensures ∙ c.if-is_over.false in
     let more = some_left k c.loop-place.halt going in
-    no_more (trace sys c.args.limits.choices c.args.limits.steps c.args.word.now) (lines_of c.loop-place.events.items) (c.loop-place.invariant.lines ∙ ap (λ h. (lines_of c.loop-place.events.items) ++ trace_from sys c.args.limits.steps k w (node_of h m)) (not_over k c.loop-place.halt going) ∙ ap (λ l. (lines_of c.loop-place.events.items) ++ l) (refused_lines sys c.args.limits.steps k (c.args.limits.choices - (n + 1)) p w rest m (omega (arith, more)) (drop_next c.args.word.now n (omega arith)) (sym c.may.ensures ∙ c.if-not-may.true)))
-
-pub returns-then-not-may-clause-answer : goal.returns-then-not-may-clause-answer
-returns-then-not-may-clause-answer g c =
-    let sys = slots c.args.program.now c.args.limits.gates in
-    let m = machine_of c.loop-place.state in
-    let n = c.loop-place.place in
-    let k = c.args.limits.choices - n in
-    let w = drop n c.args.word.now in
-    let rest = drop (n + 1) c.args.word.now in
-    let p = get_or c.args.word.now n 0 in
-    let going = sym c.is_over.ensures ∙ c.if-is_over.false in
-    let more = some_left k c.loop-place.halt going in
-    sym (c.loop-place.invariant.same ∙ ap (λ h. further n (run_from sys c.args.limits.steps k w (node_of h m))) (not_over k c.loop-place.halt going) ∙ refused_at sys c.args.limits.steps k (c.args.limits.choices - (n + 1)) n p w rest m (omega (arith, more)) (drop_next c.args.word.now n (omega arith)) (sym c.may.ensures ∙ c.if-not-may.true))
+    let t = teller c.args.program.now c.args.limits.gates in
+    let x = telling_of c.loop-place.observer c.loop-place.events.items in
+    record {
+      lines = no_more (trace sys c.args.limits.choices c.args.limits.steps c.args.word.now) (lines_of c.loop-place.events.items) (c.loop-place.invariant.lines ∙ ap (λ h. (lines_of c.loop-place.events.items) ++ trace_from sys c.args.limits.steps k w (node_of h m)) (not_over k c.loop-place.halt going) ∙ ap (λ l. (lines_of c.loop-place.events.items) ++ l) (refused_lines sys c.args.limits.steps k (c.args.limits.choices - (n + 1)) p w rest m (omega (arith, more)) (drop_next c.args.word.now n (omega arith)) (sym c.may.ensures ∙ c.if-not-may.true)));
+      told = sym (c.loop-place.invariant.told ∙ ap (λ h. fold_from sys t c.args.limits.steps k w (node_of h m) x) (not_over k c.loop-place.halt going) ∙ fold_refused sys t c.args.limits.steps k (c.args.limits.choices - (n + 1)) p w rest m x (omega (arith, more)) (drop_next c.args.word.now n (omega arith)) (sym c.may.ensures ∙ c.if-not-may.true) ∙ ap (choice_taken x) (sym c.choice_of.ensures));
+      answer = sym (c.loop-place.invariant.same ∙ ap (λ h. further n (run_from sys c.args.limits.steps k w (node_of h m))) (not_over k c.loop-place.halt going) ∙ refused_at sys c.args.limits.steps k (c.args.limits.choices - (n + 1)) n p w rest m (omega (arith, more)) (drop_next c.args.word.now n (omega arith)) (sym c.may.ensures ∙ c.if-not-may.true));
+      stop = sym (c.loop-place.invariant.stop ∙ ap (λ h. last_state_from sys c.args.limits.steps k w (node_of h m)) (not_over k c.loop-place.halt going) ∙ stops_refused sys c.args.limits.steps k (c.args.limits.choices - (n + 1)) p w rest m (omega (arith, more)) (drop_next c.args.word.now n (omega arith)) (sym c.may.ensures ∙ c.if-not-may.true));
+      own = c.loop-place.invariant.own;
+      ticks = ticks_within _ _ _ _ _ c.loop-place.invariant.ticks c.loop-place.invariant.within;
+    }
 
 pub returns-in_err-halt-2-clause-ticks : goal.returns-in_err-halt-2-clause-ticks
 returns-in_err-halt-2-clause-ticks g c =
@@ -96,84 +95,25 @@ loop-place-preserved g c =
       ticks = omega (arith, so_far, added);
     }
 
-pub returns-clause-lines : goal.returns-clause-lines
-returns-clause-lines g c =
+pub returns : goal.returns
+returns g c =
     let sys = slots c.args.program.now c.args.limits.gates in
     let n = c.loop-place.place in
-    no_more (trace sys c.args.limits.choices c.args.limits.steps c.args.word.now) (lines_of c.loop-place.events.items) (c.loop-place.invariant.lines ∙ ap (λ l. (lines_of c.loop-place.events.items) ++ l) (no_word_lines sys c.args.limits.steps (c.args.limits.choices - n) (drop n c.args.word.now) (node_of c.loop-place.halt (machine_of c.loop-place.state)) (drop_all c.args.word.now n (omega arith))))
-
-pub returns-clause-answer : goal.returns-clause-answer
-returns-clause-answer g c =
-    let sys = slots c.args.program.now c.args.limits.gates in
-    let n = c.loop-place.place in
+    let t = teller c.args.program.now c.args.limits.gates in
+    let x = telling_of c.loop-place.observer c.loop-place.events.items in
     let all : n ≡ length c.args.word.now = omega arith in
     let node = node_of c.loop-place.halt (machine_of c.loop-place.state) in
-    c.in_ok-end-2.ensures ∙ sym (c.loop-place.invariant.same ∙ ap (λ w. further n (run_from sys c.args.limits.steps (c.args.limits.choices - n) w node)) (drop_all c.args.word.now n all) ∙ ap (λ i. further i (run_from sys c.args.limits.steps (c.args.limits.choices - i) [] node)) all)
-
-pub returns-then-is_over-clause-ticks : goal.returns-then-is_over-clause-ticks
-returns-then-is_over-clause-ticks g c = ticks_within _ _ _ _ _ c.loop-place.invariant.ticks c.loop-place.invariant.within
-
-pub returns-then-not-may-clause-ticks : goal.returns-then-not-may-clause-ticks
-returns-then-not-may-clause-ticks g c = ticks_within _ _ _ _ _ c.loop-place.invariant.ticks c.loop-place.invariant.within
-
-pub returns-clause-ticks : goal.returns-clause-ticks
-returns-clause-ticks g c = ticks_within _ _ _ _ _ c.loop-place.invariant.ticks c.loop-place.invariant.within
+    record {
+      lines = no_more (trace sys c.args.limits.choices c.args.limits.steps c.args.word.now) (lines_of c.loop-place.events.items) (c.loop-place.invariant.lines ∙ ap (λ l. (lines_of c.loop-place.events.items) ++ l) (no_word_lines sys c.args.limits.steps (c.args.limits.choices - n) (drop n c.args.word.now) (node_of c.loop-place.halt (machine_of c.loop-place.state)) (drop_all c.args.word.now n (omega arith))));
+      told = sym (c.loop-place.invariant.told ∙ fold_no_word sys t c.args.limits.steps (c.args.limits.choices - n) (drop n c.args.word.now) (node_of c.loop-place.halt (machine_of c.loop-place.state)) x (drop_all c.args.word.now n (omega arith)));
+      answer = c.in_ok-end-2.ensures ∙ sym (c.loop-place.invariant.same ∙ ap (λ w. further n (run_from sys c.args.limits.steps (c.args.limits.choices - n) w node)) (drop_all c.args.word.now n all) ∙ ap (λ i. further i (run_from sys c.args.limits.steps (c.args.limits.choices - i) [] node)) all);
+      stop = sym (c.loop-place.invariant.stop ∙ stops_with_word sys c.args.limits.steps (c.args.limits.choices - n) (drop n c.args.word.now) c.loop-place.halt (machine_of c.loop-place.state) (drop_all c.args.word.now n (omega arith)));
+      own = c.loop-place.invariant.own;
+      ticks = ticks_within _ _ _ _ _ c.loop-place.invariant.ticks c.loop-place.invariant.within;
+    }
 
 pub returns-in_err-end-clause-ticks : goal.returns-in_err-end-clause-ticks
 returns-in_err-end-clause-ticks g c = ticks_within _ _ _ _ _ c.loop-place.invariant.ticks c.loop-place.invariant.within
 
 pub returns-in_err-end-2-clause-ticks : goal.returns-in_err-end-2-clause-ticks
 returns-in_err-end-2-clause-ticks g c = ticks_within _ _ _ _ _ c.loop-place.invariant.ticks c.loop-place.invariant.within
-
-pub returns-then-is_over-clause-told : goal.returns-then-is_over-clause-told
-returns-then-is_over-clause-told g c =
-    let sys = slots c.args.program.now c.args.limits.gates in
-    let w = teller c.args.program.now c.args.limits.gates in
-    let x = telling_of c.loop-place.observer c.loop-place.events.items in
-    sym (c.loop-place.invariant.told ∙ fold_over sys w c.args.limits.steps (c.args.limits.choices - c.loop-place.place) (drop c.loop-place.place c.args.word.now) c.loop-place.halt (machine_of c.loop-place.state) x (sym c.is_over.ensures ∙ c.if-is_over.true))
-
-pub returns-then-not-may-clause-told : goal.returns-then-not-may-clause-told
-returns-then-not-may-clause-told g c =
-    let sys = slots c.args.program.now c.args.limits.gates in
-    let w = teller c.args.program.now c.args.limits.gates in
-    let m = machine_of c.loop-place.state in
-    let n = c.loop-place.place in
-    let k = c.args.limits.choices - n in
-    let rest = drop n c.args.word.now in
-    let p = get_or c.args.word.now n 0 in
-    let x = telling_of c.loop-place.observer c.loop-place.events.items in
-    let going = sym c.is_over.ensures ∙ c.if-is_over.false in
-    let more = some_left k c.loop-place.halt going in
-    sym (c.loop-place.invariant.told ∙ ap (λ h. fold_from sys w c.args.limits.steps k rest (node_of h m) x) (not_over k c.loop-place.halt going) ∙ fold_refused sys w c.args.limits.steps k (c.args.limits.choices - (n + 1)) p rest (drop (n + 1) c.args.word.now) m x (omega (arith, more)) (drop_next c.args.word.now n (omega arith)) (sym c.may.ensures ∙ c.if-not-may.true) ∙ ap (choice_taken x) (sym c.choice_of.ensures))
-
-pub returns-clause-told : goal.returns-clause-told
-returns-clause-told g c =
-    let sys = slots c.args.program.now c.args.limits.gates in
-    let w = teller c.args.program.now c.args.limits.gates in
-    let n = c.loop-place.place in
-    let x = telling_of c.loop-place.observer c.loop-place.events.items in
-    sym (c.loop-place.invariant.told ∙ fold_no_word sys w c.args.limits.steps (c.args.limits.choices - n) (drop n c.args.word.now) (node_of c.loop-place.halt (machine_of c.loop-place.state)) x (drop_all c.args.word.now n (omega arith)))
-
-pub returns-then-is_over-clause-stop : goal.returns-then-is_over-clause-stop
-returns-then-is_over-clause-stop g c =
-    let sys = slots c.args.program.now c.args.limits.gates in
-    let n = c.loop-place.place in
-    sym (c.loop-place.invariant.stop ∙ stops_over sys c.args.limits.steps (c.args.limits.choices - n) (drop n c.args.word.now) c.loop-place.halt (machine_of c.loop-place.state) (sym c.is_over.ensures ∙ c.if-is_over.true))
-
-pub returns-then-not-may-clause-stop : goal.returns-then-not-may-clause-stop
-returns-then-not-may-clause-stop g c =
-    let sys = slots c.args.program.now c.args.limits.gates in
-    let m = machine_of c.loop-place.state in
-    let n = c.loop-place.place in
-    let k = c.args.limits.choices - n in
-    let rest = drop n c.args.word.now in
-    let p = get_or c.args.word.now n 0 in
-    let going = sym c.is_over.ensures ∙ c.if-is_over.false in
-    let more = some_left k c.loop-place.halt going in
-    sym (c.loop-place.invariant.stop ∙ ap (λ h. last_state_from sys c.args.limits.steps k rest (node_of h m)) (not_over k c.loop-place.halt going) ∙ stops_refused sys c.args.limits.steps k (c.args.limits.choices - (n + 1)) p rest (drop (n + 1) c.args.word.now) m (omega (arith, more)) (drop_next c.args.word.now n (omega arith)) (sym c.may.ensures ∙ c.if-not-may.true))
-
-pub returns-clause-stop : goal.returns-clause-stop
-returns-clause-stop g c =
-    let sys = slots c.args.program.now c.args.limits.gates in
-    let n = c.loop-place.place in
-    sym (c.loop-place.invariant.stop ∙ stops_with_word sys c.args.limits.steps (c.args.limits.choices - n) (drop n c.args.word.now) c.loop-place.halt (machine_of c.loop-place.state) (drop_all c.args.word.now n (omega arith)))
