@@ -53,7 +53,7 @@ impl Simples {
     ) -> Result<Option<&SimplestSchedule>, AllocError>
         ensures { IfOk result (λ found. IfSome found (λ s. IsScheduleOf (slots job.entry.program.now job.entry.limits.gates) job.entry.limits.choices job.entry.limits.steps s.now.word.items tally.now.outcome)) }
     {
-        let Some(simple) = self.found_at(place) else {
+        let Some(simple) = self.simplest_at(place) else {
             return Ok(None);
         };
         let Job { program, limits } = job;
@@ -65,7 +65,7 @@ impl Simples {
         }
     }
 
-    fn found_at(&self, place: usize) -> Option<&SimplestSchedule> {
+    fn simplest_at(&self, place: usize) -> Option<&SimplestSchedule> {
         match &self.words {
             Some(words) => match words.get(place) {
                 Some(Some(simple)) => Some(simple),

@@ -7,7 +7,7 @@ use crate::endless::{Endless, endless_of};
 use crate::graph::PageGraph;
 use crate::json::Json;
 use crate::keys::Merging;
-use crate::outcomes::{MOST_OUTCOMES, first_words, has_output_limit, put_outcomes, survey};
+use crate::outcomes::{MOST_LISTED, first_words, has_output_limit, put_outcomes, survey};
 use crate::register::Register;
 use crate::source::put_source;
 use crate::subject::{Length, PageSubject};
@@ -77,7 +77,7 @@ fn put_tallies<O: ObserveProgress>(
     json.put_name("isWhole");
     json.put_truth(is_whole);
     json.put_name("more");
-    json.put_place(tallies.len().saturating_sub(MOST_OUTCOMES));
+    json.put_place(tallies.len().saturating_sub(MOST_LISTED));
     json.put_name("outcomes");
     put_outcomes(alloc, json, subject.legend, tallies);
 }

@@ -22,7 +22,7 @@ use cp_walk::Job;
 use std::alloc::{AllocError, Global};
 
 /// The most outcomes that a page has.
-pub const MOST_OUTCOMES: usize = 2000;
+pub const MOST_LISTED: usize = 2000;
 
 /// The outcomes of all schedules, if there are not too many states or outcomes.
 pub fn survey<O: ObserveProgress>(
@@ -53,7 +53,7 @@ pub fn has_output_limit(tallies: &[Tally]) -> bool {
 /// Appends the outcomes: `[end, output, count, [number, ..]]`, the numbers those of the first schedule.
 pub fn put_outcomes(alloc: Global, json: &mut Json, legend: &Legend, tallies: &[Tally]) {
     json.open();
-    for tally in tallies.get(0..MOST_OUTCOMES).unwrap_or(tallies) {
+    for tally in tallies.get(0..MOST_LISTED).unwrap_or(tallies) {
         json.open();
         put_plain_end(json, End::Over(tally.outcome.kind));
         json.begin_text();

@@ -175,15 +175,15 @@ fn is_covered(mark: Mark, kinds: Kinds) -> bool {
 
 /// A word for what may stand at a place: one that tells a kind of it, or what stands there itself, in quotes.
 #[derive(Clone, Copy)]
-enum Word {
+enum CandidateWord {
     Kind(&'static str),
     Itself(&'static str),
 }
 
-fn push_word(text: &mut Prose, word: Word) {
+fn push_word(text: &mut Prose, word: CandidateWord) {
     match word {
-        Word::Kind(kind) => text.put(kind),
-        Word::Itself(token) => {
+        CandidateWord::Kind(kind) => text.put(kind),
+        CandidateWord::Itself(token) => {
             text.put("\"");
             text.put(token);
             text.put("\"");
@@ -208,7 +208,7 @@ struct CandidateChoice<'a> {
     text: Prose,
     is_begun: bool,
     /// It is held back until it is known whether it is the last.
-    newest: Option<Word>,
+    newest: Option<CandidateWord>,
 }
 
 impl<'a> CandidateChoice<'a> {
@@ -234,7 +234,7 @@ impl<'a> CandidateChoice<'a> {
         }
     }
 
-    fn add(&mut self, word: Word) {
+    fn add(&mut self, word: CandidateWord) {
         if let Some(before) = self.newest {
             if self.is_begun {
                 self.text.put(", ");
@@ -248,17 +248,17 @@ impl<'a> CandidateChoice<'a> {
     /// Adds a word where a kind of token may stand.
     fn add_if_taken(&mut self, candidate: Candidate, word: &'static str) {
         if self.takes(candidate) {
-            self.add(Word::Kind(word));
+            self.add(CandidateWord::Kind(word));
         }
     }
 
     /// Adds what names, numbers and characters are a part of, or these.
     fn add_operands(&mut self, kinds: Kinds) {
         if kinds.statement {
-            self.add(Word::Kind("a statement"));
+            self.add(CandidateWord::Kind("a statement"));
         }
         if kinds.operand {
-            self.add(Word::Kind("an expression"));
+            self.add(CandidateWord::Kind("an expression"));
         }
         if kinds.statement || kinds.operand {
             return;
@@ -271,14 +271,14 @@ impl<'a> CandidateChoice<'a> {
     /// Adds a reserved word or sign.
     fn add_mark(&mut self, mark: Mark) {
         if self.takes_mark(mark) {
-            self.add(Word::Itself(spelling(mark)));
+            self.add(CandidateWord::Itself(spelling(mark)));
         }
     }
 
     fn add_all(&mut self, kinds: Kinds) {
         self.add_operands(kinds);
         if kinds.operator {
-            self.add(Word::Kind("an operator"));
+            self.add(CandidateWord::Kind("an operator"));
         }
         for mark in &MARKS {
             if !is_covered(*mark, kinds) {

@@ -6,7 +6,7 @@ use crate::place::{Sought, find};
 use crate::report::{Hint, Hints};
 use crate::rules::{mark_at, name_at};
 use crate::starts::{Care, remarks};
-use crate::waits::{Inner, inner_waits};
+use crate::waits::{InnerCall, inner_waits};
 use cp_prose::Prose;
 use cp_text::{Mark, Tokens};
 use cp_tree::Program;
@@ -113,7 +113,7 @@ impl<'a> Gathering<'a> {
         }
     }
 
-    fn add_inner(&mut self, inner: Inner) {
+    fn add_inner(&mut self, inner: InnerCall) {
         if self.is_full() {
             return;
         }
@@ -200,7 +200,7 @@ impl BodyWalk {
     }
 }
 
-fn sentence_on(alloc: Global, source: &[u8], inner: Inner) -> Result<String, AllocError> {
+fn sentence_on(alloc: Global, source: &[u8], inner: InnerCall) -> Result<String, AllocError> {
     let mut sentence = Prose::new(alloc);
     sentence.put("whoever waits in ");
     push_tokens(&mut sentence, source, inner.call);

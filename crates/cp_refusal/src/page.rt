@@ -60,20 +60,20 @@ fn line_len(text: &[u8]) -> usize {
 }
 
 /// The most bytes of a line that are shown.
-const MOST_SHOWN: usize = 160;
+const MOST_EXCERPT_BYTES: usize = 160;
 
 /// The part of a line that is shown around a place: all of it where it is short.
 fn shown_part(line: &[u8], place: usize) -> Extent {
-    if line.len() <= MOST_SHOWN {
+    if line.len() <= MOST_EXCERPT_BYTES {
         return Extent {
             from: 0,
             to: line.len(),
         };
     }
-    let from = whole_from(line, place.saturating_sub(MOST_SHOWN / 2));
+    let from = whole_from(line, place.saturating_sub(MOST_EXCERPT_BYTES / 2));
     Extent {
         from,
-        to: from.saturating_add(MOST_SHOWN).min(line.len()),
+        to: from.saturating_add(MOST_EXCERPT_BYTES).min(line.len()),
     }
 }
 

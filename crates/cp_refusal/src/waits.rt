@@ -18,7 +18,7 @@ struct RoutineWaits<'a> {
 
 /// A call, within a monitor, of another one in which it may wait.
 #[derive(Clone, Copy, Drop)]
-pub struct Inner<'a> {
+pub struct InnerCall<'a> {
     /// The name of the monitor type that is around.
     pub outer: &'a str,
     /// The tokens of the component and the routine that are called.
@@ -104,7 +104,7 @@ fn body_of(system: &System, number: usize, routine: &Routine) -> Extent {
 #[derive(Drop)]
 struct WaitFindings<'a> {
     known: Vec<RoutineWaits<'a>>,
-    inner: Vec<Inner<'a>>,
+    inner: Vec<InnerCall<'a>>,
     is_refused: bool,
 }
 
@@ -115,7 +115,7 @@ impl<'a> WaitFindings<'a> {
         }
     }
 
-    fn add_call(&mut self, call: Inner<'a>) {
+    fn add_call(&mut self, call: InnerCall<'a>) {
         if self.inner.push(call).is_err() {
             self.is_refused = true;
         }
@@ -140,7 +140,7 @@ impl<'a> WaitFindings<'a> {
             let body = body_of(named.system, number, routine);
             for at in body.from..body.to {
                 if let Some(call) = waiting_call(tokens, program, named.system, &self.known, at) {
-                    self.add_call(Inner {
+                    self.add_call(InnerCall {
                         outer: named.name,
                         call,
                     });
@@ -158,7 +158,7 @@ impl<'a> WaitFindings<'a> {
         }
     }
 
-    fn finish(self) -> Result<Vec<Inner<'a>>, AllocError> {
+    fn finish(self) -> Result<Vec<InnerCall<'a>>, AllocError> {
         if self.is_refused {
             return Err(AllocError);
         }
@@ -171,7 +171,7 @@ pub fn inner_waits<'a>(
     alloc: Global,
     tokens: &Tokens,
     program: &'a Program,
-) -> Result<Vec<Inner<'a>>, AllocError> {
+) -> Result<Vec<InnerCall<'a>>, AllocError> {
     let types = system_types(alloc, program)?;
     let mut findings = WaitFindings {
         known: Vec::new(alloc),

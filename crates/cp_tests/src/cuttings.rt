@@ -194,7 +194,7 @@ fn pieces_of(alloc: Global, sizes: &[(u32, u32)]) -> Result<Vec<RowPiece>, Alloc
 
 /// What comes of pieces.
 #[derive(Clone, Copy)]
-enum Gathering {
+enum PiecesAnswer {
     /// A table of so many rows.
     Rows(usize),
     TooManyRows,
@@ -203,21 +203,21 @@ enum Gathering {
     Missing(u32),
 }
 
-fn is_fault(fault: &GatherFault, wanted: Gathering) -> bool {
+fn is_fault(fault: &GatherFault, wanted: PiecesAnswer) -> bool {
     match (fault, wanted) {
-        (GatherFault::TooManyRows, Gathering::TooManyRows) => true,
-        (GatherFault::Double(task), Gathering::Double(other)) => *task == other,
-        (GatherFault::Stranger(task), Gathering::Stranger(other)) => *task == other,
-        (GatherFault::Missing(task), Gathering::Missing(other)) => *task == other,
+        (GatherFault::TooManyRows, PiecesAnswer::TooManyRows) => true,
+        (GatherFault::Double(task), PiecesAnswer::Double(other)) => *task == other,
+        (GatherFault::Stranger(task), PiecesAnswer::Stranger(other)) => *task == other,
+        (GatherFault::Missing(task), PiecesAnswer::Missing(other)) => *task == other,
         _ => false,
     }
 }
 
 /// Whether this comes of pieces.
-fn gathers_to(alloc: Global, tasks: u32, pieces: Vec<RowPiece>, wanted: Gathering) -> bool {
+fn gathers_to(alloc: Global, tasks: u32, pieces: Vec<RowPiece>, wanted: PiecesAnswer) -> bool {
     match gather(alloc, tasks, pieces) {
         Ok(table) => match wanted {
-            Gathering::Rows(count) => table.rows.as_slice().len() == count,
+            PiecesAnswer::Rows(count) => table.rows.as_slice().len() == count,
             _ => false,
         },
         Err(fault) => is_fault(&fault, wanted),
@@ -228,34 +228,34 @@ fn gathers_to(alloc: Global, tasks: u32, pieces: Vec<RowPiece>, wanted: Gatherin
 struct GatherRow {
     tasks: u32,
     sizes: &'static [(u32, u32)],
-    wanted: Gathering,
+    wanted: PiecesAnswer,
 }
 
 static GATHERINGS: [GatherRow; 5] = [
     GatherRow {
         tasks: 4,
         sizes: &[(3, 12_500), (0, 12_500), (2, 12_500), (1, 12_500)],
-        wanted: Gathering::Rows(50_000),
+        wanted: PiecesAnswer::Rows(50_000),
     },
     GatherRow {
         tasks: 4,
         sizes: &[(3, 12_501), (0, 12_500), (2, 12_500), (1, 12_500)],
-        wanted: Gathering::TooManyRows,
+        wanted: PiecesAnswer::TooManyRows,
     },
     GatherRow {
         tasks: 2,
         sizes: &[(0, 0), (0, 0)],
-        wanted: Gathering::Double(0),
+        wanted: PiecesAnswer::Double(0),
     },
     GatherRow {
         tasks: 2,
         sizes: &[(2, 0)],
-        wanted: Gathering::Stranger(2),
+        wanted: PiecesAnswer::Stranger(2),
     },
     GatherRow {
         tasks: 2,
         sizes: &[(1, 0)],
-        wanted: Gathering::Missing(0),
+        wanted: PiecesAnswer::Missing(0),
     },
 ];
 
@@ -377,7 +377,7 @@ fn is_gathered_in_each_order(alloc: Global, table: &Table) -> bool {
 }
 
 /// Whether this comes of the pieces of these tasks, cut from a table.
-fn cuts_to(alloc: Global, table: &Table, tasks: &[u32], wanted: Gathering) -> bool {
+fn cuts_to(alloc: Global, table: &Table, tasks: &[u32], wanted: PiecesAnswer) -> bool {
     match cut_pieces(alloc, table, tasks) {
         Ok(pieces) => gathers_to(alloc, 5, pieces, wanted),
         Err(_) => false,
@@ -397,16 +397,16 @@ fn less(wrong: u32) -> ArrayVec<u32, 5> {
 
 /// Whether the pieces of a cutting are refused with one too many or one too few.
 fn refuses_wrong_pieces(alloc: Global, table: &Table) -> bool {
-    let mut refuses = cuts_to(alloc, table, &[0, 1, 2, 3, 4, 5], Gathering::Stranger(5));
+    let mut refuses = cuts_to(alloc, table, &[0, 1, 2, 3, 4, 5], PiecesAnswer::Stranger(5));
     for wrong in 0u32..5 {
         let twice = [0, 1, 2, 3, 4, wrong];
         refuses = refuses
-            && cuts_to(alloc, table, &twice, Gathering::Double(wrong))
+            && cuts_to(alloc, table, &twice, PiecesAnswer::Double(wrong))
             && cuts_to(
                 alloc,
                 table,
                 less(wrong).as_slice(),
-                Gathering::Missing(wrong),
+                PiecesAnswer::Missing(wrong),
             );
     }
     refuses

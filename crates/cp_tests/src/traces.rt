@@ -199,17 +199,17 @@ fn worked_traces(rt: HostRuntime) {
 }
 
 /// A word, and the process that it lets in at a gate.
-struct Admission {
+struct GateWord {
     word: &'static str,
     process: u8,
 }
 
-static ADMISSIONS: [Admission; 2] = [
-    Admission {
+static ADMISSIONS: [GateWord; 2] = [
+    GateWord {
         word: "0.0.0.1.2.3.2.2.2.3.3.1.2",
         process: 2,
     },
-    Admission {
+    GateWord {
         word: "0.0.0.1.2.3.3.3.3.2.2.1.2",
         process: 3,
     },
@@ -230,7 +230,7 @@ fn is_admitted_once(lines: &[TraceLine], process: u8) -> bool {
 }
 
 /// Whether one line of the trace of a word tells of an admission under the gates Any, of this process.
-fn admits_once(alloc: Global, admission: &Admission) -> bool {
+fn admits_once(alloc: Global, admission: &GateWord) -> bool {
     let word = numbers_of(admission.word);
     let limits = limits_of(13, Gates::Any);
     match trace_at(alloc, THREE_CALLERS, limits, word.as_slice()) {

@@ -100,7 +100,7 @@ impl EdgeComponents {
     }
 
     /// Somebody who is passed over in all of a component.
-    pub fn passed_over(&self, number: u32) -> Option<u8>
+    pub fn who_is_passed_over(&self, number: u32) -> Option<u8>
         ensures { result ≡ passed_over_in self.now number }
     {
         let part = self.parts.get(number as usize)?;

@@ -69,7 +69,7 @@ pub fn is_ranked(
     if after != before {
         return after < before;
     }
-    let passed_over = parts.passed_over(before);
+    let passed_over = parts.who_is_passed_over(before);
     is_passed_over(graph.processes, keeping, passed_over, &edge.passing)
 }
 
