@@ -3,12 +3,17 @@ pub mod Choosable
 pub mod Choosing
 pub mod DueChoices
 pub mod Failing
+pub mod FoldAlong
+pub mod Folding
+pub mod Observed
 pub mod Owning
 pub mod Prefixes
 pub mod Running
 pub mod Standing
+pub mod Stops
 pub mod Stretching
 pub mod TraceBounds
+pub mod TraceFold
 pub mod TraceRuns
 pub mod Tracing
 pub mod Turning

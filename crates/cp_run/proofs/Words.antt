@@ -11,8 +11,6 @@ unfoldable pub use Rattle.cp_run.specs.Run.{chosen, may, run_from, stretch}
 pub use Rattle.cp_run.specs.Run.{turn_after, turn_among, turn_at}
 pub use Rattle.cp_run.specs.Slots.{slots}
 pub use Rattle.cp_run.specs.System.{System}
-pub use Rattle.cp_run.specs.Trace.{trace}
-unfoldable pub use Rattle.cp_run.specs.Trace.{chosen_lines, stretch_lines, trace_from}
 pub use Rattle.cp_run.specs.declared.outcome.OutcomeKind.TheVariants.{AllWaiting, Finished}
 pub use Rattle.cp_run.specs.declared.outcome.Turn.{Turn}
 pub use Rattle.cp_run.specs.declared.outcome.Turn.TheVariants.{Due, Goes, Over}

@@ -4,6 +4,7 @@ use Rattle.cp_run.specs.declared.outcome.Turn.{Turn}
 use Rattle.cp_run.specs.declared.outcome.Turn.TheVariants.{Over, Due, Goes}
 use Rattle.cp_run.specs.declared.outcome.Halt.{Halt}
 use Rattle.cp_run.specs.declared.outcome.Halt.TheVariants.{Choice, Ended as HasEnded}
+use Rattle.cp_run.specs.declared.outcome.OutcomeKind.TheVariants.{StepLimit}
 use Rattle.cp_run.specs.declared.outcome.RunEnd.{RunEnd}
 use Rattle.cp_run.specs.declared.outcome.RunEnd.TheVariants as end
 use Rattle.cp_run.specs.Run.{Node, Halted, Choosing, Answer, Ended, Wants, NotReady}
@@ -17,6 +18,12 @@ IfGoes (Goes q) P = P q
 abbrev pub node_of : {S : Type 0} → Halt → S → Node S
 node_of Choice s = Choosing s
 node_of (HasEnded kind) s = Halted kind s
+
+-- where a stretch halts that may make no more steps
+abbrev pub halt_at : Turn → Halt
+halt_at (Over kind) = HasEnded kind
+halt_at Due = Choice
+halt_at (Goes q) = HasEnded StepLimit
 
 abbrev pub answer_of : RunEnd → Answer
 answer_of (end.Ended outcome used) = Ended outcome used

@@ -3,5 +3,7 @@ pub mod Outputs
 pub mod Run
 pub mod Slots
 pub mod Code
+pub mod Fold
+pub mod Stop
 pub mod Table
 pub mod Trace

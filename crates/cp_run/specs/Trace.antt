@@ -6,6 +6,7 @@ use Rattle.cp_run.specs.declared.outcome.Turn.{Turn}
 use Rattle.cp_run.specs.declared.outcome.Turn.TheVariants.{Over, Due, Goes}
 use Rattle.cp_run.specs.declared.line.TraceLine.{TraceLine}
 use Rattle.cp_run.specs.declared.line.TraceEvent.TheVariants.{Kernel, End, Admit}
+use Rattle.cp_run.specs.Fold.{Fold}
 use Rattle.cp_run.specs.System.{System}
 use Rattle.cp_run.specs.Run.{joined_below, Node, Halted, Choosing, turn_at, turn_after, settled_turn, may, chosen, opened}
 
@@ -50,3 +51,12 @@ trace_from sys steps (suc choices) (p ∷ word) (Choosing s) = if may sys s p th
 
 abbrev pub trace : {S : Type 0} → System S → ℕ → ℕ → List ℕ → List TraceLine
 trace sys choices steps word = opened_lines sys steps ++ trace_from sys steps choices word (opened sys steps)
+
+-- and the lines as what comes of a run step by step
+abbrev pub tracer : {S : Type 0} → System S → Fold S (List TraceLine)
+tracer sys =
+    record {
+      on_step = λ s p event t lines. lines ++ step_lines sys t p event;
+      on_admission = λ p t lines. lines ++ record { process = p; event = Admit; holders = holders_in sys t } ∷ [];
+      on_choice = λ s p lines. lines;
+    }

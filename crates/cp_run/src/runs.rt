@@ -4,7 +4,7 @@ ghost use Rattle.std.specs.Prelude.{◌≡◌, ◌≤◌, ◌+◌, ◌*◌, ◌-
 ghost use Rattle.cp_machine.specs.System.{machine_of, output_of, IsStateOf};
 ghost use Rattle.cp_run.specs.Run.{run, run_from};
 ghost use Rattle.cp_run.specs.Slots.{slots};
-ghost use Rattle.cp_run.specs.Code.{answer_of, node_of, further};
+ghost use Rattle.cp_run.specs.Code.{answer_of, node_of, further, is_over};
 
 use crate::choice::{candidates, choose, may, open};
 use crate::limits::Limits;
@@ -120,5 +120,16 @@ pub fn end_of_word(
                 })
             }
         }
+    }
+}
+
+/// Whether a run is over where its stretch halted, after this many choices.
+pub fn is_over(limits: Limits, halt: Halt, used: usize) -> bool
+    requires { used ≤ limits.choices }
+    ensures { result ≡ is_over (limits.choices - used) halt }
+{
+    match halt {
+        Halt::Ended(_) => true,
+        Halt::Choice => used == limits.choices as usize,
     }
 }

@@ -1,11 +1,9 @@
 pub mod Behind
 pub mod Calls
 pub mod Changing
-pub mod Folding
 pub mod Lists
 pub mod Queued
 pub mod Rows
-pub mod Stops
 pub mod Telling
 pub mod Waits
 pub mod Woken

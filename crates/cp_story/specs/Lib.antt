@@ -3,12 +3,10 @@ pub mod Changes
 pub mod Columns
 pub mod Ends
 pub mod Events
-pub mod Fold
 pub mod Halted
 pub mod Joined
 pub mod Passed
 pub mod Sentences
-pub mod Stop
 pub mod Story
 pub mod Text
 pub mod Told

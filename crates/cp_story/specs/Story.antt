@@ -27,7 +27,7 @@ use Rattle.cp_run.specs.Slots.{slots}
 use Rattle.cp_run.specs.Trace.{holders_in}
 use Rattle.cp_story.specs.Aimed.{aim_in, no_aim}
 use Rattle.cp_story.specs.Changes.{Changed, changes_in}
-use Rattle.cp_story.specs.Fold.{Fold, fold_run}
+use Rattle.cp_run.specs.Fold.{Fold, fold_run}
 use Rattle.cp_story.specs.Passed.{Given, arguments, given_back}
 use Rattle.cp_story.specs.declared.aim.Aim.{Aim}
 use Rattle.cp_story.specs.declared.event.OpenCall.{OpenCall}

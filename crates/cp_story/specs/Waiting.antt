@@ -7,7 +7,7 @@ use Rattle.cp_machine.specs.declared.process.Status.{Status}
 use Rattle.cp_machine.specs.Machine.{Machine, is_waiting, monitor_at, thread_at}
 use Rattle.cp_run.specs.Run.{those_below}
 use Rattle.cp_run.specs.Slots.{slots}
-use Rattle.cp_story.specs.Stop.{last_state}
+use Rattle.cp_run.specs.Stop.{last_state}
 use Rattle.cp_story.specs.Story.{calls_of, telling}
 use Rattle.cp_story.specs.declared.event.OpenCall.{OpenCall}
 

@@ -2,20 +2,19 @@
 
 ghost use Rattle.std.specs.Prelude.{◌≡◌, ◌<◌, ◌≤◌, ◌+◌, ◌-◌, ◌*◌, ◌++◌, ◌∷◌, [], true, false, if◌then◌else◌, IfOk, length, map, option_map};
 ghost use Rattle.cp_legend.specs.Names.{legend_seen};
-ghost use Rattle.cp_machine.specs.System.{machine_of, is_ready, is_pending, opening, IsStateOf};
+ghost use Rattle.cp_machine.specs.System.{machine_of, IsStateOf};
 ghost use Rattle.cp_machine.specs.Machine.{thread_at};
-ghost use Rattle.cp_run.specs.Run.{run, stretch, chosen, opened, may, those_below};
+ghost use Rattle.cp_run.specs.Run.{run, those_below};
 ghost use Rattle.cp_run.specs.Slots.{slots};
-ghost use Rattle.cp_run.specs.Code.{answer_of, node_of};
-ghost use Rattle.cp_run.specs.Trace.{holders_in, step_lines, stretch_lines, opened_lines, chosen_lines, trace};
-ghost use Rattle.cp_story.specs.Story.{nothing_told, story_of, decision_in, teller, telling, told_more, told_step};
+ghost use Rattle.cp_run.specs.Code.{answer_of};
+ghost use Rattle.cp_run.specs.Trace.{holders_in, step_lines, trace};
+ghost use Rattle.cp_story.specs.Story.{story_of, decision_in, telling, told_more, told_step};
 ghost use Rattle.cp_story.specs.Halted.{halted_at, halted_seen, how_halted};
-ghost use Rattle.cp_story.specs.Stop.{last_state, numbers_left};
+ghost use Rattle.cp_run.specs.Stop.{numbers_left};
 ghost use Rattle.cp_story.specs.Told.{lines_of};
 ghost use Rattle.cp_story.specs.Views.{past_of, decision_of, telling_of, told_of, wait_of};
 ghost use Rattle.cp_story.specs.Waiting as waiting;
 ghost use Rattle.cp_story.specs.Waiting.{waiting_at, waits_at, waits_in, who_waits};
-ghost use Rattle.cp_story.specs.Fold.{fold_chosen, fold_opened, fold_run, fold_stretch};
 
 use crate::aim::{Aim, NONE, aim_of};
 use crate::event::{Choice, OpenCall, StoryEvent};
@@ -23,13 +22,8 @@ use crate::observer::Observer;
 use crate::statuses::status_of;
 use crate::stopping::{AbruptEnd, abrupt_end};
 use cp_legend::Legend;
-use cp_machine::{Event as Step, State, Status, Ticks, step};
-use cp_run::runs::end_of_word;
-use cp_run::turn::{settled_turn, turn_at, turn_of};
-use cp_run::{
-    Halt, Holders, Limits, OutcomeKind, RunEnd, TraceEvent, TraceLine, Turn, candidates, is_over,
-    may,
-};
+use cp_machine::{Event as Step, State, Status, Ticks};
+use cp_run::{Limits, Observe, RunEnd, TraceEvent, TraceLine, candidates, holders, observe_run};
 use cp_slots::Resolved;
 use std::alloc::{AllocError, Global};
 use std::sync::ledger::Ledger;
@@ -62,185 +56,125 @@ pub struct Story {
     pub left: usize,
 }
 
-/// For each monitor the process inside it.
-fn holders(
-    alloc: Global,
-    program: &Resolved,
-    limits: Limits,
-    state: &State,
-) -> Result<Holders, AllocError>
-    requires { IsStateOf program.now state.now }
-    ensures { IfOk result (λ h. h ≡ holders_in (slots program.now limits.gates) (machine_of state.now)) }
-{
-    let _ = limits;
-    let mut holders = Vec::new(alloc);
-    for monitor in 0..program.monitors() {
-        holders.push(state.holder(monitor))?;
-    }
-    Ok(Holders::new(holders))
-}
-
-/// Appends the event of a line of the trace.
-fn push_event(
-    alloc: Global,
-    program: &Resolved,
-    limits: Limits,
-    state: &State,
-    process: u8,
-    event: TraceEvent,
+/// The events of a run, while it is made.
+#[derive(Drop)]
+struct Storyteller<'a> {
+    observer: Observer<'a>,
+    events: Vec<StoryEvent>,
+    /// What the process is about to do that makes the next step.
     aim: Aim,
-    observer: &mut Observer<'_>,
-    events: &mut Vec<StoryEvent>,
-) -> Result<(), AllocError>
-    requires { IsStateOf program.now state.now }
-    ensures lines { IfOk result (λ _. lines_of events.new.items ≡ lines_of events.old.items ++ record { process = process; event = event; holders = holders_in (slots program.now limits.gates) (machine_of state.now) } ∷ []) }
-    ensures told { IfOk result (λ _. telling_of observer.new events.new.items ≡ told_more program.now limits.gates event process aim (machine_of state.now) (telling_of observer.old events.old.items)) }
-{
-    let holders = holders(alloc, program, limits, state)?;
-    let plain = TraceLine {
-        process,
-        event,
-        holders,
-    };
-    let event = observer.observe(alloc, state, plain, aim)?;
-    events.push(event)?;
-    Ok(())
 }
 
-/// Appends the event of a step, if it is one.
-fn push_step(
-    alloc: Global,
-    program: &Resolved,
-    limits: Limits,
-    state: &State,
-    process: u8,
-    event: Step,
-    aim: Aim,
-    observer: &mut Observer<'_>,
-    events: &mut Vec<StoryEvent>,
-) -> Result<(), AllocError>
-    requires { IsStateOf program.now state.now }
-    ensures lines { IfOk result (λ _. lines_of events.new.items ≡ lines_of events.old.items ++ step_lines (slots program.now limits.gates) (machine_of state.now) process event) }
-    ensures told { IfOk result (λ _. telling_of observer.new events.new.items ≡ told_step program.now limits.gates process aim event (machine_of state.now) (telling_of observer.old events.old.items)) }
-{
-    let event = match event {
-        Step::Kernel(call) => TraceEvent::Kernel(call),
-        Step::Ended => TraceEvent::End,
-        Step::Local | Step::Fault(_) | Step::OutputFull => return Ok(()),
-    };
-    push_event(
-        alloc, program, limits, state, process, event, aim, observer, events,
-    )
-}
-
-/// A stretch, whose events are appended.
-fn tell_stretch<S: Ledger>(
-    alloc: Global,
-    program: &Resolved,
-    limits: Limits,
-    state: &mut State,
-    pid: u8,
-    steps: &mut Ticks<S>,
-    observer: &mut Observer<'_>,
-    events: &mut Vec<StoryEvent>,
-) -> Result<Halt, AllocError>
-    requires own { IsStateOf program.now state.old }
-    requires ready { is_ready (machine_of state.old) pid ≡ true }
-    requires free { is_pending (machine_of state.old) ≡ false }
-    ensures node { IfOk result (λ h. stretch (slots program.now limits.gates) limits.steps (machine_of state.old) pid ≡ node_of h (machine_of state.new)) }
-    ensures lines { IfOk result (λ _. lines_of events.new.items ≡ lines_of events.old.items ++ stretch_lines (slots program.now limits.gates) limits.steps (machine_of state.old) pid) }
-    ensures told { IfOk result (λ _. telling_of observer.new events.new.items ≡ fold_stretch (slots program.now limits.gates) (teller program.now limits.gates) limits.steps (machine_of state.old) pid (telling_of observer.old events.old.items)) }
-    ensures own { IsStateOf program.now state.new }
-    ensures steps { steps.new ≤ steps.old + limits.steps }
-{
-    let mut going = pid;
-    for _ in 0..limits.steps {
-        let aim = aim_of(program, state, going);
-        observer.expect(alloc, state, going, aim)?;
-        let event = step(program, state, going, steps);
-        push_step(
-            alloc, program, limits, state, going, event, aim, observer, events,
-        )?;
-        match turn_of(program, limits, state, going, event) {
-            Turn::Over(kind) => return Ok(Halt::Ended(kind)),
-            Turn::Due => return Ok(Halt::Choice),
-            Turn::Goes(next) => going = next,
-        }
+impl<'a> Storyteller<'a> {
+    // Appends the event of a line of the trace.
+    fn push_event(
+        &mut self,
+        alloc: Global,
+        program: &Resolved,
+        limits: Limits,
+        state: &State,
+        process: u8,
+        event: TraceEvent,
+        aim: Aim,
+    ) -> Result<(), AllocError>
+        requires { IsStateOf program.now state.now }
+        ensures lines { IfOk result (λ _. lines_of self.new.events.items ≡ lines_of self.old.events.items ++ record { process = process; event = event; holders = holders_in (slots program.now limits.gates) (machine_of state.now) } ∷ []) }
+        ensures told { IfOk result (λ _. telling_of self.new.observer self.new.events.items ≡ told_more program.now limits.gates event process aim (machine_of state.now) (telling_of self.old.observer self.old.events.items)) }
+    {
+        let holders = holders(alloc, program, limits, state)?;
+        let plain = TraceLine {
+            process,
+            event,
+            holders,
+        };
+        let event = self.observer.observe(alloc, state, plain, aim)?;
+        self.events.push(event)?;
+        Ok(())
     }
-    Ok(Halt::Ended(OutcomeKind::StepLimit))
-}
 
-/// A due choice and the stretch that follows it, whose events are appended.
-fn tell_choice<S: Ledger>(
-    alloc: Global,
-    program: &Resolved,
-    limits: Limits,
-    state: &mut State,
-    process: u8,
-    steps: &mut Ticks<S>,
-    observer: &mut Observer<'_>,
-    events: &mut Vec<StoryEvent>,
-) -> Result<Halt, AllocError>
-    requires own { IsStateOf program.now state.old }
-    requires may { may (slots program.now limits.gates) (machine_of state.old) process ≡ true }
-    ensures node { IfOk result (λ h. chosen (slots program.now limits.gates) limits.steps (machine_of state.old) process ≡ node_of h (machine_of state.new)) }
-    ensures lines { IfOk result (λ _. lines_of events.new.items ≡ lines_of events.old.items ++ chosen_lines (slots program.now limits.gates) limits.steps (machine_of state.old) process) }
-    ensures told { IfOk result (λ _. telling_of observer.new events.new.items ≡ fold_chosen (slots program.now limits.gates) (teller program.now limits.gates) limits.steps (machine_of state.old) process (telling_of observer.old events.old.items)) }
-    ensures own { IsStateOf program.now state.new }
-    ensures steps { steps.new ≤ steps.old + limits.steps }
-{
-    if state.pending().is_none() {
-        return tell_stretch(
-            alloc, program, limits, state, process, steps, observer, events,
-        );
-    }
-    state.admit(process);
-    push_event(
-        alloc,
-        program,
-        limits,
-        state,
-        process,
-        TraceEvent::Admit,
-        NONE,
-        observer,
-        events,
-    )?;
-    match settled_turn(program, limits, state, true, process) {
-        Turn::Over(kind) => Ok(Halt::Ended(kind)),
-        Turn::Due => Ok(Halt::Choice),
-        Turn::Goes(next) => {
-            tell_stretch(alloc, program, limits, state, next, steps, observer, events)
-        }
+    // Appends the event of a step, if it is one.
+    fn push_step(
+        &mut self,
+        alloc: Global,
+        program: &Resolved,
+        limits: Limits,
+        state: &State,
+        process: u8,
+        event: Step,
+        aim: Aim,
+    ) -> Result<(), AllocError>
+        requires { IsStateOf program.now state.now }
+        ensures lines { IfOk result (λ _. lines_of self.new.events.items ≡ lines_of self.old.events.items ++ step_lines (slots program.now limits.gates) (machine_of state.now) process event) }
+        ensures told { IfOk result (λ _. telling_of self.new.observer self.new.events.items ≡ told_step program.now limits.gates process aim event (machine_of state.now) (telling_of self.old.observer self.old.events.items)) }
+    {
+        let event = match event {
+            Step::Kernel(call) => TraceEvent::Kernel(call),
+            Step::Ended => TraceEvent::End,
+            Step::Local | Step::Fault(_) | Step::OutputFull => return Ok(()),
+        };
+        self.push_event(alloc, program, limits, state, process, event, aim)
     }
 }
 
-/// The beginning of a run in the opening state, whose events are appended.
-fn tell_opening<S: Ledger>(
-    alloc: Global,
-    program: &Resolved,
-    limits: Limits,
-    state: &mut State,
-    steps: &mut Ticks<S>,
-    observer: &mut Observer<'_>,
-    events: &mut Vec<StoryEvent>,
-) -> Result<Halt, AllocError>
-    requires own { IsStateOf program.now state.old }
-    requires start { machine_of state.old ≡ opening program.now limits.gates }
-    ensures node { IfOk result (λ h. opened (slots program.now limits.gates) limits.steps ≡ node_of h (machine_of state.new)) }
-    ensures lines { IfOk result (λ _. lines_of events.new.items ≡ lines_of events.old.items ++ opened_lines (slots program.now limits.gates) limits.steps) }
-    ensures told { IfOk result (λ _. telling_of observer.new events.new.items ≡ fold_opened (slots program.now limits.gates) (teller program.now limits.gates) limits.steps (telling_of observer.old events.old.items)) }
-    ensures own { IsStateOf program.now state.new }
-    ensures steps { steps.new ≤ steps.old + limits.steps }
-{
-    // A sound program has a process.
-    let _processes = program.processes();
-    match turn_at(program, limits, state, false, 0) {
-        Turn::Over(kind) => Ok(Halt::Ended(kind)),
-        Turn::Due => Ok(Halt::Choice),
-        Turn::Goes(next) => {
-            tell_stretch(alloc, program, limits, state, next, steps, observer, events)
-        }
+impl<'a> Observe for Storyteller<'a> {
+    ghost use Rattle.std.specs.Prelude.{◌≡◌, List};
+    ghost use Rattle.cp_run.specs.Fold.{beside};
+    ghost use Rattle.cp_run.specs.Slots.{slots};
+    ghost use Rattle.cp_run.specs.Trace.{tracer};
+    ghost use Rattle.cp_run.specs.declared.line.TraceLine.{TraceLine};
+    ghost use Rattle.cp_story.specs.Aimed.{aim_in};
+    ghost use Rattle.cp_story.specs.Story.{Telling, expecting, teller};
+    ghost use Rattle.cp_story.specs.Told.{lines_of};
+    ghost use Rattle.cp_story.specs.Views.{telling_of};
+
+    ghost Seen = { Telling × List TraceLine };
+
+    ghost seen = { λ t. (telling_of t.observer t.events.items, lines_of t.events.items) };
+
+    ghost fold = { λ r gates. beside (teller r gates) (tracer (slots r gates)) };
+
+    ghost expects = { λ t r before process x. (t.aim ≡ aim_in r before process) × (telling_of t.observer t.events.items ≡ expecting t.aim before process x.0) × (lines_of t.events.items ≡ x.1) };
+
+    fn expect_step(
+        &mut self,
+        alloc: Global,
+        program: &Resolved,
+        state: &State,
+        process: u8,
+    ) -> Result<(), AllocError> {
+        let aim = aim_of(program, state, process);
+        self.observer.expect(alloc, state, process, aim)?;
+        self.aim = aim;
+        Ok(())
+    }
+
+    fn see_step(
+        &mut self,
+        alloc: Global,
+        program: &Resolved,
+        limits: Limits,
+        state: &State,
+        process: u8,
+        event: Step,
+    ) -> Result<(), AllocError> {
+        let aim = self.aim;
+        self.push_step(alloc, program, limits, state, process, event, aim)
+    }
+
+    fn see_admission(
+        &mut self,
+        alloc: Global,
+        program: &Resolved,
+        limits: Limits,
+        state: &State,
+        process: u8,
+    ) -> Result<(), AllocError> {
+        let event = TraceEvent::Admit;
+        self.push_event(alloc, program, limits, state, process, event, NONE)
+    }
+
+    fn see_choice(&mut self, program: &Resolved, limits: Limits, state: &State, number: u8) {
+        self.observer.choice = Some(choice_of(program, limits, state, number));
     }
 }
 
@@ -327,47 +261,6 @@ fn is_inside(state: &State, monitor: u8, process: u8) -> bool
     }
 }
 
-/// Runs a word from the opening state, and appends its events; the answer is the run's end.
-fn tell_word<L: Ledger>(
-    alloc: Global,
-    program: &Resolved,
-    limits: Limits,
-    word: &[u8],
-    ticks: &mut Ticks<L>,
-    state: &mut State,
-    observer: &mut Observer<'_>,
-    events: &mut Vec<StoryEvent>,
-) -> Result<RunEnd, AllocError>
-    requires word { length word.now ≤ 100 }
-    requires own { IsStateOf program.now state.old }
-    requires start { machine_of state.old ≡ opening program.now limits.gates }
-    requires none { events.old.items ≡ [] }
-    requires first { past_of observer.old ≡ (nothing_told (legend_seen observer.old.legend.now) (opening program.now limits.gates)).past }
-    ensures lines { IfOk result (λ _. lines_of events.new.items ≡ trace (slots program.now limits.gates) limits.choices limits.steps word.now) }
-    ensures told { IfOk result (λ _. telling_of observer.new events.new.items ≡ telling (legend_seen observer.old.legend.now) program.now limits.gates limits.choices limits.steps word.now) }
-    ensures answer { IfOk result (λ end. answer_of end ≡ run (slots program.now limits.gates) limits.choices limits.steps word.now) }
-    ensures stop { IfOk result (λ _. machine_of state.new ≡ last_state (slots program.now limits.gates) limits.choices limits.steps word.now) }
-    ensures own { IsStateOf program.now state.new }
-    ensures ticks { ticks.new ≤ ticks.old + (limits.choices + 1) * limits.steps }
-{
-    let mut halt = tell_opening(alloc, program, limits, state, ticks, observer, events)?;
-    for (place, process) in word.iter().enumerate() {
-        if is_over(limits, halt, place) {
-            let end = end_of_word(alloc, program, limits, halt, state, place)?;
-            return Ok(end);
-        }
-        observer.choice = Some(choice_of(program, limits, state, *process));
-        if !may(program, limits, state, *process) {
-            return Ok(RunEnd::NotReady { place });
-        }
-        halt = tell_choice(
-            alloc, program, limits, state, *process, ticks, observer, events,
-        )?;
-    }
-    let end = end_of_word(alloc, program, limits, halt, state, word.len())?;
-    Ok(end)
-}
-
 /// Runs a word from the opening state and tells what happens: the events of its trace, and the run's end.
 /// `ticks` counts the steps that succeed.
 pub fn tell<L: Ledger>(
@@ -388,20 +281,21 @@ pub fn tell<L: Ledger>(
     ensures left { IfOk result (λ s. s.left ≡ numbers_left word.now (run (slots program.now limits.gates) limits.choices limits.steps word.now)) }
     ensures ticks { ticks.new ≤ ticks.old + (limits.choices + 1) * limits.steps }
 {
-    let mut events = Vec::new(alloc);
     let mut state = State::start(alloc, program, limits.gates)?;
-    let mut observer = Observer::new(alloc, legend, &state)?;
-    let end = tell_word(
-        alloc,
-        program,
-        limits,
-        word,
-        ticks,
-        &mut state,
-        &mut observer,
-        &mut events,
-    )?;
+    let observer = Observer::new(alloc, legend, &state)?;
+    let events = Vec::new(alloc);
+    let mut teller = Storyteller {
+        observer,
+        events,
+        aim: NONE,
+    };
+    let end = observe_run(alloc, program, limits, word, ticks, &mut state, &mut teller)?;
     let left = count_left(word, &end);
+    let Storyteller {
+        observer,
+        events,
+        ..
+    } = teller;
     finish_story(alloc, program, legend, &state, observer, events, end, left)
 }
 

@@ -8,7 +8,7 @@ use Rattle.cp_run.specs.declared.outcome.Turn.{Turn}
 use Rattle.cp_run.specs.Code.{node_of, is_over}
 use Rattle.cp_run.specs.Run.{Node, Halted, Choosing, turn_after, turn_at, settled_turn, may, chosen}
 use Rattle.cp_run.specs.System.{System}
-use Rattle.cp_story.specs.Fold.{Fold, fold_turn, fold_stretch, fold_opened, fold_chosen, fold_from}
+use Rattle.cp_run.specs.Fold.{Fold, fold_turn, fold_stretch, fold_opened, fold_chosen, fold_from}
 
 module _ {S X : Type 0} (sys : System S) (w : Fold S X) where
   one_step : (left : ℕ) (s : S) (p : ℕ) (x : X) → fold_stretch sys w (suc left) s p x ≡ fold_turn (fold_stretch sys w left (sys.step s p)) (turn_after sys (sys.step s p) p (sys.event s p)) (w.on_step s p (sys.event s p) (sys.step s p) x)

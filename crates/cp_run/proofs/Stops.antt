@@ -6,7 +6,7 @@ use Rattle.cp_run.specs.declared.outcome.Halt.TheVariants.{Choice, Ended as HasE
 use Rattle.cp_run.specs.Code.{node_of, is_over}
 use Rattle.cp_run.specs.Run.{Choosing, may, chosen}
 use Rattle.cp_run.specs.System.{System}
-use Rattle.cp_story.specs.Stop.{last_state_from}
+use Rattle.cp_run.specs.Stop.{last_state_from}
 
 module _ {S : Type 0} (sys : System S) where
   pub stops_over : (steps k : ℕ) (word : List ℕ) (h : Halt) (s : S) → is_over k h ≡ true → last_state_from sys steps k word (node_of h s) ≡ s

@@ -45,3 +45,12 @@ fold_from sys f steps (suc choices) (p ∷ word) (Choosing s) x =
 
 abbrev pub fold_run : {S X : Type 0} → System S → Fold S X → ℕ → ℕ → List ℕ → X → X
 fold_run sys f choices steps word x = fold_from sys f steps choices word (opened sys steps) (fold_opened sys f steps x)
+
+-- two folds side by side
+abbrev pub beside : {S X Y : Type 0} → Fold S X → Fold S Y → Fold S (X × Y)
+beside f g =
+    record {
+      on_step = λ s p event t x. (f.on_step s p event t x.0, g.on_step s p event t x.1);
+      on_admission = λ p t x. (f.on_admission p t x.0, g.on_admission p t x.1);
+      on_choice = λ s p x. (f.on_choice s p x.0, g.on_choice s p x.1);
+    }
