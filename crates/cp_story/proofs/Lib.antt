@@ -1,6 +1,7 @@
 pub mod Behind
 pub mod Calls
 pub mod Changing
+pub mod Floats
 pub mod Folding
 pub mod Lists
 pub mod Queued

@@ -6,6 +6,7 @@ pub mod Events
 pub mod Fold
 pub mod Halted
 pub mod Joined
+pub mod Objects
 pub mod Passed
 pub mod Sentences
 pub mod Stop

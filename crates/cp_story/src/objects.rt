@@ -1,5 +1,12 @@
 //! A story as JSON.
 
+ghost use Rattle.std.specs.Prelude.{◌≡◌, IfOk, OnOk, false};
+ghost use Rattle.std.specs.String.{string_bytes};
+ghost use Rattle.serde_json.specs.Data.{no_members, object};
+ghost use Rattle.serde_json.specs.View.{view};
+ghost use Rattle.serde_json.specs.Written.{has_float};
+ghost use Rattle.cp_story.specs.Objects.{line_of, members_in, number_data, text_data, with_member};
+
 use crate::event::{Change, Choice, Happening, OpenCall, Returned, StoryEvent};
 use crate::story::{Story, Wait};
 use crate::words::{error_words, kind_words, output_words, push_shown};
@@ -18,7 +25,10 @@ pub struct Object {
 
 impl Object {
     /// An object without members.
-    pub fn new(alloc: Global) -> Object {
+    #[tactic(auto, unfolding(crate::specs::Objects::members_in))]
+    pub fn new(alloc: Global) -> Object
+        ensures { members_in result ≡ no_members }
+    {
         Object {
             alloc,
             members: Map::new(alloc),
@@ -26,26 +36,43 @@ impl Object {
     }
 
     /// Adds a member.
-    pub fn put(&mut self, name: &str, value: Value) -> Result<(), AllocError> {
-        self.members
-            .insert(String::from_str(self.alloc, name)?, value)?;
-        Ok(())
+    #[tactic(auto, unfolding(crate::specs::Objects::members_in, crate::specs::Objects::with_member))]
+    pub fn put(&mut self, name: &str, value: Value) -> Result<(), AllocError>
+        ensures { OnOk result (members_in self.new ≡ with_member (members_in self.old) name.now (view value)) }
+    {
+        serde_json::put(&mut self.members, self.alloc, name, value)
     }
 
     /// Adds a text.
-    pub fn text(&mut self, name: &str, text: &str) -> Result<(), AllocError> {
-        let text = String::from_str(self.alloc, text)?;
-        self.put(name, Value::String(text))
+    pub fn text(&mut self, name: &str, text: &str) -> Result<(), AllocError>
+        ensures { OnOk result (members_in self.new ≡ with_member (members_in self.old) name.now (text_data text.now)) }
+    {
+        self.put(name, Value::try_from_str(self.alloc, text)?)
     }
 
     /// Adds a number.
-    pub fn number(&mut self, name: &str, number: u64) -> Result<(), AllocError> {
+    pub fn number(&mut self, name: &str, number: u64) -> Result<(), AllocError>
+        ensures { OnOk result (members_in self.new ≡ with_member (members_in self.old) name.now (number_data number)) }
+    {
         self.put(name, Value::from(number))
     }
 
     /// The object with its members.
-    pub fn into_value(self) -> Value {
+    #[tactic(auto, unfolding(crate::specs::Objects::members_in))]
+    pub fn into_value(self) -> Value
+        ensures { view result ≡ object (members_in self) }
+    {
         Value::Object(self.members)
+    }
+
+    /// Its text, on a line of its own.
+    pub fn into_line(self) -> Result<String, AllocError>
+        ensures { IfOk result (λ t. has_float (object (members_in self)) ≡ false → string_bytes t ≡ line_of (object (members_in self))) }
+    {
+        let alloc = self.alloc;
+        let mut text = self.into_value().to_string(alloc)?;
+        text.push('\n')?;
+        Ok(text)
     }
 }
 
@@ -62,9 +89,7 @@ pub fn json(
     put_outcome(alloc, legend, &mut whole, story, word)?;
     whole.put("final", waits(alloc, legend, &story.waits)?)?;
     whole.put("source", lines(alloc, source)?)?;
-    let mut text = whole.into_value().to_string(alloc)?;
-    text.push('\n')?;
-    Ok(text)
+    whole.into_line()
 }
 
 fn put_story(
