@@ -1,3 +1,4 @@
+pub mod Arrays
 pub mod Behind
 pub mod Calls
 pub mod Changing
@@ -7,6 +8,7 @@ pub mod Lists
 pub mod Queued
 pub mod Rows
 pub mod Stops
+pub mod StoryFloats
 pub mod Telling
 pub mod Waits
 pub mod Woken

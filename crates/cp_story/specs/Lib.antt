@@ -11,6 +11,7 @@ pub mod Passed
 pub mod Sentences
 pub mod Stop
 pub mod Story
+pub mod StoryData
 pub mod Text
 pub mod Told
 pub mod Views
