@@ -1,7 +1,9 @@
 -- Values that are gathered from cells: loops over elements, fields and members, and types that hold earlier ones alone.
-use Rattle.std.proofs.Common.{◌≡◌, ◌⊎◌, inl, inr, ℕ, zero, suc, ◌+◌, ◌<◌, ◌≤◌, ℤ, List, [], ◌∷◌, ◌++◌, length, get_or, take, map, slice_get, refl, ap, ◌∙◌, add-one, arith}
-use Rattle.std.proofs.Math.Seq.{take-suc}
-use Rattle.std.proofs.lemmas.List.{take_all, map-append}
+use Rattle.std.proofs.Common.{◌≡◌, ◌⊎◌, inl, inr, Bool, cond, ℕ, zero, suc, ◌+◌, ◌<◌, ◌≤◌, ℤ, List, [], ◌∷◌, ◌++◌, length, get_or, take, drop, map, slice_get, refl, ap, ◌∙◌, add-one, arith}
+use Rattle.std.proofs.Math.Seq.{drop-cons, take-suc}
+use Rattle.std.proofs.lemmas.List.{drop_all, take_all, map-append}
+use Rattle.std.proofs.lemmas.List.Sums.{sum_by-cons}
+use Rattle.std.specs.List.{count_by}
 use Rattle.std.proofs.lemmas.Bool.Decides.{nat_tests}
 use Rattle.cp_symbols.specs.declared.kinds.ArrayType.{ArrayType}
 use Rattle.cp_symbols.specs.declared.kinds.CellBase.{CellBase}
@@ -52,3 +54,12 @@ module _ (names : List (List ℕ)) (b : CellBase) (cells : List ℤ) (at : ℕ) 
   pub members_none : members_below names b cells at 0 ≡ []
   unfolding members_below
   members_none = refl
+
+-- ---- counts
+
+module _ {A B : Type 0} (f : B → Bool) (h : A → B) (xs : List A) (i : ℕ) where
+  pub counted_step : (x : A) → i < length xs → x ≡ get_or xs i x → count_by f (map h (drop i xs)) ≡ cond (f (h x)) 1 0 + count_by f (map h (drop (i + 1) xs))
+  counted_step x within here = rw (add-one, drop-cons xs i x within, ← here) (sum_by-cons (λ y. cond (f y) 1 0) (h x) (map h (drop (suc i) xs)))
+
+  pub counted_none : length xs ≤ i → count_by f (map h (drop i xs)) ≡ 0
+  counted_none none = rw (drop_all i xs none) refl

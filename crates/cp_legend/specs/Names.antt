@@ -1,6 +1,7 @@
 -- What the numbers of a program are called in its source: its system types, components, variables and routines.
-use Rattle.std.specs.Prelude.{◌≡◌, ℕ, zero, suc, ◌+◌, ◌+ℤ◌, ◌==◌, if◌then◌else◌, ℤ, pos, List, [], ◌∷◌, ◌++◌, map, length, Option, Some, None, slice_get, unwrap_or, flat_map, find, insert, take, min, Bool, false, codes}
+use Rattle.std.specs.Prelude.{◌≡◌, ℕ, zero, suc, ◌+◌, ◌+ℤ◌, ◌==◌, if◌then◌else◌, ℤ, pos, List, [], ◌∷◌, ◌++◌, map, length, Option, Some, None, slice_get, unwrap_or, flat_map, find, insert, take, min, Bool, true, false, codes}
 use Rattle.std.specs.Int.{saturate_signed, w16}
+use Rattle.std.specs.List.{count_by}
 use Rattle.std.specs.String.{string_bytes}
 use Rattle.std.specs.declared.vec.Vec.{Vec}
 use Rattle.std.specs.declared.alloc.Global.{Global}
@@ -208,6 +209,21 @@ is_process _ n = false
 abbrev pub is_monitor : ComponentKind → (monitor : ℕ) → Bool
 is_monitor (component_kind.Monitor m) n = m == n
 is_monitor _ n = false
+
+abbrev pub is_some_process : ComponentKind → Bool
+is_some_process (component_kind.Process n) = true
+is_some_process _ = false
+
+abbrev pub is_some_monitor : ComponentKind → Bool
+is_some_monitor (component_kind.Monitor n) = true
+is_some_monitor _ = false
+
+-- how many processes and how many monitors there are, as far as a byte can count
+abbrev pub process_count : List Named → ℕ
+process_count cs = min (count_by (λ (c : Named). is_some_process c.kind) cs) 255
+
+abbrev pub monitor_count : List Named → ℕ
+monitor_count cs = min (count_by (λ (c : Named). is_some_monitor c.kind) cs) 255
 
 -- a process, a monitor
 abbrev pub process_in : List Named → ℕ → Option Named

@@ -104,7 +104,10 @@ pub fn legend_of(alloc: Global, program: &Resolved, symbols: Symbols) -> Result<
 
 impl Legend {
     /// How many processes there are, the program included.
-    pub fn processes(&self) -> u8 {
+    #[tactic(auto, using(crate::proofs::Gathering::counted_step, crate::proofs::Gathering::counted_none))]
+    pub fn processes(&self) -> u8
+        ensures { result ≡ spec.process_count (map component_seen self.now.components.items) }
+    {
         let mut count = 0u8;
         for component in &self.components {
             if let ComponentKind::Process(_) = component.kind {
@@ -115,7 +118,10 @@ impl Legend {
     }
 
     /// How many monitors there are.
-    pub fn monitors(&self) -> u8 {
+    #[tactic(auto, using(crate::proofs::Gathering::counted_step, crate::proofs::Gathering::counted_none))]
+    pub fn monitors(&self) -> u8
+        ensures { result ≡ spec.monitor_count (map component_seen self.now.components.items) }
+    {
         let mut count = 0u8;
         for component in &self.components {
             if let ComponentKind::Monitor(_) = component.kind {

@@ -1,9 +1,12 @@
+pub mod Arrays
 pub mod Behind
 pub mod Calls
 pub mod Changing
+pub mod Floats
 pub mod Lists
 pub mod Queued
 pub mod Rows
+pub mod StoryFloats
 pub mod Telling
 pub mod Waits
 pub mod Woken

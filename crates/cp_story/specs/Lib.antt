@@ -5,9 +5,11 @@ pub mod Ends
 pub mod Events
 pub mod Halted
 pub mod Joined
+pub mod Objects
 pub mod Passed
 pub mod Sentences
 pub mod Story
+pub mod StoryData
 pub mod Text
 pub mod Told
 pub mod Views

@@ -1,5 +1,18 @@
 //! A story as JSON.
 
+ghost use Rattle.std.specs.Prelude.{◌≡◌, codes, map, option_map, IfOk, OnOk, false};
+ghost use Rattle.std.specs.String.{string_bytes};
+ghost use Rattle.serde_json.specs.Data.{no_members, object};
+ghost use Rattle.serde_json.specs.View.{view};
+ghost use Rattle.serde_json.specs.Written.{has_float};
+ghost use Rattle.cp_legend.specs.Names.{legend_seen};
+ghost use Rattle.cp_legend.specs.Values.{member_seen, members_of, value_seen};
+ghost use Rattle.cp_run.specs.Code.{answer_of};
+ghost use Rattle.cp_story.specs.Halted.{halted_seen};
+ghost use Rattle.cp_story.specs.Objects.{array_of, line_of, members_in, number_data, numbers_data, object_with, optional, text_data, with_member, with_members};
+ghost use Rattle.cp_story.specs.StoryData as spec;
+ghost use Rattle.cp_story.specs.Views.{changed_of, decision_of, given_of, happened_of, told_of, wait_of};
+
 use crate::event::{Change, Choice, Happening, OpenCall, Returned, StoryEvent};
 use crate::story::{Story, Wait};
 use crate::words::{error_words, kind_words, output_words, push_shown};
@@ -18,7 +31,10 @@ pub struct Object {
 
 impl Object {
     /// An object without members.
-    pub fn new(alloc: Global) -> Object {
+    #[tactic(auto, unfolding(crate::specs::Objects::members_in))]
+    pub fn new(alloc: Global) -> Object
+        ensures { members_in result ≡ no_members }
+    {
         Object {
             alloc,
             members: Map::new(alloc),
@@ -26,26 +42,43 @@ impl Object {
     }
 
     /// Adds a member.
-    pub fn put(&mut self, name: &str, value: Value) -> Result<(), AllocError> {
-        self.members
-            .insert(String::from_str(self.alloc, name)?, value)?;
-        Ok(())
+    #[tactic(auto, unfolding(crate::specs::Objects::members_in, crate::specs::Objects::with_member))]
+    pub fn put(&mut self, name: &str, value: Value) -> Result<(), AllocError>
+        ensures { OnOk result (members_in self.new ≡ with_member (members_in self.old) name.now (view value)) }
+    {
+        serde_json::put(&mut self.members, self.alloc, name, value)
     }
 
     /// Adds a text.
-    pub fn text(&mut self, name: &str, text: &str) -> Result<(), AllocError> {
-        let text = String::from_str(self.alloc, text)?;
-        self.put(name, Value::String(text))
+    pub fn text(&mut self, name: &str, text: &str) -> Result<(), AllocError>
+        ensures { OnOk result (members_in self.new ≡ with_member (members_in self.old) name.now (text_data text.now)) }
+    {
+        self.put(name, Value::try_from_str(self.alloc, text)?)
     }
 
     /// Adds a number.
-    pub fn number(&mut self, name: &str, number: u64) -> Result<(), AllocError> {
+    pub fn number(&mut self, name: &str, number: u64) -> Result<(), AllocError>
+        ensures { OnOk result (members_in self.new ≡ with_member (members_in self.old) name.now (number_data number)) }
+    {
         self.put(name, Value::from(number))
     }
 
     /// The object with its members.
-    pub fn into_value(self) -> Value {
+    #[tactic(auto, unfolding(crate::specs::Objects::members_in))]
+    pub fn into_value(self) -> Value
+        ensures { view result ≡ object (members_in self) }
+    {
         Value::Object(self.members)
+    }
+
+    /// Its text, on a line of its own.
+    pub fn into_line(self) -> Result<String, AllocError>
+        ensures { IfOk result (λ t. has_float (object (members_in self)) ≡ false → string_bytes t ≡ line_of (object (members_in self))) }
+    {
+        let alloc = self.alloc;
+        let mut text = self.into_value().to_string(alloc)?;
+        text.push('\n')?;
+        Ok(text)
     }
 }
 
@@ -56,15 +89,29 @@ pub fn json(
     story: &Story,
     word: &[u8],
     source: &[String],
-) -> Result<String, AllocError> {
+) -> Result<String, AllocError>
+    ensures { IfOk result (λ t. string_bytes t ≡ line_of (spec.story_data (legend_seen legend.now) story.now word.now (map string_bytes source.now))) }
+{
+    let whole = story_object(alloc, legend, story, word, source)?;
+    whole.into_line()
+}
+
+#[tactic(auto, using(crate::proofs::Floats::with_both))]
+fn story_object(
+    alloc: Global,
+    legend: &Legend,
+    story: &Story,
+    word: &[u8],
+    source: &[String],
+) -> Result<Object, AllocError>
+    ensures { IfOk result (λ o. object (members_in o) ≡ spec.story_data (legend_seen legend.now) story.now word.now (map string_bytes source.now)) }
+{
     let mut whole = Object::new(alloc);
     put_story(alloc, legend, &mut whole, story)?;
     put_outcome(alloc, legend, &mut whole, story, word)?;
     whole.put("final", waits(alloc, legend, &story.waits)?)?;
     whole.put("source", lines(alloc, source)?)?;
-    let mut text = whole.into_value().to_string(alloc)?;
-    text.push('\n')?;
-    Ok(text)
+    Ok(whole)
 }
 
 fn put_story(
@@ -72,7 +119,9 @@ fn put_story(
     legend: &Legend,
     whole: &mut Object,
     story: &Story,
-) -> Result<(), AllocError> {
+) -> Result<(), AllocError>
+    ensures { OnOk result (members_in whole.new ≡ with_members (members_in whole.old) (spec.first_members (legend_seen legend.now) story.now)) }
+{
     whole.put("processes", processes(alloc, legend)?)?;
     whole.put("monitors", monitors(alloc, legend)?)?;
     whole.put("events", events(alloc, legend, &story.events)?)?;
@@ -86,16 +135,23 @@ fn put_outcome(
     whole: &mut Object,
     story: &Story,
     word: &[u8],
-) -> Result<(), AllocError> {
-    if let RunEnd::Ended { outcome, used } = &story.end {
-        whole.put("used", numbers(alloc, word.get(..*used).unwrap_or(word))?)?;
-        let output = output_words(alloc, legend, outcome.output.as_slice())?;
-        whole.put("output", Value::String(output))?;
+) -> Result<(), AllocError>
+    ensures { OnOk result (members_in whole.new ≡ with_members (members_in whole.old) (spec.outcome_members (legend_seen legend.now) (answer_of story.now.end) word.now)) }
+{
+    match &story.end {
+        RunEnd::Ended { outcome, used } => {
+            whole.put("used", numbers(alloc, word.get(..*used).unwrap_or(word))?)?;
+            let output = output_words(alloc, legend, outcome.output.as_slice())?;
+            whole.put("output", Value::String(output))
+        }
+        RunEnd::Wants { .. } | RunEnd::NotReady { .. } => Ok(()),
     }
-    Ok(())
 }
 
-fn lines(alloc: Global, source: &[String]) -> Result<Value, AllocError> {
+#[tactic(auto, using(crate::proofs::Arrays::seen_step, crate::proofs::Arrays::seen_none, crate::proofs::Arrays::view_more))]
+fn lines(alloc: Global, source: &[String]) -> Result<Value, AllocError>
+    ensures { IfOk result (λ v. view v ≡ spec.lines_data (map string_bytes source.now)) }
+{
     let mut lines = Vec::new(alloc);
     for line in source {
         lines.push(Value::String(line.clone()?))?;
@@ -104,7 +160,10 @@ fn lines(alloc: Global, source: &[String]) -> Result<Value, AllocError> {
 }
 
 /// The numbers of a word, or of monitors.
-pub fn numbers(alloc: Global, numbers: &[u8]) -> Result<Value, AllocError> {
+#[tactic(auto, using(crate::proofs::Arrays::number_step, crate::proofs::Arrays::number_none, crate::proofs::Arrays::view_more))]
+pub fn numbers(alloc: Global, numbers: &[u8]) -> Result<Value, AllocError>
+    ensures { IfOk result (λ v. view v ≡ numbers_data numbers.now) }
+{
     let mut items = Vec::new(alloc);
     for number in numbers {
         items.push(Value::from(u64::from(*number)))?;
@@ -112,7 +171,9 @@ pub fn numbers(alloc: Global, numbers: &[u8]) -> Result<Value, AllocError> {
     Ok(Value::Array(items))
 }
 
-fn named_value(alloc: Global, name: &str, type_name: &str) -> Result<Value, AllocError> {
+fn named_value(alloc: Global, name: &str, type_name: &str) -> Result<Value, AllocError>
+    ensures { IfOk result (λ v. view v ≡ spec.named_data name.now type_name.now) }
+{
     let mut object = Object::new(alloc);
     object.text("name", name)?;
     object.text("type", type_name)?;
@@ -120,7 +181,10 @@ fn named_value(alloc: Global, name: &str, type_name: &str) -> Result<Value, Allo
 }
 
 /// The processes with their names and types.
-pub fn processes(alloc: Global, legend: &Legend) -> Result<Value, AllocError> {
+#[tactic(auto, using(crate::proofs::Arrays::each_more, crate::proofs::Arrays::each_none, crate::proofs::Arrays::view_more))]
+pub fn processes(alloc: Global, legend: &Legend) -> Result<Value, AllocError>
+    ensures { IfOk result (λ v. view v ≡ spec.processes_data (legend_seen legend.now)) }
+{
     let mut items = Vec::new(alloc);
     for process in 0..legend.processes() {
         let name = legend.process_name(process);
@@ -130,7 +194,10 @@ pub fn processes(alloc: Global, legend: &Legend) -> Result<Value, AllocError> {
 }
 
 /// The monitors with their names and types.
-pub fn monitors(alloc: Global, legend: &Legend) -> Result<Value, AllocError> {
+#[tactic(auto, using(crate::proofs::Arrays::each_more, crate::proofs::Arrays::each_none, crate::proofs::Arrays::view_more))]
+pub fn monitors(alloc: Global, legend: &Legend) -> Result<Value, AllocError>
+    ensures { IfOk result (λ v. view v ≡ spec.monitors_data (legend_seen legend.now)) }
+{
     let mut items = Vec::new(alloc);
     for monitor in 0..legend.monitors() {
         let name = legend.monitor_name(monitor);
@@ -139,7 +206,10 @@ pub fn monitors(alloc: Global, legend: &Legend) -> Result<Value, AllocError> {
     Ok(Value::Array(items))
 }
 
-fn events(alloc: Global, legend: &Legend, events: &[StoryEvent]) -> Result<Value, AllocError> {
+#[tactic(auto, using(crate::proofs::Arrays::seen_step, crate::proofs::Arrays::seen_none, crate::proofs::Arrays::view_more))]
+fn events(alloc: Global, legend: &Legend, events: &[StoryEvent]) -> Result<Value, AllocError>
+    ensures { IfOk result (λ v. view v ≡ spec.events_data (legend_seen legend.now) (map told_of events.now)) }
+{
     let mut items = Vec::new(alloc);
     for event in events {
         items.push(event_object(alloc, legend, event)?)?;
@@ -147,24 +217,34 @@ fn events(alloc: Global, legend: &Legend, events: &[StoryEvent]) -> Result<Value
     Ok(Value::Array(items))
 }
 
-fn event_object(alloc: Global, legend: &Legend, event: &StoryEvent) -> Result<Value, AllocError> {
+#[tactic(auto, using(crate::proofs::Floats::with_both))]
+fn event_object(alloc: Global, legend: &Legend, event: &StoryEvent) -> Result<Value, AllocError>
+    ensures { IfOk result (λ v. view v ≡ spec.event_data (legend_seen legend.now) (told_of event.now)) }
+{
     let mut object = Object::new(alloc);
     put_cause(alloc, &mut object, event)?;
     put_happening(alloc, legend, &mut object, &event.happening)?;
-    if let Happening::Leave(_) | Happening::Continue(..) = event.happening {
-        object.put("returned", returned_values(alloc, &event.returned)?)?;
-    }
+    put_returned(alloc, &mut object, event)?;
     put_effects(alloc, legend, &mut object, event)?;
     Ok(object.into_value())
 }
 
 // Whose event it is, on which line, and after which choice.
-fn put_cause(alloc: Global, object: &mut Object, event: &StoryEvent) -> Result<(), AllocError> {
+#[tactic(auto, using(crate::proofs::Floats::with_both))]
+fn put_cause(alloc: Global, object: &mut Object, event: &StoryEvent) -> Result<(), AllocError>
+    ensures { OnOk result (members_in object.new ≡ with_members (members_in object.old) (spec.cause_members (told_of event.now))) }
+{
     object.number("process", u64::from(event.plain.process))?;
     if let Some(line) = event.line {
         object.number("line", u64::from(line))?;
     }
-    match &event.choice {
+    put_choice(alloc, object, &event.choice)
+}
+
+fn put_choice(alloc: Global, object: &mut Object, choice: &Option<Choice>) -> Result<(), AllocError>
+    ensures { OnOk result (members_in object.new ≡ with_members (members_in object.old) (optional (codes "choice") spec.choice_data (option_map decision_of choice.now))) }
+{
+    match choice {
         Some(choice) => object.put("choice", choice_object(alloc, choice)?),
         None => Ok(()),
     }
@@ -176,7 +256,9 @@ fn put_effects(
     legend: &Legend,
     object: &mut Object,
     event: &StoryEvent,
-) -> Result<(), AllocError> {
+) -> Result<(), AllocError>
+    ensures { OnOk result (members_in object.new ≡ with_members (members_in object.old) (spec.effect_members (legend_seen legend.now) (told_of event.now))) }
+{
     object.put("woken", numbers(alloc, event.woken.as_slice())?)?;
     object.put("let_in", numbers(alloc, event.let_in.as_slice())?)?;
     object.put("status", statuses(alloc, legend, &event.statuses)?)?;
@@ -184,21 +266,46 @@ fn put_effects(
     object.put("changes", changes(alloc, legend, &event.changes)?)
 }
 
-// What came back from a call; a function's result has no name.
-fn returned_values(alloc: Global, returned: &[Returned]) -> Result<Value, AllocError> {
+// What came back, where a call ended.
+fn put_returned(alloc: Global, object: &mut Object, event: &StoryEvent) -> Result<(), AllocError>
+    ensures { OnOk result (members_in object.new ≡ with_members (members_in object.old) (spec.returned_members (happened_of event.now.happening) (map given_of event.now.returned.items))) }
+{
+    match event.happening {
+        Happening::Leave(_) | Happening::Continue(..) => {
+            object.put("returned", returned_values(alloc, &event.returned)?)
+        }
+        _ => Ok(()),
+    }
+}
+
+#[tactic(auto, using(crate::proofs::Arrays::seen_step, crate::proofs::Arrays::seen_none, crate::proofs::Arrays::view_more))]
+fn returned_values(alloc: Global, returned: &[Returned]) -> Result<Value, AllocError>
+    ensures { IfOk result (λ v. view v ≡ array_of (map spec.given_data (map given_of returned.now))) }
+{
     let mut items = Vec::new(alloc);
     for one in returned {
-        let mut object = Object::new(alloc);
-        if !one.name.is_empty() {
-            object.text("name", one.name.as_str())?;
-        }
-        object.put("value", value(alloc, &one.value)?)?;
-        items.push(object.into_value())?;
+        items.push(returned_value(alloc, one)?)?;
     }
     Ok(Value::Array(items))
 }
 
-fn choice_object(alloc: Global, choice: &Choice) -> Result<Value, AllocError> {
+// A function's result has no name.
+#[tactic(auto, using(crate::proofs::Floats::with_both))]
+fn returned_value(alloc: Global, returned: &Returned) -> Result<Value, AllocError>
+    ensures { IfOk result (λ v. view v ≡ spec.given_data (given_of returned.now)) }
+{
+    let mut object = Object::new(alloc);
+    if !returned.name.is_empty() {
+        object.text("name", returned.name.as_str())?;
+    }
+    object.put("value", value(alloc, &returned.value)?)?;
+    Ok(object.into_value())
+}
+
+#[tactic(auto, using(crate::proofs::Floats::with_both))]
+fn choice_object(alloc: Global, choice: &Choice) -> Result<Value, AllocError>
+    ensures { IfOk result (λ v. view v ≡ spec.choice_data (decision_of choice.now)) }
+{
     let mut object = Object::new(alloc);
     object.put("options", numbers(alloc, choice.options.as_slice())?)?;
     object.number("number", u64::from(choice.number))?;
@@ -208,12 +315,16 @@ fn choice_object(alloc: Global, choice: &Choice) -> Result<Value, AllocError> {
     Ok(object.into_value())
 }
 
-fn put_call(legend: &Legend, object: &mut Object, call: OpenCall) -> Result<(), AllocError> {
+fn put_call(legend: &Legend, object: &mut Object, call: OpenCall) -> Result<(), AllocError>
+    ensures { OnOk result (members_in object.new ≡ with_members (members_in object.old) (spec.call_members (legend_seen legend.now) call)) }
+{
     object.number("monitor", u64::from(call.monitor))?;
     object.text("routine", legend.routine_name(call.routine))
 }
 
-fn event_word(happening: &Happening) -> &'static str {
+fn event_word(happening: &Happening) -> &'static str
+    ensures { result.now ≡ spec.event_name (happened_of happening.now) }
+{
     match happening {
         Happening::Enter { .. } => "enter",
         Happening::Leave(_) => "leave",
@@ -226,12 +337,15 @@ fn event_word(happening: &Happening) -> &'static str {
     }
 }
 
+#[tactic(auto, using(crate::proofs::Floats::with_both))]
 fn put_happening(
     alloc: Global,
     legend: &Legend,
     object: &mut Object,
     happening: &Happening,
-) -> Result<(), AllocError> {
+) -> Result<(), AllocError>
+    ensures { OnOk result (members_in object.new ≡ with_members (members_in object.old) (spec.happened_members (legend_seen legend.now) (happened_of happening.now))) }
+{
     object.text("event", event_word(happening))?;
     match happening {
         Happening::Enter {
@@ -256,7 +370,9 @@ fn put_happening(
     }
 }
 
-fn shown_value(alloc: Global, legend: &Legend, shown: Shown) -> Result<Value, AllocError> {
+fn shown_value(alloc: Global, legend: &Legend, shown: Shown) -> Result<Value, AllocError>
+    ensures { IfOk result (λ v. view v ≡ spec.shown_data (legend_seen legend.now) shown) }
+{
     if let Shown::Integer(number) = shown {
         return Ok(Value::from(i64::from(number)));
     }
@@ -266,7 +382,9 @@ fn shown_value(alloc: Global, legend: &Legend, shown: Shown) -> Result<Value, Al
 }
 
 #[cycle(value_json)]
-fn value(alloc: Global, written: &Written) -> Result<Value, AllocError> {
+fn value(alloc: Global, written: &Written) -> Result<Value, AllocError>
+    ensures { IfOk result (λ v. view v ≡ spec.value_data (value_seen written.now)) }
+{
     match written {
         Written::Integer(number) => Ok(Value::from(i64::from(*number))),
         Written::Named(name) => Ok(Value::String(name.clone()?)),
@@ -276,7 +394,10 @@ fn value(alloc: Global, written: &Written) -> Result<Value, AllocError> {
 }
 
 #[cycle(value_json)]
-fn values(alloc: Global, items: &[Written]) -> Result<Value, AllocError> {
+#[tactic(auto, using(crate::proofs::Arrays::seen_step, crate::proofs::Arrays::seen_none, crate::proofs::Arrays::view_more))]
+fn values(alloc: Global, items: &[Written]) -> Result<Value, AllocError>
+    ensures { IfOk result (λ v. view v ≡ array_of (map spec.value_data (map value_seen items.now))) }
+{
     let mut values = Vec::new(alloc);
     for item in items {
         values.push(value(alloc, item)?)?;
@@ -285,7 +406,9 @@ fn values(alloc: Global, items: &[Written]) -> Result<Value, AllocError> {
 }
 
 #[cycle(value_json)]
-fn record(alloc: Global, members: &[Member]) -> Result<Value, AllocError> {
+fn record(alloc: Global, members: &[Member]) -> Result<Value, AllocError>
+    ensures { IfOk result (λ v. view v ≡ object_with (spec.fields_data (members_of (map member_seen members.now)))) }
+{
     let mut object = Object::new(alloc);
     for member in members {
         object.put(member.name.as_str(), value(alloc, &member.value)?)?;
@@ -298,7 +421,9 @@ fn put_status(
     legend: &Legend,
     object: &mut Object,
     status: Status,
-) -> Result<(), AllocError> {
+) -> Result<(), AllocError>
+    ensures { OnOk result (members_in object.new ≡ with_members (members_in object.old) (spec.status_members (legend_seen legend.now) status)) }
+{
     match status {
         Status::Unstarted => object.text("is", "unstarted"),
         Status::Ready => object.text("is", "ready"),
@@ -316,7 +441,10 @@ fn put_status(
     }
 }
 
-fn statuses(alloc: Global, legend: &Legend, statuses: &[Status]) -> Result<Value, AllocError> {
+#[tactic(auto, using(crate::proofs::Rows::map_step, crate::proofs::Rows::map_none, crate::proofs::Arrays::view_more))]
+fn statuses(alloc: Global, legend: &Legend, statuses: &[Status]) -> Result<Value, AllocError>
+    ensures { IfOk result (λ v. view v ≡ array_of (map (spec.status_data (legend_seen legend.now)) statuses.now)) }
+{
     let mut items = Vec::new(alloc);
     for status in statuses {
         let mut object = Object::new(alloc);
@@ -326,7 +454,10 @@ fn statuses(alloc: Global, legend: &Legend, statuses: &[Status]) -> Result<Value
     Ok(Value::Array(items))
 }
 
-fn holders(alloc: Global, holders: &[Option<u8>]) -> Result<Value, AllocError> {
+#[tactic(auto, using(crate::proofs::Rows::map_step, crate::proofs::Rows::map_none, crate::proofs::Arrays::view_more))]
+fn holders(alloc: Global, holders: &[Option<u8>]) -> Result<Value, AllocError>
+    ensures { IfOk result (λ v. view v ≡ array_of (map spec.holder_data holders.now)) }
+{
     let mut items = Vec::new(alloc);
     for holder in holders {
         items.push(match holder {
@@ -337,7 +468,10 @@ fn holders(alloc: Global, holders: &[Option<u8>]) -> Result<Value, AllocError> {
     Ok(Value::Array(items))
 }
 
-fn changes(alloc: Global, legend: &Legend, changes: &[Change]) -> Result<Value, AllocError> {
+#[tactic(auto, using(crate::proofs::Arrays::seen_step, crate::proofs::Arrays::seen_none, crate::proofs::Arrays::view_more))]
+fn changes(alloc: Global, legend: &Legend, changes: &[Change]) -> Result<Value, AllocError>
+    ensures { IfOk result (λ v. view v ≡ array_of (map spec.change_data (map changed_of changes.now))) }
+{
     let mut items = Vec::new(alloc);
     for change in changes {
         let mut object = Object::new(alloc);
@@ -350,7 +484,10 @@ fn changes(alloc: Global, legend: &Legend, changes: &[Change]) -> Result<Value, 
 }
 
 /// Who waits, and where.
-pub fn waits(alloc: Global, legend: &Legend, waits: &[Wait]) -> Result<Value, AllocError> {
+#[tactic(auto, using(crate::proofs::Arrays::seen_step, crate::proofs::Arrays::seen_none, crate::proofs::Arrays::view_more))]
+pub fn waits(alloc: Global, legend: &Legend, waits: &[Wait]) -> Result<Value, AllocError>
+    ensures { IfOk result (λ v. view v ≡ spec.waits_data (legend_seen legend.now) (map wait_of waits.now)) }
+{
     let mut items = Vec::new(alloc);
     for wait in waits {
         let mut object = Object::new(alloc);
@@ -362,31 +499,42 @@ pub fn waits(alloc: Global, legend: &Legend, waits: &[Wait]) -> Result<Value, Al
     Ok(Value::Array(items))
 }
 
-fn end(alloc: Global, story: &Story) -> Result<Value, AllocError> {
+#[tactic(auto, using(crate::proofs::Floats::with_both))]
+fn end(alloc: Global, story: &Story) -> Result<Value, AllocError>
+    ensures { IfOk result (λ v. view v ≡ spec.end_data (answer_of story.now.end) (option_map halted_seen story.now.stop) (option_map decision_of story.now.last_choice)) }
+{
     let mut object = Object::new(alloc);
-    match &story.end {
-        RunEnd::Ended { outcome, .. } => {
-            object.text("is", "ended")?;
-            put_kind(&mut object, outcome.kind)?;
-        }
-        RunEnd::Wants { ready } => {
-            object.text("is", "wants")?;
-            object.put("ready", numbers(alloc, ready.as_slice())?)?;
-        }
-        RunEnd::NotReady { place } => {
-            object.text("is", "not-ready")?;
-            object.number("place", *place as u64)?;
-        }
-    }
+    put_answer(alloc, &mut object, &story.end)?;
     put_stop(&mut object, story)?;
-    if let Some(choice) = &story.last_choice {
-        object.put("choice", choice_object(alloc, choice)?)?;
-    }
+    put_choice(alloc, &mut object, &story.last_choice)?;
     Ok(object.into_value())
 }
 
+// How the run ended, or who can be chosen next, or which number can't be taken.
+fn put_answer(alloc: Global, object: &mut Object, end: &RunEnd) -> Result<(), AllocError>
+    ensures { OnOk result (members_in object.new ≡ with_members (members_in object.old) (spec.answer_members (answer_of end.now))) }
+{
+    match end {
+        RunEnd::Ended { outcome, .. } => {
+            object.text("is", "ended")?;
+            put_kind(object, outcome.kind)
+        }
+        RunEnd::Wants { ready } => {
+            object.text("is", "wants")?;
+            object.put("ready", numbers(alloc, ready.as_slice())?)
+        }
+        RunEnd::NotReady { place } => {
+            object.text("is", "not-ready")?;
+            object.number("place", *place as u64)
+        }
+    }
+}
+
 // Who went on to a limit and where, and who waits already in a queue that is in use.
-fn put_stop(object: &mut Object, story: &Story) -> Result<(), AllocError> {
+#[tactic(auto, using(crate::proofs::Floats::with_both))]
+fn put_stop(object: &mut Object, story: &Story) -> Result<(), AllocError>
+    ensures { OnOk result (members_in object.new ≡ with_members (members_in object.old) (spec.stop_members (option_map halted_seen story.now.stop))) }
+{
     let Some(stop) = &story.stop else {
         return Ok(());
     };
@@ -401,7 +549,9 @@ fn put_stop(object: &mut Object, story: &Story) -> Result<(), AllocError> {
 }
 
 /// Adds how a run ended: its kind, and of a run error what, who and where it was.
-pub fn put_kind(object: &mut Object, kind: OutcomeKind) -> Result<(), AllocError> {
+pub fn put_kind(object: &mut Object, kind: OutcomeKind) -> Result<(), AllocError>
+    ensures { OnOk result (members_in object.new ≡ with_members (members_in object.old) (spec.kind_members kind)) }
+{
     object.text("kind", kind_words(kind))?;
     match kind {
         OutcomeKind::RunError {
