@@ -1,0 +1,5 @@
+pub mod EventsAgree
+pub mod FoldsInStep
+pub mod Lists
+pub mod NextLines
+pub mod OpenCalls
