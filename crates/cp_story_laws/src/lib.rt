@@ -3,4 +3,4 @@
 
 pub mod laws;
 
-pub use laws::law_events;
+pub use laws::{law_events, law_waits};
