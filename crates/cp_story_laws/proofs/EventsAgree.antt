@@ -1,0 +1,370 @@
+-- Along the run of a word, the events that a story tells are those on the program's own names.
+use Rattle.std.proofs.Common.{◌≡◌, ◌∙◌, ℕ, ◌<◌, Bool, true, false, List, [], ◌∷◌, ◌++◌, Option, Some, None, ap, sym, refl, subst, arith, if◌then◌else◌, length}
+use Rattle.std.specs.Option.{option_to_list}
+use Rattle.std.specs.Prelude.{map, pos, replicate, slice_get}
+use Rattle.std.proofs.lemmas.List.{map-append}
+use Rattle.cp_tree.specs.Read.{IsRead}
+use Rattle.cp_tree.specs.Syntax.{Tree}
+use Rattle.cp_layout.specs.Laid.{plain, laid}
+use Rattle.cp_slots.specs.Tables.{Tables}
+use Rattle.cp_lawful.specs.Accepted.{IsAccepted}
+use Rattle.cp_legend.specs.Names.{Legend, legend_seen}
+use Rattle.cp_legend_laws.specs.Called.{called_in_legend, tabled}
+use Rattle.cp_legend_laws.specs.Paths.{called_in_language}
+use Rattle.cp_legend_laws.proofs.PathsOfTree.{legend_law}
+use Rattle.cp_machine.specs.declared.event.Event.{Event}
+use Rattle.cp_machine.specs.declared.event.Event.TheVariants as step
+use Rattle.cp_machine.specs.declared.event.Kernel as calls
+use Rattle.cp_machine.specs.declared.event.Kernel.TheVariants.{Enter, Leave, Delay, Continue, StartProcess, Display}
+use Rattle.cp_machine.specs.declared.gates.Gates as slot_gates
+use Rattle.cp_machine.specs.declared.gates.Gates.TheVariants.{First, Any}
+use Rattle.cp_machine.specs.declared.shown.Shown.{Shown}
+use Rattle.cp_machine.specs.declared.shown.Shown.TheVariants.{Integer}
+use Rattle.cp_machine.specs.Machine.{Machine, is_pending, is_ready, thread_at}
+use Rattle.cp_machine.specs.Opening as machine
+use Rattle.cp_meaning.specs.Components.{components_of}
+use Rattle.cp_meaning.specs.State.{Gates, State}
+use Rattle.cp_meaning.specs.State as meaning
+use Rattle.cp_meaning.specs.Steps.{step_of, line_at}
+use Rattle.cp_run.specs.declared.line.TraceEvent.{TraceEvent}
+use Rattle.cp_run.specs.declared.line.TraceEvent.TheVariants.{Kernel, End, Admit}
+use Rattle.cp_run.specs.Run.{may, those_below}
+use Rattle.cp_run.specs.Slots.{slots}
+use Rattle.cp_run.specs.System.{System}
+use Rattle.cp_run.specs.Trace.{holders_in}
+use Rattle.cp_run.proofs.Choosing.{those_same}
+use Rattle.cp_resolved.specs.Resolving.{AreTablesOf}
+use Rattle.cp_resolved.specs.TreeLayouts.{layouts_of}
+use Rattle.cp_refine.specs.AllKnown.{AllKnown}
+use Rattle.cp_refine.specs.InStep.{CanGo, CanEnter, GoInStep, LooksAlike}
+use Rattle.cp_refine.specs.Law.{Simulates, ground_of}
+use Rattle.cp_refine.specs.Named.{named, named_gates, gates_of, is_some}
+use Rattle.cp_refine.specs.Prepared.{Prepared}
+use Rattle.cp_refine.proofs.Alike.{holders_same, may_same}
+use Rattle.cp_refine.proofs.HoldsInReached.{reached_stands}
+use Rattle.cp_refine.proofs.Meaning.{goes_in_step, it, known}
+use Rattle.cp_refine.proofs.steps.Going.{Going}
+use Rattle.cp_refine.proofs.steps.GoingInStep.{goes_now}
+use Rattle.cp_story.specs.Aimed.{aim_in, no_aim}
+use Rattle.cp_story.specs.Passed.{given_back}
+use Rattle.cp_story.specs.Story as story
+use Rattle.cp_story.specs.Story.{Decision, Telling, Past, calls_of, innermost_call, what_happened, line_told, told_event, told_more, told_step, expecting, choice_taken, decision_in, teller, statuses_in, resumed_processes, started_processes}
+use Rattle.cp_story.specs.declared.aim.Aim.{Aim}
+use Rattle.cp_story_laws.specs.Events as names
+use Rattle.cp_story_laws.specs.Events.{EntryCall, NamedEvent, NamedTelling, names_teller, stack_of}
+use Rattle.cp_story_laws.specs.Lines.{next_line}
+use Rattle.cp_story_laws.specs.Standings as stands
+use Rattle.cp_story_laws.specs.Standings.{Standing, standings, resumed}
+use Rattle.cp_story_laws.specs.Statements.{call_told, call_in, event_on_names, event_told, displayed_told, begins_told, waits_told, standing_told, TellsEvents, EventsLaw}
+use Rattle.cp_story_laws.proofs.Entered.{call_same}
+use Rattle.cp_story_laws.proofs.Entering.{step_enters, enters_seen}
+use Rattle.cp_story_laws.proofs.FoldsInStep.{KeepRelated, EndRelated, ends_related}
+use Rattle.cp_story_laws.proofs.NextLines.{lines_same}
+use Rattle.cp_story_laws.proofs.OpenCalls.{each_of_none, stack_kept, last_kept, pushed_kept, popped_kept}
+use Rattle.cp_story_laws.proofs.StandingsAgree.{standings_same}
+use Rattle.cp_story_laws.proofs.Waited.{resumed_same, started_same, gated_same, gate_kept, queue_kept}
+use Rattle.cp_story_laws.proofs.WokenAgree.{is_told, woken_same}
+
+same_gates : (g : slot_gates.Gates) → gates_of (named_gates g) ≡ g
+same_gates First = refl
+same_gates Any = refl
+
+-- what is told on names, and what a story tells
+pub record EventsAgree (l : Legend) (x : NamedTelling) (y : Telling) : Type 0 where
+  pub events : map (event_on_names l) y.events ≡ x.events
+  pub choice : y.past.choice ≡ x.past.choice
+  pub calls : map (map call_told) y.past.calls ≡ x.past.calls
+  pub standings : map (standing_told l) y.past.statuses ≡ x.past.standings
+
+kernel_of : (c : calls.Kernel) → Kernel c ≡ Kernel Enter → step.Kernel c ≡ step.Kernel Enter
+kernel_of c e = cc
+
+module _ (t : Tree) (r : Tables) (g : slot_gates.Gates) (l : Legend) where
+  abbrev h : Gates
+  h = named_gates g
+
+  abbrev on_names : System State
+  on_names = named t h
+
+  abbrev on_slots : System Machine
+  on_slots = slots r g
+
+  abbrev Agree : NamedTelling → Telling → Type 0
+  Agree x y = EventsAgree l x y
+
+  -- ---- an event
+
+  module _ (p : ℕ) (aim : Aim) (s : State) (m : Machine) (woken : List ℕ) (count : on_names.monitors ≡ on_slots.monitors) (alike : LooksAlike on_names on_slots s m)
+      (now : map (standing_told l) (statuses_in m) ≡ standings t.program s) (wakes : option_to_list aim.wakes ≡ woken) (x : NamedTelling) (y : Telling) (agree : Agree x y) where
+    kind_same : (event : TraceEvent) → event_told (what_happened event p aim m y.past) ≡ event
+    kind_same (Kernel Enter) = refl
+    kind_same (Kernel Leave) = refl
+    kind_same (Kernel Delay) = refl
+    kind_same (Kernel Continue) = refl
+    kind_same (Kernel StartProcess) = refl
+    kind_same (Kernel Display) = refl
+    kind_same End = refl
+    kind_same Admit = refl
+
+    innermost_same : call_told (innermost_call y.past.calls p) ≡ names.innermost x.past p
+    innermost_same =
+        sym (last_kept call_told story.no_call (calls_of y.past.calls p))
+        ∙ ap (names.last_of names.no_call) (sym (stack_kept call_told y.past.calls p) ∙ ap (λ (cs : List (List EntryCall)). stack_of cs p) agree.calls)
+
+    abbrev Begun : TraceEvent → Type 0
+    Begun event = event ≡ Kernel Enter → call_told (story.call_begun (thread_at m.threads p) aim.line) ≡ names.call_begun t h s p aim.line
+
+    calls_told : (event : TraceEvent) → Begun event → call_in (what_happened event p aim m y.past) ≡ names.call_of_event t h event p aim.line s x.past
+    calls_told (Kernel Enter) begun = ap Some (begun refl)
+    calls_told (Kernel Leave) begun = ap Some innermost_same
+    calls_told (Kernel Delay) begun = ap Some innermost_same
+    calls_told (Kernel Continue) begun = ap Some innermost_same
+    calls_told (Kernel StartProcess) begun = refl
+    calls_told (Kernel Display) begun = refl
+    calls_told End begun = refl
+    calls_told Admit begun = ap Some innermost_same
+
+    waits_same : (event : TraceEvent) → waits_told (what_happened event p aim m y.past) ≡ names.waits_then event p (standings t.program s)
+    waits_same (Kernel Enter) = gated_same l m p ∙ ap (λ (all : List Standing). stands.is_gated (stands.standing_at all p)) now
+    waits_same (Kernel Leave) = refl
+    waits_same (Kernel Delay) = refl
+    waits_same (Kernel Continue) = refl
+    waits_same (Kernel StartProcess) = refl
+    waits_same (Kernel Display) = refl
+    waits_same End = refl
+    waits_same Admit = refl
+
+    displayed_same : (event : TraceEvent) → displayed_told (what_happened event p aim m y.past) ≡ names.displayed_by event (on_names.output s)
+    displayed_same (Kernel Enter) = refl
+    displayed_same (Kernel Leave) = refl
+    displayed_same (Kernel Delay) = refl
+    displayed_same (Kernel Continue) = refl
+    displayed_same (Kernel StartProcess) = refl
+    displayed_same (Kernel Display) = ap (λ (o : List Shown). Some (names.last_of (Integer (pos 0)) o)) (sym alike.output)
+    displayed_same End = refl
+    displayed_same Admit = refl
+
+    begins_same : (event : TraceEvent) → begins_told (what_happened event p aim m y.past) ≡ names.begun_by event x.past.standings (standings t.program s)
+    begins_same (Kernel Enter) = refl
+    begins_same (Kernel Leave) = refl
+    begins_same (Kernel Delay) = refl
+    begins_same (Kernel Continue) = refl
+    begins_same (Kernel StartProcess) =
+        ap (λ (qs : List ℕ). Some (names.last_of 0 qs))
+        (started_same l y.past.statuses m ∙ ap (λ (all : List Standing). stands.started all (map (standing_told l) (statuses_in m))) agree.standings ∙ ap (stands.started x.past.standings) now)
+    begins_same (Kernel Display) = refl
+    begins_same End = refl
+    begins_same Admit = refl
+
+    line_same : (event : TraceEvent) → line_told (what_happened event p aim m y.past) aim.line ≡ names.line_of_event event aim.line (names.innermost x.past p)
+    line_same (Kernel Enter) = refl
+    line_same (Kernel Leave) = ap (λ (c : EntryCall). Some c.line) innermost_same
+    line_same (Kernel Delay) = refl
+    line_same (Kernel Continue) = refl
+    line_same (Kernel StartProcess) = refl
+    line_same (Kernel Display) = refl
+    line_same End = refl
+    line_same Admit = refl
+
+    let_in_same : resumed_processes story.is_gated y.past.statuses m p ≡ resumed stands.is_gated x.past.standings (standings t.program s) p
+    let_in_same =
+        resumed_same l story.is_gated stands.is_gated (gate_kept l) y.past.statuses m p
+        ∙ ap (λ (all : List Standing). resumed stands.is_gated all (map (standing_told l) (statuses_in m)) p) agree.standings
+        ∙ ap (λ (all : List Standing). resumed stands.is_gated x.past.standings all p) now
+
+    holders_are : holders_in on_slots m ≡ holders_in on_names s
+    holders_are = sym (holders_same on_names on_slots s m count alike)
+
+    event_same : (event : TraceEvent) → Begun event → event_on_names l (told_event (holders_in on_slots m) event p aim m y.past) ≡ names.event_of t h event p aim.line woken s x.past
+    event_same event begun =
+        let a = kind_same event in
+        let b = calls_told event begun in
+        let c = waits_same event in
+        let d = displayed_same event in
+        let e = begins_same event in
+        let f = line_same event in
+        let i = agree.choice in
+        let j = wakes in
+        let k = let_in_same in
+        let n = now in
+        let o = holders_are in
+        cc
+
+    opens : call_told (story.call_begun (thread_at m.threads p) aim.line) ≡ names.call_begun t h s p aim.line → map (map call_told) (names.pushed y.past.calls p (story.call_begun (thread_at m.threads p) aim.line)) ≡ names.pushed x.past.calls p (names.call_begun t h s p aim.line)
+    opens begun =
+        pushed_kept call_told y.past.calls p (story.call_begun (thread_at m.threads p) aim.line)
+        ∙ (ap (λ (cs : List (List EntryCall)). names.pushed cs p (call_told (story.call_begun (thread_at m.threads p) aim.line))) agree.calls ∙ ap (names.pushed x.past.calls p) begun)
+
+    closes : map (map call_told) (names.popped y.past.calls p) ≡ names.popped x.past.calls p
+    closes = popped_kept call_told y.past.calls p ∙ ap (λ (cs : List (List EntryCall)). names.popped cs p) agree.calls
+
+    calls_same : (event : TraceEvent) → Begun event → map (map call_told) (told_more r g event p aim m y).past.calls ≡ names.calls_after t h event p aim.line s x.past.calls
+    calls_same (Kernel Enter) begun = opens (begun refl)
+    calls_same (Kernel Leave) begun = closes
+    calls_same (Kernel Delay) begun = agree.calls
+    calls_same (Kernel Continue) begun = closes
+    calls_same (Kernel StartProcess) begun = agree.calls
+    calls_same (Kernel Display) begun = agree.calls
+    calls_same End begun = agree.calls
+    calls_same Admit begun = agree.calls
+
+    pub event_agrees : (event : TraceEvent) → Begun event → Agree (names.with_event t h event p aim.line woken s x) (told_more r g event p aim m y)
+    event_agrees event begun =
+        record {
+          events =
+              map-append (event_on_names l) y.events (told_event (holders_in on_slots m) event p aim m y.past ∷ [])
+              ∙ ap (λ (es : List NamedEvent). es ++ event_on_names l (told_event (holders_in on_slots m) event p aim m y.past) ∷ []) agree.events
+              ∙ ap (λ (e : NamedEvent). x.events ++ e ∷ []) (event_same event begun);
+          choice = refl;
+          calls = calls_same event begun;
+          standings = now;
+        }
+
+  -- ---- what is expected of a step is no event
+
+  either_choice : (c : Bool) (a b : Past) → a.choice ≡ b.choice → (if c then a else b).choice ≡ b.choice
+  either_choice true a b e = e
+  either_choice false a b e = refl
+
+  either_calls : (c : Bool) (a b : Past) → a.calls ≡ b.calls → (if c then a else b).calls ≡ b.calls
+  either_calls true a b e = e
+  either_calls false a b e = refl
+
+  either_statuses : (c : Bool) (a b : Past) → a.statuses ≡ b.statuses → (if c then a else b).statuses ≡ b.statuses
+  either_statuses true a b e = e
+  either_statuses false a b e = refl
+
+  expecting_agrees : (aim : Aim) (m : Machine) (p : ℕ) (x : NamedTelling) (y : Telling) → Agree x y → Agree x (expecting aim m p y)
+  expecting_agrees aim m p x y agree =
+      let ended : Past = record y.past { returned = given_back y.past.legend m.permanents (slice_get m.threads p) } in
+      record {
+        events = agree.events;
+        choice = either_choice aim.ends_call ended y.past refl ∙ agree.choice;
+        calls = ap (map (map call_told)) (either_calls aim.ends_call ended y.past refl) ∙ agree.calls;
+        standings = ap (map (standing_told l)) (either_statuses aim.ends_call ended y.past refl) ∙ agree.standings;
+      }
+
+  -- ---- the choice that is due
+
+  decision_same : (s : State) (m : Machine) (n : on_names.processes ≡ on_slots.processes) → LooksAlike on_names on_slots s m → (number : ℕ) → decision_in r g m number ≡ names.decision_of t h s number
+  decision_same s m n alike number =
+      let options : those_below on_names.processes (may on_names s) ≡ those_below on_slots.processes (may on_slots m) =
+      those_same on_names.processes (may on_names s) (may on_slots m) (λ q k. may_same on_names on_slots s m n alike q) ∙ ap (λ (k : ℕ). those_below k (may on_slots m)) n in
+      let gate : is_some s.pending ≡ is_pending m = alike.pending in
+      cc
+
+  -- ---- runs
+
+  module _ (read : IsRead t.program) (ok : IsAccepted t) (same : plain r ≡ laid t) (tables : map tabled l.components ≡ r.components) (paths : map called_in_legend l.components ≡ map (called_in_language t.program) (components_of t.program)) where
+    abbrev pub Related : State → Machine → Type 0
+    Related = Simulates t r (layouts_of t) h
+
+    pub go : GoInStep on_names on_slots Related
+    go = subst (λ (k : slot_gates.Gates). GoInStep on_names (slots r k) Related) (same_gates g) (goes_in_step t r h read ok same)
+
+    its : AreTablesOf t r
+    its = it t r h read ok same
+
+    all_known : AllKnown t r (layouts_of t) h
+    all_known = known t r h read ok same
+
+    pub prepared : Prepared t r (layouts_of t)
+    prepared = record { stands = its.stands; sound = its.sound; program = all_known.program }
+
+    stand_now : (s : State) (m : Machine) → Related s m → map (standing_told l) (statuses_in m) ≡ standings t.program s
+    stand_now s m sim = standings_same t r (layouts_of t) h ok prepared l tables paths s m sim
+
+    going : (s : State) (m : Machine) (p : ℕ) → Related s m → CanGo on_names s p → Going (ground_of t r) t.program (layouts_of t) s m p
+    going s m p sim can = goes_now t r (layouts_of t) h ok its.stands its.sound all_known s m p sim can
+
+    -- ---- a step
+
+    module _ (s : State) (m : Machine) (p : ℕ) (sim : Related s m) (can : CanGo on_names s p) where
+      abbrev s2 : State
+      s2 = on_names.step s p
+
+      abbrev m2 : Machine
+      m2 = on_slots.step m p
+
+      sim2 : Related s2 m2
+      sim2 = go.step s m p sim can
+
+      abbrev aim : Aim
+      aim = aim_in r m p
+
+      line_now : next_line t s p ≡ aim.line
+      line_now = lines_same t r (layouts_of t) s m p (going s m p sim can)
+
+      entered_now : on_slots.event m p ≡ step.Kernel Enter → call_told (story.call_begun (thread_at m2.threads p) aim.line) ≡ names.call_begun t h s2 p aim.line
+      entered_now e =
+          let k = going s m p sim can in
+          let holds = reached_stands t ok h s sim.reached in
+          let holds2 = reached_stands t ok h s2 sim2.reached in
+          let open_call = holds.open_call p k.there (λ f. (let bad : meaning.ready ≡ meaning.unstarted = sym k.was ∙ f in cc)) in
+          let event = enters_seen p (line_at t s p) (step_of t.program s p).event (go.event s m p sim can ∙ e) in
+          let w = step_enters t.program s p k.there open_call.0 open_call.1 open_call.2 event in
+          let less : p < length s2.processes = (let a = sim.represents.process_count in let b = sim2.represents.process_count in let c = sim.fits.threads in let d = sim2.fits.threads in let f = k.there in omega (arith, a, b, c, d, f)) in
+          let n = (meaning.current (meaning.process_at s2.processes p).calls).component in
+          call_same t r (layouts_of t) its.stands h ok s2 m2 sim2 p less aim.line w.0 (holds2.kind n ∙ sym (holds.kind n) ∙ w.1)
+
+      woken_now : is_told (on_slots.event m p) ≡ true → option_to_list aim.wakes ≡ resumed stands.is_queued (standings t.program s) (standings t.program s2) p
+      woken_now told =
+          let ready : is_ready m p ≡ true = sym ((go.alike s m sim).ready p can.below) ∙ can.ready in
+          let same_length : length m.threads ≡ length m2.threads = (let c = sim.fits.threads in let d = sim2.fits.threads in omega (arith, c, d)) in
+          woken_same r m p sim.lines ready told same_length
+          ∙ resumed_same l story.is_queued stands.is_queued (queue_kept l) (statuses_in m) m2 p
+          ∙ ap (λ (all : List Standing). resumed stands.is_queued all (map (standing_told l) (statuses_in m2)) p) (stand_now s m sim)
+          ∙ ap (λ (all : List Standing). resumed stands.is_queued (standings t.program s) all p) (stand_now s2 m2 sim2)
+
+      abbrev back : List ℕ
+      back = resumed stands.is_queued (standings t.program s) (standings t.program s2) p
+
+      module _ (x : NamedTelling) (y : Telling) (agree : Agree x y) where
+        told_by : (e : Event) → on_slots.event m p ≡ e → Agree (names.with_step t h p aim.line back e s2 x) (told_step r g p aim e m2 (expecting aim m p y))
+        told_by (step.Kernel call) e =
+            event_agrees p aim s2 m2 back go.monitors (go.alike s2 m2 sim2) (stand_now s2 m2 sim2) (woken_now (ap is_told e)) x (expecting aim m p y) (expecting_agrees aim m p x y agree) (Kernel call)
+            (λ f. entered_now (e ∙ kernel_of call f))
+        told_by step.Ended e =
+            event_agrees p aim s2 m2 back go.monitors (go.alike s2 m2 sim2) (stand_now s2 m2 sim2) (woken_now (ap is_told e)) x (expecting aim m p y) (expecting_agrees aim m p x y agree) End
+            (λ f. absurd (let bad : End ≡ Kernel Enter = f in cc))
+        told_by _ e = expecting_agrees aim m p x y agree
+
+        step_kept : Agree (names.with_step t h p (next_line t s p) back (on_names.event s p) s2 x) (told_step r g p aim (on_slots.event m p) m2 (expecting aim m p y))
+        step_kept =
+            let after : Telling = told_step r g p aim (on_slots.event m p) m2 (expecting aim m p y) in
+            subst (λ (e : Event). Agree (names.with_step t h p (next_line t s p) back e s2 x) after) (sym (go.event s m p sim can))
+            (subst (λ (n : Option ℕ). Agree (names.with_step t h p n back (on_slots.event m p) s2 x) after) (sym line_now) (told_by (on_slots.event m p) refl))
+
+    admission_kept : (s : State) (m : Machine) (p : ℕ) (x : NamedTelling) (y : Telling) → Related s m → CanEnter on_names s p → Agree x y → Agree (names.with_event t h Admit p None [] (on_names.admit s p) x) (told_more r g Admit p (no_aim false) (on_slots.admit m p) y)
+    admission_kept s m p x y sim can agree =
+        let sim2 : Related (on_names.admit s p) (on_slots.admit m p) = go.admit s m p sim can in
+        event_agrees p (no_aim false) (on_names.admit s p) (on_slots.admit m p) [] go.monitors (go.alike (on_names.admit s p) (on_slots.admit m p) sim2) (stand_now (on_names.admit s p) (on_slots.admit m p) sim2) refl x y agree Admit
+        (λ f. absurd (let bad : Admit ≡ Kernel Enter = f in cc))
+
+    keeps : KeepRelated on_names on_slots Related (names_teller t h) (teller r g) (λ s m x y. Agree x y)
+    keeps =
+        record {
+          step = λ s m p x y sim can agree. step_kept s m p sim can x y agree;
+          admission = admission_kept;
+          choice = λ s m p x y sim agree. record { events = agree.events; choice = ap Some (decision_same s m go.processes (go.alike s m sim) p); calls = agree.calls; standings = agree.standings };
+        }
+
+    begins : Agree (names.nothing_told t h) (story.nothing_told l (machine.opening r g))
+    begins =
+        record {
+          events = refl;
+          choice = refl;
+          calls = each_of_none call_told (length (machine.opening r g).threads) ∙ ap (λ (n : ℕ). replicate n []) (sym go.start.represents.process_count);
+          standings = stand_now on_names.start on_slots.start go.start;
+        }
+
+    pub ends : (choices steps : ℕ) (word : List ℕ) → EndRelated on_names on_slots Related (names_teller t h) (teller r g) (λ s m x y. Agree x y) choices steps word (names.nothing_told t h) (story.nothing_told l (machine.opening r g))
+    ends choices steps word = ends_related on_names on_slots Related (names_teller t h) (teller r g) (λ s m x y. Agree x y) go keeps (names.nothing_told t h) (story.nothing_told l (machine.opening r g)) begins choices steps word
+
+    pub tells_events : (choices steps : ℕ) (word : List ℕ) → TellsEvents t r l g choices steps word
+    tells_events choices steps word = let k = (ends choices steps word).gathered in record { events = k.events; last_choice = k.choice }
+
+pub events_law : EventsLaw
+events_law t y r l g read ok symbols same legend choices steps word =
+    let w = legend_law t y r l read ok symbols same legend in
+    tells_events t r g (legend_seen l) read ok same w.tables w.paths choices steps word

@@ -1,0 +1,12 @@
+pub mod Entered
+pub mod Entering
+pub mod EventsAgree
+pub mod FoldsInStep
+pub mod Lists
+pub mod NextLines
+pub mod OpenCalls
+pub mod Paths
+pub mod StandingsAgree
+pub mod Waited
+pub mod WaitsAgree
+pub mod WokenAgree

@@ -1,0 +1,5 @@
+use Rattle.cp_story_laws.proofs.EventsAgree.{events_law}
+use Rattle.cp_story_laws.proofs.laws.law_events.Goals as goal
+
+pub returns : goal.returns
+returns c = events_law

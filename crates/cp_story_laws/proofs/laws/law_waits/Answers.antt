@@ -1,0 +1,5 @@
+use Rattle.cp_story_laws.proofs.WaitsAgree.{waits_law}
+use Rattle.cp_story_laws.proofs.laws.law_waits.Goals as goal
+
+pub returns : goal.returns
+returns c = waits_law

@@ -1,0 +1,180 @@
+-- What is told of a run of a program on its own names: each kernel call, process end and admission, with its process, the entry call and the line, what it displays, the choice
+-- before it, who goes on by it, how the processes stand then, and who is inside each monitor.
+use Rattle.std.specs.Prelude.{ℕ, ◌-◌, ◌==◌, Bool, false, List, [], ◌∷◌, ◌++◌, length, replicate, take, Option, Some, None, pos, slice_index_or, slice_set, unwrap_or}
+use Rattle.std.specs.List.{position_or_len}
+use Rattle.cp_tree.specs.Syntax.{Program, Tree}
+use Rattle.cp_machine.specs.declared.event.Event.{Event}
+use Rattle.cp_machine.specs.declared.event.Event.TheVariants as step
+use Rattle.cp_machine.specs.declared.event.Kernel.TheVariants.{Enter, Leave, Continue, StartProcess, Display}
+use Rattle.cp_machine.specs.declared.shown.Shown.{Shown}
+use Rattle.cp_machine.specs.declared.shown.Shown.TheVariants.{Integer}
+use Rattle.cp_run.specs.declared.line.TraceEvent.{TraceEvent}
+use Rattle.cp_run.specs.declared.line.TraceEvent.TheVariants.{Kernel, End, Admit}
+use Rattle.cp_run.specs.Run.{may, those_below}
+use Rattle.cp_run.specs.Trace.{holders_in}
+use Rattle.cp_meaning.specs.Readings.{monitors_of}
+use Rattle.cp_meaning.specs.State.{current, process_at, Gates, State}
+use Rattle.cp_meaning.specs.Steps.{opening}
+use Rattle.cp_refine.specs.Named.{named, is_some}
+use Rattle.cp_story.specs.Fold.{Fold, fold_run}
+use Rattle.cp_story.specs.Story.{Decision}
+use Rattle.cp_story_laws.specs.Lines.{next_line}
+use Rattle.cp_story_laws.specs.Standings.{Standing, standings, standing_at, is_gated, is_queued, resumed, started}
+
+-- an entry call: the number of its monitor, and the line on which it stands
+pub record EntryCall : Type 0 where
+  pub monitor : ℕ
+  pub line : ℕ
+
+pub record NamedEvent : Type 0 where
+  pub process : ℕ
+  pub event : TraceEvent
+  -- the entry call that begins or ends, or in which the process delays, continues or is admitted
+  pub call : Option EntryCall
+  -- whether a call that begins waits at the gate
+  pub waits : Bool
+  pub displayed : Option Shown
+  -- the process that begins
+  pub begins : Option ℕ
+  pub line : Option ℕ
+  -- the choice that was taken since the event before
+  pub choice : Option Decision
+  -- who goes on that was delayed, and who goes in that was at a gate
+  pub woken : List ℕ
+  pub let_in : List ℕ
+  -- how each process stands, and the process inside each monitor
+  pub standings : List Standing
+  pub holders : List (Option ℕ)
+
+-- What is remembered from one event to the next: the choice that was taken, the open entry calls of monitors of each process, the innermost last, and how the processes stood.
+pub record Remembered : Type 0 where
+  pub choice : Option Decision
+  pub calls : List (List EntryCall)
+  pub standings : List Standing
+
+pub record NamedTelling : Type 0 where
+  pub events : List NamedEvent
+  pub past : Remembered
+
+-- ---- of each process a stack
+
+abbrev pub stack_of : {A : Type 0} → List (List A) → ℕ → List A
+stack_of stacks p = slice_index_or stacks p []
+
+abbrev pub last_of : {A : Type 0} → A → List A → A
+last_of d xs = slice_index_or xs (length xs - 1) d
+
+abbrev pub pushed : {A : Type 0} → List (List A) → ℕ → A → List (List A)
+pushed stacks p x = slice_set stacks p (stack_of stacks p ++ x ∷ [])
+
+abbrev pub popped : {A : Type 0} → List (List A) → ℕ → List (List A)
+popped stacks p = slice_set stacks p (take (length (stack_of stacks p) - 1) (stack_of stacks p))
+
+-- ---- entry calls
+
+abbrev pub no_call : EntryCall
+no_call = record { monitor = 0; line = 0 }
+
+abbrev pub innermost : Remembered → ℕ → EntryCall
+innermost past p = last_of no_call (stack_of past.calls p)
+
+-- the number of the monitor that a component is: its place among the monitors
+abbrev pub monitor_of : Program → Gates → (component : ℕ) → ℕ
+monitor_of p g n = position_or_len (λ m. m == n) (monitors_of (opening p g))
+
+-- the call that process p has just begun, from a line
+abbrev pub call_begun : Tree → Gates → State → ℕ → (line : Option ℕ) → EntryCall
+call_begun t g s p line = record { monitor = monitor_of t.program g (current (process_at s.processes p).calls).component; line = unwrap_or line 0 }
+
+-- `continue` returns from its entry
+abbrev pub calls_after : Tree → Gates → TraceEvent → ℕ → (line : Option ℕ) → State → List (List EntryCall) → List (List EntryCall)
+calls_after t g (Kernel Enter) p line s calls = pushed calls p (call_begun t g s p line)
+calls_after t g (Kernel Leave) p line s calls = popped calls p
+calls_after t g (Kernel Continue) p line s calls = popped calls p
+calls_after t g _ p line s calls = calls
+
+-- ---- an event of process p, which stood on this line and came to the state s
+
+abbrev pub call_of_event : Tree → Gates → TraceEvent → ℕ → (line : Option ℕ) → State → Remembered → Option EntryCall
+call_of_event t g (Kernel Enter) p line s past = Some (call_begun t g s p line)
+call_of_event t g (Kernel StartProcess) p line s past = None
+call_of_event t g (Kernel Display) p line s past = None
+call_of_event t g End p line s past = None
+call_of_event t g _ p line s past = Some (innermost past p)
+
+abbrev pub waits_then : TraceEvent → ℕ → List Standing → Bool
+waits_then (Kernel Enter) p now = is_gated (standing_at now p)
+waits_then _ p now = false
+
+-- the value that was displayed last
+abbrev pub displayed_by : TraceEvent → (output : List Shown) → Option Shown
+displayed_by (Kernel Display) output = Some (last_of (Integer (pos 0)) output)
+displayed_by _ output = None
+
+abbrev pub begun_by : TraceEvent → (before now : List Standing) → Option ℕ
+begun_by (Kernel StartProcess) before now = Some (last_of 0 (started before now))
+begun_by _ before now = None
+
+-- a return stands where its call does; the end of a process and an admission have no line
+abbrev pub line_of_event : TraceEvent → (line : Option ℕ) → (call : EntryCall) → Option ℕ
+line_of_event (Kernel Leave) line call = Some call.line
+line_of_event End line call = None
+line_of_event Admit line call = None
+line_of_event _ line call = line
+
+abbrev pub event_of : Tree → Gates → TraceEvent → ℕ → (line : Option ℕ) → (woken : List ℕ) → State → Remembered → NamedEvent
+event_of t g event p line woken s past =
+    record {
+      process = p;
+      event = event;
+      call = call_of_event t g event p line s past;
+      waits = waits_then event p (standings t.program s);
+      displayed = displayed_by event ((named t g).output s);
+      begins = begun_by event past.standings (standings t.program s);
+      line = line_of_event event line (innermost past p);
+      choice = past.choice;
+      woken = woken;
+      let_in = resumed is_gated past.standings (standings t.program s) p;
+      standings = standings t.program s;
+      holders = holders_in (named t g) s;
+    }
+
+abbrev pub remembered_after : Tree → Gates → TraceEvent → ℕ → (line : Option ℕ) → State → Remembered → Remembered
+remembered_after t g event p line s past = record { choice = None; calls = calls_after t g event p line s past.calls; standings = standings t.program s }
+
+abbrev pub with_event : Tree → Gates → TraceEvent → ℕ → (line : Option ℕ) → (woken : List ℕ) → State → NamedTelling → NamedTelling
+with_event t g event p line woken s x = record { events = x.events ++ event_of t g event p line woken s x.past ∷ []; past = remembered_after t g event p line s x.past }
+
+-- ---- a run
+
+-- a local step, a run error and a full output are no events
+abbrev pub with_step : Tree → Gates → ℕ → (line : Option ℕ) → (woken : List ℕ) → Event → State → NamedTelling → NamedTelling
+with_step t g p line woken (step.Kernel call) s x = with_event t g (Kernel call) p line woken s x
+with_step t g p line woken step.Ended s x = with_event t g End p line woken s x
+with_step t g p line woken _ s x = x
+
+-- the choice that is due in a state
+abbrev pub decision_of : Tree → Gates → State → ℕ → Decision
+decision_of t g s number = record { options = those_below (named t g).processes (may (named t g) s); number = number; at_gate = is_some s.pending }
+
+abbrev pub with_choice : Decision → NamedTelling → NamedTelling
+with_choice d x = record { events = x.events; past = record x.past { choice = Some d } }
+
+abbrev pub names_teller : Tree → Gates → Fold State NamedTelling
+names_teller t g =
+    record {
+      on_step = λ s p event after x. with_step t g p (next_line t s p) (resumed is_queued (standings t.program s) (standings t.program after) p) event after x;
+      on_admission = λ p after x. with_event t g Admit p None [] after x;
+      on_choice = λ s number x. with_choice (decision_of t g s number) x;
+    }
+
+abbrev pub nothing_told : Tree → Gates → NamedTelling
+nothing_told t g = let first = opening t.program g in record { events = []; past = record { choice = None; calls = replicate (length first.processes) []; standings = standings t.program first } }
+
+-- what is told of the run of a word
+abbrev pub names_telling : Tree → Gates → (choices steps : ℕ) → List ℕ → NamedTelling
+names_telling t g choices steps word = fold_run (named t g) (names_teller t g) choices steps word (nothing_told t g)
+
+-- its events
+abbrev pub events_on_names : Tree → Gates → (choices steps : ℕ) → List ℕ → List NamedEvent
+events_on_names t g choices steps word = (names_telling t g choices steps word).events

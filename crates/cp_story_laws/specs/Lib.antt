@@ -1,0 +1,5 @@
+pub mod Events
+pub mod Lines
+pub mod Standings
+pub mod Statements
+pub mod Waits

@@ -1,0 +1,111 @@
+-- What the laws say: a story of the slot machine tells what happens on a program's own names.
+use Rattle.std.specs.Prelude.{◌≡◌, ℕ, Bool, false, List, map, option_map, Option, Some, None}
+use Rattle.cp_tree.specs.Read.{IsRead}
+use Rattle.cp_tree.specs.Syntax.{Tree}
+use Rattle.cp_symbols.specs.declared.symbols.Symbols.{Symbols}
+use Rattle.cp_layout.specs.Laid.{plain, laid, whole}
+use Rattle.cp_layout.specs.Symbols.{AreSymbolsOf}
+use Rattle.cp_slots.specs.Tables.{Tables}
+use Rattle.cp_lawful.specs.Accepted.{IsAccepted}
+use Rattle.cp_legend.specs.declared.legend.Legend as code_legend
+use Rattle.cp_legend.specs.Names.{Legend, IsLegendOf, legend_seen, monitor_in, path_in, source_seen}
+use Rattle.cp_legend.specs.Places.{owner}
+use Rattle.cp_machine.specs.declared.event.Kernel.TheVariants.{Enter, Leave, Delay, Continue, StartProcess, Display}
+use Rattle.cp_machine.specs.declared.gates.Gates.{Gates}
+use Rattle.cp_machine.specs.declared.process.Status.{Status}
+use Rattle.cp_machine.specs.declared.process.Status.TheVariants as status
+use Rattle.cp_machine.specs.declared.shown.Shown.{Shown}
+use Rattle.cp_run.specs.declared.line.TraceEvent.{TraceEvent}
+use Rattle.cp_run.specs.declared.line.TraceEvent.TheVariants.{Kernel, End, Admit}
+use Rattle.cp_refine.specs.Named.{named_gates}
+use Rattle.cp_story.specs.Story.{Happened, Enters, Leaves, Delays, Continues, Starts, Displays, Ends, IsAdmitted, Told, story_of, telling}
+use Rattle.cp_story.specs.Waiting.{Waiting, who_waits}
+use Rattle.cp_story.specs.declared.event.OpenCall.{OpenCall}
+use Rattle.cp_story_laws.specs.Events.{EntryCall, NamedEvent, events_on_names, names_telling}
+use Rattle.cp_story_laws.specs.Standings.{Standing, not_begun, may_go_on, at_gate_of, in_queue_of, has_ended}
+use Rattle.cp_story_laws.specs.Waits.{NamedWait, who_waits_on_names}
+
+-- ---- what a story says of an event
+
+abbrev pub event_told : Happened → TraceEvent
+event_told (Enters call arguments waits) = Kernel Enter
+event_told (Leaves call) = Kernel Leave
+event_told (Delays queue call) = Kernel Delay
+event_told (Continues queue call) = Kernel Continue
+event_told (Starts process) = Kernel StartProcess
+event_told (Displays value) = Kernel Display
+event_told Ends = End
+event_told (IsAdmitted call) = Admit
+
+abbrev pub call_told : OpenCall → EntryCall
+call_told c = record { monitor = c.monitor; line = c.line }
+
+abbrev pub call_in : Happened → Option EntryCall
+call_in (Enters call arguments waits) = Some (call_told call)
+call_in (Leaves call) = Some (call_told call)
+call_in (Delays queue call) = Some (call_told call)
+call_in (Continues queue call) = Some (call_told call)
+call_in (IsAdmitted call) = Some (call_told call)
+call_in _ = None
+
+abbrev pub waits_told : Happened → Bool
+waits_told (Enters call arguments waits) = waits
+waits_told _ = false
+
+abbrev pub displayed_told : Happened → Option Shown
+displayed_told (Displays value) = Some value
+displayed_told _ = None
+
+abbrev pub begins_told : Happened → Option ℕ
+begins_told (Starts process) = Some process
+begins_told _ = None
+
+-- how a process stands, by the names that the legend has
+abbrev pub standing_told : Legend → Status → Standing
+standing_told l status.Unstarted = not_begun
+standing_told l status.Ready = may_go_on
+standing_told l (status.AtGate n) = at_gate_of (path_in (monitor_in l.components n))
+standing_told l (status.Delayed cell) = in_queue_of (path_in (owner l.components cell))
+standing_told l status.Ended = has_ended
+
+abbrev pub event_on_names : Legend → Told → NamedEvent
+event_on_names l e =
+    record {
+      process = e.process;
+      event = event_told e.happened;
+      call = call_in e.happened;
+      waits = waits_told e.happened;
+      displayed = displayed_told e.happened;
+      begins = begins_told e.happened;
+      line = e.line;
+      choice = e.choice;
+      woken = e.woken;
+      let_in = e.let_in;
+      standings = map (standing_told l) e.statuses;
+      holders = e.holders;
+    }
+
+-- The events of a story, and the last choice, are those of the program on its own names.
+pub record TellsEvents (t : Tree) (r : Tables) (l : Legend) (g : Gates) (choices steps : ℕ) (word : List ℕ) : Type 0 where
+  pub events : map (event_on_names l) (story_of l r g choices steps word) ≡ events_on_names t (named_gates g) choices steps word
+  pub last_choice : (telling l r g choices steps word).past.choice ≡ (names_telling t (named_gates g) choices steps word).past.choice
+
+-- of each tree that was read and is accepted, the tables that are laid of it, and the legend beside them
+abbrev pub EventsLaw : Type 0
+EventsLaw =
+    (t : Tree) (y : Symbols) (r : Tables) (l : code_legend.Legend) (g : Gates) → IsRead t.program → IsAccepted t → AreSymbolsOf y (whole t) → plain r ≡ laid t → IsLegendOf l (source_seen y) r.components →
+    (choices steps : ℕ) (word : List ℕ) → TellsEvents t r (legend_seen l) g choices steps word
+
+-- ---- who waits where a run stops
+
+abbrev pub wait_on_names : Legend → Waiting → NamedWait
+wait_on_names l w = record { process = w.process; standing = standing_told l w.status; call = option_map call_told w.call; inside = w.inside }
+
+-- who waits, where, in which call and inside which monitors, is so on the program's own names
+abbrev pub TellsWaits : Tree → Tables → Legend → Gates → (choices steps : ℕ) → List ℕ → Type 0
+TellsWaits t r l g choices steps word = map (wait_on_names l) (who_waits l r g choices steps word) ≡ who_waits_on_names t (named_gates g) choices steps word
+
+abbrev pub WaitsLaw : Type 0
+WaitsLaw =
+    (t : Tree) (y : Symbols) (r : Tables) (l : code_legend.Legend) (g : Gates) → IsRead t.program → IsAccepted t → AreSymbolsOf y (whole t) → plain r ≡ laid t → IsLegendOf l (source_seen y) r.components →
+    (choices steps : ℕ) (word : List ℕ) → TellsWaits t r (legend_seen l) g choices steps word

@@ -1,0 +1,14 @@
+//! Laws over the definitions alone.
+
+ghost use Rattle.cp_story_laws.specs.Statements.{EventsLaw, WaitsLaw};
+
+/// Each event of a story is the one of the program on its own names: its process, what it is, the line, the entry call and the displayed value, the choice before it, who is
+/// woken and who is let in, how each process stands then, and who is inside each monitor.
+pub fn law_events()
+    ensures { EventsLaw }
+{}
+
+/// So is who waits where the run stops, in which call and inside which monitors.
+pub fn law_waits()
+    ensures { WaitsLaw }
+{}

@@ -1,0 +1,6 @@
+//! The laws that a story tells of a run what the meaning of the program says, on its own names. No code runs here.
+#![tactic(auto)]
+
+pub mod laws;
+
+pub use laws::{law_events, law_waits};
