@@ -8,8 +8,8 @@ use Rattle.cp_run.specs.System.{System}
 use Rattle.cp_refine.specs.InStep.{CanGo, CanEnter, GoInStep}
 use Rattle.cp_refine.proofs.Alike.{NodesAlike, goes_on, goes_same, opening_goes, may_same, may_go, may_enter, admitted_same, admitted_goes}
 use Rattle.cp_refine.proofs.Turns.{turn_same}
-use Rattle.cp_story.specs.Fold.{Fold, fold_run, fold_turn, fold_stretch, fold_opened, fold_chosen, fold_from}
-use Rattle.cp_story.specs.Stop.{last_state, last_state_from}
+use Rattle.cp_run.specs.Fold.{Fold, fold_run, fold_turn, fold_stretch, fold_opened, fold_chosen, fold_from}
+use Rattle.cp_run.specs.Stop.{last_state, last_state_from}
 
 -- Each step, admission and choice keeps what is gathered on both sides related. A relation may also look at the states that the systems are in.
 pub record KeepRelated {S T X Y : Type 0} (a : System S) (b : System T) (R : S → T → Type 0) (f : Fold S X) (h : Fold T Y) (Q : S → T → X → Y → Type 0) : Type 0 where

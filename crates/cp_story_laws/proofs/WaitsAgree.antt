@@ -26,7 +26,7 @@ use Rattle.cp_run.specs.System.{System}
 use Rattle.cp_run.proofs.Choosing.{those_same}
 use Rattle.cp_resolved.specs.TreeLayouts.{layouts_of}
 use Rattle.cp_refine.specs.Named.{named, named_gates}
-use Rattle.cp_story.specs.Stop.{last_state}
+use Rattle.cp_run.specs.Stop.{last_state}
 use Rattle.cp_story.specs.Story.{calls_of, telling}
 use Rattle.cp_story.specs.Waiting as story
 use Rattle.cp_story.specs.declared.event.OpenCall.{OpenCall}

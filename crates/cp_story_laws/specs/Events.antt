@@ -16,7 +16,7 @@ use Rattle.cp_meaning.specs.Readings.{monitors_of}
 use Rattle.cp_meaning.specs.State.{current, process_at, Gates, State}
 use Rattle.cp_meaning.specs.Steps.{opening}
 use Rattle.cp_refine.specs.Named.{named, is_some}
-use Rattle.cp_story.specs.Fold.{Fold, fold_run}
+use Rattle.cp_run.specs.Fold.{Fold, fold_run}
 use Rattle.cp_story.specs.Story.{Decision}
 use Rattle.cp_story_laws.specs.Lines.{next_line}
 use Rattle.cp_story_laws.specs.Standings.{Standing, standings, standing_at, is_gated, is_queued, resumed, started}
