@@ -1,10 +1,9 @@
 -- What a story tells has no floats.
 use Rattle.std.proofs.Common.{◌≡◌, ◌==◌, ℕ, Bool, true, false, List, [], ◌∷◌, ◌++◌, Option, Some, None, option_map, length, map, take, refl, codes}
 use Rattle.std.specs.List.{list_any}
-use Rattle.std.specs.Prelude.{ℤ, pos, negsuc, if◌then◌else◌, cond}
-use Rattle.serde_json.specs.Data.{Data}
+use Rattle.std.specs.Prelude.{ℤ, pos, negsuc, if◌then◌else◌}
 use Rattle.serde_json.specs.Written.{has_float}
-use Rattle.cp_legend.specs.Names.{Legend, at_each, monitor_count, process_count}
+use Rattle.cp_legend.specs.Names.{Legend, monitor_count, process_count}
 use Rattle.cp_legend.specs.Values.{Value, Values, Members, integer, named, list, set, record_of, no_values, more_values, no_members, more_members}
 use Rattle.cp_machine.specs.declared.process.Status.{Status}
 use Rattle.cp_machine.specs.declared.process.Status.TheVariants as status
@@ -17,13 +16,12 @@ use Rattle.cp_run.specs.Run.{Answer, Ended, Wants, NotReady}
 use Rattle.cp_story.proofs.Floats.{both, is_float_member, no_float-array, no_float-at_each, no_float-flag, no_float-numbers, no_float-object, no_float-optional, none_of}
 use Rattle.cp_story.specs.Changes.{Changed}
 use Rattle.cp_story.specs.Halted.{Halted, halted_seen}
-use Rattle.cp_story.specs.Objects.{Member, array_of, flag, integer_data, number_data, numbers_data, optional, text_data, with_member}
+use Rattle.cp_story.specs.Objects.{array_of, flag, integer_data, number_data, numbers_data, optional, text_data, with_member}
 use Rattle.cp_story.specs.Passed.{Given}
 use Rattle.cp_story.specs.Story.{Decision, Happened, Enters, Leaves, Delays, Continues, Starts, Displays, Ends, IsAdmitted, Told}
 use Rattle.cp_story.specs.StoryData as spec
 use Rattle.cp_story.specs.Views.{decision_of, told_of, wait_of}
 use Rattle.cp_story.specs.Waiting.{Waiting}
-use Rattle.cp_story.specs.declared.event.OpenCall.{OpenCall}
 use Rattle.cp_story.specs.declared.story.Story.{Story}
 
 -- ---- names and values

@@ -1,6 +1,5 @@
 -- What a story tells, as one object of JSON.
 use Rattle.std.specs.Prelude.{ℕ, ◌==◌, if◌then◌else◌, List, [], ◌∷◌, ◌++◌, map, length, take, Option, Some, None, option_map, slice_get, codes}
-use Rattle.std.specs.String.{string_bytes}
 use Rattle.serde_json.specs.Data.{Data, null}
 use Rattle.cp_legend.specs.Names.{Legend, Named, at_each, monitor_count, monitor_in, name_of_routine, path_in, process_count, process_in, type_in}
 use Rattle.cp_legend.specs.Values.{Value, Values, Members, integer, named, list, set, record_of, no_values, more_values, no_members, more_members}
