@@ -13,7 +13,7 @@ pub fn law_waits()
     ensures { WaitsLaw }
 {}
 
-/// The open calls that events tell of are the entry calls of monitors that are open, by the meaning: so who leaves returns from the call that it is said to leave.
+/// Where a run stops, the open calls that are remembered for the next event are the entry calls of monitors that are open by the meaning.
 pub fn law_open_calls()
     ensures { OpenCallsLaw }
 {}
