@@ -27,11 +27,11 @@ module _ (p : Program) (c : Call) (calls : List Call) (cs : List Component) (pid
   v = record { program = p; calls = c ∷ calls; components = cs }
 
   -- the innermost call is an entry call of the monitor that is entered
-  abbrev EntersBy : Move → List Call → Type 0
+  abbrev pub EntersBy : Move → List Call → Type 0
   EntersBy (enters m) ds = ((current ds).kind ≡ entry_routine) × ((current ds).component ≡ m) × ((component_at cs m).kind ≡ system_kind.Monitor)
   EntersBy _ ds = Unit {0}
 
-  abbrev EntersWell : Doing → Type 0
+  abbrev pub EntersWell : Doing → Type 0
   EntersWell d = EntersBy d.move d.calls
 
   entry_well : (k : SystemKind) (d : ℕ) (r : RoutineMeaning) (o : Option Name) (items : List Item) (e : Environment) → (component_at cs d).kind ≡ k → EntersWell (entered_as k v d r o items e)
@@ -79,7 +79,7 @@ module _ (p : Program) (c : Call) (calls : List Call) (cs : List Component) (pid
         finishes = λ m items f. tt;
       }
 
-  takes_well : (items : List Item) → AllOf EntersWell (takes v pid items)
+  pub takes_well : (items : List Item) → AllOf EntersWell (takes v pid items)
   takes_well items = takes_all p c calls cs pid EntersWell (λ u. Unit {0}) (λ items. Unit {0}) (λ q. Unit {0}) (λ e. Unit {0}) (λ k e. Unit {0}) rules items tt
 
 -- ---- what the kernel does

@@ -17,7 +17,6 @@ use Rattle.cp_machine.specs.declared.event.Event.TheVariants as step
 use Rattle.cp_machine.specs.declared.event.Kernel as calls
 use Rattle.cp_machine.specs.declared.event.Kernel.TheVariants.{Enter, Leave, Delay, Continue, StartProcess, Display}
 use Rattle.cp_machine.specs.declared.gates.Gates as slot_gates
-use Rattle.cp_machine.specs.declared.gates.Gates.TheVariants.{First, Any}
 use Rattle.cp_machine.specs.declared.shown.Shown.{Shown}
 use Rattle.cp_machine.specs.declared.shown.Shown.TheVariants.{Integer}
 use Rattle.cp_machine.specs.Machine.{Machine, is_pending, is_ready, thread_at}
@@ -33,18 +32,12 @@ use Rattle.cp_run.specs.Slots.{slots}
 use Rattle.cp_run.specs.System.{System}
 use Rattle.cp_run.specs.Trace.{holders_in}
 use Rattle.cp_run.proofs.Choosing.{those_same}
-use Rattle.cp_resolved.specs.Resolving.{AreTablesOf}
 use Rattle.cp_resolved.specs.TreeLayouts.{layouts_of}
-use Rattle.cp_refine.specs.AllKnown.{AllKnown}
 use Rattle.cp_refine.specs.InStep.{CanGo, CanEnter, GoInStep, LooksAlike}
-use Rattle.cp_refine.specs.Law.{Simulates, ground_of}
-use Rattle.cp_refine.specs.Named.{named, named_gates, gates_of, is_some}
+use Rattle.cp_refine.specs.Named.{named, named_gates, is_some}
 use Rattle.cp_refine.specs.Prepared.{Prepared}
 use Rattle.cp_refine.proofs.Alike.{holders_same, may_same}
 use Rattle.cp_refine.proofs.HoldsInReached.{reached_stands}
-use Rattle.cp_refine.proofs.Meaning.{goes_in_step, it, known}
-use Rattle.cp_refine.proofs.steps.Going.{Going}
-use Rattle.cp_refine.proofs.steps.GoingInStep.{goes_now}
 use Rattle.cp_story.specs.Aimed.{aim_in, no_aim}
 use Rattle.cp_story.specs.Passed.{given_back}
 use Rattle.cp_story.specs.Story as story
@@ -60,14 +53,11 @@ use Rattle.cp_story_laws.proofs.Entered.{call_same}
 use Rattle.cp_story_laws.proofs.Entering.{step_enters, enters_seen}
 use Rattle.cp_story_laws.proofs.FoldsInStep.{KeepRelated, EndRelated, ends_related}
 use Rattle.cp_story_laws.proofs.NextLines.{lines_same}
+use Rattle.cp_story_laws.proofs.Together as together
 use Rattle.cp_story_laws.proofs.OpenCalls.{each_of_none, stack_kept, last_kept, pushed_kept, popped_kept}
 use Rattle.cp_story_laws.proofs.StandingsAgree.{standings_same}
 use Rattle.cp_story_laws.proofs.Waited.{resumed_same, started_same, gated_same, gate_kept, queue_kept}
 use Rattle.cp_story_laws.proofs.WokenAgree.{is_told, woken_same}
-
-same_gates : (g : slot_gates.Gates) → gates_of (named_gates g) ≡ g
-same_gates First = refl
-same_gates Any = refl
 
 -- what is told on names, and what a story tells
 pub record EventsAgree (l : Legend) (x : NamedTelling) (y : Telling) : Type 0 where
@@ -256,26 +246,17 @@ module _ (t : Tree) (r : Tables) (g : slot_gates.Gates) (l : Legend) where
   -- ---- runs
 
   module _ (read : IsRead t.program) (ok : IsAccepted t) (same : plain r ≡ laid t) (tables : map tabled l.components ≡ r.components) (paths : map called_in_legend l.components ≡ map (called_in_language t.program) (components_of t.program)) where
-    abbrev pub Related : State → Machine → Type 0
-    Related = Simulates t r (layouts_of t) h
+    abbrev Related : State → Machine → Type 0
+    Related = together.Related t r g read ok same
 
-    pub go : GoInStep on_names on_slots Related
-    go = subst (λ (k : slot_gates.Gates). GoInStep on_names (slots r k) Related) (same_gates g) (goes_in_step t r h read ok same)
+    go : GoInStep on_names on_slots Related
+    go = together.go t r g read ok same
 
-    its : AreTablesOf t r
-    its = it t r h read ok same
-
-    all_known : AllKnown t r (layouts_of t) h
-    all_known = known t r h read ok same
-
-    pub prepared : Prepared t r (layouts_of t)
-    prepared = record { stands = its.stands; sound = its.sound; program = all_known.program }
+    prepared : Prepared t r (layouts_of t)
+    prepared = together.prepared t r g read ok same
 
     stand_now : (s : State) (m : Machine) → Related s m → map (standing_told l) (statuses_in m) ≡ standings t.program s
     stand_now s m sim = standings_same t r (layouts_of t) h ok prepared l tables paths s m sim
-
-    going : (s : State) (m : Machine) (p : ℕ) → Related s m → CanGo on_names s p → Going (ground_of t r) t.program (layouts_of t) s m p
-    going s m p sim can = goes_now t r (layouts_of t) h ok its.stands its.sound all_known s m p sim can
 
     -- ---- a step
 
@@ -293,11 +274,11 @@ module _ (t : Tree) (r : Tables) (g : slot_gates.Gates) (l : Legend) where
       aim = aim_in r m p
 
       line_now : next_line t s p ≡ aim.line
-      line_now = lines_same t r (layouts_of t) s m p (going s m p sim can)
+      line_now = lines_same t r (layouts_of t) s m p (together.going t r g read ok same s m p sim can)
 
       entered_now : on_slots.event m p ≡ step.Kernel Enter → call_told (story.call_begun (thread_at m2.threads p) aim.line) ≡ names.call_begun t h s2 p aim.line
       entered_now e =
-          let k = going s m p sim can in
+          let k = together.going t r g read ok same s m p sim can in
           let holds = reached_stands t ok h s sim.reached in
           let holds2 = reached_stands t ok h s2 sim2.reached in
           let open_call = holds.open_call p k.there (λ f. (let bad : meaning.ready ≡ meaning.unstarted = sym k.was ∙ f in cc)) in
@@ -305,7 +286,7 @@ module _ (t : Tree) (r : Tables) (g : slot_gates.Gates) (l : Legend) where
           let w = step_enters t.program s p k.there open_call.0 open_call.1 open_call.2 event in
           let less : p < length s2.processes = (let a = sim.represents.process_count in let b = sim2.represents.process_count in let c = sim.fits.threads in let d = sim2.fits.threads in let f = k.there in omega (arith, a, b, c, d, f)) in
           let n = (meaning.current (meaning.process_at s2.processes p).calls).component in
-          call_same t r (layouts_of t) its.stands h ok s2 m2 sim2 p less aim.line w.0 (holds2.kind n ∙ sym (holds.kind n) ∙ w.1)
+          call_same t r (layouts_of t) prepared.stands h ok s2 m2 sim2 p less aim.line w.0 (holds2.kind n ∙ sym (holds.kind n) ∙ w.1)
 
       woken_now : is_told (on_slots.event m p) ≡ true → option_to_list aim.wakes ≡ resumed stands.is_queued (standings t.program s) (standings t.program s2) p
       woken_now told =

@@ -1,12 +1,17 @@
+pub mod ContinueOnly
 pub mod Entered
 pub mod Entering
 pub mod EventsAgree
 pub mod FoldsInStep
 pub mod Lists
+pub mod Monitors
 pub mod NextLines
 pub mod OpenCalls
+pub mod OpenMonitors
+pub mod OpenNow
 pub mod Paths
 pub mod StandingsAgree
+pub mod Together
 pub mod Waited
 pub mod WaitsAgree
 pub mod WokenAgree

@@ -35,9 +35,10 @@ use Rattle.cp_story_laws.specs.Standings.{Standing, at_gate_of, in_queue_of, sta
 use Rattle.cp_story_laws.specs.Statements.{call_told, standing_told, wait_on_names, TellsWaits, WaitsLaw}
 use Rattle.cp_story_laws.specs.Waits as names
 use Rattle.cp_story_laws.specs.Waits.{NamedWait, is_held_by}
-use Rattle.cp_story_laws.proofs.EventsAgree.{go, prepared, ends}
+use Rattle.cp_story_laws.proofs.EventsAgree.{ends}
 use Rattle.cp_story_laws.proofs.OpenCalls.{stack_kept}
 use Rattle.cp_story_laws.proofs.StandingsAgree.{standing_same}
+use Rattle.cp_story_laws.proofs.Together.{go, prepared}
 
 -- ---- those below a number
 
@@ -105,7 +106,7 @@ module _ (t : Tree) (r : Tables) (g : slot_gates.Gates) (l : Legend) (read : IsR
     open_calls = (names_telling t h choices steps word).past.calls
 
     stand : (q : ℕ) → q < length s.processes → standing_of t.program s (process_at s.processes q).status ≡ standing_told l (thread_at m.threads q).status
-    stand q less = standing_same t r (layouts_of t) h ok (prepared t r g l read ok same tables paths) l tables paths s m (ends t r g l read ok same tables paths choices steps word).states q less
+    stand q less = standing_same t r (layouts_of t) h ok (prepared t r g read ok same) l tables paths s m (ends t r g l read ok same tables paths choices steps word).states q less
 
     waits_same : (q : ℕ) → q < length s.processes → story.waits_at m q ≡ readings.is_waiting (process_at s.processes q).status
     waits_same q less = waits_told l (thread_at m.threads q).status ∙ (ap waits (sym (stand q less)) ∙ sym (waits_on_names t.program s (process_at s.processes q).status))
@@ -119,7 +120,7 @@ module _ (t : Tree) (r : Tables) (g : slot_gates.Gates) (l : Legend) (read : IsR
 
     inside_same : (q : ℕ) → those_below r.monitors (story.is_inside m q) ≡ those_below on_names.monitors (λ n. is_held_by q (on_names.holder s n))
     inside_same q =
-        let steps_same = go t r g l read ok same tables paths in
+        let steps_same = go t r g read ok same in
         sym
         (those_same on_names.monitors (λ n. is_held_by q (on_names.holder s n)) (story.is_inside m q) (λ n less. ap (is_held_by q) ((steps_same.alike s m (ends t r g l read ok same tables paths choices steps word).states).holder n less) ∙ sym (held_same q (on_slots.holder m n)))
         ∙ ap (λ (k : ℕ). those_below k (story.is_inside m q)) steps_same.monitors)

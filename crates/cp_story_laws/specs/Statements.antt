@@ -1,5 +1,5 @@
 -- What the laws say: a story of the slot machine tells what happens on a program's own names.
-use Rattle.std.specs.Prelude.{◌≡◌, ℕ, Bool, false, List, map, option_map, Option, Some, None}
+use Rattle.std.specs.Prelude.{◌≡◌, ℕ, ◌<◌, Bool, false, List, map, option_map, Option, Some, None}
 use Rattle.cp_tree.specs.Read.{IsRead}
 use Rattle.cp_tree.specs.Syntax.{Tree}
 use Rattle.cp_symbols.specs.declared.symbols.Symbols.{Symbols}
@@ -17,12 +17,16 @@ use Rattle.cp_machine.specs.declared.process.Status.TheVariants as status
 use Rattle.cp_machine.specs.declared.shown.Shown.{Shown}
 use Rattle.cp_run.specs.declared.line.TraceEvent.{TraceEvent}
 use Rattle.cp_run.specs.declared.line.TraceEvent.TheVariants.{Kernel, End, Admit}
-use Rattle.cp_refine.specs.Named.{named_gates}
+use Rattle.cp_meaning.specs.State as meaning
+use Rattle.cp_meaning.specs.Steps.{opening}
+use Rattle.cp_refine.specs.Named.{monitor_number, named, named_gates}
+use Rattle.cp_story.specs.Stop.{last_state}
 use Rattle.cp_story.specs.Story.{Happened, Enters, Leaves, Delays, Continues, Starts, Displays, Ends, IsAdmitted, Told, story_of, telling}
 use Rattle.cp_story.specs.Waiting.{Waiting, who_waits}
 use Rattle.cp_story.specs.declared.event.OpenCall.{OpenCall}
-use Rattle.cp_story_laws.specs.Events.{EntryCall, NamedEvent, events_on_names, names_telling}
-use Rattle.cp_story_laws.specs.Standings.{Standing, not_begun, may_go_on, at_gate_of, in_queue_of, has_ended}
+use Rattle.cp_story_laws.specs.Events.{EntryCall, NamedEvent, events_on_names, monitor_of, names_telling, stack_of}
+use Rattle.cp_story_laws.specs.OpenCalls.{monitors_entered}
+use Rattle.cp_story_laws.specs.Standings.{Standing, not_begun, may_go_on, at_gate_of, in_queue_of, has_ended, path_of}
 use Rattle.cp_story_laws.specs.Waits.{NamedWait, who_waits_on_names}
 
 -- ---- what a story says of an event
@@ -109,3 +113,25 @@ abbrev pub WaitsLaw : Type 0
 WaitsLaw =
     (t : Tree) (y : Symbols) (r : Tables) (l : code_legend.Legend) (g : Gates) → IsRead t.program → IsAccepted t → AreSymbolsOf y (whole t) → plain r ≡ laid t → IsLegendOf l (source_seen y) r.components →
     (choices steps : ℕ) (word : List ℕ) → TellsWaits t r (legend_seen l) g choices steps word
+
+-- ---- open calls
+
+-- What is remembered of open calls is true: of each process, they are the entry calls of monitors that are open where the run stops, the innermost last.
+abbrev pub OpenCallsAre : Tree → meaning.Gates → (choices steps : ℕ) → List ℕ → Type 0
+OpenCallsAre t g choices steps word =
+    (q : ℕ) → q < (named t g).processes →
+    map (λ (c : EntryCall). c.monitor) (stack_of (names_telling t g choices steps word).past.calls q) ≡ map (monitor_of t.program g) (monitors_entered (last_state (named t g) choices steps word) q)
+
+abbrev pub OpenCallsLaw : Type 0
+OpenCallsLaw = (t : Tree) (r : Tables) (g : Gates) → IsRead t.program → IsAccepted t → plain r ≡ laid t → (choices steps : ℕ) (word : List ℕ) → OpenCallsAre t (named_gates g) choices steps word
+
+-- ---- the numbers of monitors
+
+-- the number of a monitor in an event is that of the component which the legend calls as the language does
+abbrev pub MonitorsAre : Tree → Legend → meaning.Gates → Type 0
+MonitorsAre t l g = (n : ℕ) → n < (named t g).monitors → path_in (monitor_in l.components n) ≡ path_of t.program (opening t.program g) (monitor_number t.program g n)
+
+abbrev pub MonitorsLaw : Type 0
+MonitorsLaw =
+    (t : Tree) (y : Symbols) (r : Tables) (l : code_legend.Legend) (g : Gates) → IsRead t.program → IsAccepted t → AreSymbolsOf y (whole t) → plain r ≡ laid t → IsLegendOf l (source_seen y) r.components →
+    MonitorsAre t (legend_seen l) (named_gates g)

@@ -1,6 +1,6 @@
 //! Laws over the definitions alone.
 
-ghost use Rattle.cp_story_laws.specs.Statements.{EventsLaw, WaitsLaw};
+ghost use Rattle.cp_story_laws.specs.Statements.{EventsLaw, MonitorsLaw, OpenCallsLaw, WaitsLaw};
 
 /// Each event of a story is the one of the program on its own names: its process, what it is, the line, the entry call and the displayed value, the choice before it, who is
 /// woken and who is let in, how each process stands then, and who is inside each monitor.
@@ -11,4 +11,14 @@ pub fn law_events()
 /// So is who waits where the run stops, in which call and inside which monitors.
 pub fn law_waits()
     ensures { WaitsLaw }
+{}
+
+/// Where a run stops, the open calls that are remembered for the next event are the entry calls of monitors that are open by the meaning.
+pub fn law_open_calls()
+    ensures { OpenCallsLaw }
+{}
+
+/// The number that a monitor has in events is that of the component which the legend calls as the language does.
+pub fn law_monitors()
+    ensures { MonitorsLaw }
 {}

@@ -1,0 +1,302 @@
+-- What a step does to the entry calls of monitors that are open.
+use Rattle.std.proofs.Common.{◌⊎◌, inl, inr, ◌≡◌, ◌∙◌, ℕ, ◌<◌, ◌≤◌, ◌==◌, Bool, true, false, ◌&&◌, if◌then◌else◌, List, [], ◌∷◌, ◌++◌, Option, Some, None, Ok, Err, ap, sym, refl, subst, length, slice_set, get_or-set_same, get_or-set_other}
+use Rattle.cp_tree.specs.declared.declaration.SystemKind.{SystemKind}
+use Rattle.cp_tree.specs.declared.declaration.SystemKind.TheVariants as system_kind
+use Rattle.cp_tree.specs.Syntax.{Program}
+use Rattle.cp_meaning.specs.Calls.{bound, is_uninitialised, entered_as, started_as}
+use Rattle.cp_meaning.specs.Declarations.{RoutineMeaning}
+use Rattle.cp_meaning.specs.Expressions.{target_value}
+use Rattle.cp_meaning.specs.Kernel.{Event, enter_event, leave_event, continue_event, start_event, output_room, moved_to, made_ready, with_process_status, line_of, first_in, one_in, let_in, entering, is_anybody_inside, is_delayed_in, continuing, process_of, begun, starting_as, starting, displaying, kernel_step}
+use Rattle.cp_meaning.specs.LocalRules.{continued_from, leaving_move, outer, with_result, returned, takes}
+use Rattle.cp_meaning.specs.Move.{Move, stays, enters, leaves, delays, continues, starts, shows, ends, Doing}
+use Rattle.cp_meaning.specs.Names.{Name, result_name}
+use Rattle.cp_meaning.specs.Outcome.{Outcome}
+use Rattle.cp_meaning.specs.Places.{View, component_there, plain_place, stored, this_call, value_at}
+use Rattle.cp_meaning.specs.State.{Environment, Component, component_at, CallKind, own_statement, initial_statement, local_routine, entry_routine, is_entry_kind, Call, current, callers, Item, Place, Status, unstarted, ready, at_gate, delayed, ended, Process, no_process, process_at, Gates, first_gates, any_gates, Shown, State}
+use Rattle.cp_meaning.specs.Steps.{step_of, settled, view_of, admitted, admitted_to}
+use Rattle.cp_meaning.specs.Systems.{SystemMeaning, system_of}
+use Rattle.cp_meaning.specs.Values.{queue_value}
+use Rattle.cp_meaning.proofs.Frames.{Frame, frames, frames-callers, at_set, below, ItemsFit, TopStarts, plain-fit, plain-rest}
+use Rattle.cp_meaning.proofs.Stored.{stored_frames}
+use Rattle.cp_meaning.proofs.Taken.{AllOf, whatever, if_all, Rules, takes_all}
+use Rattle.cp_story_laws.specs.OpenCalls.{is_monitor, entered_by}
+use Rattle.cp_story_laws.proofs.Entering.{EntersBy, EntersWell, takes_well}
+
+-- ---- by what a call is, and of which component
+
+abbrev pub entered_in : List Component → List Frame → List ℕ
+entered_in cs [] = []
+entered_in cs (f ∷ fs) = if is_entry_kind f.0 && is_monitor (component_at cs f.1).kind then entered_in cs fs ++ f.1 ∷ [] else entered_in cs fs
+
+pub by_frames : (cs : List Component) (calls : List Call) → entered_by cs calls ≡ entered_in cs (frames calls)
+by_frames cs [] = refl
+by_frames cs (c ∷ calls) = ap (λ (xs : List ℕ). if is_entry_kind c.kind && is_monitor (component_at cs c.component).kind then xs ++ c.component ∷ [] else xs) (by_frames cs calls)
+
+-- components of the same kinds
+pub kinds_alike : (cs ds : List Component) (calls : List Call) → ((n : ℕ) → (component_at ds n).kind ≡ (component_at cs n).kind) → entered_by ds calls ≡ entered_by cs calls
+kinds_alike cs ds [] h = refl
+kinds_alike cs ds (c ∷ calls) h =
+    ap (λ (k : SystemKind). if is_entry_kind c.kind && is_monitor k then entered_by ds calls ++ c.component ∷ [] else entered_by ds calls) (h c.component)
+    ∙ ap (λ (xs : List ℕ). if is_entry_kind c.kind && is_monitor (component_at cs c.component).kind then xs ++ c.component ∷ [] else xs) (kinds_alike cs ds calls h)
+
+-- ---- what an item does
+
+module _ (p : Program) (c : Call) (calls : List Call) (cs : List Component) (pid : ℕ) where
+  abbrev v : View
+  v = record { program = p; calls = c ∷ calls; components = cs }
+
+  abbrev fs : List Frame
+  fs = frames (c ∷ calls)
+
+  abbrev E : List Frame → List ℕ
+  E gs = entered_in cs gs
+
+  -- one more, one fewer, or the same
+  abbrev pub MovesBy : Move → List Frame → Type 0
+  MovesBy (enters m) gs = E gs ≡ E fs ++ m ∷ []
+  MovesBy (leaves m) gs = E fs ≡ E gs ++ m ∷ []
+  MovesBy (continues m o) gs = (m ≡ c.component) × ((component_at cs m).kind ≡ system_kind.Monitor → E fs ≡ E gs ++ m ∷ [])
+  MovesBy _ gs = E gs ≡ E fs
+
+  abbrev pub MovesSo : Doing → Type 0
+  MovesSo d = MovesBy d.move (frames d.calls)
+
+  entry_moves : (k : SystemKind) (d : ℕ) (r : RoutineMeaning) (o : Option Name) (items : List Item) (e : Environment) → (component_at cs d).kind ≡ k → MovesSo (entered_as k v d r o items e)
+  entry_moves system_kind.Monitor d r o items e is = ap (λ (k : SystemKind). if is_monitor k then E fs ++ d ∷ [] else E fs) is
+  entry_moves system_kind.Class d r o items e is = ap (λ (k : SystemKind). if is_monitor k then E fs ++ d ∷ [] else E fs) is
+  entry_moves system_kind.Process d r o items e is = refl
+
+  start_moves : (k : SystemKind) (d : ℕ) (s : SystemMeaning) (items : List Item) (e : Environment) → AllOf MovesSo (started_as k v d s items e)
+  start_moves system_kind.Process d s items e = refl
+  start_moves system_kind.Class d s items e = if_all MovesSo (is_uninitialised (component_at cs d).status) _ _ (λ h. refl) tt
+  start_moves system_kind.Monitor d s items e = if_all MovesSo (is_uninitialised (component_at cs d).status) _ _ (λ h. refl) tt
+
+  continue_moves : (k : CallKind) (items : List Item) (q : Place) → c.kind ≡ k → MovesSo (continued_from v k items q)
+  continue_moves entry_routine items q is = (
+    refl,
+    λ monitor.
+        let after : frames (callers (stored v q (queue_value None)).calls) ≡ frames calls = frames-callers (stored v q (queue_value None)).calls ∙ ap below (stored_frames v q (queue_value None)) in
+        ap (λ (k : CallKind). if is_entry_kind k && is_monitor (component_at cs c.component).kind then E (frames calls) ++ c.component ∷ [] else E (frames calls)) is
+        ∙ (ap (λ (k : SystemKind). if is_monitor k then E (frames calls) ++ c.component ∷ [] else E (frames calls)) monitor
+        ∙ ap (λ (gs : List Frame). E gs ++ c.component ∷ []) (sym after)),
+  )
+  continue_moves own_statement items q is = refl
+  continue_moves initial_statement items q is = refl
+  continue_moves local_routine items q is = refl
+
+  leave_moves : (b : Bool) (k : SystemKind) (gs : List Frame) → (if b && is_monitor k then E gs ++ c.component ∷ [] else E gs) ≡ E fs → MovesBy (if b then leaving_move k c.component else stays) gs
+  leave_moves true system_kind.Monitor gs e = sym e
+  leave_moves true system_kind.Class gs e = e
+  leave_moves true system_kind.Process gs e = e
+  leave_moves false k gs e = e
+
+  result_frames : (o : Option Name) → frames (with_result v o).calls ≡ frames calls
+  result_frames None = refl
+  result_frames (Some x) = stored_frames (outer v) (plain_place (this_call (outer v)) x) (value_at v (plain_place (this_call v) result_name))
+
+  return_moves : (o : Option Name) (items : List Item) → MovesSo (returned v o items)
+  return_moves o items =
+      leave_moves (is_entry_kind c.kind) (component_at cs c.component).kind (frames (with_result v o).calls)
+      (ap (λ (gs : List Frame). if is_entry_kind c.kind && is_monitor (component_at cs c.component).kind then E gs ++ c.component ∷ [] else E gs) (result_frames o))
+
+  end_moves : (k : CallKind) (m n : ℕ) (gs : List Frame) → TopStarts m ((k, n) ∷ gs) → E gs ≡ E ((k, n) ∷ gs)
+  end_moves initial_statement m n gs h = refl
+  end_moves own_statement m n gs h = absurd h
+  end_moves local_routine m n gs h = absurd h
+  end_moves entry_routine m n gs h = absurd h
+
+  rules : Rules p c calls cs pid MovesSo (λ u. frames u.calls ≡ fs) (ItemsFit fs) (λ q. Unit {0}) (λ e. Unit {0}) (λ k e. Unit {0})
+  rules =
+      record {
+        near = λ d. whatever (target_value v d);
+        named = λ i. tt;
+        arguments = λ qs es. whatever (bound v qs es);
+        handed = λ k es. whatever (bound v (system_of p k).parameters es);
+        plain = plain-fit fs;
+        rest = plain-rest fs;
+        as_it_is = refl;
+        stores = λ q w n. stored_frames v q w;
+        goes_on = λ u items a f. ap E a;
+        ended = λ items f. refl;
+        shows = λ items x f. refl;
+        opens = λ r o items e k f. refl;
+        enters = λ q r o items e n k i f. entry_moves (component_at cs (component_there v q)).kind (component_there v q) r o items e refl;
+        starts = λ q items e n h f. start_moves (component_at cs (component_there v q)).kind (component_there v q) (system_of p (component_at cs (component_there v q)).system) items e;
+        waits = λ q items n f. ap E (stored_frames v q (queue_value (Some pid)));
+        continues = λ q items n f. continue_moves c.kind items q refl;
+        returns = λ o items f. return_moves o items;
+        finishes = λ m items f. end_moves c.kind m c.component (frames calls) f.0;
+      }
+
+  pub takes_moves : (items : List Item) → ItemsFit fs items → AllOf MovesSo (takes v pid items)
+  takes_moves items f = takes_all p c calls cs pid MovesSo (λ u. frames u.calls ≡ fs) (ItemsFit fs) (λ q. Unit {0}) (λ e. Unit {0}) (λ k e. Unit {0}) rules items f
+
+-- ---- what the kernel does
+
+-- one process with the same calls in the place of another
+calls_set : (ps : List Process) (r q : ℕ) (x : Process) → x.calls ≡ (process_at ps r).calls → (process_at (slice_set ps r x) q).calls ≡ (process_at ps q).calls
+calls_set ps r q x e = go (at_set ps r q x no_process)
+  where
+    go : ((q ≡ r) × (r < length ps) × (process_at (slice_set ps r x) q ≡ x)) ⊎ ((q ≡ r → length ps ≤ r) × (process_at (slice_set ps r x) q ≡ process_at ps q)) → (process_at (slice_set ps r x) q).calls ≡ (process_at ps q).calls
+    go (inl h) = ap (λ (y : Process). y.calls) h.2 ∙ (e ∙ ap (λ (n : ℕ). (process_at ps n).calls) (sym h.0))
+    go (inr h) = ap (λ (y : Process). y.calls) h.1
+
+-- all calls are as they were
+abbrev CallsKept : State → State → Type 0
+CallsKept s t = (q : ℕ) → (process_at t.processes q).calls ≡ (process_at s.processes q).calls
+
+ready_kept : (s : State) (r : ℕ) → CallsKept s (made_ready s r)
+ready_kept s r q = calls_set s.processes r q (with_process_status (process_at s.processes r) ready) refl
+
+first_kept : (line : List ℕ) (s : State) (m : ℕ) → CallsKept s (first_in line s m)
+first_kept [] s m q = refl
+first_kept (r ∷ line) s m q = ready_kept s r q
+
+one_kept : (line : List ℕ) (s : State) (m : ℕ) → CallsKept s (one_in line s m)
+one_kept [] s m q = refl
+one_kept (r ∷ []) s m q = ready_kept s r q
+one_kept (r ∷ k ∷ line) s m q = refl
+
+let_in_kept : (g : Gates) (s : State) (m : ℕ) → CallsKept s (let_in g s m)
+let_in_kept first_gates s m = first_kept (line_of s m) s m
+let_in_kept any_gates s m = one_kept (line_of s m) s m
+
+continuing_kept : (s : State) (m : ℕ) (o : Option ℕ) → CallsKept s (continuing s m o)
+continuing_kept s m None q = let_in_kept s.gates s m q
+continuing_kept s m (Some r) q = go (is_delayed_in m (process_at s.processes r).status)
+  where
+    go : (b : Bool) → (process_at (if b then made_ready s r else let_in s.gates s m).processes q).calls ≡ (process_at s.processes q).calls
+    go true = ready_kept s r q
+    go false = let_in_kept s.gates s m q
+
+pub admitted_kept : (s : State) (r q : ℕ) → (process_at (admitted s r).processes q).calls ≡ (process_at s.processes q).calls
+admitted_kept s r q = go s.pending
+  where
+    go : (o : Option ℕ) → (process_at (admitted_to o s r).processes q).calls ≡ (process_at s.processes q).calls
+    go None = refl
+    go (Some m) = ready_kept s r q
+
+module _ (p : Program) (s : State) (pid : ℕ) (less : pid < length s.processes) (may : (process_at s.processes pid).status ≡ ready) (idle : (r : ℕ) → (process_at s.processes r).status ≡ unstarted → (process_at s.processes r).calls ≡ []) (c : Call) (calls : List Call) (has : (process_at s.processes pid).calls ≡ c ∷ calls) where
+  -- the open ones of process q in another state, by the kinds that components have here
+  abbrev pub open_in : State → ℕ → List ℕ
+  open_in t q = entered_in s.components (frames (process_at t.processes q).calls)
+
+  abbrev pub OthersKept : State → Type 0
+  OthersKept t = (q : ℕ) → (q ≡ pid → ⊥) → open_in t q ≡ open_in s q
+
+  -- one is opened, one is closed, or they are the same
+  abbrev pub OpensBy : Event → State → Type 0
+  OpensBy enter_event t = open_in t pid ≡ open_in s pid ++ (current (process_at t.processes pid).calls).component ∷ []
+  OpensBy leave_event t = (m : ℕ) × (open_in s pid ≡ open_in t pid ++ m ∷ [])
+  OpensBy continue_event t = (component_at s.components c.component).kind ≡ system_kind.Monitor → open_in s pid ≡ open_in t pid ++ c.component ∷ []
+  OpensBy _ t = open_in t pid ≡ open_in s pid
+
+  was : frames (c ∷ calls) ≡ frames (process_at s.processes pid).calls
+  was = ap frames (sym has)
+
+  module _ (d : Doing) where
+    abbrev become : Status → Process
+    become u = record { component = (process_at s.processes pid).component; status = u; calls = d.calls; items = d.items }
+
+    mine_moved : (u : Status) → process_at (slice_set s.processes pid (become u)) pid ≡ become u
+    mine_moved u = get_or-set_same s.processes pid (become u) no_process less
+
+    other_moved : (u : Status) (q : ℕ) → (q ≡ pid → ⊥) → process_at (slice_set s.processes pid (become u)) q ≡ process_at s.processes q
+    other_moved u q ne = get_or-set_other s.processes pid q (become u) no_process ne
+
+    -- the calls of a state are those after the item
+    abbrev IsMoved : Status → State → Type 0
+    IsMoved u t = (q : ℕ) → (process_at t.processes q).calls ≡ (process_at (slice_set s.processes pid (become u)) q).calls
+
+    others_moved : (u : Status) (t : State) → IsMoved u t → OthersKept t
+    others_moved u t k q ne = ap (λ (cs : List Call). entered_in s.components (frames cs)) (k q ∙ ap (λ (x : Process). x.calls) (other_moved u q ne))
+
+    calls_moved : (u : Status) (t : State) → IsMoved u t → (process_at t.processes pid).calls ≡ d.calls
+    calls_moved u t k = k pid ∙ ap (λ (x : Process). x.calls) (mine_moved u)
+
+    open_moved : (u : Status) (t : State) → IsMoved u t → open_in t pid ≡ entered_in s.components (frames d.calls)
+    open_moved u t k = ap (λ (cs : List Call). entered_in s.components (frames cs)) (calls_moved u t k)
+
+    before : entered_in s.components (frames (c ∷ calls)) ≡ open_in s pid
+    before = ap (entered_in s.components) was
+
+    same_open : (u : Status) (t : State) → IsMoved u t → entered_in s.components (frames d.calls) ≡ entered_in s.components (frames (c ∷ calls)) → open_in t pid ≡ open_in s pid
+    same_open u t k w = open_moved u t k ∙ (w ∙ before)
+
+    one_closed : (u : Status) (t : State) (m : ℕ) → IsMoved u t → entered_in s.components (frames (c ∷ calls)) ≡ entered_in s.components (frames d.calls) ++ m ∷ [] → open_in s pid ≡ open_in t pid ++ m ∷ []
+    one_closed u t m k w = sym before ∙ (w ∙ ap (λ (ms : List ℕ). ms ++ m ∷ []) (sym (open_moved u t k)))
+
+    one_opened : (u : Status) (t : State) (m : ℕ) → IsMoved u t → entered_in s.components (frames d.calls) ≡ entered_in s.components (frames (c ∷ calls)) ++ m ∷ [] → (current d.calls).component ≡ m → open_in t pid ≡ open_in s pid ++ (current (process_at t.processes pid).calls).component ∷ []
+    one_opened u t m k w is =
+        open_moved u t k
+        ∙ (w
+        ∙ (ap (λ (ms : List ℕ). ms ++ m ∷ []) before
+        ∙ ap (λ (n : ℕ). open_in s pid ++ n ∷ []) (sym (ap (λ (cs : List Call). (current cs).component) (calls_moved u t k) ∙ is))))
+
+    entering_opens : (b : Bool) (m : ℕ) → MovesBy p c calls s.components pid (enters m) (frames d.calls) → (current d.calls).component ≡ m → OthersKept (entering b s pid m d) × OpensBy enter_event (entering b s pid m d)
+    entering_opens false m w is = (others_moved ready (entering false s pid m d) (λ q. refl), one_opened ready (entering false s pid m d) m (λ q. refl) w is)
+    entering_opens true m w is = (others_moved (at_gate m) (entering true s pid m d) (λ q. refl), one_opened (at_gate m) (entering true s pid m d) m (λ q. refl) w is)
+
+    display_opens : (b : Bool) (x : Shown) → entered_in s.components (frames d.calls) ≡ entered_in s.components (frames (c ∷ calls)) → OthersKept (displaying b s pid d x).state × OpensBy (displaying b s pid d x).event (displaying b s pid d x).state
+    display_opens true x w = (λ q ne. refl, refl)
+    display_opens false x w = (others_moved ready (displaying false s pid d x).state (λ q. refl), same_open ready (displaying false s pid d x).state (λ q. refl) w)
+
+    -- a process that begins has no entry call
+    module _ (w : entered_in s.components (frames d.calls) ≡ entered_in s.components (frames (c ∷ calls))) where
+      abbrev moved : State
+      moved = moved_to ready s pid d
+
+      begin_opens : (r n : ℕ) (e : Environment) → (process_at moved.processes r).status ≡ unstarted → OthersKept (starting_as p s pid d r unstarted n e).state × OpensBy start_event (starting_as p s pid d r unstarted n e).state
+      begin_opens r n e none = (λ q ne. by q (at_set moved.processes r q new no_process) ∙ others_moved ready moved (λ k. refl) q ne, by pid (at_set moved.processes r pid new no_process) ∙ same_open ready moved (λ k. refl) w)
+        where
+          new : Process
+          new = begun n (system_of p (component_at moved.components n).system)
+
+          not_mine : r ≡ pid → ⊥
+          not_mine same = let bad : ready ≡ unstarted = sym (ap (λ (x : Process). x.status) (mine_moved ready)) ∙ (ap (λ (k : ℕ). (process_at moved.processes k).status) (sym same) ∙ none) in absurd (cc)
+
+          empty : open_in moved r ≡ []
+          empty = ap (λ (cs : List Call). entered_in s.components (frames cs)) (ap (λ (x : Process). x.calls) (other_moved ready r not_mine) ∙ idle r (sym (ap (λ (x : Process). x.status) (other_moved ready r not_mine)) ∙ none))
+
+          by : (q : ℕ) → ((q ≡ r) × (r < length moved.processes) × (process_at (slice_set moved.processes r new) q ≡ new)) ⊎ ((q ≡ r → length moved.processes ≤ r) × (process_at (slice_set moved.processes r new) q ≡ process_at moved.processes q)) →
+              entered_in s.components (frames (process_at (slice_set moved.processes r new) q).calls) ≡ open_in moved q
+          by q (inl h) = ap (λ (x : Process). entered_in s.components (frames x.calls)) h.2 ∙ (sym empty ∙ ap (open_in moved) (sym h.0))
+          by q (inr h) = ap (λ (x : Process). entered_in s.components (frames x.calls)) h.1
+
+      start_as_opens : (r : ℕ) (u : Status) (n : ℕ) (e : Environment) → (process_at moved.processes r).status ≡ u → OthersKept (starting_as p s pid d r u n e).state × OpensBy (starting_as p s pid d r u n e).event (starting_as p s pid d r u n e).state
+      start_as_opens r unstarted n e is = begin_opens r n e is
+      start_as_opens r u n e is = (λ q ne. refl, refl)
+
+      start_opens : (o : Option ℕ) (n : ℕ) (e : Environment) → OthersKept (starting p s pid d o n e).state × OpensBy (starting p s pid d o n e).event (starting p s pid d o n e).state
+      start_opens None n e = (others_moved ready moved (λ q. refl), same_open ready moved (λ q. refl) w)
+      start_opens (Some r) n e = start_as_opens r (process_at moved.processes r).status n e refl
+
+    kernel_opens : (move : Move) → MovesBy p c calls s.components pid move (frames d.calls) → EntersBy p c calls s.components pid move d.calls → OthersKept (kernel_step p s pid d move).state × OpensBy (kernel_step p s pid d move).event (kernel_step p s pid d move).state
+    kernel_opens stays w i = (others_moved ready (moved_to ready s pid d) (λ q. refl), same_open ready (moved_to ready s pid d) (λ q. refl) w)
+    kernel_opens (enters m) w i = entering_opens (is_anybody_inside m s.processes) m w i.1
+    kernel_opens (leaves m) w i =
+        let t = let_in s.gates (moved_to ready s pid d) m in
+        (others_moved ready t (let_in_kept s.gates (moved_to ready s pid d) m), (m, one_closed ready t m (let_in_kept s.gates (moved_to ready s pid d) m) w))
+    kernel_opens (delays m) w i =
+        let t = let_in s.gates (moved_to (delayed m) s pid d) m in
+        (others_moved (delayed m) t (let_in_kept s.gates (moved_to (delayed m) s pid d) m), same_open (delayed m) t (let_in_kept s.gates (moved_to (delayed m) s pid d) m) w)
+    kernel_opens (continues m o) w i =
+        let t = continuing (moved_to ready s pid d) m o in (
+          others_moved ready t (continuing_kept (moved_to ready s pid d) m o),
+          λ monitor. one_closed ready t c.component (continuing_kept (moved_to ready s pid d) m o) (w.1 (ap (λ (n : ℕ). (component_at s.components n).kind) w.0 ∙ monitor) ∙ ap (λ (n : ℕ). entered_in s.components (frames d.calls) ++ n ∷ []) w.0),
+        )
+    kernel_opens (starts n e) w i = start_opens w (process_of n (moved_to ready s pid d).processes) n e
+    kernel_opens (shows x) w i = display_opens (length s.output == output_room) x w
+    kernel_opens ends w i = (others_moved ended (moved_to ended s pid d) (λ q. refl), same_open ended (moved_to ended s pid d) (λ q. refl) w)
+
+  settled_opens : (o : Outcome Doing) → AllOf (MovesSo p c calls s.components pid) o → AllOf (EntersWell p c calls s.components pid) o → OthersKept (settled p s pid o).state × OpensBy (settled p s pid o).event (settled p s pid o).state
+  settled_opens (Ok d) w i = kernel_opens d d.move w i
+  settled_opens (Err e) w i = (λ q ne. refl, refl)
+
+  pub step_opens : ItemsFit (frames (process_at s.processes pid).calls) (process_at s.processes pid).items → OthersKept (step_of p s pid).state × OpensBy (step_of p s pid).event (step_of p s pid).state
+  step_opens fit =
+      settled_opens (takes (view_of p s pid) pid (process_at s.processes pid).items)
+      (subst (λ (ds : List Call). AllOf (MovesSo p c calls s.components pid) (takes (record { program = p; calls = ds; components = s.components }) pid (process_at s.processes pid).items)) (sym has)
+      (takes_moves p c calls s.components pid (process_at s.processes pid).items (subst (λ (ds : List Call). ItemsFit (frames ds) (process_at s.processes pid).items) has fit)))
+      (subst (λ (ds : List Call). AllOf (EntersWell p c calls s.components pid) (takes (record { program = p; calls = ds; components = s.components }) pid (process_at s.processes pid).items)) (sym has)
+      (takes_well p c calls s.components pid (process_at s.processes pid).items))
