@@ -6,3 +6,4 @@ pub mod Marks
 pub mod Meant
 pub mod Tallied
 pub mod Verdicts
+pub mod Written

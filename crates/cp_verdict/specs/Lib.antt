@@ -5,3 +5,4 @@ pub mod Marked
 pub mod Marks
 pub mod Meant
 pub mod Outputs
+pub mod Written

@@ -1,5 +1,8 @@
 //! Expectations as they are written.
 
+ghost use Rattle.std.specs.Prelude.{◌≡◌, true, false, MatchOption};
+ghost use Rattle.cp_verdict.specs.Written.{is_doubtful};
+
 use crate::expectation::{
     Claim, Expectation, KindPattern, OutcomePattern, OutputItem, OutputPattern,
 };
@@ -114,7 +117,9 @@ fn beginning_of(word: &str) -> Option<Beginning> {
 }
 
 /// The word, if it begins an outcome and could be the name of a constant as well.
-pub fn as_name(word: &str) -> Option<&'static str> {
+pub fn as_name(word: &str) -> Option<&'static str>
+    ensures { MatchOption result (is_doubtful word.now ≡ false) (λ name. (is_doubtful word.now ≡ true) × (name.now ≡ word.now)) }
+{
     match word {
         "finished" => Some("finished"),
         "shown" => Some("shown"),
