@@ -1,8 +1,16 @@
+pub mod Characters
+pub mod Cutting
 pub mod Displayed
 pub mod Exact
 pub mod Finding
+pub mod Integers
 pub mod Lasting
 pub mod Marks
 pub mod Meant
+pub mod Read
+pub mod Spelled
+pub mod Stopping
 pub mod Tallied
+pub mod Valued
 pub mod Verdicts
+pub mod Written

@@ -4,4 +4,12 @@ pub mod Lasting
 pub mod Marked
 pub mod Marks
 pub mod Meant
+pub mod Misread
 pub mod Outputs
+pub mod Plain
+pub mod Reader
+pub mod Spelling
+pub mod Steps
+pub mod Values
+pub mod Words
+pub mod Written
