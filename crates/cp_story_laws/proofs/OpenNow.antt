@@ -38,8 +38,8 @@ use Rattle.cp_refine.specs.Represents.{StatusIs}
 use Rattle.cp_refine.proofs.HoldsInReached.{HoldsInReached, reached_stands}
 use Rattle.cp_refine.proofs.ReachedKinds.{kinds_agree, monitor_there}
 use Rattle.cp_refine.proofs.steps.Going.{Going}
-use Rattle.cp_story.specs.Fold.{Fold}
-use Rattle.cp_story.specs.Stop.{last_state}
+use Rattle.cp_run.specs.Fold.{Fold}
+use Rattle.cp_run.specs.Stop.{last_state}
 use Rattle.cp_story_laws.specs.Events as names
 use Rattle.cp_story_laws.specs.Events.{EntryCall, NamedTelling, monitor_of, stack_of, names_teller, names_telling}
 use Rattle.cp_story_laws.specs.Lines.{next_line}

@@ -20,7 +20,7 @@ use Rattle.cp_run.specs.declared.line.TraceEvent.TheVariants.{Kernel, End, Admit
 use Rattle.cp_meaning.specs.State as meaning
 use Rattle.cp_meaning.specs.Steps.{opening}
 use Rattle.cp_refine.specs.Named.{monitor_number, named, named_gates}
-use Rattle.cp_story.specs.Stop.{last_state}
+use Rattle.cp_run.specs.Stop.{last_state}
 use Rattle.cp_story.specs.Story.{Happened, Enters, Leaves, Delays, Continues, Starts, Displays, Ends, IsAdmitted, Told, story_of, telling}
 use Rattle.cp_story.specs.Waiting.{Waiting, who_waits}
 use Rattle.cp_story.specs.declared.event.OpenCall.{OpenCall}
