@@ -1,9 +1,11 @@
 pub mod Appending
 pub mod Closing
+pub mod Gathering
 pub mod Meant
 pub mod Numbering
 pub mod Ordering
 pub mod Rows
 pub mod Sharing
+pub mod Summaries
 pub mod Sums
 pub mod Tenths

@@ -4,12 +4,12 @@ use lib.Pointwise.{pointwise}
 use Rattle.cp_natural.specs.Decimal.{number_text}
 use Rattle.cp_run.specs.Table.{each}
 use Rattle.cp_walk.specs.Groups.{Tally}
-use Rattle.cp_walk.specs.Text.{Spellings, word_text, kind_text, outcome_text}
+use Rattle.cp_walk.specs.Text.{word_text, kind_text, outcome_text}
 use Rattle.cp_merged.specs.Told.{rows_in}
 use Rattle.cp_simplest.specs.declared.finding.SimplestSchedule.{SimplestSchedule}
 use Rattle.cp_outcomes.specs.Shares.{share_in, share_text}
 use Rattle.cp_outcomes.specs.Stops.{kind_at, rows_at, stops}
-use Rattle.cp_outcomes.specs.Told.{Setting, Told}
+use Rattle.cp_outcomes.specs.Told.{Setting, Told, end_lines}
 use Rattle.cp_outcomes.specs.declared.stopped.Limit.{Limit}
 use Rattle.cp_outcomes.specs.declared.stopped.Limit.TheVariants.{Choices, Steps, Output}
 use Rattle.cp_outcomes.specs.declared.subject.Excess.{Excess}
@@ -49,14 +49,14 @@ unfoldable pub line_text : ℕ → List ℕ → List ℕ
 line_text width line = blanks width ++ blanks 11 ++ line ++ codes "\n"
 
 -- an outcome: its number and share, its kind and output; how many schedules have it, the first and the simplest; the lines of its end
-unfoldable pub told_text : Spellings → (width whole number : ℕ) → Told → List ℕ
-told_text names width whole number t =
-    right_text width (number_text number) ++ codes "." ++ right_text 8 (share_text (share_in t.tally.count whole)) ++ codes "  " ++ outcome_text names t.tally.first.outcome ++ codes "\n" ++ line_text width (schedules_text t.tally.count ++ codes ", first " ++ word_text t.tally.first.word ++ simple_text t.tally.first.word t.simple) ++ each (line_text width) t.ends
+unfoldable pub told_text : Setting → (width whole number : ℕ) → Told → List ℕ
+told_text s width whole number t =
+    right_text width (number_text number) ++ codes "." ++ right_text 8 (share_text (share_in t.tally.count whole)) ++ codes "  " ++ outcome_text s.program.names t.tally.first.outcome ++ codes "\n" ++ line_text width (schedules_text t.tally.count ++ codes ", first " ++ word_text t.tally.first.word ++ simple_text t.tally.first.word t.simple) ++ each (line_text width) (end_lines s t.tally)
 
 -- with numbers from this one on
-abbrev pub numbered_text : Spellings → (width whole number : ℕ) → List Told → List ℕ
-numbered_text names width whole number [] = []
-numbered_text names width whole number (t ∷ ts) = told_text names width whole number t ++ numbered_text names width whole (number + 1) ts
+abbrev pub numbered_text : Setting → (width whole number : ℕ) → List Told → List ℕ
+numbered_text s width whole number [] = []
+numbered_text s width whole number (t ∷ ts) = told_text s width whole number t ++ numbered_text s width whole (number + 1) ts
 
 -- that simplest schedules were not searched for
 abbrev pub searched_text : ℕ → Bool → List ℕ
@@ -84,7 +84,7 @@ closing_text stop (l ∷ ls) = codes "\nnot complete: " ++ stop l ++ each (λ m.
 -- all of it: these outcomes, told so
 abbrev pub outcomes_text : Setting → Bool → List Tally → List Told → List ℕ
 outcomes_text s searched ts told =
-    heading_text (rows_in ts) (length ts) ++ numbered_text s.program.names (length (number_text (length told))) (rows_in ts) 1 told ++ searched_text s.states searched ++ closing_text (λ l. stop_text s.choices s.steps (rows_at l ts) l) (stops ts)
+    heading_text (rows_in ts) (length ts) ++ numbered_text s (length (number_text (length told))) (rows_in ts) 1 told ++ searched_text s.states searched ++ closing_text (λ l. stop_text s.choices s.steps (rows_at l ts) l) (stops ts)
 
 -- that there is too much of it
 abbrev pub excess_text : Excess → List ℕ

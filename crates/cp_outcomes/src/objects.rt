@@ -1,12 +1,15 @@
 //! Outcomes as JSON.
 
-ghost use Rattle.std.specs.Prelude.{◌<◌, ◌^◌};
+ghost use Rattle.std.specs.Prelude.{◌<◌, ◌^◌, map};
+ghost use Rattle.cp_merged.specs.Code.{tally_of};
+ghost use Rattle.cp_merged.specs.Told.{rows_in};
 
 use crate::share::share_of;
 use crate::simples::Simples;
-use crate::stopped::{LIMITS, is_stopped, schedules_in, schedules_stopped_at};
+use crate::stopped::{Limit, schedules_in, schedules_stopped_at};
 use crate::subject::{Excess, Subject};
-use crate::told::{line_of, waits_of};
+use crate::told::{ToldOutcome, line_of, tell_outcomes, waits_of};
+use cp_legend::Legend;
 use cp_machine::Ticks;
 use cp_merged::{Tallies, Tally};
 use cp_natural::{Natural, push_natural};
@@ -14,7 +17,7 @@ use cp_run::OutcomeKind;
 use cp_simplest::SimplestSchedule;
 use cp_story::objects::{Object, monitors, numbers, processes, put_kind, waits};
 use cp_story::output_words;
-use cp_walk::Job;
+use cp_walk::text::push_count;
 use serde_json::Value;
 use std::alloc::{AllocError, Global};
 use std::sync::ledger::Ledger;
@@ -27,54 +30,42 @@ pub fn json<L: Ledger>(
     simples: &Simples,
     ticks: &mut Ticks<L>,
 ) -> Result<String, AllocError> {
+    let all = tallies.as_slice();
+    let told = tell_outcomes(alloc, subject, all, simples, ticks)?;
+    let outcomes = outcomes_value(alloc, subject, all, &told, ticks)?;
+    outcomes.to_string(alloc)
+}
+
+// These outcomes, told so.
+fn outcomes_value<L: Ledger>(
+    alloc: Global,
+    subject: Subject<'_>,
+    tallies: &[Tally],
+    told: &[ToldOutcome<'_>],
+    ticks: &mut Ticks<L>,
+) -> Result<Value, AllocError>
+    requires { rows_in (map tally_of tallies.now) < 10 ^ 126 }
+{
+    let whole = schedules_in(tallies);
     let mut object = Object::new(alloc);
     object.put("processes", processes(alloc, subject.legend)?)?;
     object.put("monitors", monitors(alloc, subject.legend)?)?;
-    put_outcomes(alloc, subject, &mut object, tallies, simples, ticks)?;
-    put_limits(alloc, &mut object, tallies)?;
-    line(alloc, object)
-}
-
-// How many schedules there are, and their outcomes: first those that no limit stopped.
-fn put_outcomes<L: Ledger>(
-    alloc: Global,
-    subject: Subject<'_>,
-    object: &mut Object,
-    tallies: &Tallies,
-    simples: &Simples,
-    ticks: &mut Ticks<L>,
-) -> Result<(), AllocError> {
-    let job = Job {
-        program: subject.program,
-        limits: subject.limits,
-    };
-    let whole = schedules_in(tallies.as_slice());
-    let mut items = Vec::new(alloc);
-    for stopped in [false, true] {
-        for (place, tally) in tallies.as_slice().iter().enumerate() {
-            if is_stopped(tally.outcome.kind) == stopped {
-                let number = items.len().saturating_add(1);
-                let simple = simples.at(alloc, job, place, tally, ticks)?;
-                items.push(tally_object(alloc, subject, number, tally, simple, &whole, ticks)?)?;
-            }
-        }
-    }
     object.put("schedules", count_value(alloc, &whole)?)?;
-    object.put("outcomes", Value::Array(items))
+    object.put(
+        "outcomes",
+        told_values(alloc, subject, &whole, told, ticks)?,
+    )?;
+    put_limits(alloc, &mut object, tallies)?;
+    Ok(object.into_value())
 }
 
 // Whether no schedule was stopped by a limit, or how many by which.
-fn put_limits(alloc: Global, object: &mut Object, tallies: &Tallies) -> Result<(), AllocError> {
+fn put_limits(alloc: Global, object: &mut Object, tallies: &[Tally]) -> Result<(), AllocError>
+    requires { rows_in (map tally_of tallies.now) < 10 ^ 126 }
+{
     let stops = stops(alloc, tallies)?;
     object.put("complete", Value::Bool(stops.is_empty()))?;
     object.put("limits", Value::Array(stops))
-}
-
-// An object on a line of its own.
-fn line(alloc: Global, object: Object) -> Result<String, AllocError> {
-    let mut text = object.into_value().to_string(alloc)?;
-    text.push('\n')?;
-    Ok(text)
 }
 
 // A count as a number, or as its digits where it has more than 64 bits.
@@ -87,25 +78,40 @@ fn count_value(alloc: Global, count: &Natural) -> Result<Value, AllocError> {
     Ok(Value::String(digits))
 }
 
-fn tally_object<L: Ledger>(
+// The outcomes, with their numbers.
+fn told_values<L: Ledger>(
     alloc: Global,
     subject: Subject<'_>,
-    number: usize,
-    tally: &Tally,
-    simple: Option<&SimplestSchedule>,
     whole: &Natural,
+    told: &[ToldOutcome<'_>],
     ticks: &mut Ticks<L>,
 ) -> Result<Value, AllocError>
     requires { whole.now < 10 ^ 126 }
 {
+    let mut items = Vec::new(alloc);
+    for (index, outcome) in told.iter().enumerate() {
+        items.push(told_value(alloc, subject, whole, index + 1, outcome, ticks)?)?;
+    }
+    Ok(Value::Array(items))
+}
+
+// An outcome: its number, its share, its schedules, and its end.
+fn told_value<L: Ledger>(
+    alloc: Global,
+    subject: Subject<'_>,
+    whole: &Natural,
+    number: usize,
+    told: &ToldOutcome<'_>,
+    ticks: &mut Ticks<L>,
+) -> Result<Value, AllocError>
+    requires { whole.now < 10 ^ 126 }
+{
+    let tally = told.tally;
     let mut object = Object::new(alloc);
     object.number("number", number as u64)?;
-    put_count(alloc, &mut object, tally, whole)?;
-    put_outcome(alloc, subject, &mut object, tally)?;
-    if let Some(simple) = simple {
-        object.put("simplest", numbers(alloc, simple.word.as_slice())?)?;
-        object.number("switches", u64::from(simple.switches))?;
-    }
+    put_count(alloc, &mut object, &tally.count, whole)?;
+    put_outcome(alloc, subject.legend, &mut object, tally)?;
+    put_simple(alloc, &mut object, told.simple)?;
     put_end(alloc, subject, &mut object, tally, ticks)?;
     Ok(object.into_value())
 }
@@ -113,27 +119,42 @@ fn tally_object<L: Ledger>(
 fn put_count(
     alloc: Global,
     object: &mut Object,
-    tally: &Tally,
+    count: &Natural,
     whole: &Natural,
 ) -> Result<(), AllocError>
     requires { whole.now < 10 ^ 126 }
 {
     let mut share = String::new(alloc);
-    share_of(&tally.count, whole).push_to(&mut share)?;
+    share_of(count, whole).push_to(&mut share)?;
     object.put("share", Value::String(share))?;
-    object.put("count", count_value(alloc, &tally.count)?)
+    object.put("count", count_value(alloc, count)?)
 }
 
 fn put_outcome(
     alloc: Global,
-    subject: Subject<'_>,
+    legend: &Legend,
     object: &mut Object,
     tally: &Tally,
 ) -> Result<(), AllocError> {
     put_kind(object, tally.outcome.kind)?;
-    let output = output_words(alloc, subject.legend, tally.outcome.output.as_slice())?;
+    let output = output_words(alloc, legend, tally.outcome.output.as_slice())?;
     object.put("output", Value::String(output))?;
     object.put("first", numbers(alloc, tally.first.as_slice())?)
+}
+
+// The simplest schedule, if there is one.
+fn put_simple(
+    alloc: Global,
+    object: &mut Object,
+    simple: Option<&SimplestSchedule>,
+) -> Result<(), AllocError> {
+    match simple {
+        Some(simple) => {
+            object.put("simplest", numbers(alloc, simple.word.as_slice())?)?;
+            object.number("switches", u64::from(simple.switches))
+        }
+        None => Ok(()),
+    }
 }
 
 // Who waits where at the end, or the line of a run error.
@@ -155,40 +176,79 @@ fn put_end<L: Ledger>(
 }
 
 // The limits at which schedules ended, and how many did.
-fn stops(alloc: Global, tallies: &Tallies) -> Result<Vec<Value>, AllocError> {
+fn stops(alloc: Global, tallies: &[Tally]) -> Result<Vec<Value>, AllocError>
+    requires { rows_in (map tally_of tallies.now) < 10 ^ 126 }
+{
     let mut items = Vec::new(alloc);
-    for limit in LIMITS {
-        let count = schedules_stopped_at(limit, tallies.as_slice());
-        if !count.is_zero() {
-            let mut object = Object::new(alloc);
-            object.text("kind", limit.name())?;
-            object.put("count", count_value(alloc, &count)?)?;
-            items.push(object.into_value())?;
-        }
-    }
+    push_stop(alloc, &mut items, tallies, Limit::Choices)?;
+    push_stop(alloc, &mut items, tallies, Limit::Steps)?;
+    push_stop(alloc, &mut items, tallies, Limit::Output)?;
     Ok(items)
 }
 
-/// What there is too much of, and what is told of all schedules of a smaller number of choices, if there is one.
-pub fn excess_json(
+// Appends how many schedules ended at a limit, if any did.
+fn push_stop(
+    alloc: Global,
+    items: &mut Vec<Value>,
+    tallies: &[Tally],
+    limit: Limit,
+) -> Result<(), AllocError>
+    requires { rows_in (map tally_of tallies.now) < 10 ^ 126 }
+{
+    let count = schedules_stopped_at(limit, tallies);
+    if !count.is_zero() {
+        items.push(stop_value(alloc, limit, &count)?)?;
+    }
+    Ok(())
+}
+
+fn stop_value(alloc: Global, limit: Limit, count: &Natural) -> Result<Value, AllocError> {
+    let mut object = Object::new(alloc);
+    object.text("kind", limit.name())?;
+    object.put("count", count_value(alloc, count)?)?;
+    Ok(object.into_value())
+}
+
+/// What there is too much of.
+pub fn excess_json(alloc: Global, excess: Excess) -> Result<String, AllocError> {
+    let mut text = String::new(alloc);
+    text.push_str("{")?;
+    push_excess(&mut text, excess)?;
+    text.push_str("}")?;
+    Ok(text)
+}
+
+/// The same, and what is told of all schedules of a smaller number of choices.
+pub fn excess_and_known_json(
     alloc: Global,
     excess: Excess,
-    known: Option<(u8, &str)>,
+    choices: u8,
+    told: &str,
 ) -> Result<String, AllocError> {
-    let mut object = Object::new(alloc);
+    let mut text = String::new(alloc);
+    text.push_str("{\"choices\":")?;
+    push_count(&mut text, choices as usize)?;
+    text.push_str(",")?;
+    push_excess(&mut text, excess)?;
+    push_known(&mut text, told)?;
+    Ok(text)
+}
+
+// The members that say what there is too much of.
+fn push_excess(text: &mut String, excess: Excess) -> Result<(), AllocError> {
     match excess {
         Excess::States(most) => {
-            object.text("too_many", "states")?;
-            object.number("states", u64::from(most))?;
+            text.push_str("\"states\":")?;
+            push_count(text, most as usize)?;
+            text.push_str(",\"too_many\":\"states\"")
         }
-        Excess::Outcomes => object.text("too_many", "outcomes")?,
+        Excess::Outcomes => text.push_str("\"too_many\":\"outcomes\""),
     }
-    let Some((choices, told)) = known else {
-        return line(alloc, object);
-    };
-    object.number("choices", u64::from(choices))?;
-    // What is told is an object itself: it becomes the last member.
-    let object = object.into_value().to_string(alloc)?;
-    let before = object.as_str().trim_end_matches('}');
-    format!(in alloc; "{before},\"known\":{}}}\n", told.trim_end())
+}
+
+// The last member, and the end of the object.
+fn push_known(text: &mut String, told: &str) -> Result<(), AllocError> {
+    text.push_str(",\"known\":")?;
+    text.push_str(told)?;
+    text.push_str("}")
 }

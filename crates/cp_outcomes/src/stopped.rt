@@ -25,9 +25,6 @@ pub enum Limit {
     Output,
 }
 
-/// All limits.
-pub const LIMITS: [Limit; 3] = [Limit::Choices, Limit::Steps, Limit::Output];
-
 impl Limit {
     /// Whether a kind of end is that of this limit.
     pub fn stops(self, kind: OutcomeKind) -> bool

@@ -10,7 +10,7 @@ ghost use Rattle.cp_outcomes.specs.Written.{IsExcessText, IsTextOf, TellsOutcome
 
 use crate::completing::greatest_known;
 use crate::known::Known;
-use crate::objects::{excess_json, json};
+use crate::objects::{excess_and_known_json, excess_json, json};
 use crate::simples::Simples;
 use crate::stopped::is_stopped;
 use crate::subject::{Excess, Format, Subject, Summary};
@@ -46,19 +46,39 @@ pub fn outcomes<O: ObserveProgress>(
     match find_outcomes(alloc, subject, observer)? {
         Finding::Whole(tallies) => Ok(Summary {
             is_whole: true,
-            text: write_findings::<O, Brand>(
-                alloc,
-                subject,
+            text: end_line(
                 form,
-                &tallies,
-                observer,
-                Blank::new(1),
+                write_findings::<O, Brand>(
+                    alloc,
+                    subject,
+                    form,
+                    &tallies,
+                    observer,
+                    Blank::new(1),
+                )?,
             )?,
         }),
         Finding::TooMany(excess, known) => Ok(Summary {
             is_whole: false,
-            text: excess_written(alloc, subject, form, excess, &known, observer)?,
+            text: end_line(
+                form,
+                excess_written(alloc, subject, form, excess, &known, observer)?,
+            )?,
         }),
+    }
+}
+
+// A JSON object stands on a line of its own.
+fn end_line(form: Format, written: String) -> Result<String, AllocError>
+    ensures { IfOk result (λ t. form ≡ Format.Text → string_bytes t ≡ string_bytes written) }
+{
+    let mut text = written;
+    match form {
+        Format::Text => Ok(text),
+        Format::Json => {
+            text.push_str("\n")?;
+            Ok(text)
+        }
     }
 }
 
@@ -76,7 +96,7 @@ fn excess_written<O: ObserveProgress>(
     let Some(known) = known else {
         return match form {
             Format::Text => excess_text(alloc, excess),
-            Format::Json => excess_json(alloc, excess, None),
+            Format::Json => excess_json(alloc, excess),
         };
     };
     let Some(limits) = Limits::new(known.choices, subject.limits.steps, subject.limits.gates) else {
@@ -93,7 +113,7 @@ fn excess_written<O: ObserveProgress>(
     )?;
     match form {
         Format::Text => excess_and_known(alloc, excess, known.choices, told.as_str()),
-        Format::Json => excess_json(alloc, excess, Some((known.choices, told.as_str()))),
+        Format::Json => excess_and_known_json(alloc, excess, known.choices, told.as_str()),
     }
 }
 

@@ -17,13 +17,12 @@ use crate::share::share_of;
 use crate::simples::Simples;
 use crate::stopped::{Limit, schedules_in, schedules_stopped_at};
 use crate::subject::{Excess, Subject};
-use crate::told::{ToldOutcome, tell_outcomes};
+use crate::told::{ToldOutcome, end_lines, tell_outcomes};
 use cp_machine::Ticks;
 use cp_merged::{Tallies, Tally};
 use cp_natural::Natural;
 use cp_run::{Limits, MOST_CHOICES, MOST_STEPS};
 use cp_simplest::SimplestSchedule;
-use cp_slots::Resolved;
 use cp_walk::text::{push_count, push_outcome, push_word};
 use std::alloc::{AllocError, Global};
 use std::sync::ledger::Ledger;
@@ -47,16 +46,17 @@ pub fn text<L: Ledger>(
 {
     let all = tallies.as_slice();
     let told = tell_outcomes(alloc, subject, all, simples, ticks)?;
-    outcomes_text(alloc, subject, all, &told, simples.is_searched())
+    outcomes_text(alloc, subject, all, &told, simples.is_searched(), ticks)
 }
 
 // The text of these outcomes, told so.
-fn outcomes_text(
+fn outcomes_text<L: Ledger>(
     alloc: Global,
     subject: Subject<'_>,
     tallies: &[Tally],
     told: &[ToldOutcome<'_>],
     is_searched: bool,
+    ticks: &mut Ticks<L>,
 ) -> Result<String, AllocError>
     requires { rows_in (map tally_of tallies.now) < 10 ^ 126 }
     ensures { IfOk result (λ t. string_bytes t ≡ spec.outcomes_text (setting_of subject.entry subject.entry.limits.choices) is_searched (map tally_of tallies.now) (map told_of told.now)) }
@@ -64,7 +64,7 @@ fn outcomes_text(
     let whole = schedules_in(tallies);
     let mut text = String::new(alloc);
     push_heading(&mut text, &whole, tallies.len())?;
-    push_outcomes(alloc, &mut text, subject.program, &whole, told)?;
+    push_outcomes(alloc, &mut text, subject, &whole, told, ticks)?;
     push_searched(&mut text, subject.states, is_searched)?;
     push_closing(&mut text, subject.limits, tallies)?;
     Ok(text)
@@ -80,48 +80,60 @@ fn push_heading(text: &mut String, schedules: &Natural, outcomes: usize) -> Resu
 }
 
 // The outcomes, with their numbers.
-fn push_outcomes(
+fn push_outcomes<L: Ledger>(
     alloc: Global,
     text: &mut String,
-    program: &Resolved,
+    subject: Subject<'_>,
     whole: &Natural,
     told: &[ToldOutcome<'_>],
+    ticks: &mut Ticks<L>,
 ) -> Result<(), AllocError>
     requires { whole.now < 10 ^ 126 }
-    ensures { IfOk result (λ _. string_bytes text.new ≡ string_bytes text.old ++ spec.numbered_text program.now.names (length (number_text (length told.now))) whole.now 1 (map told_of told.now)) }
+    ensures { IfOk result (λ _. string_bytes text.new ≡ string_bytes text.old ++ spec.numbered_text (setting_of subject.entry subject.entry.limits.choices) (length (number_text (length told.now))) whole.now 1 (map told_of told.now)) }
 {
     let mut last = String::new(alloc);
     push_count(&mut last, told.len())?;
     let width = last.len();
     for (index, outcome) in told.iter().enumerate() {
-        push_outcome_told(alloc, text, program, width, whole, index + 1, outcome)?;
+        push_outcome_told(
+            alloc,
+            text,
+            subject,
+            width,
+            whole,
+            index + 1,
+            outcome,
+            ticks,
+        )?;
     }
     Ok(())
 }
 
 // An outcome: its number, its share, its schedules, and its end.
 #[tactic(auto, unfolding(crate::specs::Text::told_text, crate::specs::Text::line_text))]
-fn push_outcome_told(
+fn push_outcome_told<L: Ledger>(
     alloc: Global,
     text: &mut String,
-    program: &Resolved,
+    subject: Subject<'_>,
     width: usize,
     whole: &Natural,
     number: usize,
     told: &ToldOutcome<'_>,
+    ticks: &mut Ticks<L>,
 ) -> Result<(), AllocError>
     requires { whole.now < 10 ^ 126 }
-    ensures { IfOk result (λ _. string_bytes text.new ≡ string_bytes text.old ++ spec.told_text program.now.names width whole.now number (told_of told.now)) }
+    ensures { IfOk result (λ _. string_bytes text.new ≡ string_bytes text.old ++ spec.told_text (setting_of subject.entry subject.entry.limits.choices) width whole.now number (told_of told.now)) }
 {
     let tally = told.tally;
     push_figures(alloc, text, width, number, &tally.count, whole)?;
-    push_outcome(text, program, &tally.outcome)?;
+    push_outcome(text, subject.program, &tally.outcome)?;
     text.push_str("\n")?;
     push_indent(text, width)?;
     push_first(text, tally)?;
     push_simple(text, tally.first.as_slice(), told.simple)?;
     text.push_str("\n")?;
-    push_lines(text, width, &told.ends)
+    let ends = end_lines(alloc, subject, tally, ticks)?;
+    push_lines(text, width, &ends)
 }
 
 // The number of an outcome, as wide as any, and its share.

@@ -2,13 +2,17 @@
 
 ghost use Rattle.std.specs.Prelude.{◌≡◌, ◌-◌, ◌≤◌, ◌++◌, [], IfOk, length, map, string_bytes, slice_index_or};
 ghost use Rattle.std.specs.List.{filter, AllByRecursion};
-ghost use Rattle.std.specs.Str.{IsTrimAscii};
+ghost use Rattle.cp_legend.specs.Names.{legend_seen};
 ghost use Rattle.cp_merged.specs.Code.{tally_of};
-ghost use Rattle.cp_outcomes.specs.Told.{AreEnds, AreTold, IsErrorLine, IsTold, is_of, setting_of, told_of};
+ghost use Rattle.cp_story.specs.Sentences.{wait_text};
+ghost use Rattle.cp_story.specs.Views.{wait_of};
+ghost use Rattle.cp_outcomes.specs.Told as spec;
+ghost use Rattle.cp_outcomes.specs.Told.{AreTold, IsTold, is_of, setting_of, told_of};
 
 use crate::simples::Simples;
 use crate::stopped::is_stopped;
 use crate::subject::Subject;
+use cp_legend::Legend;
 use cp_machine::Ticks;
 use cp_merged::Tally;
 use cp_run::OutcomeKind;
@@ -18,12 +22,11 @@ use cp_walk::Job;
 use std::alloc::{AllocError, Global};
 use std::sync::ledger::Ledger;
 
-/// An outcome as it is told: with its simplest schedule, if one is told, and the lines of its end.
+/// An outcome as it is told: with its simplest schedule, if one is told.
 #[derive(Drop)]
 pub struct ToldOutcome<'a> {
     pub tally: &'a Tally,
     pub simple: Option<&'a SimplestSchedule>,
-    pub ends: Vec<String>,
 }
 
 /// The outcomes in the order in which they are told: first those of runs that ended, then those of runs that a limit stopped.
@@ -91,25 +94,23 @@ fn tell_outcome<'a, L: Ledger>(
         limits: subject.limits,
     };
     let simple = simples.at(alloc, job, place, tally, ticks)?;
-    let ends = end_lines(alloc, subject, tally, ticks)?;
-    Ok(ToldOutcome {
-        tally,
-        simple,
-        ends,
-    })
+    Ok(ToldOutcome { tally, simple })
 }
 
-// Who waits where at the end, or the line of a run error.
-fn end_lines<L: Ledger>(
+/// Who waits where at the end of an outcome's first schedule, or the line of a run error.
+pub fn end_lines<L: Ledger>(
     alloc: Global,
     subject: Subject<'_>,
     tally: &Tally,
     ticks: &mut Ticks<L>,
 ) -> Result<Vec<String>, AllocError>
-    ensures { IfOk result (λ lines. AreEnds (map string_bytes subject.entry.source.now) tally.now.outcome.kind (map string_bytes lines.items)) }
+    ensures { IfOk result (λ lines. map string_bytes lines.items ≡ spec.end_lines (setting_of subject.entry subject.entry.limits.choices) (tally_of tally.now)) }
 {
     match tally.outcome.kind {
-        OutcomeKind::AllWaiting => wait_lines(alloc, subject, tally, ticks),
+        OutcomeKind::AllWaiting => {
+            let waits = waits_of(alloc, subject, tally.first.as_slice(), ticks)?;
+            wait_lines(alloc, subject.legend, &waits)
+        }
         OutcomeKind::RunError { process, line, .. } => {
             let mut lines = Vec::new(alloc);
             lines.push(error_line(alloc, subject, process, line)?)?;
@@ -119,15 +120,12 @@ fn end_lines<L: Ledger>(
     }
 }
 
-fn wait_lines<L: Ledger>(
-    alloc: Global,
-    subject: Subject<'_>,
-    tally: &Tally,
-    ticks: &mut Ticks<L>,
-) -> Result<Vec<String>, AllocError> {
+fn wait_lines(alloc: Global, legend: &Legend, waits: &[Wait]) -> Result<Vec<String>, AllocError>
+    ensures { IfOk result (λ lines. map string_bytes lines.items ≡ map (wait_text (legend_seen legend.now)) (map wait_of waits.now)) }
+{
     let mut lines = Vec::new(alloc);
-    for wait in &waits_of(alloc, subject, tally.first.as_slice(), ticks)? {
-        lines.push(wait_words(alloc, subject.legend, wait)?)?;
+    for wait in waits {
+        lines.push(wait_words(alloc, legend, wait)?)?;
     }
     Ok(lines)
 }
@@ -140,6 +138,7 @@ pub fn waits_of<L: Ledger>(
     ticks: &mut Ticks<L>,
 ) -> Result<Vec<Wait>, AllocError>
     requires { length word.now ≤ 100 }
+    ensures { IfOk result (λ waits. map wait_of waits.items ≡ spec.waits_after (setting_of subject.entry subject.entry.limits.choices) word.now) }
 {
     let Subject {
         program,
@@ -157,7 +156,7 @@ fn error_line(
     process: u8,
     line: u32,
 ) -> Result<String, AllocError>
-    ensures { IfOk result (λ text. IsErrorLine (map string_bytes subject.entry.source.now) process line (string_bytes text)) }
+    ensures { IfOk result (λ text. string_bytes text ≡ spec.error_text (setting_of subject.entry subject.entry.limits.choices) process line) }
 {
     let name = subject.legend.process_name(process);
     let there = line_of(subject.source, line);
@@ -166,7 +165,7 @@ fn error_line(
 
 /// The text of a line, counted from 1, without the spaces around it.
 pub fn line_of(source: &[String], line: u32) -> &str
-    ensures { IsTrimAscii (slice_index_or (map string_bytes source.now) (line - 1) []) result.now }
+    ensures { result.now ≡ spec.source_line (map string_bytes source.now) line }
 {
     text_at(source, (line as usize).saturating_sub(1)).trim_ascii()
 }
