@@ -1,1 +1,2 @@
+pub mod StoryClauses
 pub mod Telling

@@ -1,7 +1,9 @@
 //! The story of a schedule within the limits of the options.
 
 ghost use Rattle.std.specs.Prelude.{◌≡◌, ◌≤◌, IfOk, length};
+ghost use Rattle.cp_legend.specs.Names.{legend_seen};
 ghost use Rattle.cp_walk.specs.Rows.{UsedWithin};
+ghost use Rattle.cp_show_mark.specs.Stories.{IsStoryOf};
 
 use crate::examinee::Examinee;
 use cp_legend::Legend;
@@ -23,7 +25,8 @@ pub fn story_of(
     word: &[u8],
 ) -> Result<Story, AllocError>
     requires { length word.now ≤ 100 }
-    ensures { IfOk result (λ story. UsedWithin story.end (length word.now)) }
+    ensures used { IfOk result (λ story. UsedWithin story.end (length word.now)) }
+    ensures so { IfOk result (λ story. IsStoryOf (legend_seen legend.now) program.now options.now.gates options.now.choices options.now.steps word.now story) }
 {
     story_by::<Brand>(alloc, options, program, legend, word, Blank::new(1))
 }
@@ -40,7 +43,8 @@ fn story_by<L: Ledger>(
     requires parts { blank.parts ≡ L.parts }
     requires one { L.parts ≡ 1 }
     requires word { length word.now ≤ 100 }
-    ensures { IfOk result (λ story. UsedWithin story.end (length word.now)) }
+    ensures used { IfOk result (λ story. UsedWithin story.end (length word.now)) }
+    ensures so { IfOk result (λ story. IsStoryOf (legend_seen legend.now) program.now options.now.gates options.now.choices options.now.steps word.now story) }
 {
     let mut ticks: Ticks<L> = Ticks::new(blank);
     tell(alloc, program, legend, limits_of(options), word, &mut ticks)
