@@ -10,7 +10,7 @@ use Rattle.cp_run.specs.Slots.{slots}
 use Rattle.cp_run.specs.Trace.{trace}
 use Rattle.cp_run.specs.declared.limits.Limits.{Limits}
 use Rattle.cp_story.specs.Halted.{halted_seen, how_halted}
-use Rattle.cp_story.specs.Stop.{numbers_left}
+use Rattle.cp_run.specs.Stop.{numbers_left}
 use Rattle.cp_story.specs.Story as telling
 use Rattle.cp_story.specs.Told.{lines_of}
 use Rattle.cp_story.specs.Views.{decision_of, told_of, wait_of}
