@@ -1,1 +1,4 @@
+pub mod Constants
+pub mod Pairs
+pub mod Pieces
 pub mod Telling

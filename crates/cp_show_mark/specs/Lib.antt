@@ -1,1 +1,2 @@
+pub mod MarkText
 pub mod Showing

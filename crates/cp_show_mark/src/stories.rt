@@ -1,6 +1,9 @@
 //! The story of a schedule within the limits of the options.
 
-ghost use Rattle.std.specs.Prelude.{◌≡◌, ◌≤◌, IfOk, length};
+ghost use Rattle.std.specs.Prelude.{◌≡◌, ◌≤◌, IfOk, length, map};
+ghost use Rattle.cp_legend.specs.Names.{legend_seen};
+ghost use Rattle.cp_story.specs.Views.{wait_of};
+ghost use Rattle.cp_story.specs.Waiting.{who_waits};
 ghost use Rattle.cp_walk.specs.Rows.{UsedWithin};
 
 use crate::examinee::Examinee;
@@ -40,7 +43,8 @@ fn story_by<L: Ledger>(
     requires parts { blank.parts ≡ L.parts }
     requires one { L.parts ≡ 1 }
     requires word { length word.now ≤ 100 }
-    ensures { IfOk result (λ story. UsedWithin story.end (length word.now)) }
+    ensures used { IfOk result (λ story. UsedWithin story.end (length word.now)) }
+    ensures waits { IfOk result (λ story. map wait_of story.waits.items ≡ who_waits (legend_seen legend.now) program.now options.now.gates options.now.choices options.now.steps word.now) }
 {
     let mut ticks: Ticks<L> = Ticks::new(blank);
     tell(alloc, program, legend, limits_of(options), word, &mut ticks)
@@ -49,6 +53,7 @@ fn story_by<L: Ledger>(
 /// Who waits where at the end of a word.
 pub fn waits_of(alloc: Global, examinee: Examinee<'_>, word: &[u8]) -> Result<Vec<Wait>, AllocError>
     requires { length word.now ≤ 100 }
+    ensures { IfOk result (λ waits. map wait_of waits.items ≡ who_waits (legend_seen examinee.entry.legend.now) examinee.entry.program.now examinee.entry.options.now.gates examinee.entry.options.now.choices examinee.entry.options.now.steps word.now) }
 {
     let Examinee {
         options,
@@ -56,5 +61,5 @@ pub fn waits_of(alloc: Global, examinee: Examinee<'_>, word: &[u8]) -> Result<Ve
         legend,
         ..
     } = examinee;
-    Ok(story_of(alloc, options, program, legend, word)?.waits)
+    Ok(story_by::<Brand>(alloc, options, program, legend, word, Blank::new(1))?.waits)
 }
