@@ -1,2 +1,5 @@
+pub mod Constants
+pub mod Pairs
+pub mod Pieces
 pub mod StoryClauses
 pub mod Telling

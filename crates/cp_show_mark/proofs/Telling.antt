@@ -1,5 +1,5 @@
 -- What is told of a program within the limits that the options give.
-use Rattle.std.proofs.Common.{◌≡◌, ℕ, List, subst}
+use Rattle.std.proofs.Common.{◌≡◌, ◌∙◌, ◌<◌, ◌++◌, ℕ, List, Option, Result, Ok, Err, IfOk, ap, inr, map, subst}
 use Rattle.cp_slots.specs.Tables.{Tables}
 use Rattle.cp_machine.specs.declared.gates.Gates.{Gates}
 use Rattle.cp_tree.specs.Syntax.{Tree}
@@ -10,8 +10,21 @@ use Rattle.cp_run.specs.declared.limits.Limits.{Limits}
 use Rattle.cp_tool.specs.declared.options.Options.{Options}
 use Rattle.cp_verdict.specs.declared.expectation.Expectation.{Expectation}
 use Rattle.cp_ends_verdict.specs.declared.expectation.EndsExpectation as ends_expectation
+use Rattle.cp_legend.specs.Names.{Legend}
+use Rattle.cp_merged.specs.Code.{tally_of}
+use Rattle.cp_merged.specs.Tallies.{tally}
+use Rattle.cp_outcomes.specs.Findings.{IsKnownOf}
+use Rattle.cp_outcomes.specs.declared.known.Known.{Known}
+use Rattle.cp_story.specs.Waiting.{who_waits}
+use Rattle.cp_verdict.specs.Marked.{IsMarked}
+use Rattle.cp_verdict.specs.Meant.{IsMeantMark}
+use Rattle.cp_verdict.specs.declared.program.Marked.{Marked}
+use Rattle.cp_walk.specs.Report.{same_outcome}
 use Rattle.cp_walk.specs.Text.{Spellings}
-use Rattle.cp_show_mark.specs.Showing.{ShowVerdict, TellsMark, TellsEndsMark, TellsMarkAtOnce}
+use Rattle.cp_show_mark.specs.MarkText.{IsExcessText, IsMarkTold, IsTextOfTallies, excess_text, known_text, mark_text, setting_of}
+use Rattle.cp_show_mark.specs.Showing.{ShowVerdict, TellsMark, TellsEndsMark, TellsMarkAtOnce, verdict_of}
+use Rattle.cp_show_mark.specs.declared.examinee.Examinee.{Examinee}
+use Rattle.cp_show_mark.specs.declared.excess.MarkExcess.{MarkExcess}
 
 abbrev pub TellsWithin : ℕ → ℕ → Gates → Tables → List Expectation → ShowVerdict → Type 0
 TellsWithin choices steps gates r es verdict = TellsMark r.names es (table (slots r gates) choices steps) verdict
@@ -39,3 +52,46 @@ meant_within o l t names es verdict same h =
     let a = subst (λ (n : ℕ). MeansWithin n l.steps l.gates t names es verdict) same.0 h in
     let b = subst (λ (n : ℕ). MeansWithin o.choices n l.gates t names es verdict) same.1 a in
     subst (λ (g : Gates). MeansWithin o.choices o.steps g t names es verdict) same.2 b
+
+-- two things that hold of an answer
+pub ok_with : {A E : Type 0} (r : Result A E) (P Q R : A → Type 0) → ((a : A) → P a → Q a → R a) → IfOk r P → IfOk r Q → IfOk r R
+ok_with (Ok a) P Q R f p q = f a p q
+ok_with (Err e) P Q R f p q = tt
+
+abbrev AreLimitsOf : Limits → Options → Type 0
+AreLimitsOf l o = (l.choices ≡ o.choices) × (l.steps ≡ o.steps) × (l.gates ≡ o.gates)
+
+pub waits_within : (o : Options) (l : Limits) (legend : Legend) (r : Tables) (word : List ℕ) → (l.choices ≡ o.choices) × (l.steps ≡ o.steps) × (l.gates ≡ o.gates) → who_waits legend r l.gates l.choices l.steps word ≡ who_waits legend r o.gates o.choices o.steps word
+waits_within o l legend r word same =
+    ap (λ (n : ℕ). who_waits legend r l.gates n l.steps word) same.0 ∙ ap (λ (n : ℕ). who_waits legend r l.gates o.choices n word) same.1 ∙ ap (λ (g : Gates). who_waits legend r g o.choices o.steps word) same.2
+
+-- ---- the text
+
+abbrev MarkedWithin : ℕ → ℕ → Gates → Tables → List Expectation → Marked → Type 0
+MarkedWithin choices steps gates r es m = IsMarked r.names es (table (slots r gates) choices steps) m × IsMeantMark r gates choices steps es m
+
+marked_within : (o : Options) (l : Limits) (r : Tables) (es : List Expectation) (m : Marked) → AreLimitsOf l o → MarkedWithin l.choices l.steps l.gates r es m → MarkedWithin o.choices o.steps o.gates r es m
+marked_within o l r es m same h =
+    let a = subst (λ (n : ℕ). MarkedWithin n l.steps l.gates r es m) same.0 h in
+    let b = subst (λ (n : ℕ). MarkedWithin o.choices n l.gates r es m) same.1 a in
+    subst (λ (g : Gates). MarkedWithin o.choices o.steps g r es m) same.2 b
+
+-- a mark within the limits of the options, with its text
+pub mark_told : (x : Examinee) (l : Limits) (es : List Expectation) (doubtful : Option (List ℕ)) (told : ShowVerdict) (text : List ℕ) (m : Marked) → (l.choices ≡ x.options.now.choices) × (l.steps ≡ x.options.now.steps) × (l.gates ≡ x.options.now.gates) → told ≡ verdict_of m.mark → text ≡ mark_text (setting_of x) es doubtful m → IsMarked x.program.now.names es (table (slots x.program.now l.gates) l.choices l.steps) m → IsMeantMark x.program.now l.gates l.choices l.steps es m → IsMarkTold (setting_of x) es doubtful told text m
+mark_told x l es doubtful told text m same v t marked meaning =
+    let within = marked_within x.options.now l x.program.now es m same (marked, meaning) in
+    record { verdict = v; is = t; marked = within.0; meaning = within.1 }
+
+abbrev KnownWithin : ℕ → ℕ → Gates → Tables → Known → Type 0
+KnownWithin choices steps gates r k = IsKnownOf (slots r gates) choices steps k
+
+-- what is known by fewer choices, with its text
+pub known_told : (x : Examinee) (l : Limits) (es : List Expectation) (doubtful : Option (List ℕ)) (e : MarkExcess) (k : Known) (text : List ℕ) → (l.choices ≡ x.options.now.choices) × (l.steps ≡ x.options.now.steps) × (l.gates ≡ x.options.now.gates) → IsKnownOf (slots x.program.now l.gates) l.choices l.steps k → (said : List ℕ) × IsTextOfTallies (setting_of x) es doubtful (map tally_of k.tallies) said × (text ≡ excess_text x.options.now.states e ++ known_text k.choices said) → IsExcessText (setting_of x) es doubtful text
+known_told x l es doubtful e k text same known t =
+    let o = x.options.now in
+    let r = x.program.now in
+    let a = subst (λ (n : ℕ). KnownWithin n l.steps l.gates r k) same.0 known in
+    let b = subst (λ (n : ℕ). KnownWithin o.choices n l.gates r k) same.1 a in
+    let within = subst (λ (g : Gates). KnownWithin o.choices o.steps g r k) same.2 b in
+    let m = t.1.0 in
+    (e, inr (known_text k.choices t.0, t.2, record { choices = k.choices; marked = m; fewer = within.fewer; is_marked = t.1.2 (table (slots r o.gates) k.choices o.steps) within.tallies; is = ap (known_text k.choices) t.1.1 }))

@@ -1,2 +1,3 @@
+pub mod MarkText
 pub mod Showing
 pub mod Stories

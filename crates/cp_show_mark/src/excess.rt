@@ -1,5 +1,9 @@
 //! What is said where there are too many states or outcomes.
 
+ghost use Rattle.std.specs.Prelude.{◌≡◌, ◌++◌, IfOk, false, option_map, string_bytes};
+ghost use Rattle.cp_prose.specs.Telling.{UnlessRefused, appended};
+ghost use Rattle.cp_show_mark.specs.MarkText as spec;
+
 use crate::examinee::Examinee;
 use crate::mark_objects::object_line;
 use cp_prose::Prose;
@@ -19,25 +23,45 @@ pub fn excess_text(
     examinee: Examinee<'_>,
     excess: MarkExcess,
     known: Option<(u8, &str)>,
-) -> Result<String, AllocError> {
+) -> Result<String, AllocError>
+    ensures { IfOk result (λ t. examinee.entry.as_json ≡ false → string_bytes t ≡ spec.excess_text examinee.entry.options.now.states excess ++ spec.known_if (option_map (λ k. (k.0, k.1.now)) known.entry)) }
+{
     if examinee.as_json {
-        return match known {
-            Some(known) => knowledge_as_json(alloc, examinee, excess, known),
-            None => object_line(alloc, excess_object(alloc, examinee, excess)?),
-        };
+        return excess_as_json(alloc, examinee, excess, known);
     }
     let mut text = Prose::new(alloc);
     push_excess(&mut text, examinee, excess);
-    if let Some((choices, said)) = known {
-        text.put("of all schedules of at most ");
-        text.put_display(choices);
-        text.put(" choices:\n");
-        text.put(said);
-    }
+    push_known(&mut text, known);
     text.finish()
 }
 
-fn push_excess(text: &mut Prose, examinee: Examinee<'_>, excess: MarkExcess) {
+fn excess_as_json(
+    alloc: Global,
+    examinee: Examinee<'_>,
+    excess: MarkExcess,
+    known: Option<(u8, &str)>,
+) -> Result<String, AllocError> {
+    match known {
+        Some(known) => knowledge_as_json(alloc, examinee, excess, known),
+        None => object_line(alloc, excess_object(alloc, examinee, excess)?),
+    }
+}
+
+fn push_known(text: &mut Prose, known: Option<(u8, &str)>)
+    ensures { UnlessRefused text.new (appended text.old (spec.known_if (option_map (λ k. (k.0, k.1.now)) known.entry))) }
+{
+    let Some((choices, said)) = known else {
+        return;
+    };
+    text.put("of all schedules of at most ");
+    text.put_display(choices);
+    text.put(" choices:\n");
+    text.put(said);
+}
+
+fn push_excess(text: &mut Prose, examinee: Examinee<'_>, excess: MarkExcess)
+    ensures { UnlessRefused text.new (appended text.old (spec.excess_text examinee.entry.options.now.states excess)) }
+{
     match excess {
         MarkExcess::States => {
             text.put("too many states: a layer may have ");

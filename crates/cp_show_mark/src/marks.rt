@@ -1,9 +1,10 @@
 //! The mark of a program, as an answer.
 
-ghost use Rattle.std.specs.Prelude.{◌≡◌, ◌≤◌, IfOk, false, true};
+ghost use Rattle.std.specs.Prelude.{◌≡◌, ◌≤◌, ◌++◌, IfOk, List, ℕ, false, map, option_map, string_bytes, true};
 ghost use Rattle.cp_ends_verdict.specs.AtOnce.{can_be_at_once};
 ghost use Rattle.cp_ends_verdict.specs.Marked.{can_be_asked};
 ghost use Rattle.cp_lawful.specs.Accepted.{IsAccepted};
+ghost use Rattle.cp_merged.specs.Code.{tally_of};
 ghost use Rattle.cp_refine.specs.Named.{named, named_gates};
 ghost use Rattle.cp_resolved.specs.Enumerations.{constant_names};
 ghost use Rattle.cp_resolved.specs.Resolving.{IsProgramOf};
@@ -11,6 +12,8 @@ ghost use Rattle.cp_run.specs.Slots.{slots};
 ghost use Rattle.cp_run.specs.Table.{table};
 ghost use Rattle.cp_tree.specs.Read.{IsRead};
 ghost use Rattle.cp_tree.specs.Syntax.{Tree};
+ghost use Rattle.cp_show_mark.specs.MarkText as text_spec;
+ghost use Rattle.cp_show_mark.specs.MarkText.{IsExcessText, IsTextOfTallies, TellsText, setting_of};
 ghost use Rattle.cp_show_mark.specs.Showing as spec;
 ghost use Rattle.cp_show_mark.specs.declared.answer.ShowVerdict.TheVariants.{TooMany};
 
@@ -226,6 +229,7 @@ pub fn mark_of<O: ObserveProgress>(
 ) -> Result<ShowAnswer, AllocError>
     ensures mark { IfOk result (λ a. spec.TellsMark examinee.entry.program.now.names reading.now.expectations.items (table (slots examinee.entry.program.now examinee.entry.options.now.gates) examinee.entry.options.now.choices examinee.entry.options.now.steps) a.verdict) }
     ensures meaning { (t : Tree) → ∥ IsRead t.program ∥₁ → IsAccepted t → IsProgramOf t examinee.entry.program.now → IfOk result (λ a. spec.TellsMark (constant_names t.program) reading.now.expectations.items (table (named t (named_gates examinee.entry.options.now.gates)) examinee.entry.options.now.choices examinee.entry.options.now.steps) a.verdict) }
+    ensures text { IfOk result (λ a. examinee.entry.as_json ≡ false → TellsText (setting_of examinee.entry) reading.now.expectations.items (option_map (λ w. w.now) reading.now.doubtful) a.verdict (string_bytes a.text)) }
 {
     let limits = limits_of(examinee.options);
     let job = Job {
@@ -237,17 +241,10 @@ pub fn mark_of<O: ObserveProgress>(
         Ok(marked) => told_answer(alloc, examinee, reading, &marked),
         Err(MarkFault::Memory) => Err(AllocError),
         Err(MarkFault::TooManyStates) => {
-            too_many(alloc, examinee, observer, job, reading, MarkExcess::States)
+            too_many(alloc, examinee, observer, reading, MarkExcess::States)
         }
         Err(MarkFault::TooManyOutcomes) => {
-            too_many(
-                alloc,
-                examinee,
-                observer,
-                job,
-                reading,
-                MarkExcess::Outcomes,
-            )
+            too_many(alloc, examinee, observer, reading, MarkExcess::Outcomes)
         }
     }
 }
@@ -258,7 +255,8 @@ fn told_answer(
     reading: &Reading,
     marked: &Marked,
 ) -> Result<ShowAnswer, AllocError>
-    ensures { IfOk result (λ a. a.verdict ≡ spec.verdict_of marked.now.mark) }
+    ensures verdict { IfOk result (λ a. a.verdict ≡ spec.verdict_of marked.now.mark) }
+    ensures text { IfOk result (λ a. examinee.entry.as_json ≡ false → string_bytes a.text ≡ text_spec.mark_text (setting_of examinee.entry) reading.now.expectations.items (option_map (λ w. w.now) reading.now.doubtful) marked.now) }
 {
     let text = mark_text(alloc, examinee, reading, marked)?;
     Ok(ShowAnswer {
@@ -282,13 +280,13 @@ fn too_many<O: ObserveProgress>(
     alloc: Global,
     examinee: Examinee<'_>,
     observer: &mut O,
-    job: Job,
     reading: &Reading,
     excess: MarkExcess,
 ) -> Result<ShowAnswer, AllocError>
-    ensures { IfOk result (λ a. a.verdict ≡ TooMany) }
+    ensures verdict { IfOk result (λ a. a.verdict ≡ TooMany) }
+    ensures text { IfOk result (λ a. examinee.entry.as_json ≡ false → IsExcessText (setting_of examinee.entry) reading.now.expectations.items (option_map (λ w. w.now) reading.now.doubtful) (string_bytes a.text)) }
 {
-    let text = too_many_text(alloc, examinee, observer, job, reading, excess)?;
+    let text = too_many_text(alloc, examinee, observer, reading, excess)?;
     Ok(ShowAnswer {
         verdict: ShowVerdict::TooMany,
         text,
@@ -299,11 +297,17 @@ fn too_many_text<O: ObserveProgress>(
     alloc: Global,
     examinee: Examinee<'_>,
     observer: &mut O,
-    job: Job,
     reading: &Reading,
     excess: MarkExcess,
-) -> Result<String, AllocError> {
-    match greatest_known(alloc, job, examinee.options.states, observer)? {
+) -> Result<String, AllocError>
+    ensures { IfOk result (λ t. examinee.entry.as_json ≡ false → IsExcessText (setting_of examinee.entry) reading.now.expectations.items (option_map (λ w. w.now) reading.now.doubtful) (string_bytes t)) }
+{
+    let job = Job {
+        program: examinee.program,
+        limits: limits_of(examinee.options),
+    };
+    let found = greatest_known(alloc, job, examinee.options.states, observer)?;
+    match found {
         Some(known) => known_text(alloc, examinee, reading, excess, &known),
         None => excess_text(alloc, examinee, excess, None),
     }
@@ -316,7 +320,9 @@ fn known_text(
     reading: &Reading,
     excess: MarkExcess,
     known: &Known,
-) -> Result<String, AllocError> {
+) -> Result<String, AllocError>
+    ensures { IfOk result (λ t. examinee.entry.as_json ≡ false → (said : List ℕ) × IsTextOfTallies (setting_of examinee.entry) reading.now.expectations.items (option_map (λ w. w.now) reading.now.doubtful) (map tally_of known.now.tallies) said × (string_bytes t ≡ text_spec.excess_text examinee.entry.options.now.states excess ++ text_spec.known_text known.now.choices said)) }
+{
     let said = saying_of_known(alloc, examinee, reading, known)?;
     excess_text(
         alloc,
@@ -331,7 +337,9 @@ fn saying_of_known(
     examinee: Examinee<'_>,
     reading: &Reading,
     known: &Known,
-) -> Result<String, AllocError> {
+) -> Result<String, AllocError>
+    ensures { IfOk result (λ t. examinee.entry.as_json ≡ false → IsTextOfTallies (setting_of examinee.entry) reading.now.expectations.items (option_map (λ w. w.now) reading.now.doubtful) (map tally_of known.now.tallies) (string_bytes t)) }
+{
     let list = reading.expectations.as_slice();
     let marked = mark_tallies(alloc, examinee.program, list, known.tallies.as_slice())?;
     mark_text(alloc, examinee, reading, &marked)

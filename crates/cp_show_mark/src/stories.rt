@@ -1,7 +1,9 @@
 //! The story of a schedule within the limits of the options.
 
-ghost use Rattle.std.specs.Prelude.{◌≡◌, ◌≤◌, IfOk, length};
+ghost use Rattle.std.specs.Prelude.{◌≡◌, ◌≤◌, IfOk, length, map};
 ghost use Rattle.cp_legend.specs.Names.{legend_seen};
+ghost use Rattle.cp_story.specs.Views.{wait_of};
+ghost use Rattle.cp_story.specs.Waiting.{who_waits};
 ghost use Rattle.cp_walk.specs.Rows.{UsedWithin};
 ghost use Rattle.cp_show_mark.specs.Stories.{IsStoryOf};
 
@@ -53,6 +55,7 @@ fn story_by<L: Ledger>(
 /// Who waits where at the end of a word.
 pub fn waits_of(alloc: Global, examinee: Examinee<'_>, word: &[u8]) -> Result<Vec<Wait>, AllocError>
     requires { length word.now ≤ 100 }
+    ensures { IfOk result (λ waits. map wait_of waits.items ≡ who_waits (legend_seen examinee.entry.legend.now) examinee.entry.program.now examinee.entry.options.now.gates examinee.entry.options.now.choices examinee.entry.options.now.steps word.now) }
 {
     let Examinee {
         options,
