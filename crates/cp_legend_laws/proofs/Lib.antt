@@ -4,11 +4,17 @@ pub mod Lined
 pub mod LinedUp
 pub mod NamedParts
 pub mod NamedPaths
+pub mod NamedRoutines
 pub mod NamedSystems
 pub mod Noting
 pub mod NotingDeclarations
 pub mod NotingRoutines
 pub mod PartSystems
 pub mod PathsOfTree
+pub mod PermanentSystems
+pub mod PermanentsNamed
+pub mod PermanentsNoted
+pub mod QueuesNamed
+pub mod QuietSteps
 pub mod Walking
 mod Words

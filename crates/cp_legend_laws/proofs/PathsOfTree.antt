@@ -27,7 +27,7 @@ use Rattle.cp_legend_laws.proofs.NamedPaths.{parts_from, parts_entries, IsNamed,
 use Rattle.cp_legend_laws.proofs.NamedSystems.{home_entries, Told, told_program, told_of, told_own}
 use Rattle.cp_legend_laws.proofs.PartSystems.{IsHome, type_home, program_home}
 
-each_right : {A : Type 0} (P : A → Type 0) (xs ys : List A) → Each P (xs ++ ys) → Each P ys
+pub each_right : {A : Type 0} (P : A → Type 0) (xs ys : List A) → Each P (xs ++ ys) → Each P ys
 each_right P [] ys h = h
 each_right P (x ∷ xs) ys h = each_right P xs ys h.1
 
@@ -55,7 +55,8 @@ module _ (t : Tree) (y : code_symbols.Symbols) (is : AreSymbolsOf y (whole t)) (
   unfolding laid tables_laid
   constants_same = is.constants ∙ names_laid k t plain.small plain.fit plain.numbered (opened_all p)
 
-  known : (n : ℕ) → KnownVariables source.constants k.firsts (system_of p n).variables
+  -- the enumerations that index their arrays
+  pub known : (n : ℕ) → KnownVariables source.constants k.firsts (system_of p n).variables
   known n = subst (λ cs. KnownVariables cs k.firsts (system_of p n).variables) (sym constants_same) (variables_are_known (constant_names p) k.firsts p (enumerations_known p k.firsts plain.numbered few) n)
 
   many : length source.systems ≡ program_system p

@@ -1,17 +1,28 @@
 -- What the laws say of the names of components.
-use Rattle.std.specs.Prelude.{◌≡◌, map}
+use Rattle.std.specs.Prelude.{◌≡◌, ◌+◌, ◌<◌, ◌≤◌, ◌==◌, if◌then◌else◌, ℕ, List, [], ◌∷◌, ◌++◌, Some, map, unwrap_or}
 use Rattle.cp_tree.specs.Read.{IsRead}
 use Rattle.cp_tree.specs.Syntax.{Tree}
 use Rattle.cp_symbols.specs.declared.symbols.Symbols as code_symbols
-use Rattle.cp_slots.specs.Tables.{Tables}
+use Rattle.cp_slots.specs.Tables.{RoutineView, Tables}
 use Rattle.cp_layout.specs.Laid.{plain, laid, whole}
 use Rattle.cp_layout.specs.Symbols.{AreSymbolsOf}
 use Rattle.cp_meaning.specs.Components as language
 use Rattle.cp_lawful.specs.Accepted.{IsAccepted}
 use Rattle.cp_legend.specs.declared.legend.Legend as code_legend
-use Rattle.cp_legend.specs.Names.{IsLegendOf, component_seen, components_of, source_seen}
+use Rattle.cp_legend.specs.Names as legend
+use Rattle.cp_legend.specs.Names.{IsLegendOf, Named, RoutineNames, component_seen, components_of, legend_seen, routine_names_seen, source_seen}
+use Rattle.cp_legend.specs.Places.{permanent_name_in, variables_at}
+use Rattle.cp_meaning.specs.Declarations.{Variable}
+use Rattle.cp_meaning.specs.Names.{Name}
+use Rattle.cp_meaning.specs.Systems.{program_system, system_of}
+use Rattle.cp_meaning.specs.Types.{Ty, queue_type, array_over, length_of_range}
+use Rattle.cp_symbols.specs.Kinds.{Compounds}
+use Rattle.cp_resolved.specs.InStep.{TypeIs}
+use Rattle.cp_resolved.specs.Openings.{Opening, numbering_of, openings_of}
+use Rattle.cp_resolved.specs.Small.{Each}
+use Rattle.cp_resolved.specs.TreeLayouts.{layouts_of}
 use Rattle.cp_legend_laws.specs.Called.{all_called, called_in_legend, tabled}
-use Rattle.cp_legend_laws.specs.Paths.{called_in_language}
+use Rattle.cp_legend_laws.specs.Paths.{called_in_language, index_text}
 
 -- The legend of a tree has all components of its tables, in their order, each under the path of a declared part of the system type that it has in the tables.
 pub record ComponentsLineUp (t : Tree) (s : code_symbols.Symbols) : Type 0 where
@@ -38,3 +49,61 @@ pub record ComponentsAreNamed (t : Tree) (r : Tables) (l : code_legend.Legend) :
 -- of each legend of the tables and symbols of a tree that was read and breaks no rule
 abbrev pub LegendLaw : Type 0
 LegendLaw = (t : Tree) (s : code_symbols.Symbols) (r : Tables) (l : code_legend.Legend) → IsRead t.program → IsAccepted t → AreSymbolsOf s (whole t) → plain r ≡ laid t → IsLegendOf l (source_seen s) r.components → ComponentsAreNamed t r l
+
+-- ---- routines
+
+-- the name of a routine; an initial statement has none
+abbrev pub routine_text : Opening → List ℕ
+routine_text o = unwrap_or o.name []
+
+-- The tables and the legend have the routines and initial statements of the tree in one order: each with the system type that it belongs to, and under the name that it is declared by.
+pub record RoutinesAreNamed (t : Tree) (r : Tables) (l : code_legend.Legend) : Type 0 where
+  pub tables : map (λ (v : RoutineView). v.system) r.routines ≡ map (λ (o : Opening). o.owner) (openings_of t.program)
+  pub names : map (λ (n : RoutineNames). n.name) (map routine_names_seen l.routines.items) ≡ map routine_text (openings_of t.program)
+
+-- of each legend of the tables and symbols of a tree that was read and breaks no rule
+abbrev pub RoutinesLaw : Type 0
+RoutinesLaw = (t : Tree) (s : code_symbols.Symbols) (r : Tables) (l : code_legend.Legend) → IsRead t.program → IsAccepted t → AreSymbolsOf s (whole t) → plain r ≡ laid t → IsLegendOf l (source_seen s) r.components → RoutinesAreNamed t r l
+
+-- ---- permanent variables
+
+-- A variable of the legend is one of a system type: it has its name, begins with its cell by the layouts of the tree, and has its type.
+pub record IsVariable (t : Tree) (ts : Compounds) (system : ℕ) (v : Variable) (w : legend.Variable) : Type 0 where
+  pub name : w.name ≡ v.name
+  pub slot : w.slot ≡ ((layouts_of t).systems system).slots v.name
+  pub shape : TypeIs (numbering_of t.program) ts v.ty w.shape
+
+abbrev pub AreVariables : Tree → Compounds → (system : ℕ) → List Variable → List legend.Variable → Type 0
+AreVariables t ts k [] [] = Unit {0}
+AreVariables t ts k (v ∷ vs) (w ∷ ws) = IsVariable t ts k v w × AreVariables t ts k vs ws
+AreVariables t ts k [] (w ∷ ws) = ⊥
+AreVariables t ts k (v ∷ vs) [] = ⊥
+
+-- Of each system type, and of the program, these are in their order the variables and the parameters with values that the layouts of the tree have.
+abbrev pub PermanentsAre : Tree → legend.Legend → Type 0
+PermanentsAre t l = (k : ℕ) → k ≤ program_system t.program → AreVariables t l.shapes k ((layouts_of t).systems k).variables (variables_at l.permanents k)
+
+abbrev pub PermanentsLaw : Type 0
+PermanentsLaw = (t : Tree) (s : code_symbols.Symbols) (r : Tables) (l : code_legend.Legend) → IsRead t.program → IsAccepted t → AreSymbolsOf s (whole t) → plain r ≡ laid t → IsLegendOf l (source_seen s) r.components → PermanentsAre t (legend_seen l)
+
+-- ---- queues
+
+-- how many queues a variable is: one, or one for each index
+abbrev pub queues_in : Ty → ℕ
+queues_in queue_type = 1
+queues_in (array_over r queue_type) = length_of_range r
+queues_in u = 0
+
+-- the name of one of them: its variable, with its index if there are others
+abbrev pub queue_text : Name → Ty → (place : ℕ) → List ℕ
+queue_text x (array_over r u) n = if length_of_range r == 1 then x else x ++ index_text r n
+queue_text x u n = x
+
+-- In a component, the cell of each queue that its system type declares is told under the name of the queue.
+abbrev pub QueuesAreNamed : Tree → legend.Legend → Type 0
+QueuesAreNamed t l =
+    (c : Named) → c.system ≤ program_system t.program →
+    Each (λ (v : Variable). (n : ℕ) → n < queues_in v.ty → permanent_name_in l.constants l.shapes l.permanents (Some c) (c.base + (((layouts_of t).systems c.system).slots v.name + n)) 1 ≡ queue_text v.name v.ty n) (system_of t.program c.system).variables
+
+abbrev pub QueuesLaw : Type 0
+QueuesLaw = (t : Tree) (s : code_symbols.Symbols) (r : Tables) (l : code_legend.Legend) → IsRead t.program → IsAccepted t → AreSymbolsOf s (whole t) → plain r ≡ laid t → IsLegendOf l (source_seen s) r.components → QueuesAreNamed t (legend_seen l)

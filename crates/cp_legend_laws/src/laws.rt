@@ -1,6 +1,6 @@
 //! Laws over the definitions alone.
 
-ghost use Rattle.cp_legend_laws.specs.Statements.{ComponentsLaw, LegendLaw, PathsLaw};
+ghost use Rattle.cp_legend_laws.specs.Statements.{ComponentsLaw, LegendLaw, PathsLaw, PermanentsLaw, QueuesLaw, RoutinesLaw};
 
 /// A legend has all components of the tables, in their order, each under the path of a part that is declared of its system type.
 pub fn law_components()
@@ -15,4 +15,19 @@ pub fn law_paths()
 /// So a legend beside tables calls each of their components as the language does.
 pub fn law_legend()
     ensures { LegendLaw }
+{}
+
+/// The routine that has a number in the tables has the name in the legend under which the tree declares it, in its system type.
+pub fn law_routines()
+    ensures { RoutinesLaw }
+{}
+
+/// The permanent variables that a legend has of each system type are those of the tree: each under its name, at its cell, and with its type.
+pub fn law_permanents()
+    ensures { PermanentsLaw }
+{}
+
+/// In each component, the cell of a queue that its system type declares is told under the name of that queue.
+pub fn law_queues()
+    ensures { QueuesLaw }
 {}

@@ -2,7 +2,7 @@
 use Rattle.std.proofs.Common.{◌≡◌, ◌∙◌, ℕ, ◌<◌, ◌==◌, Bool, true, false, List, [], ◌∷◌, Option, ap, sym, refl, subst, arith, length, eq-eqb}
 use Rattle.std.proofs.lemmas.Bool.{eqb-true}
 use Rattle.std.proofs.lemmas.List.Sums.{position_or_len_is}
-use Rattle.std.specs.Prelude.{slice_index_or, unwrap_or}
+use Rattle.std.specs.Prelude.{slice_get, slice_index_or, unwrap_or}
 use Rattle.cp_tree.specs.declared.declaration.SystemKind.{SystemKind}
 use Rattle.cp_tree.specs.declared.declaration.SystemKind.TheVariants as system_kind
 use Rattle.cp_tree.specs.Syntax.{Tree}
@@ -14,7 +14,9 @@ use Rattle.cp_machine.specs.declared.process.Entry.{Entry}
 use Rattle.cp_machine.specs.declared.process.Entry.TheVariants.{Rest, Successor, Return, InitEnd}
 use Rattle.cp_machine.specs.declared.process.Status as slot_status
 use Rattle.cp_machine.specs.declared.process.Status.TheVariants as status
+use Rattle.cp_legend.specs.Names.{Legend, name_of_routine}
 use Rattle.cp_machine.specs.Machine.{Machine, thread_at}
+use Rattle.cp_meaning.specs.Names.{Name}
 use Rattle.cp_meaning.specs.Readings.{monitors_of}
 use Rattle.cp_meaning.specs.State as named
 use Rattle.cp_meaning.specs.State.{CallKind, entry_routine, initial_statement, own_statement, Call, current, Item, Gates, State, Status, unstarted, ready, at_gate, delayed, ended, Process, first_gates}
@@ -26,12 +28,14 @@ use Rattle.cp_resolved.specs.Resolved.{KindIs, Stands}
 use Rattle.cp_refine.specs.Kinds.{SameKind}
 use Rattle.cp_refine.specs.Law.{Simulates, ground_of}
 use Rattle.cp_refine.specs.Represents as slots
-use Rattle.cp_refine.specs.Represents.{StackIs, StatusIs}
+use Rattle.cp_refine.specs.Represents.{CallsHold, Runs, StackIs, StatusIs, own_memory}
 use Rattle.cp_refine.proofs.HoldsInReached.{HoldsInReached, reached_stands}
 use Rattle.cp_refine.proofs.ReachedKinds.{kinds_agree, monitor_there, monitor_known}
+use Rattle.cp_refine.proofs.control.Control.{call_scope, top_frame}
 use Rattle.cp_refine.proofs.gates.MonitorNumbers.{one_number}
 use Rattle.cp_story.specs.Story as story
 use Rattle.cp_story_laws.specs.Events.{EntryCall, monitor_of, call_begun}
+use Rattle.cp_story_laws.specs.Routines.{routine_of}
 use Rattle.cp_story_laws.specs.Statements.{call_told}
 
 module _ (t : Tree) (r : Tables) (l : Layouts) (stands : Stands (ground_of t r) t l) where
@@ -93,25 +97,36 @@ module _ (t : Tree) (r : Tables) (l : Layouts) (stands : Stands (ground_of t r) 
     abbrev mine : Process
     mine = named.process_at s.processes q
 
-    stack_of : (u : Status) (w : slot_status.Status) → StatusIs (ground_of t r) t.program l q mine (thread_at m.threads q) u w → (current mine.calls).kind ≡ entry_routine → StackIs (ground_of t r) t.program l (thread_at m.threads q).frame mine.calls mine.items (thread_at m.threads q).stack
-    stack_of ready status.Ready h e = h.stack
-    stack_of (at_gate n) (status.AtGate k) h e = h.1.stack
-    stack_of (delayed n) (status.Delayed cell) h e = h.stack
-    stack_of unstarted status.Unstarted h e = absurd (let bad : own_statement ≡ entry_routine = sym (ap (λ (cs : List Call). (current cs).kind) h.0) ∙ e in cc)
-    stack_of ended status.Ended h e = absurd (let bad : own_statement ≡ entry_routine = sym h.3 ∙ (sym (ap (λ (cs : List Call). (current cs).kind) h.1) ∙ e) in cc)
-    stack_of u w h e = absurd h
+    runs_of : (u : Status) (w : slot_status.Status) → StatusIs (ground_of t r) t.program l q mine (thread_at m.threads q) u w → (current mine.calls).kind ≡ entry_routine → Runs (ground_of t r) t.program l mine (thread_at m.threads q)
+    runs_of ready status.Ready h e = h
+    runs_of (at_gate n) (status.AtGate k) h e = h.1
+    runs_of (delayed n) (status.Delayed cell) h e = h
+    runs_of unstarted status.Unstarted h e = absurd (let bad : own_statement ≡ entry_routine = sym (ap (λ (cs : List Call). (current cs).kind) h.0) ∙ e in cc)
+    runs_of ended status.Ended h e = absurd (let bad : own_statement ≡ entry_routine = sym h.3 ∙ (sym (ap (λ (cs : List Call). (current cs).kind) h.1) ∙ e) in cc)
+    runs_of u w h e = absurd h
+
+    runs : (current mine.calls).kind ≡ entry_routine → Runs (ground_of t r) t.program l mine (thread_at m.threads q)
+    runs entry = runs_of mine.status (thread_at m.threads q).status (sim.represents.processes q less).status entry
+
+    -- the call has the scope of the routine of the frame
+    pub scope_same : (current mine.calls).kind ≡ entry_routine → (current mine.calls).scope ≡ (l.meanings (thread_at m.threads q).frame.routine).scope
+    scope_same entry =
+        let thread = thread_at m.threads q in
+        let top = top_frame thread.frame thread.stack in
+        call_scope r l (own_memory thread) mine.calls thread.frame top.0 (subst (λ (fs : List Frame). CallsHold r l (own_memory thread) mine.calls fs) top.1 (runs entry).calls)
 
     numbered : (k : ComponentKind) → SameKind system_kind.Monitor k → (j : ℕ) × (k ≡ kind.Monitor j)
     numbered (kind.Monitor j) h = (j, refl)
     numbered k h = absurd h
 
-    pub call_same : (current mine.calls).kind ≡ entry_routine → (named.component_at s.components (current mine.calls).component).kind ≡ system_kind.Monitor → call_told (story.call_begun (thread_at m.threads q) line) ≡ call_begun t g s q line
-    call_same entry monitor =
+    pub call_same : (legend : Legend) → name_of_routine (slice_get legend.routines (thread_at m.threads q).frame.routine) ≡ routine_of (current mine.calls) → (current mine.calls).kind ≡ entry_routine → (named.component_at s.components (current mine.calls).component).kind ≡ system_kind.Monitor →
+        call_told legend (story.call_begun (thread_at m.threads q) line) ≡ call_begun t g s q line
+    call_same legend executes entry monitor =
         let n : ℕ = (current mine.calls).component in
         let there : n < length s.components = within s.components n (λ h. (let bad : system_kind.Monitor ≡ system_kind.Process = sym monitor ∙ h in cc)) in
         let known : n < length r.components = (let a = sim.represents.component_count in omega (arith, a, there)) in
         let j = numbered (component_at r n).kind (subst (λ (k : SystemKind). SameKind k (component_at r n).kind) monitor (kinds_agree t r l stands s holds.kind n known)) in
-        let left : story.monitor_left (thread_at m.threads q).stack ≡ j.0 =
-        left_is j.0 (thread_at m.threads q).stack (thread_at m.threads q).frame mine.calls mine.items (stack_of mine.status (thread_at m.threads q).status (sim.represents.processes q less).status entry) (entry, j.1) in
+        let left : story.monitor_left (thread_at m.threads q).stack ≡ j.0 = left_is j.0 (thread_at m.threads q).stack (thread_at m.threads q).frame mine.calls mine.items (runs entry).stack (entry, j.1) in
         let number : monitor_of t.program g n ≡ j.0 = number_is n j.0 j.1 g in
-        ap (λ (k : ℕ). (let c : EntryCall = record { monitor = k; line = unwrap_or line 0 } in c)) (left ∙ sym number)
+        ap (λ (k : ℕ). (let c : EntryCall = record { monitor = k; routine = name_of_routine (slice_get legend.routines (thread_at m.threads q).frame.routine); line = unwrap_or line 0 } in c)) (left ∙ sym number)
+        ∙ ap (λ (x : Name). (let c : EntryCall = record { monitor = monitor_of t.program g n; routine = x; line = unwrap_or line 0 } in c)) executes

@@ -8,9 +8,11 @@ use Rattle.cp_tree.specs.Syntax.{Tree}
 use Rattle.cp_layout.specs.Laid.{plain, laid}
 use Rattle.cp_slots.specs.Tables.{Tables}
 use Rattle.cp_lawful.specs.Accepted.{IsAccepted}
-use Rattle.cp_legend.specs.Names.{Legend, legend_seen}
+use Rattle.cp_legend.specs.Names.{Legend, RoutineNames, legend_seen}
 use Rattle.cp_legend_laws.specs.Called.{called_in_legend, tabled}
 use Rattle.cp_legend_laws.specs.Paths.{called_in_language}
+use Rattle.cp_legend_laws.specs.Statements.{routine_text}
+use Rattle.cp_legend_laws.proofs.NamedRoutines.{routines_law}
 use Rattle.cp_legend_laws.proofs.PathsOfTree.{legend_law}
 use Rattle.cp_machine.specs.declared.event.Event.{Event}
 use Rattle.cp_machine.specs.declared.event.Event.TheVariants as step
@@ -22,6 +24,7 @@ use Rattle.cp_machine.specs.declared.shown.Shown.TheVariants.{Integer}
 use Rattle.cp_machine.specs.Machine.{Machine, is_pending, is_ready, thread_at}
 use Rattle.cp_machine.specs.Opening as machine
 use Rattle.cp_meaning.specs.Components.{components_of}
+use Rattle.cp_meaning.specs.Names.{Name}
 use Rattle.cp_meaning.specs.State.{Gates, State}
 use Rattle.cp_meaning.specs.State as meaning
 use Rattle.cp_meaning.specs.Steps.{step_of, line_at}
@@ -32,6 +35,7 @@ use Rattle.cp_run.specs.Slots.{slots}
 use Rattle.cp_run.specs.System.{System}
 use Rattle.cp_run.specs.Trace.{holders_in}
 use Rattle.cp_run.proofs.Choosing.{those_same}
+use Rattle.cp_resolved.specs.Openings.{openings_of}
 use Rattle.cp_resolved.specs.TreeLayouts.{layouts_of}
 use Rattle.cp_refine.specs.InStep.{CanGo, CanEnter, GoInStep, LooksAlike}
 use Rattle.cp_refine.specs.Named.{named, named_gates, is_some}
@@ -49,12 +53,15 @@ use Rattle.cp_story_laws.specs.Lines.{next_line}
 use Rattle.cp_story_laws.specs.Standings as stands
 use Rattle.cp_story_laws.specs.Standings.{Standing, standings, resumed}
 use Rattle.cp_story_laws.specs.Statements.{call_told, call_in, event_on_names, event_told, displayed_told, begins_told, waits_told, standing_told, TellsEvents, EventsLaw}
-use Rattle.cp_story_laws.proofs.Entered.{call_same}
+use Rattle.cp_story_laws.proofs.CalledInProgram.{calls_routine}
+use Rattle.cp_story_laws.proofs.Entered.{call_same, scope_same}
 use Rattle.cp_story_laws.proofs.Entering.{step_enters, enters_seen}
+use Rattle.cp_story_laws.proofs.EntersRoutine.{enters_routine}
 use Rattle.cp_story_laws.proofs.FoldsInStep.{KeepRelated, EndRelated, ends_related}
 use Rattle.cp_story_laws.proofs.NextLines.{lines_same}
 use Rattle.cp_story_laws.proofs.Together as together
 use Rattle.cp_story_laws.proofs.OpenCalls.{each_of_none, stack_kept, last_kept, pushed_kept, popped_kept}
+use Rattle.cp_story_laws.proofs.RoutinesExecuted.{executes_named, legend_name}
 use Rattle.cp_story_laws.proofs.StandingsAgree.{standings_same}
 use Rattle.cp_story_laws.proofs.Waited.{resumed_same, started_same, gated_same, gate_kept, queue_kept}
 use Rattle.cp_story_laws.proofs.WokenAgree.{is_told, woken_same}
@@ -63,13 +70,13 @@ use Rattle.cp_story_laws.proofs.WokenAgree.{is_told, woken_same}
 pub record EventsAgree (l : Legend) (x : NamedTelling) (y : Telling) : Type 0 where
   pub events : map (event_on_names l) y.events ≡ x.events
   pub choice : y.past.choice ≡ x.past.choice
-  pub calls : map (map call_told) y.past.calls ≡ x.past.calls
+  pub calls : map (map (call_told l)) y.past.calls ≡ x.past.calls
   pub standings : map (standing_told l) y.past.statuses ≡ x.past.standings
 
 kernel_of : (c : calls.Kernel) → Kernel c ≡ Kernel Enter → step.Kernel c ≡ step.Kernel Enter
 kernel_of c e = cc
 
-module _ (t : Tree) (r : Tables) (g : slot_gates.Gates) (l : Legend) where
+module _ (t : Tree) (r : Tables) (g : slot_gates.Gates) (l : Legend) (routines : map (λ (n : RoutineNames). n.name) l.routines ≡ map routine_text (openings_of t.program)) where
   abbrev h : Gates
   h = named_gates g
 
@@ -96,15 +103,19 @@ module _ (t : Tree) (r : Tables) (g : slot_gates.Gates) (l : Legend) where
     kind_same End = refl
     kind_same Admit = refl
 
-    innermost_same : call_told (innermost_call y.past.calls p) ≡ names.innermost x.past p
+    none_same : call_told l story.no_call ≡ names.no_call t.program
+    none_same = ap (λ (x : Name). (let c : EntryCall = record { monitor = 0; routine = x; line = 0 } in c)) (legend_name l.routines (openings_of t.program) 0 routines)
+
+    innermost_same : call_told l (innermost_call y.past.calls p) ≡ names.innermost t.program x.past p
     innermost_same =
-        sym (last_kept call_told story.no_call (calls_of y.past.calls p))
-        ∙ ap (names.last_of names.no_call) (sym (stack_kept call_told y.past.calls p) ∙ ap (λ (cs : List (List EntryCall)). stack_of cs p) agree.calls)
+        sym (last_kept (call_told l) story.no_call (calls_of y.past.calls p))
+        ∙ ap (λ (c : EntryCall). names.last_of c (map (call_told l) (calls_of y.past.calls p))) none_same
+        ∙ ap (names.last_of (names.no_call t.program)) (sym (stack_kept (call_told l) y.past.calls p) ∙ ap (λ (cs : List (List EntryCall)). stack_of cs p) agree.calls)
 
     abbrev Begun : TraceEvent → Type 0
-    Begun event = event ≡ Kernel Enter → call_told (story.call_begun (thread_at m.threads p) aim.line) ≡ names.call_begun t h s p aim.line
+    Begun event = event ≡ Kernel Enter → call_told l (story.call_begun (thread_at m.threads p) aim.line) ≡ names.call_begun t h s p aim.line
 
-    calls_told : (event : TraceEvent) → Begun event → call_in (what_happened event p aim m y.past) ≡ names.call_of_event t h event p aim.line s x.past
+    calls_told : (event : TraceEvent) → Begun event → call_in l (what_happened event p aim m y.past) ≡ names.call_of_event t h event p aim.line s x.past
     calls_told (Kernel Enter) begun = ap Some (begun refl)
     calls_told (Kernel Leave) begun = ap Some innermost_same
     calls_told (Kernel Delay) begun = ap Some innermost_same
@@ -146,7 +157,7 @@ module _ (t : Tree) (r : Tables) (g : slot_gates.Gates) (l : Legend) where
     begins_same End = refl
     begins_same Admit = refl
 
-    line_same : (event : TraceEvent) → line_told (what_happened event p aim m y.past) aim.line ≡ names.line_of_event event aim.line (names.innermost x.past p)
+    line_same : (event : TraceEvent) → line_told (what_happened event p aim m y.past) aim.line ≡ names.line_of_event event aim.line (names.innermost t.program x.past p)
     line_same (Kernel Enter) = refl
     line_same (Kernel Leave) = ap (λ (c : EntryCall). Some c.line) innermost_same
     line_same (Kernel Delay) = refl
@@ -180,15 +191,15 @@ module _ (t : Tree) (r : Tables) (g : slot_gates.Gates) (l : Legend) where
         let o = holders_are in
         cc
 
-    opens : call_told (story.call_begun (thread_at m.threads p) aim.line) ≡ names.call_begun t h s p aim.line → map (map call_told) (names.pushed y.past.calls p (story.call_begun (thread_at m.threads p) aim.line)) ≡ names.pushed x.past.calls p (names.call_begun t h s p aim.line)
+    opens : call_told l (story.call_begun (thread_at m.threads p) aim.line) ≡ names.call_begun t h s p aim.line → map (map (call_told l)) (names.pushed y.past.calls p (story.call_begun (thread_at m.threads p) aim.line)) ≡ names.pushed x.past.calls p (names.call_begun t h s p aim.line)
     opens begun =
-        pushed_kept call_told y.past.calls p (story.call_begun (thread_at m.threads p) aim.line)
-        ∙ (ap (λ (cs : List (List EntryCall)). names.pushed cs p (call_told (story.call_begun (thread_at m.threads p) aim.line))) agree.calls ∙ ap (names.pushed x.past.calls p) begun)
+        pushed_kept (call_told l) y.past.calls p (story.call_begun (thread_at m.threads p) aim.line)
+        ∙ (ap (λ (cs : List (List EntryCall)). names.pushed cs p (call_told l (story.call_begun (thread_at m.threads p) aim.line))) agree.calls ∙ ap (names.pushed x.past.calls p) begun)
 
-    closes : map (map call_told) (names.popped y.past.calls p) ≡ names.popped x.past.calls p
-    closes = popped_kept call_told y.past.calls p ∙ ap (λ (cs : List (List EntryCall)). names.popped cs p) agree.calls
+    closes : map (map (call_told l)) (names.popped y.past.calls p) ≡ names.popped x.past.calls p
+    closes = popped_kept (call_told l) y.past.calls p ∙ ap (λ (cs : List (List EntryCall)). names.popped cs p) agree.calls
 
-    calls_same : (event : TraceEvent) → Begun event → map (map call_told) (told_more r g event p aim m y).past.calls ≡ names.calls_after t h event p aim.line s x.past.calls
+    calls_same : (event : TraceEvent) → Begun event → map (map (call_told l)) (told_more r g event p aim m y).past.calls ≡ names.calls_after t h event p aim.line s x.past.calls
     calls_same (Kernel Enter) begun = opens (begun refl)
     calls_same (Kernel Leave) begun = closes
     calls_same (Kernel Delay) begun = agree.calls
@@ -230,7 +241,7 @@ module _ (t : Tree) (r : Tables) (g : slot_gates.Gates) (l : Legend) where
       record {
         events = agree.events;
         choice = either_choice aim.ends_call ended y.past refl ∙ agree.choice;
-        calls = ap (map (map call_told)) (either_calls aim.ends_call ended y.past refl) ∙ agree.calls;
+        calls = ap (map (map (call_told l))) (either_calls aim.ends_call ended y.past refl) ∙ agree.calls;
         standings = ap (map (standing_told l)) (either_statuses aim.ends_call ended y.past refl) ∙ agree.standings;
       }
 
@@ -276,7 +287,7 @@ module _ (t : Tree) (r : Tables) (g : slot_gates.Gates) (l : Legend) where
       line_now : next_line t s p ≡ aim.line
       line_now = lines_same t r (layouts_of t) s m p (together.going t r g read ok same s m p sim can)
 
-      entered_now : on_slots.event m p ≡ step.Kernel Enter → call_told (story.call_begun (thread_at m2.threads p) aim.line) ≡ names.call_begun t h s2 p aim.line
+      entered_now : on_slots.event m p ≡ step.Kernel Enter → call_told l (story.call_begun (thread_at m2.threads p) aim.line) ≡ names.call_begun t h s2 p aim.line
       entered_now e =
           let k = together.going t r g read ok same s m p sim can in
           let holds = reached_stands t ok h s sim.reached in
@@ -286,7 +297,10 @@ module _ (t : Tree) (r : Tables) (g : slot_gates.Gates) (l : Legend) where
           let w = step_enters t.program s p k.there open_call.0 open_call.1 open_call.2 event in
           let less : p < length s2.processes = (let a = sim.represents.process_count in let b = sim2.represents.process_count in let c = sim.fits.threads in let d = sim2.fits.threads in let f = k.there in omega (arith, a, b, c, d, f)) in
           let n = (meaning.current (meaning.process_at s2.processes p).calls).component in
-          call_same t r (layouts_of t) prepared.stands h ok s2 m2 sim2 p less aim.line w.0 (holds2.kind n ∙ sym (holds.kind n) ∙ w.1)
+          let there : p < length m.threads = (let a = sim.represents.process_count in let b = k.there in omega (arith, a, b)) in
+          let called = enters_routine r (openings_of t.program) m p there (calls_routine t r same) e in
+          let executes = executes_named t.program l.routines routines (thread_at m2.threads p).frame.routine called (meaning.current (meaning.process_at s2.processes p).calls) (scope_same t r (layouts_of t) prepared.stands h ok s2 m2 sim2 p less aim.line w.0) in
+          call_same t r (layouts_of t) prepared.stands h ok s2 m2 sim2 p less aim.line l executes w.0 (holds2.kind n ∙ sym (holds.kind n) ∙ w.1)
 
       woken_now : is_told (on_slots.event m p) ≡ true → option_to_list aim.wakes ≡ resumed stands.is_queued (standings t.program s) (standings t.program s2) p
       woken_now told =
@@ -335,7 +349,7 @@ module _ (t : Tree) (r : Tables) (g : slot_gates.Gates) (l : Legend) where
         record {
           events = refl;
           choice = refl;
-          calls = each_of_none call_told (length (machine.opening r g).threads) ∙ ap (λ (n : ℕ). replicate n []) (sym go.start.represents.process_count);
+          calls = each_of_none (call_told l) (length (machine.opening r g).threads) ∙ ap (λ (n : ℕ). replicate n []) (sym go.start.represents.process_count);
           standings = stand_now on_names.start on_slots.start go.start;
         }
 
@@ -348,4 +362,5 @@ module _ (t : Tree) (r : Tables) (g : slot_gates.Gates) (l : Legend) where
 pub events_law : EventsLaw
 events_law t y r l g read ok symbols same legend choices steps word =
     let w = legend_law t y r l read ok symbols same legend in
-    tells_events t r g (legend_seen l) read ok same w.tables w.paths choices steps word
+    let k = routines_law t y r l read ok symbols same legend in
+    tells_events t r g (legend_seen l) k.names read ok same w.tables w.paths choices steps word

@@ -1,6 +1,10 @@
+pub mod CalledFrames
+pub mod CalledInProgram
+pub mod CalledRoutines
 pub mod ContinueOnly
 pub mod Entered
 pub mod Entering
+pub mod EntersRoutine
 pub mod EventsAgree
 pub mod FoldsInStep
 pub mod Lists
@@ -10,8 +14,11 @@ pub mod OpenCalls
 pub mod OpenMonitors
 pub mod OpenNow
 pub mod Paths
+pub mod QueuesWaited
+pub mod RoutinesExecuted
 pub mod StandingsAgree
 pub mod Together
+pub mod VariablesHeld
 pub mod Waited
 pub mod WaitsAgree
 pub mod WokenAgree

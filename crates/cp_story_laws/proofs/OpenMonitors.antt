@@ -16,28 +16,28 @@ use Rattle.cp_meaning.specs.State.{Environment, Component, component_at, CallKin
 use Rattle.cp_meaning.specs.Steps.{step_of, settled, view_of, admitted, admitted_to}
 use Rattle.cp_meaning.specs.Systems.{SystemMeaning, system_of}
 use Rattle.cp_meaning.specs.Values.{queue_value}
-use Rattle.cp_meaning.proofs.Frames.{Frame, frames, frames-callers, at_set, below, ItemsFit, TopStarts, plain-fit, plain-rest}
-use Rattle.cp_meaning.proofs.Stored.{stored_frames}
+use Rattle.cp_meaning.proofs.Frames.{Frame, frames, at_set, ItemsFit, TopStarts, plain-fit, plain-rest}
 use Rattle.cp_meaning.proofs.Taken.{AllOf, whatever, if_all, Rules, takes_all}
-use Rattle.cp_story_laws.specs.OpenCalls.{is_monitor, entered_by}
-use Rattle.cp_story_laws.proofs.Entering.{EntersBy, EntersWell, takes_well}
+use Rattle.cp_story_laws.specs.OpenCalls.{Entered, entered_by, entry_of, is_monitor}
+use Rattle.cp_story_laws.specs.Routines.{latest_routine}
+use Rattle.cp_story_laws.proofs.CalledFrames.{Framed, framed, framed_callers, innermost, innermost_framed, outer_ones, stored_framed}
 
 -- ---- by what a call is, and of which component
 
-abbrev pub entered_in : List Component → List Frame → List ℕ
+abbrev pub entered_in : List Component → List Framed → List Entered
 entered_in cs [] = []
-entered_in cs (f ∷ fs) = if is_entry_kind f.0 && is_monitor (component_at cs f.1).kind then entered_in cs fs ++ f.1 ∷ [] else entered_in cs fs
+entered_in cs (f ∷ fs) = if is_entry_kind f.0 && is_monitor (component_at cs f.1.component).kind then entered_in cs fs ++ f.1 ∷ [] else entered_in cs fs
 
-pub by_frames : (cs : List Component) (calls : List Call) → entered_by cs calls ≡ entered_in cs (frames calls)
+pub by_frames : (cs : List Component) (calls : List Call) → entered_by cs calls ≡ entered_in cs (framed calls)
 by_frames cs [] = refl
-by_frames cs (c ∷ calls) = ap (λ (xs : List ℕ). if is_entry_kind c.kind && is_monitor (component_at cs c.component).kind then xs ++ c.component ∷ [] else xs) (by_frames cs calls)
+by_frames cs (c ∷ calls) = ap (λ (xs : List Entered). if is_entry_kind c.kind && is_monitor (component_at cs c.component).kind then xs ++ entry_of c ∷ [] else xs) (by_frames cs calls)
 
 -- components of the same kinds
 pub kinds_alike : (cs ds : List Component) (calls : List Call) → ((n : ℕ) → (component_at ds n).kind ≡ (component_at cs n).kind) → entered_by ds calls ≡ entered_by cs calls
 kinds_alike cs ds [] h = refl
 kinds_alike cs ds (c ∷ calls) h =
-    ap (λ (k : SystemKind). if is_entry_kind c.kind && is_monitor k then entered_by ds calls ++ c.component ∷ [] else entered_by ds calls) (h c.component)
-    ∙ ap (λ (xs : List ℕ). if is_entry_kind c.kind && is_monitor (component_at cs c.component).kind then xs ++ c.component ∷ [] else xs) (kinds_alike cs ds calls h)
+    ap (λ (k : SystemKind). if is_entry_kind c.kind && is_monitor k then entered_by ds calls ++ entry_of c ∷ [] else entered_by ds calls) (h c.component)
+    ∙ ap (λ (xs : List Entered). if is_entry_kind c.kind && is_monitor (component_at cs c.component).kind then xs ++ entry_of c ∷ [] else xs) (kinds_alike cs ds calls h)
 
 -- ---- what an item does
 
@@ -45,25 +45,28 @@ module _ (p : Program) (c : Call) (calls : List Call) (cs : List Component) (pid
   abbrev v : View
   v = record { program = p; calls = c ∷ calls; components = cs }
 
-  abbrev fs : List Frame
-  fs = frames (c ∷ calls)
+  abbrev fs : List Framed
+  fs = framed (c ∷ calls)
 
-  abbrev E : List Frame → List ℕ
+  abbrev E : List Framed → List Entered
   E gs = entered_in cs gs
 
   -- one more, one fewer, or the same
-  abbrev pub MovesBy : Move → List Frame → Type 0
-  MovesBy (enters m) gs = E gs ≡ E fs ++ m ∷ []
-  MovesBy (leaves m) gs = E fs ≡ E gs ++ m ∷ []
-  MovesBy (continues m o) gs = (m ≡ c.component) × ((component_at cs m).kind ≡ system_kind.Monitor → E fs ≡ E gs ++ m ∷ [])
+  abbrev pub MovesBy : Move → List Framed → Type 0
+  MovesBy (enters m) gs = E gs ≡ E fs ++ innermost gs ∷ []
+  MovesBy (leaves m) gs = E fs ≡ E gs ++ entry_of c ∷ []
+  MovesBy (continues m o) gs = (m ≡ c.component) × ((component_at cs m).kind ≡ system_kind.Monitor → E fs ≡ E gs ++ entry_of c ∷ [])
   MovesBy _ gs = E gs ≡ E fs
 
   abbrev pub MovesSo : Doing → Type 0
-  MovesSo d = MovesBy d.move (frames d.calls)
+  MovesSo d = MovesBy d.move (framed d.calls)
+
+  abbrev called : ℕ → RoutineMeaning → Entered
+  called d r = record { component = d; routine = latest_routine r.scope }
 
   entry_moves : (k : SystemKind) (d : ℕ) (r : RoutineMeaning) (o : Option Name) (items : List Item) (e : Environment) → (component_at cs d).kind ≡ k → MovesSo (entered_as k v d r o items e)
-  entry_moves system_kind.Monitor d r o items e is = ap (λ (k : SystemKind). if is_monitor k then E fs ++ d ∷ [] else E fs) is
-  entry_moves system_kind.Class d r o items e is = ap (λ (k : SystemKind). if is_monitor k then E fs ++ d ∷ [] else E fs) is
+  entry_moves system_kind.Monitor d r o items e is = ap (λ (k : SystemKind). if is_monitor k then E fs ++ called d r ∷ [] else E fs) is
+  entry_moves system_kind.Class d r o items e is = ap (λ (k : SystemKind). if is_monitor k then E fs ++ called d r ∷ [] else E fs) is
   entry_moves system_kind.Process d r o items e is = refl
 
   start_moves : (k : SystemKind) (d : ℕ) (s : SystemMeaning) (items : List Item) (e : Environment) → AllOf MovesSo (started_as k v d s items e)
@@ -75,61 +78,61 @@ module _ (p : Program) (c : Call) (calls : List Call) (cs : List Component) (pid
   continue_moves entry_routine items q is = (
     refl,
     λ monitor.
-        let after : frames (callers (stored v q (queue_value None)).calls) ≡ frames calls = frames-callers (stored v q (queue_value None)).calls ∙ ap below (stored_frames v q (queue_value None)) in
-        ap (λ (k : CallKind). if is_entry_kind k && is_monitor (component_at cs c.component).kind then E (frames calls) ++ c.component ∷ [] else E (frames calls)) is
-        ∙ (ap (λ (k : SystemKind). if is_monitor k then E (frames calls) ++ c.component ∷ [] else E (frames calls)) monitor
-        ∙ ap (λ (gs : List Frame). E gs ++ c.component ∷ []) (sym after)),
+        let after : framed (callers (stored v q (queue_value None)).calls) ≡ framed calls = framed_callers (stored v q (queue_value None)).calls ∙ ap outer_ones (stored_framed v q (queue_value None)) in
+        ap (λ (k : CallKind). if is_entry_kind k && is_monitor (component_at cs c.component).kind then E (framed calls) ++ entry_of c ∷ [] else E (framed calls)) is
+        ∙ (ap (λ (k : SystemKind). if is_monitor k then E (framed calls) ++ entry_of c ∷ [] else E (framed calls)) monitor
+        ∙ ap (λ (gs : List Framed). E gs ++ entry_of c ∷ []) (sym after)),
   )
   continue_moves own_statement items q is = refl
   continue_moves initial_statement items q is = refl
   continue_moves local_routine items q is = refl
 
-  leave_moves : (b : Bool) (k : SystemKind) (gs : List Frame) → (if b && is_monitor k then E gs ++ c.component ∷ [] else E gs) ≡ E fs → MovesBy (if b then leaving_move k c.component else stays) gs
+  leave_moves : (b : Bool) (k : SystemKind) (gs : List Framed) → (if b && is_monitor k then E gs ++ entry_of c ∷ [] else E gs) ≡ E fs → MovesBy (if b then leaving_move k c.component else stays) gs
   leave_moves true system_kind.Monitor gs e = sym e
   leave_moves true system_kind.Class gs e = e
   leave_moves true system_kind.Process gs e = e
   leave_moves false k gs e = e
 
-  result_frames : (o : Option Name) → frames (with_result v o).calls ≡ frames calls
-  result_frames None = refl
-  result_frames (Some x) = stored_frames (outer v) (plain_place (this_call (outer v)) x) (value_at v (plain_place (this_call v) result_name))
+  result_framed : (o : Option Name) → framed (with_result v o).calls ≡ framed calls
+  result_framed None = refl
+  result_framed (Some x) = stored_framed (outer v) (plain_place (this_call (outer v)) x) (value_at v (plain_place (this_call v) result_name))
 
   return_moves : (o : Option Name) (items : List Item) → MovesSo (returned v o items)
   return_moves o items =
-      leave_moves (is_entry_kind c.kind) (component_at cs c.component).kind (frames (with_result v o).calls)
-      (ap (λ (gs : List Frame). if is_entry_kind c.kind && is_monitor (component_at cs c.component).kind then E gs ++ c.component ∷ [] else E gs) (result_frames o))
+      leave_moves (is_entry_kind c.kind) (component_at cs c.component).kind (framed (with_result v o).calls)
+      (ap (λ (gs : List Framed). if is_entry_kind c.kind && is_monitor (component_at cs c.component).kind then E gs ++ entry_of c ∷ [] else E gs) (result_framed o))
 
-  end_moves : (k : CallKind) (m n : ℕ) (gs : List Frame) → TopStarts m ((k, n) ∷ gs) → E gs ≡ E ((k, n) ∷ gs)
-  end_moves initial_statement m n gs h = refl
-  end_moves own_statement m n gs h = absurd h
-  end_moves local_routine m n gs h = absurd h
-  end_moves entry_routine m n gs h = absurd h
+  end_moves : (k : CallKind) (m n : ℕ) (hs : List Frame) (x : Entered) (gs : List Framed) → TopStarts m ((k, n) ∷ hs) → E gs ≡ E ((k, x) ∷ gs)
+  end_moves initial_statement m n hs x gs h = refl
+  end_moves own_statement m n hs x gs h = absurd h
+  end_moves local_routine m n hs x gs h = absurd h
+  end_moves entry_routine m n hs x gs h = absurd h
 
-  rules : Rules p c calls cs pid MovesSo (λ u. frames u.calls ≡ fs) (ItemsFit fs) (λ q. Unit {0}) (λ e. Unit {0}) (λ k e. Unit {0})
+  rules : Rules p c calls cs pid MovesSo (λ u. framed u.calls ≡ fs) (ItemsFit (frames (c ∷ calls))) (λ q. Unit {0}) (λ e. Unit {0}) (λ k e. Unit {0})
   rules =
       record {
         near = λ d. whatever (target_value v d);
         named = λ i. tt;
         arguments = λ qs es. whatever (bound v qs es);
         handed = λ k es. whatever (bound v (system_of p k).parameters es);
-        plain = plain-fit fs;
-        rest = plain-rest fs;
+        plain = plain-fit (frames (c ∷ calls));
+        rest = plain-rest (frames (c ∷ calls));
         as_it_is = refl;
-        stores = λ q w n. stored_frames v q w;
+        stores = λ q w n. stored_framed v q w;
         goes_on = λ u items a f. ap E a;
         ended = λ items f. refl;
         shows = λ items x f. refl;
         opens = λ r o items e k f. refl;
         enters = λ q r o items e n k i f. entry_moves (component_at cs (component_there v q)).kind (component_there v q) r o items e refl;
         starts = λ q items e n h f. start_moves (component_at cs (component_there v q)).kind (component_there v q) (system_of p (component_at cs (component_there v q)).system) items e;
-        waits = λ q items n f. ap E (stored_frames v q (queue_value (Some pid)));
+        waits = λ q items n f. ap E (stored_framed v q (queue_value (Some pid)));
         continues = λ q items n f. continue_moves c.kind items q refl;
         returns = λ o items f. return_moves o items;
-        finishes = λ m items f. end_moves c.kind m c.component (frames calls) f.0;
+        finishes = λ m items f. end_moves c.kind m c.component (frames calls) (entry_of c) (framed calls) f.0;
       }
 
-  pub takes_moves : (items : List Item) → ItemsFit fs items → AllOf MovesSo (takes v pid items)
-  takes_moves items f = takes_all p c calls cs pid MovesSo (λ u. frames u.calls ≡ fs) (ItemsFit fs) (λ q. Unit {0}) (λ e. Unit {0}) (λ k e. Unit {0}) rules items f
+  pub takes_moves : (items : List Item) → ItemsFit (frames (c ∷ calls)) items → AllOf MovesSo (takes v pid items)
+  takes_moves items f = takes_all p c calls cs pid MovesSo (λ u. framed u.calls ≡ fs) (ItemsFit (frames (c ∷ calls))) (λ q. Unit {0}) (λ e. Unit {0}) (λ k e. Unit {0}) rules items f
 
 -- ---- what the kernel does
 
@@ -178,21 +181,21 @@ admitted_kept s r q = go s.pending
 
 module _ (p : Program) (s : State) (pid : ℕ) (less : pid < length s.processes) (may : (process_at s.processes pid).status ≡ ready) (idle : (r : ℕ) → (process_at s.processes r).status ≡ unstarted → (process_at s.processes r).calls ≡ []) (c : Call) (calls : List Call) (has : (process_at s.processes pid).calls ≡ c ∷ calls) where
   -- the open ones of process q in another state, by the kinds that components have here
-  abbrev pub open_in : State → ℕ → List ℕ
-  open_in t q = entered_in s.components (frames (process_at t.processes q).calls)
+  abbrev pub open_in : State → ℕ → List Entered
+  open_in t q = entered_in s.components (framed (process_at t.processes q).calls)
 
   abbrev pub OthersKept : State → Type 0
   OthersKept t = (q : ℕ) → (q ≡ pid → ⊥) → open_in t q ≡ open_in s q
 
   -- one is opened, one is closed, or they are the same
   abbrev pub OpensBy : Event → State → Type 0
-  OpensBy enter_event t = open_in t pid ≡ open_in s pid ++ (current (process_at t.processes pid).calls).component ∷ []
-  OpensBy leave_event t = (m : ℕ) × (open_in s pid ≡ open_in t pid ++ m ∷ [])
-  OpensBy continue_event t = (component_at s.components c.component).kind ≡ system_kind.Monitor → open_in s pid ≡ open_in t pid ++ c.component ∷ []
+  OpensBy enter_event t = open_in t pid ≡ open_in s pid ++ entry_of (current (process_at t.processes pid).calls) ∷ []
+  OpensBy leave_event t = (m : Entered) × (open_in s pid ≡ open_in t pid ++ m ∷ [])
+  OpensBy continue_event t = (component_at s.components c.component).kind ≡ system_kind.Monitor → open_in s pid ≡ open_in t pid ++ entry_of c ∷ []
   OpensBy _ t = open_in t pid ≡ open_in s pid
 
-  was : frames (c ∷ calls) ≡ frames (process_at s.processes pid).calls
-  was = ap frames (sym has)
+  was : framed (c ∷ calls) ≡ framed (process_at s.processes pid).calls
+  was = ap framed (sym has)
 
   module _ (d : Doing) where
     abbrev become : Status → Process
@@ -209,40 +212,40 @@ module _ (p : Program) (s : State) (pid : ℕ) (less : pid < length s.processes)
     IsMoved u t = (q : ℕ) → (process_at t.processes q).calls ≡ (process_at (slice_set s.processes pid (become u)) q).calls
 
     others_moved : (u : Status) (t : State) → IsMoved u t → OthersKept t
-    others_moved u t k q ne = ap (λ (cs : List Call). entered_in s.components (frames cs)) (k q ∙ ap (λ (x : Process). x.calls) (other_moved u q ne))
+    others_moved u t k q ne = ap (λ (cs : List Call). entered_in s.components (framed cs)) (k q ∙ ap (λ (x : Process). x.calls) (other_moved u q ne))
 
     calls_moved : (u : Status) (t : State) → IsMoved u t → (process_at t.processes pid).calls ≡ d.calls
     calls_moved u t k = k pid ∙ ap (λ (x : Process). x.calls) (mine_moved u)
 
-    open_moved : (u : Status) (t : State) → IsMoved u t → open_in t pid ≡ entered_in s.components (frames d.calls)
-    open_moved u t k = ap (λ (cs : List Call). entered_in s.components (frames cs)) (calls_moved u t k)
+    open_moved : (u : Status) (t : State) → IsMoved u t → open_in t pid ≡ entered_in s.components (framed d.calls)
+    open_moved u t k = ap (λ (cs : List Call). entered_in s.components (framed cs)) (calls_moved u t k)
 
-    before : entered_in s.components (frames (c ∷ calls)) ≡ open_in s pid
+    before : entered_in s.components (framed (c ∷ calls)) ≡ open_in s pid
     before = ap (entered_in s.components) was
 
-    same_open : (u : Status) (t : State) → IsMoved u t → entered_in s.components (frames d.calls) ≡ entered_in s.components (frames (c ∷ calls)) → open_in t pid ≡ open_in s pid
+    same_open : (u : Status) (t : State) → IsMoved u t → entered_in s.components (framed d.calls) ≡ entered_in s.components (framed (c ∷ calls)) → open_in t pid ≡ open_in s pid
     same_open u t k w = open_moved u t k ∙ (w ∙ before)
 
-    one_closed : (u : Status) (t : State) (m : ℕ) → IsMoved u t → entered_in s.components (frames (c ∷ calls)) ≡ entered_in s.components (frames d.calls) ++ m ∷ [] → open_in s pid ≡ open_in t pid ++ m ∷ []
-    one_closed u t m k w = sym before ∙ (w ∙ ap (λ (ms : List ℕ). ms ++ m ∷ []) (sym (open_moved u t k)))
+    one_closed : (u : Status) (t : State) (m : Entered) → IsMoved u t → entered_in s.components (framed (c ∷ calls)) ≡ entered_in s.components (framed d.calls) ++ m ∷ [] → open_in s pid ≡ open_in t pid ++ m ∷ []
+    one_closed u t m k w = sym before ∙ (w ∙ ap (λ (ms : List Entered). ms ++ m ∷ []) (sym (open_moved u t k)))
 
-    one_opened : (u : Status) (t : State) (m : ℕ) → IsMoved u t → entered_in s.components (frames d.calls) ≡ entered_in s.components (frames (c ∷ calls)) ++ m ∷ [] → (current d.calls).component ≡ m → open_in t pid ≡ open_in s pid ++ (current (process_at t.processes pid).calls).component ∷ []
-    one_opened u t m k w is =
+    one_opened : (u : Status) (t : State) → IsMoved u t → entered_in s.components (framed d.calls) ≡ entered_in s.components (framed (c ∷ calls)) ++ innermost (framed d.calls) ∷ [] → open_in t pid ≡ open_in s pid ++ entry_of (current (process_at t.processes pid).calls) ∷ []
+    one_opened u t k w =
         open_moved u t k
         ∙ (w
-        ∙ (ap (λ (ms : List ℕ). ms ++ m ∷ []) before
-        ∙ ap (λ (n : ℕ). open_in s pid ++ n ∷ []) (sym (ap (λ (cs : List Call). (current cs).component) (calls_moved u t k) ∙ is))))
+        ∙ (ap (λ (ms : List Entered). ms ++ innermost (framed d.calls) ∷ []) before
+        ∙ ap (λ (x : Entered). open_in s pid ++ x ∷ []) (innermost_framed d.calls ∙ sym (ap (λ (cs : List Call). entry_of (current cs)) (calls_moved u t k)))))
 
-    entering_opens : (b : Bool) (m : ℕ) → MovesBy p c calls s.components pid (enters m) (frames d.calls) → (current d.calls).component ≡ m → OthersKept (entering b s pid m d) × OpensBy enter_event (entering b s pid m d)
-    entering_opens false m w is = (others_moved ready (entering false s pid m d) (λ q. refl), one_opened ready (entering false s pid m d) m (λ q. refl) w is)
-    entering_opens true m w is = (others_moved (at_gate m) (entering true s pid m d) (λ q. refl), one_opened (at_gate m) (entering true s pid m d) m (λ q. refl) w is)
+    entering_opens : (b : Bool) (m : ℕ) → MovesBy p c calls s.components pid (enters m) (framed d.calls) → OthersKept (entering b s pid m d) × OpensBy enter_event (entering b s pid m d)
+    entering_opens false m w = (others_moved ready (entering false s pid m d) (λ q. refl), one_opened ready (entering false s pid m d) (λ q. refl) w)
+    entering_opens true m w = (others_moved (at_gate m) (entering true s pid m d) (λ q. refl), one_opened (at_gate m) (entering true s pid m d) (λ q. refl) w)
 
-    display_opens : (b : Bool) (x : Shown) → entered_in s.components (frames d.calls) ≡ entered_in s.components (frames (c ∷ calls)) → OthersKept (displaying b s pid d x).state × OpensBy (displaying b s pid d x).event (displaying b s pid d x).state
+    display_opens : (b : Bool) (x : Shown) → entered_in s.components (framed d.calls) ≡ entered_in s.components (framed (c ∷ calls)) → OthersKept (displaying b s pid d x).state × OpensBy (displaying b s pid d x).event (displaying b s pid d x).state
     display_opens true x w = (λ q ne. refl, refl)
     display_opens false x w = (others_moved ready (displaying false s pid d x).state (λ q. refl), same_open ready (displaying false s pid d x).state (λ q. refl) w)
 
     -- a process that begins has no entry call
-    module _ (w : entered_in s.components (frames d.calls) ≡ entered_in s.components (frames (c ∷ calls))) where
+    module _ (w : entered_in s.components (framed d.calls) ≡ entered_in s.components (framed (c ∷ calls))) where
       abbrev moved : State
       moved = moved_to ready s pid d
 
@@ -256,12 +259,12 @@ module _ (p : Program) (s : State) (pid : ℕ) (less : pid < length s.processes)
           not_mine same = let bad : ready ≡ unstarted = sym (ap (λ (x : Process). x.status) (mine_moved ready)) ∙ (ap (λ (k : ℕ). (process_at moved.processes k).status) (sym same) ∙ none) in absurd (cc)
 
           empty : open_in moved r ≡ []
-          empty = ap (λ (cs : List Call). entered_in s.components (frames cs)) (ap (λ (x : Process). x.calls) (other_moved ready r not_mine) ∙ idle r (sym (ap (λ (x : Process). x.status) (other_moved ready r not_mine)) ∙ none))
+          empty = ap (λ (cs : List Call). entered_in s.components (framed cs)) (ap (λ (x : Process). x.calls) (other_moved ready r not_mine) ∙ idle r (sym (ap (λ (x : Process). x.status) (other_moved ready r not_mine)) ∙ none))
 
           by : (q : ℕ) → ((q ≡ r) × (r < length moved.processes) × (process_at (slice_set moved.processes r new) q ≡ new)) ⊎ ((q ≡ r → length moved.processes ≤ r) × (process_at (slice_set moved.processes r new) q ≡ process_at moved.processes q)) →
-              entered_in s.components (frames (process_at (slice_set moved.processes r new) q).calls) ≡ open_in moved q
-          by q (inl h) = ap (λ (x : Process). entered_in s.components (frames x.calls)) h.2 ∙ (sym empty ∙ ap (open_in moved) (sym h.0))
-          by q (inr h) = ap (λ (x : Process). entered_in s.components (frames x.calls)) h.1
+              entered_in s.components (framed (process_at (slice_set moved.processes r new) q).calls) ≡ open_in moved q
+          by q (inl h) = ap (λ (x : Process). entered_in s.components (framed x.calls)) h.2 ∙ (sym empty ∙ ap (open_in moved) (sym h.0))
+          by q (inr h) = ap (λ (x : Process). entered_in s.components (framed x.calls)) h.1
 
       start_as_opens : (r : ℕ) (u : Status) (n : ℕ) (e : Environment) → (process_at moved.processes r).status ≡ u → OthersKept (starting_as p s pid d r u n e).state × OpensBy (starting_as p s pid d r u n e).event (starting_as p s pid d r u n e).state
       start_as_opens r unstarted n e is = begin_opens r n e is
@@ -271,32 +274,28 @@ module _ (p : Program) (s : State) (pid : ℕ) (less : pid < length s.processes)
       start_opens None n e = (others_moved ready moved (λ q. refl), same_open ready moved (λ q. refl) w)
       start_opens (Some r) n e = start_as_opens r (process_at moved.processes r).status n e refl
 
-    kernel_opens : (move : Move) → MovesBy p c calls s.components pid move (frames d.calls) → EntersBy p c calls s.components pid move d.calls → OthersKept (kernel_step p s pid d move).state × OpensBy (kernel_step p s pid d move).event (kernel_step p s pid d move).state
-    kernel_opens stays w i = (others_moved ready (moved_to ready s pid d) (λ q. refl), same_open ready (moved_to ready s pid d) (λ q. refl) w)
-    kernel_opens (enters m) w i = entering_opens (is_anybody_inside m s.processes) m w i.1
-    kernel_opens (leaves m) w i =
+    kernel_opens : (move : Move) → MovesBy p c calls s.components pid move (framed d.calls) → OthersKept (kernel_step p s pid d move).state × OpensBy (kernel_step p s pid d move).event (kernel_step p s pid d move).state
+    kernel_opens stays w = (others_moved ready (moved_to ready s pid d) (λ q. refl), same_open ready (moved_to ready s pid d) (λ q. refl) w)
+    kernel_opens (enters m) w = entering_opens (is_anybody_inside m s.processes) m w
+    kernel_opens (leaves m) w =
         let t = let_in s.gates (moved_to ready s pid d) m in
-        (others_moved ready t (let_in_kept s.gates (moved_to ready s pid d) m), (m, one_closed ready t m (let_in_kept s.gates (moved_to ready s pid d) m) w))
-    kernel_opens (delays m) w i =
+        (others_moved ready t (let_in_kept s.gates (moved_to ready s pid d) m), (entry_of c, one_closed ready t (entry_of c) (let_in_kept s.gates (moved_to ready s pid d) m) w))
+    kernel_opens (delays m) w =
         let t = let_in s.gates (moved_to (delayed m) s pid d) m in
         (others_moved (delayed m) t (let_in_kept s.gates (moved_to (delayed m) s pid d) m), same_open (delayed m) t (let_in_kept s.gates (moved_to (delayed m) s pid d) m) w)
-    kernel_opens (continues m o) w i =
-        let t = continuing (moved_to ready s pid d) m o in (
-          others_moved ready t (continuing_kept (moved_to ready s pid d) m o),
-          λ monitor. one_closed ready t c.component (continuing_kept (moved_to ready s pid d) m o) (w.1 (ap (λ (n : ℕ). (component_at s.components n).kind) w.0 ∙ monitor) ∙ ap (λ (n : ℕ). entered_in s.components (frames d.calls) ++ n ∷ []) w.0),
-        )
-    kernel_opens (starts n e) w i = start_opens w (process_of n (moved_to ready s pid d).processes) n e
-    kernel_opens (shows x) w i = display_opens (length s.output == output_room) x w
-    kernel_opens ends w i = (others_moved ended (moved_to ended s pid d) (λ q. refl), same_open ended (moved_to ended s pid d) (λ q. refl) w)
+    kernel_opens (continues m o) w =
+        let t = continuing (moved_to ready s pid d) m o in
+        (others_moved ready t (continuing_kept (moved_to ready s pid d) m o), λ monitor. one_closed ready t (entry_of c) (continuing_kept (moved_to ready s pid d) m o) (w.1 (ap (λ (n : ℕ). (component_at s.components n).kind) w.0 ∙ monitor)))
+    kernel_opens (starts n e) w = start_opens w (process_of n (moved_to ready s pid d).processes) n e
+    kernel_opens (shows x) w = display_opens (length s.output == output_room) x w
+    kernel_opens ends w = (others_moved ended (moved_to ended s pid d) (λ q. refl), same_open ended (moved_to ended s pid d) (λ q. refl) w)
 
-  settled_opens : (o : Outcome Doing) → AllOf (MovesSo p c calls s.components pid) o → AllOf (EntersWell p c calls s.components pid) o → OthersKept (settled p s pid o).state × OpensBy (settled p s pid o).event (settled p s pid o).state
-  settled_opens (Ok d) w i = kernel_opens d d.move w i
-  settled_opens (Err e) w i = (λ q ne. refl, refl)
+  settled_opens : (o : Outcome Doing) → AllOf (MovesSo p c calls s.components pid) o → OthersKept (settled p s pid o).state × OpensBy (settled p s pid o).event (settled p s pid o).state
+  settled_opens (Ok d) w = kernel_opens d d.move w
+  settled_opens (Err e) w = (λ q ne. refl, refl)
 
   pub step_opens : ItemsFit (frames (process_at s.processes pid).calls) (process_at s.processes pid).items → OthersKept (step_of p s pid).state × OpensBy (step_of p s pid).event (step_of p s pid).state
   step_opens fit =
       settled_opens (takes (view_of p s pid) pid (process_at s.processes pid).items)
       (subst (λ (ds : List Call). AllOf (MovesSo p c calls s.components pid) (takes (record { program = p; calls = ds; components = s.components }) pid (process_at s.processes pid).items)) (sym has)
       (takes_moves p c calls s.components pid (process_at s.processes pid).items (subst (λ (ds : List Call). ItemsFit (frames ds) (process_at s.processes pid).items) has fit)))
-      (subst (λ (ds : List Call). AllOf (EntersWell p c calls s.components pid) (takes (record { program = p; calls = ds; components = s.components }) pid (process_at s.processes pid).items)) (sym has)
-      (takes_well p c calls s.components pid (process_at s.processes pid).items))

@@ -21,10 +21,10 @@ use Rattle.cp_machine.specs.declared.gates.Gates as slot_gates
 use Rattle.cp_machine.specs.declared.process.Status as slot_status
 use Rattle.cp_machine.specs.declared.process.Status.TheVariants as status
 use Rattle.cp_machine.specs.Machine.{Machine, thread_at}
+use Rattle.cp_meaning.specs.Names.{Name}
 use Rattle.cp_meaning.specs.Kernel.{Event, local_event, enter_event, leave_event, delay_event, continue_event, start_event, display_event, ended_event, fault_event, output_full}
 use Rattle.cp_meaning.specs.State.{Component, component_at, process_at, Call, current, Gates, State, Status, unstarted, ready, Process}
 use Rattle.cp_meaning.specs.Steps.{first_components, line_at, own_begun, process_first, processes_from, step_of}
-use Rattle.cp_meaning.proofs.Frames.{frames}
 use Rattle.cp_meaning.proofs.OwnershipLemmas.{reached}
 use Rattle.cp_run.specs.declared.line.TraceEvent.TheVariants.{Admit}
 use Rattle.cp_run.specs.Slots.{slots}
@@ -43,9 +43,10 @@ use Rattle.cp_run.specs.Stop.{last_state}
 use Rattle.cp_story_laws.specs.Events as names
 use Rattle.cp_story_laws.specs.Events.{EntryCall, NamedTelling, monitor_of, stack_of, names_teller, names_telling}
 use Rattle.cp_story_laws.specs.Lines.{next_line}
-use Rattle.cp_story_laws.specs.OpenCalls.{entered_by, monitors_entered}
+use Rattle.cp_story_laws.specs.OpenCalls.{Entered, entered_by, entry_of, monitors_entered}
 use Rattle.cp_story_laws.specs.Standings.{is_queued, resumed, standings}
-use Rattle.cp_story_laws.specs.Statements.{OpenCallsAre, OpenCallsLaw}
+use Rattle.cp_story_laws.specs.Statements.{OpenCallsAre, OpenCallsLaw, numbered_call, numbered_entry}
+use Rattle.cp_story_laws.proofs.CalledFrames.{framed}
 use Rattle.cp_story_laws.proofs.ContinueOnly.{continue_in_monitor, executes_monitor}
 use Rattle.cp_story_laws.proofs.FoldsInStep.{KeepRelated, ends_related}
 use Rattle.cp_story_laws.proofs.OpenMonitors.{OpensBy, OthersKept, entered_in, step_opens, by_frames, kinds_alike, admitted_kept}
@@ -104,11 +105,11 @@ module _ (t : Tree) (r : Tables) (g : slot_gates.Gates) (read : IsRead t.program
   abbrev on_slots : System Machine
   on_slots = slots r g
 
-  abbrev mon : EntryCall → ℕ
-  mon c = c.monitor
+  abbrev mon : EntryCall → ℕ × Name
+  mon c = numbered_call c
 
-  abbrev number : ℕ → ℕ
-  number n = monitor_of t.program h n
+  abbrev number : Entered → ℕ × Name
+  number x = numbered_entry t.program h x
 
   -- what is remembered of each process
   pub record OpenNow (s : State) (x : NamedTelling) : Type 0 where
@@ -120,9 +121,9 @@ module _ (t : Tree) (r : Tables) (g : slot_gates.Gates) (read : IsRead t.program
   module _ (s u : State) (p : ℕ) (less : p < length s.processes) (count : length u.processes ≡ length s.processes) (others : (q : ℕ) → (q ≡ p → ⊥) → monitors_entered u q ≡ monitors_entered s q) (x : NamedTelling) (now : OpenNow s x) (line : Option ℕ) (woken : List ℕ) where
     -- one is opened, one is closed, or they are the same
     abbrev Opens : slot_event.Event → Type 0
-    Opens (slot.Kernel Enter) = monitors_entered u p ≡ monitors_entered s p ++ (current (process_at u.processes p).calls).component ∷ []
-    Opens (slot.Kernel Leave) = (m : ℕ) × (monitors_entered s p ≡ monitors_entered u p ++ m ∷ [])
-    Opens (slot.Kernel Continue) = (m : ℕ) × (monitors_entered s p ≡ monitors_entered u p ++ m ∷ [])
+    Opens (slot.Kernel Enter) = monitors_entered u p ≡ monitors_entered s p ++ entry_of (current (process_at u.processes p).calls) ∷ []
+    Opens (slot.Kernel Leave) = (m : Entered) × (monitors_entered s p ≡ monitors_entered u p ++ m ∷ [])
+    Opens (slot.Kernel Continue) = (m : Entered) × (monitors_entered s p ≡ monitors_entered u p ++ m ∷ [])
     Opens _ = monitors_entered u p ≡ monitors_entered s p
 
     known : p < length x.past.calls
@@ -140,18 +141,18 @@ module _ (t : Tree) (r : Tables) (g : slot_gates.Gates) (read : IsRead t.program
     set_many : (new : List EntryCall) → length (slice_set x.past.calls p new) ≡ length u.processes
     set_many new = length-set x.past.calls p new ∙ (now.many ∙ sym count)
 
-    one_more : (c : EntryCall) (n : ℕ) → c.monitor ≡ number n → monitors_entered u p ≡ monitors_entered s p ++ n ∷ [] → map mon (stack_of x.past.calls p ++ c ∷ []) ≡ map number (monitors_entered u p)
+    one_more : (c : EntryCall) (n : Entered) → mon c ≡ number n → monitors_entered u p ≡ monitors_entered s p ++ n ∷ [] → map mon (stack_of x.past.calls p ++ c ∷ []) ≡ map number (monitors_entered u p)
     one_more c n is e =
         map-append mon (stack_of x.past.calls p) (c ∷ [])
-        ∙ (ap (λ (ns : List ℕ). ns ++ c.monitor ∷ []) (now.entered p less)
-        ∙ (ap (λ (k : ℕ). map number (monitors_entered s p) ++ k ∷ []) is
+        ∙ (ap (λ (ns : List (ℕ × Name)). ns ++ mon c ∷ []) (now.entered p less)
+        ∙ (ap (λ (k : ℕ × Name). map number (monitors_entered s p) ++ k ∷ []) is
         ∙ (sym (map-append number (monitors_entered s p) (n ∷ [])) ∙ ap (map number) (sym e))))
 
-    one_less : (m : ℕ) → monitors_entered s p ≡ monitors_entered u p ++ m ∷ [] → map mon (take (length (stack_of x.past.calls p) - 1) (stack_of x.past.calls p)) ≡ map number (monitors_entered u p)
+    one_less : (m : Entered) → monitors_entered s p ≡ monitors_entered u p ++ m ∷ [] → map mon (take (length (stack_of x.past.calls p) - 1) (stack_of x.past.calls p)) ≡ map number (monitors_entered u p)
     one_less m e =
         sym (take-map mon (length (stack_of x.past.calls p) - 1) (stack_of x.past.calls p))
         ∙ (ap (λ (n : ℕ). take (n - 1) (map mon (stack_of x.past.calls p))) (sym (length-map (stack_of x.past.calls p) mon))
-        ∙ (ap (λ (ns : List ℕ). take (length ns - 1) ns) (now.entered p less ∙ (ap (map number) e ∙ map-append number (monitors_entered u p) (m ∷ [])))
+        ∙ (ap (λ (ns : List (ℕ × Name)). take (length ns - 1) ns) (now.entered p less ∙ (ap (map number) e ∙ map-append number (monitors_entered u p) (m ∷ [])))
         ∙ all_but_last (map number (monitors_entered u p)) (number m)))
 
     unchanged : monitors_entered u p ≡ monitors_entered s p → (q : ℕ) → q < length u.processes → map mon (stack_of x.past.calls q) ≡ map number (monitors_entered u q)
@@ -164,7 +165,7 @@ module _ (t : Tree) (r : Tables) (g : slot_gates.Gates) (read : IsRead t.program
     pub opens_now : (e : slot_event.Event) → Opens e → OpenNow u (names.with_step t h p line woken e u x)
     opens_now (slot.Kernel Enter) k =
         let c = names.call_begun t h u p line in
-        record { many = set_many (stack_of x.past.calls p ++ c ∷ []); entered = with_stack (stack_of x.past.calls p ++ c ∷ []) (one_more c (current (process_at u.processes p).calls).component refl k) }
+        record { many = set_many (stack_of x.past.calls p ++ c ∷ []); entered = with_stack (stack_of x.past.calls p ++ c ∷ []) (one_more c (entry_of (current (process_at u.processes p).calls)) refl k) }
     opens_now (slot.Kernel Leave) k =
         let new = take (length (stack_of x.past.calls p) - 1) (stack_of x.past.calls p) in
         record { many = set_many new; entered = with_stack new (one_less k.0 k.1) }
@@ -220,10 +221,10 @@ module _ (t : Tree) (r : Tables) (g : slot_gates.Gates) (read : IsRead t.program
     moves : OthersKept t.program s p goes.there goes.was idle has.0 has.1 has.2 u × OpensBy t.program s p goes.there goes.was idle has.0 has.1 has.2 (step_of t.program s p).event u
     moves = step_opens t.program s p goes.there goes.was idle has.0 has.1 has.2 ((reached t.program (well_formed t ok) h s sim.reached).1.orderly.processes p goes.there).fits
 
-    entered_before : (q : ℕ) → monitors_entered s q ≡ entered_in s.components (frames (process_at s.processes q).calls)
+    entered_before : (q : ℕ) → monitors_entered s q ≡ entered_in s.components (framed (process_at s.processes q).calls)
     entered_before q = by_frames s.components (process_at s.processes q).calls
 
-    entered_after : (q : ℕ) → monitors_entered u q ≡ entered_in s.components (frames (process_at u.processes q).calls)
+    entered_after : (q : ℕ) → monitors_entered u q ≡ entered_in s.components (framed (process_at u.processes q).calls)
     entered_after q = kinds_alike s.components u.components (process_at u.processes q).calls kinds ∙ by_frames s.components (process_at u.processes q).calls
 
     others : (q : ℕ) → (q ≡ p → ⊥) → monitors_entered u q ≡ monitors_entered s q
@@ -238,17 +239,17 @@ module _ (t : Tree) (r : Tables) (g : slot_gates.Gates) (read : IsRead t.program
         monitor_is (component_at s.components has.0.component).kind (tables.component_at r has.0.component).kind executed.0
         (kinds_agree t r (layouts_of t) stands s (holds_in s m sim).kind has.0.component (monitor_there t r (layouts_of t) stands has.0.component executed.0 is)) is
 
-    closes : (k : ℕ) → entered_in s.components (frames (process_at s.processes p).calls) ≡ entered_in s.components (frames (process_at u.processes p).calls) ++ k ∷ [] → monitors_entered s p ≡ monitors_entered u p ++ k ∷ []
-    closes k e = entered_before p ∙ (e ∙ ap (λ (ns : List ℕ). ns ++ k ∷ []) (sym (entered_after p)))
+    closes : (k : Entered) → entered_in s.components (framed (process_at s.processes p).calls) ≡ entered_in s.components (framed (process_at u.processes p).calls) ++ k ∷ [] → monitors_entered s p ≡ monitors_entered u p ++ k ∷ []
+    closes k e = entered_before p ∙ (e ∙ ap (λ (ns : List Entered). ns ++ k ∷ []) (sym (entered_after p)))
 
     module _ (x : NamedTelling) (now : OpenNow s x) (line : Option ℕ) (woken : List ℕ) where
-      stays : entered_in s.components (frames (process_at u.processes p).calls) ≡ entered_in s.components (frames (process_at s.processes p).calls) → monitors_entered u p ≡ monitors_entered s p
+      stays : entered_in s.components (framed (process_at u.processes p).calls) ≡ entered_in s.components (framed (process_at s.processes p).calls) → monitors_entered u p ≡ monitors_entered s p
       stays e = entered_after p ∙ (e ∙ sym (entered_before p))
 
       opens : (e : Event) → (step_of t.program s p).event ≡ e → OpensBy t.program s p goes.there goes.was idle has.0 has.1 has.2 e u → Opens s u p goes.there (same_many s u m n sim sim2) others x now line woken (event_of p (line_at t s p) e)
-      opens enter_event e w = entered_after p ∙ (w ∙ ap (λ (ns : List ℕ). ns ++ (current (process_at u.processes p).calls).component ∷ []) (sym (entered_before p)))
+      opens enter_event e w = entered_after p ∙ (w ∙ ap (λ (ns : List Entered). ns ++ entry_of (current (process_at u.processes p).calls) ∷ []) (sym (entered_before p)))
       opens leave_event e w = (w.0, closes w.0 w.1)
-      opens continue_event e w = (has.0.component, closes has.0.component (w (in_monitor e)))
+      opens continue_event e w = (entry_of has.0, closes (entry_of has.0) (w (in_monitor e)))
       opens delay_event e w = stays w
       opens start_event e w = stays w
       opens display_event e w = stays w

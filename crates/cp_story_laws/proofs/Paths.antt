@@ -26,7 +26,7 @@ use Rattle.cp_story_laws.proofs.Lists.{find_only}
 abbrev no_name : Named
 no_name = record { path = []; kind = kind.Class; system = 0; monitor = None; base = 0 }
 
-abbrev name_at : List Named → ℕ → Named
+abbrev pub name_at : List Named → ℕ → Named
 name_at ns n = slice_index_or ns n no_name
 
 abbrev none_called : Called
@@ -101,21 +101,25 @@ module _ (t : Tree) (r : Tables) (l : Layouts) (stands : Stands (ground_of t r) 
       only i lt h = own_numbers t r l stands i n j (kind_at i lt ∙ is_its_number (name_at ns i).kind j h) e
 
   -- the component in which a cell is
-  pub owner_path : (n cell : ℕ) → n < length r.components → (component_at r n).base ≤ cell → cell < (component_at r n).base + own_of r n → path_in (owner ns cell) ≡ path_text p (named.component_at (first_components p) n).path
-  owner_path n cell there le inside = ap path_in (owner_is None ns n cell less from after) ∙ path_at n less
-    where
-      less : n < length ns
-      less = let a = count in omega (arith, a, there)
+  module _ (n cell : ℕ) (there : n < length r.components) where
+    less : n < length ns
+    less = let a = count in omega (arith, a, there)
 
-      base_at : (i : ℕ) → i < length ns → (component_at r i).base ≡ (name_at ns i).base
-      base_at i lt = ap (λ (c : Component). c.base) (tabled_at i lt)
+    base_at : (i : ℕ) → i < length ns → (component_at r i).base ≡ (name_at ns i).base
+    base_at i lt = ap (λ (c : Component). c.base) (tabled_at i lt)
 
-      from : (name_at ns n).base ≤ cell
-      from = let e = base_at n less in omega (arith, e, le)
+    after : cell < (component_at r n).base + own_of r n → (i : ℕ) → n < i → i < length ns → cell < (name_at ns i).base
+    after inside i lt known =
+        let a = count in
+        let b = typed.apart n i lt (omega (arith, a, known)) in
+        let e = base_at i known in
+        omega (arith, b, e, inside)
 
-      after : (i : ℕ) → n < i → i < length ns → cell < (name_at ns i).base
-      after i lt known =
-          let a = count in
-          let b = typed.apart n i lt (omega (arith, a, known)) in
-          let e = base_at i known in
-          omega (arith, b, e, inside)
+    pub same_component : component_at r n ≡ tabled (name_at ns n)
+    same_component = tabled_at n less
+
+    pub owner_component : (component_at r n).base ≤ cell → cell < (component_at r n).base + own_of r n → owner ns cell ≡ Some (name_at ns n)
+    owner_component le inside = owner_is None ns n cell less (let e = base_at n less in omega (arith, e, le)) (after inside)
+
+    pub owner_path : (component_at r n).base ≤ cell → cell < (component_at r n).base + own_of r n → path_in (owner ns cell) ≡ path_text p (named.component_at (first_components p) n).path
+    owner_path le inside = ap path_in (owner_component le inside) ∙ path_at n less

@@ -38,7 +38,7 @@ one_cell : (a b : ℕ) → Permanent a ≡ Permanent b → a ≡ b
 one_cell a b e = cc
 
 module _ (t : Tree) (r : Tables) (l : Layouts) (g : Gates) (ok : IsAccepted t) (prepared : Prepared t r l) (legend : Legend) (tables : map tabled legend.components ≡ r.components) (paths : map called_in_legend legend.components ≡ map (called_in_language t.program) (components_of t.program)) (s : State) (m : Machine) (sim : Simulates t r l g s m) where
-  holds : HoldsInReached t.program s
+  pub holds : HoldsInReached t.program s
   holds = reached_stands t ok g s sim.reached
 
   -- ---- at a gate
@@ -53,13 +53,13 @@ module _ (t : Tree) (r : Tables) (l : Layouts) (g : Gates) (ok : IsAccepted t) (
     there : n < length s.components
     there = let a = sim.represents.component_count in let b = inside.there in omega (arith, a, b)
 
-    ends : place.offset + 1 ≤ cells_of place.whole
+    pub ends : place.offset + 1 ≤ cells_of place.whole
     ends = part_ends place.whole _ x.choices (place.offset, queue_type) ((sim.represents.components n there).variables x.name place.whole inside.known).typed place.chosen
 
-    cell_is : cell ≡ (component_at r n).base + (l.systems (component_at r n).system).slots x.name + place.offset
+    pub cell_is : cell ≡ (component_at r n).base + (l.systems (component_at r n).system).slots x.name + place.offset
     cell_is = one_cell cell _ (place.address ∙ ap (λ (a : Address). further a place.offset) inside.address)
 
-    fits : (l.systems (component_at r n).system).slots x.name + cells_of place.whole ≤ own_of r n
+    pub fits : (l.systems (component_at r n).system).slots x.name + cells_of place.whole ≤ own_of r n
     fits = (prepared.stands.systems (component_at r n).system (prepared.program.below n inside.there)).cells x.name place.whole inside.known
 
     queue_path : standing_of t.program s (delayed n) ≡ standing_told legend (status.Delayed cell)

@@ -1,6 +1,6 @@
 -- What is told of a run of a program on its own names: each kernel call, process end and admission, with its process, the entry call and the line, what it displays, the choice
 -- before it, who goes on by it, how the processes stand then, and who is inside each monitor.
-use Rattle.std.specs.Prelude.{ℕ, ◌-◌, ◌==◌, Bool, false, List, [], ◌∷◌, ◌++◌, length, replicate, take, Option, Some, None, pos, slice_index_or, slice_set, unwrap_or}
+use Rattle.std.specs.Prelude.{ℕ, ◌-◌, ◌==◌, Bool, false, List, [], ◌∷◌, ◌++◌, length, replicate, take, Option, Some, None, pos, slice_get, slice_index_or, slice_set, unwrap_or}
 use Rattle.std.specs.List.{position_or_len}
 use Rattle.cp_tree.specs.Syntax.{Program, Tree}
 use Rattle.cp_machine.specs.declared.event.Event.{Event}
@@ -12,18 +12,22 @@ use Rattle.cp_run.specs.declared.line.TraceEvent.{TraceEvent}
 use Rattle.cp_run.specs.declared.line.TraceEvent.TheVariants.{Kernel, End, Admit}
 use Rattle.cp_run.specs.Run.{may, those_below}
 use Rattle.cp_run.specs.Trace.{holders_in}
+use Rattle.cp_meaning.specs.Names.{Name}
 use Rattle.cp_meaning.specs.Readings.{monitors_of}
-use Rattle.cp_meaning.specs.State.{current, process_at, Gates, State}
+use Rattle.cp_meaning.specs.State.{Call, current, process_at, Gates, State}
 use Rattle.cp_meaning.specs.Steps.{opening}
 use Rattle.cp_refine.specs.Named.{named, is_some}
+use Rattle.cp_resolved.specs.Openings.{openings_of}
 use Rattle.cp_run.specs.Fold.{Fold, fold_run}
 use Rattle.cp_story.specs.Story.{Decision}
 use Rattle.cp_story_laws.specs.Lines.{next_line}
+use Rattle.cp_story_laws.specs.Routines.{name_of, routine_of}
 use Rattle.cp_story_laws.specs.Standings.{Standing, standings, standing_at, is_gated, is_queued, resumed, started}
 
--- an entry call: the number of its monitor, and the line on which it stands
+-- an entry call: the number of its monitor, the routine that is called, and the line on which the call stands
 pub record EntryCall : Type 0 where
   pub monitor : ℕ
+  pub routine : Name
   pub line : ℕ
 
 pub record NamedEvent : Type 0 where
@@ -72,11 +76,12 @@ popped stacks p = slice_set stacks p (take (length (stack_of stacks p) - 1) (sta
 
 -- ---- entry calls
 
-abbrev pub no_call : EntryCall
-no_call = record { monitor = 0; line = 0 }
+-- in place of a call where none is open: of the first monitor and the first routine
+abbrev pub no_call : Program → EntryCall
+no_call p = record { monitor = 0; routine = name_of (slice_get (openings_of p) 0); line = 0 }
 
-abbrev pub innermost : Remembered → ℕ → EntryCall
-innermost past p = last_of no_call (stack_of past.calls p)
+abbrev pub innermost : Program → Remembered → ℕ → EntryCall
+innermost p past q = last_of (no_call p) (stack_of past.calls q)
 
 -- the number of the monitor that a component is: its place among the monitors
 abbrev pub monitor_of : Program → Gates → (component : ℕ) → ℕ
@@ -84,7 +89,9 @@ monitor_of p g n = position_or_len (λ m. m == n) (monitors_of (opening p g))
 
 -- the call that process p has just begun, from a line
 abbrev pub call_begun : Tree → Gates → State → ℕ → (line : Option ℕ) → EntryCall
-call_begun t g s p line = record { monitor = monitor_of t.program g (current (process_at s.processes p).calls).component; line = unwrap_or line 0 }
+call_begun t g s p line =
+    let c : Call = current (process_at s.processes p).calls in
+    record { monitor = monitor_of t.program g c.component; routine = routine_of c; line = unwrap_or line 0 }
 
 -- `continue` returns from its entry
 abbrev pub calls_after : Tree → Gates → TraceEvent → ℕ → (line : Option ℕ) → State → List (List EntryCall) → List (List EntryCall)
@@ -100,7 +107,7 @@ call_of_event t g (Kernel Enter) p line s past = Some (call_begun t g s p line)
 call_of_event t g (Kernel StartProcess) p line s past = None
 call_of_event t g (Kernel Display) p line s past = None
 call_of_event t g End p line s past = None
-call_of_event t g _ p line s past = Some (innermost past p)
+call_of_event t g _ p line s past = Some (innermost t.program past p)
 
 abbrev pub waits_then : TraceEvent → ℕ → List Standing → Bool
 waits_then (Kernel Enter) p now = is_gated (standing_at now p)
@@ -131,7 +138,7 @@ event_of t g event p line woken s past =
       waits = waits_then event p (standings t.program s);
       displayed = displayed_by event ((named t g).output s);
       begins = begun_by event past.standings (standings t.program s);
-      line = line_of_event event line (innermost past p);
+      line = line_of_event event line (innermost t.program past p);
       choice = past.choice;
       woken = woken;
       let_in = resumed is_gated past.standings (standings t.program s) p;

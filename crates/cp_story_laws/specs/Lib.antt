@@ -1,6 +1,9 @@
 pub mod Events
 pub mod Lines
 pub mod OpenCalls
+pub mod Queues
+pub mod Routines
 pub mod Standings
 pub mod Statements
+pub mod Variables
 pub mod Waits

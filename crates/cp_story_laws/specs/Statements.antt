@@ -1,32 +1,38 @@
 -- What the laws say: a story of the slot machine tells what happens on a program's own names.
-use Rattle.std.specs.Prelude.{◌≡◌, ℕ, ◌<◌, Bool, false, List, map, option_map, Option, Some, None}
+use Rattle.std.specs.Prelude.{◌≡◌, ℕ, ◌<◌, Bool, false, List, length, map, option_map, Option, Some, None, slice_get}
 use Rattle.cp_tree.specs.Read.{IsRead}
-use Rattle.cp_tree.specs.Syntax.{Tree}
+use Rattle.cp_tree.specs.Syntax.{Program, Tree}
 use Rattle.cp_symbols.specs.declared.symbols.Symbols.{Symbols}
 use Rattle.cp_layout.specs.Laid.{plain, laid, whole}
 use Rattle.cp_layout.specs.Symbols.{AreSymbolsOf}
 use Rattle.cp_slots.specs.Tables.{Tables}
 use Rattle.cp_lawful.specs.Accepted.{IsAccepted}
 use Rattle.cp_legend.specs.declared.legend.Legend as code_legend
-use Rattle.cp_legend.specs.Names.{Legend, IsLegendOf, legend_seen, monitor_in, path_in, source_seen}
-use Rattle.cp_legend.specs.Places.{owner}
+use Rattle.cp_legend.specs.Names.{Legend, Named, IsLegendOf, legend_seen, monitor_in, name_of_routine, path_in, source_seen}
+use Rattle.cp_legend.specs.Places.{owner, variables_at}
 use Rattle.cp_machine.specs.declared.event.Kernel.TheVariants.{Enter, Leave, Delay, Continue, StartProcess, Display}
 use Rattle.cp_machine.specs.declared.gates.Gates.{Gates}
 use Rattle.cp_machine.specs.declared.process.Status.{Status}
 use Rattle.cp_machine.specs.declared.process.Status.TheVariants as status
 use Rattle.cp_machine.specs.declared.shown.Shown.{Shown}
+use Rattle.cp_machine.specs.Machine.{thread_at}
 use Rattle.cp_run.specs.declared.line.TraceEvent.{TraceEvent}
 use Rattle.cp_run.specs.declared.line.TraceEvent.TheVariants.{Kernel, End, Admit}
+use Rattle.cp_meaning.specs.Names.{Name}
 use Rattle.cp_meaning.specs.State as meaning
 use Rattle.cp_meaning.specs.Steps.{opening}
 use Rattle.cp_refine.specs.Named.{monitor_number, named, named_gates}
+use Rattle.cp_resolved.specs.TreeLayouts.{layouts_of}
+use Rattle.cp_run.specs.Slots.{slots}
 use Rattle.cp_run.specs.Stop.{last_state}
 use Rattle.cp_story.specs.Story.{Happened, Enters, Leaves, Delays, Continues, Starts, Displays, Ends, IsAdmitted, Told, story_of, telling}
 use Rattle.cp_story.specs.Waiting.{Waiting, who_waits}
 use Rattle.cp_story.specs.declared.event.OpenCall.{OpenCall}
 use Rattle.cp_story_laws.specs.Events.{EntryCall, NamedEvent, events_on_names, monitor_of, names_telling, stack_of}
-use Rattle.cp_story_laws.specs.OpenCalls.{monitors_entered}
+use Rattle.cp_story_laws.specs.OpenCalls.{Entered, monitors_entered}
+use Rattle.cp_story_laws.specs.Queues.{WaitsIn}
 use Rattle.cp_story_laws.specs.Standings.{Standing, not_begun, may_go_on, at_gate_of, in_queue_of, has_ended, path_of}
+use Rattle.cp_story_laws.specs.Variables.{HaveValues}
 use Rattle.cp_story_laws.specs.Waits.{NamedWait, who_waits_on_names}
 
 -- ---- what a story says of an event
@@ -41,16 +47,17 @@ event_told (Displays value) = Kernel Display
 event_told Ends = End
 event_told (IsAdmitted call) = Admit
 
-abbrev pub call_told : OpenCall → EntryCall
-call_told c = record { monitor = c.monitor; line = c.line }
+-- a routine by the name that the legend has
+abbrev pub call_told : Legend → OpenCall → EntryCall
+call_told l c = record { monitor = c.monitor; routine = name_of_routine (slice_get l.routines c.routine); line = c.line }
 
-abbrev pub call_in : Happened → Option EntryCall
-call_in (Enters call arguments waits) = Some (call_told call)
-call_in (Leaves call) = Some (call_told call)
-call_in (Delays queue call) = Some (call_told call)
-call_in (Continues queue call) = Some (call_told call)
-call_in (IsAdmitted call) = Some (call_told call)
-call_in _ = None
+abbrev pub call_in : Legend → Happened → Option EntryCall
+call_in l (Enters call arguments waits) = Some (call_told l call)
+call_in l (Leaves call) = Some (call_told l call)
+call_in l (Delays queue call) = Some (call_told l call)
+call_in l (Continues queue call) = Some (call_told l call)
+call_in l (IsAdmitted call) = Some (call_told l call)
+call_in l _ = None
 
 abbrev pub waits_told : Happened → Bool
 waits_told (Enters call arguments waits) = waits
@@ -77,7 +84,7 @@ event_on_names l e =
     record {
       process = e.process;
       event = event_told e.happened;
-      call = call_in e.happened;
+      call = call_in l e.happened;
       waits = waits_told e.happened;
       displayed = displayed_told e.happened;
       begins = begins_told e.happened;
@@ -103,7 +110,7 @@ EventsLaw =
 -- ---- who waits where a run stops
 
 abbrev pub wait_on_names : Legend → Waiting → NamedWait
-wait_on_names l w = record { process = w.process; standing = standing_told l w.status; call = option_map call_told w.call; inside = w.inside }
+wait_on_names l w = record { process = w.process; standing = standing_told l w.status; call = option_map (call_told l) w.call; inside = w.inside }
 
 -- who waits, where, in which call and inside which monitors, is so on the program's own names
 abbrev pub TellsWaits : Tree → Tables → Legend → Gates → (choices steps : ℕ) → List ℕ → Type 0
@@ -116,11 +123,18 @@ WaitsLaw =
 
 -- ---- open calls
 
--- What is remembered of open calls is true: of each process, they are the entry calls of monitors that are open where the run stops, the innermost last.
+-- the number of the monitor, and the routine
+abbrev pub numbered_call : EntryCall → ℕ × Name
+numbered_call c = (c.monitor, c.routine)
+
+abbrev pub numbered_entry : Program → meaning.Gates → Entered → ℕ × Name
+numbered_entry p g e = (monitor_of p g e.component, e.routine)
+
+-- What is remembered of open calls is true: of each process, they are the entry calls of monitors that are open where the run stops, the innermost last, each with its routine.
 abbrev pub OpenCallsAre : Tree → meaning.Gates → (choices steps : ℕ) → List ℕ → Type 0
 OpenCallsAre t g choices steps word =
     (q : ℕ) → q < (named t g).processes →
-    map (λ (c : EntryCall). c.monitor) (stack_of (names_telling t g choices steps word).past.calls q) ≡ map (monitor_of t.program g) (monitors_entered (last_state (named t g) choices steps word) q)
+    map numbered_call (stack_of (names_telling t g choices steps word).past.calls q) ≡ map (numbered_entry t.program g) (monitors_entered (last_state (named t g) choices steps word) q)
 
 abbrev pub OpenCallsLaw : Type 0
 OpenCallsLaw = (t : Tree) (r : Tables) (g : Gates) → IsRead t.program → IsAccepted t → plain r ≡ laid t → (choices steps : ℕ) (word : List ℕ) → OpenCallsAre t (named_gates g) choices steps word
@@ -135,3 +149,30 @@ abbrev pub MonitorsLaw : Type 0
 MonitorsLaw =
     (t : Tree) (y : Symbols) (r : Tables) (l : code_legend.Legend) (g : Gates) → IsRead t.program → IsAccepted t → AreSymbolsOf y (whole t) → plain r ≡ laid t → IsLegendOf l (source_seen y) r.components →
     MonitorsAre t (legend_seen l) (named_gates g)
+
+-- ---- the values of variables
+
+-- Where a run stops, each permanent variable of each component has, in the cells where a story reads it, the value that it has by the meaning.
+abbrev pub ValuesAre : Tree → Tables → Legend → Gates → (choices steps : ℕ) → List ℕ → Type 0
+ValuesAre t r l g choices steps word =
+    (n : ℕ) (c : Named) → slice_get l.components n ≡ Some c →
+    HaveValues (last_state (named t (named_gates g)) choices steps word) (last_state (slots r g) choices steps word) n c ((layouts_of t).systems c.system).variables (variables_at l.permanents c.system)
+
+abbrev pub ValuesLaw : Type 0
+ValuesLaw =
+    (t : Tree) (y : Symbols) (r : Tables) (l : code_legend.Legend) (g : Gates) → IsRead t.program → IsAccepted t → AreSymbolsOf y (whole t) → plain r ≡ laid t → IsLegendOf l (source_seen y) r.components →
+    (choices steps : ℕ) (word : List ℕ) → ValuesAre t r (legend_seen l) g choices steps word
+
+-- ---- queues
+
+-- Where a run stops, each process that is delayed waits by the meaning in the queue that the story names.
+abbrev pub QueuesAre : Tree → Tables → Legend → Gates → (choices steps : ℕ) → List ℕ → Type 0
+QueuesAre t r l g choices steps word =
+    (q n cell : ℕ) → q < length (last_state (named t (named_gates g)) choices steps word).processes →
+    (meaning.process_at (last_state (named t (named_gates g)) choices steps word).processes q).status ≡ meaning.delayed n → (thread_at (last_state (slots r g) choices steps word).threads q).status ≡ status.Delayed cell →
+    WaitsIn t l (last_state (named t (named_gates g)) choices steps word) q n cell
+
+abbrev pub QueuesLaw : Type 0
+QueuesLaw =
+    (t : Tree) (y : Symbols) (r : Tables) (l : code_legend.Legend) (g : Gates) → IsRead t.program → IsAccepted t → AreSymbolsOf y (whole t) → plain r ≡ laid t → IsLegendOf l (source_seen y) r.components →
+    (choices steps : ℕ) (word : List ℕ) → QueuesAre t r (legend_seen l) g choices steps word

@@ -1,8 +1,8 @@
 //! Laws over the definitions alone.
 
-ghost use Rattle.cp_story_laws.specs.Statements.{EventsLaw, MonitorsLaw, OpenCallsLaw, WaitsLaw};
+ghost use Rattle.cp_story_laws.specs.Statements.{EventsLaw, MonitorsLaw, OpenCallsLaw, QueuesLaw, ValuesLaw, WaitsLaw};
 
-/// Each event of a story is the one of the program on its own names: its process, what it is, the line, the entry call and the displayed value, the choice before it, who is
+/// Each event of a story is the one of the program on its own names: its process, what it is, the line, the entry call with the name of its routine and the displayed value, the choice before it, who is
 /// woken and who is let in, how each process stands then, and who is inside each monitor.
 pub fn law_events()
     ensures { EventsLaw }
@@ -13,7 +13,7 @@ pub fn law_waits()
     ensures { WaitsLaw }
 {}
 
-/// Where a run stops, the open calls that are remembered for the next event are the entry calls of monitors that are open by the meaning.
+/// Where a run stops, the open calls that are remembered for the next event are the entry calls of monitors that are open by the meaning, each of its routine.
 pub fn law_open_calls()
     ensures { OpenCallsLaw }
 {}
@@ -21,4 +21,14 @@ pub fn law_open_calls()
 /// The number that a monitor has in events is that of the component which the legend calls as the language does.
 pub fn law_monitors()
     ensures { MonitorsLaw }
+{}
+
+/// Where a run stops, the cells from which a story tells a variable of a component are those of the value that the variable of this name has by the meaning.
+pub fn law_values()
+    ensures { ValuesLaw }
+{}
+
+/// Where a run stops, a process that is delayed waits by the meaning in the queue under whose name the story tells it.
+pub fn law_queues()
+    ensures { QueuesLaw }
 {}

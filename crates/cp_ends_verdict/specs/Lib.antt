@@ -1,6 +1,0 @@
-pub mod AtOnce
-pub mod Behaviour
-pub mod Expectations
-pub mod Judged
-pub mod Knowledge
-pub mod Marked

@@ -1,5 +1,0 @@
-pub mod Constants
-pub mod Pairs
-pub mod Pieces
-pub mod StoryClauses
-pub mod Telling

@@ -1,3 +1,0 @@
-pub mod MarkText
-pub mod Showing
-pub mod Stories
