@@ -1,0 +1,10 @@
+pub mod AtOnce
+pub mod Behaviour
+pub mod Expectations
+pub mod Judged
+pub mod Knowledge
+pub mod Marked
+pub mod Plain
+pub mod Reading
+pub mod Spelling
+pub mod Steps

@@ -1,0 +1,39 @@
+//! What is known of the schedules of a program.
+
+use cp_ends::End;
+use cp_machine::Shown;
+use cp_waits::Waiting;
+
+/// An end, with the first word that leads to it.
+#[derive(Drop)]
+pub struct KnownEnd {
+    pub end: End,
+    pub word: Vec<u8>,
+}
+
+/// A value that can be displayed, as a report prints it, with the first word that displays it.
+#[derive(Drop)]
+pub struct KnownValue {
+    pub value: Shown,
+    pub text: String,
+    pub word: Vec<u8>,
+}
+
+/// The ends and values of the schedules that were looked at, in the order of their words, and who may wait for ever.
+#[derive(Drop)]
+pub struct KnownEnds {
+    pub ends: Vec<KnownEnd>,
+    pub values: Vec<KnownValue>,
+    /// Who may wait for ever, where that was asked and is settled.
+    pub waits: Option<Vec<Waiting>>,
+    /// Schedules of at most so many choices were looked at; with none, those of any length.
+    pub looked: Option<usize>,
+}
+
+/// What a schedule shows.
+#[derive(Clone, Copy, Drop)]
+pub enum Witness<'a> {
+    End(&'a KnownEnd),
+    Value(&'a KnownValue),
+    Waiting(&'a Waiting),
+}

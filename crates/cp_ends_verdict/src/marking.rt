@@ -1,0 +1,185 @@
+//! Whether all of some expectations hold of schedules of any length.
+
+ghost use Rattle.std.specs.Prelude.{◌≡◌, ◌≤◌, ◌<◌, ◌^◌, ℕ, IfOk, false, true};
+ghost use Rattle.cp_ends.specs.Holds.{HasFindings};
+ghost use Rattle.cp_ends.specs.Whole.{IsAnswer};
+ghost use Rattle.cp_ends_verdict.specs.Knowledge.{IsKnown, KnowsWaits};
+ghost use Rattle.cp_ends_verdict.specs.Marked as spec;
+ghost use Rattle.cp_ends_verdict.specs.declared.verdict.EndsMark.TheVariants.{Misread};
+
+use crate::expectation::{EndsExpectation, Topic};
+use crate::judging::is_whole;
+use crate::knowing::knowledge_of;
+use crate::known::KnownEnds;
+use crate::saying::{MarkedEnds, open_words, sayings_of};
+use crate::verdict::{EndsMark, EndsVerdict, mark_of, verdict_on};
+use cp_ends::{Found, search_ends_with};
+use cp_legend::Legend;
+use cp_machine::Gates;
+use cp_progress::ObserveProgress;
+use cp_run::Limits;
+use cp_slots::Resolved;
+use cp_waits::{Waiting, Waits, find_waits_with};
+use std::alloc::{AllocError, Global};
+
+/// The program that is marked, and how many states there may be.
+#[derive(Clone, Copy)]
+pub struct MarkSubject<'a> {
+    pub program: &'a Resolved,
+    pub legend: &'a Legend,
+    pub limits: Limits,
+    pub most: u32,
+}
+
+/// What all schedules of any length say of some expectations. An observer is told how far the searches have come.
+pub fn mark_list<O: ObserveProgress>(
+    alloc: Global,
+    subject: MarkSubject<'_>,
+    list: &[EndsExpectation],
+    observer: &mut O,
+) -> Result<MarkedEnds, AllocError>
+    ensures mark { 1 ≤ subject.entry.most → spec.can_be_asked subject.entry.limits.gates list.now ≡ true → IfOk result (λ m. spec.IsMarkOf subject.entry.program.now subject.entry.limits.gates subject.entry.limits.steps subject.entry.most list.now m.mark) }
+    ensures refused { spec.can_be_asked subject.entry.limits.gates list.now ≡ false → IfOk result (λ m. m.mark ≡ Misread) }
+    ensures meaning { 1 ≤ subject.entry.most → spec.can_be_asked subject.entry.limits.gates list.now ≡ true → IfOk result (λ m. spec.IsMeantMark subject.entry.program.now subject.entry.limits.gates subject.entry.limits.steps list.now m.mark) }
+{
+    let asks = ask_waits(list);
+    if asks && is_any(subject.limits.gates) {
+        return MarkedEnds::misread(alloc, "waiting can't be asked with --gates any\n");
+    }
+    let known = knowledge(alloc, subject, asks, observer)?;
+    let verdict = verdict_on(&known, list);
+    tell(alloc, subject, &known, list, verdict)
+}
+
+/// Whether anybody in line may go into a monitor that becomes free.
+pub fn is_any(gates: Gates) -> bool
+    ensures { result ≡ spec.is_any gates }
+{
+    match gates {
+        Gates::First => false,
+        Gates::Any => true,
+    }
+}
+
+fn is_of_waiting(topic: &Topic) -> bool
+    ensures { result ≡ spec.is_of_waiting topic.now }
+{
+    match topic {
+        Topic::Waiting(_) => true,
+        _ => false,
+    }
+}
+
+fn asks_waits(expectation: &EndsExpectation) -> bool
+    ensures { result ≡ spec.asks_waits expectation.now }
+{
+    match expectation {
+        EndsExpectation::Never(topic) => is_of_waiting(topic),
+        EndsExpectation::Sometimes(topic) => is_of_waiting(topic),
+        EndsExpectation::Only(_) => false,
+    }
+}
+
+/// Whether one of some expectations asks who waits.
+pub fn ask_waits(list: &[EndsExpectation]) -> bool
+    ensures { result ≡ spec.ask_waits list.now }
+{
+    for expectation in list {
+        if asks_waits(expectation) {
+            return true;
+        }
+    }
+    false
+}
+
+// What is known of the schedules of a program, and of who may wait for ever where that is asked.
+fn knowledge<O: ObserveProgress>(
+    alloc: Global,
+    subject: MarkSubject<'_>,
+    asks: bool,
+    observer: &mut O,
+) -> Result<KnownEnds, AllocError>
+    ensures { 1 ≤ subject.entry.most → IfOk result (λ k. IsKnown subject.entry.program.now subject.entry.limits.gates subject.entry.limits.steps subject.entry.most k) }
+{
+    let MarkSubject {
+        program,
+        limits,
+        most,
+        ..
+    } = subject;
+    let found = search_ends_with(alloc, program, limits, most, observer)?;
+    let waits = waits_of(alloc, program, limits, &found, asks, observer)?;
+    knowledge_of(alloc, program, &found, waits)
+}
+
+// Who may wait for ever, where that is asked, all states are found, and it is settled.
+fn waits_of<O: ObserveProgress>(
+    alloc: Global,
+    program: &Resolved,
+    limits: Limits,
+    found: &Found,
+    asks: bool,
+    observer: &mut O,
+) -> Result<Option<Vec<Waiting>>, AllocError>
+    requires kept { HasFindings program.now found.now }
+    ensures { IfOk result (λ waits. (most : ℕ) → most < 2 ^ 32 → IsAnswer program.now limits.gates limits.steps most found.now → KnowsWaits program.now limits.gates limits.steps waits) }
+{
+    if !asks || found.stopped.is_some() {
+        return Ok(None);
+    }
+    match find_waits_with(alloc, program, limits, found, observer)? {
+        Waits::Known(list) => Ok(Some(list)),
+        Waits::NotSettled(_) => Ok(None),
+    }
+}
+
+// The mark of a verdict, and what is said with it.
+fn tell(
+    alloc: Global,
+    subject: MarkSubject<'_>,
+    known: &KnownEnds,
+    list: &[EndsExpectation],
+    verdict: EndsVerdict<'_>,
+) -> Result<MarkedEnds, AllocError>
+    ensures { IfOk result (λ m. m.mark ≡ spec.mark_of verdict.entry known.now.looked) }
+{
+    let mark = mark_of(verdict, known);
+    let mut note = String::new(alloc);
+    let mut open = String::new(alloc);
+    if mark == EndsMark::Holds {
+        note.push_str(held_words(known))?;
+    }
+    match known.looked {
+        Some(choices) => write!(
+            open,
+            "no schedule of at most {choices} choices settles it (try greater --states)"
+        )?,
+        None => open.push_str(open_words(known))?,
+    }
+    if mark == EndsMark::TooMany {
+        let most = subject.most;
+        write!(note, "too many states: there may be {most}\n")?;
+    }
+    let each = sayings_of(
+        alloc,
+        subject.legend,
+        known,
+        list,
+        "first against it: ",
+        open.as_str(),
+    )?;
+    Ok(MarkedEnds {
+        mark,
+        note,
+        each,
+        last: String::new(alloc),
+    })
+}
+
+fn held_words(known: &KnownEnds) -> &'static str {
+    if is_whole(known) {
+        "for schedules of any length\n"
+    } else {
+        "shown by a schedule\n"
+    }
+}

@@ -1,0 +1,72 @@
+//! Which ends and values an expectation speaks of.
+
+ghost use Rattle.std.specs.Prelude.{◌≡◌};
+ghost use Rattle.cp_ends_verdict.specs.Expectations as spec;
+
+use crate::expectation::EndPattern;
+use cp_ends::End;
+use cp_machine::ErrorName;
+use cp_run::OutcomeKind;
+
+fn is_same_error(wanted: ErrorName, name: ErrorName) -> bool
+    ensures { result ≡ spec.is_same_error wanted name }
+{
+    match (wanted, name) {
+        (ErrorName::Overflow, ErrorName::Overflow) => true,
+        (ErrorName::ZeroDivisor, ErrorName::ZeroDivisor) => true,
+        (ErrorName::Range, ErrorName::Range) => true,
+        (ErrorName::NoCase, ErrorName::NoCase) => true,
+        (ErrorName::QueueInUse, ErrorName::QueueInUse) => true,
+        (ErrorName::NotInit, ErrorName::NotInit) => true,
+        (ErrorName::InitTwice, ErrorName::InitTwice) => true,
+        _ => false,
+    }
+}
+
+fn is_of(pattern: EndPattern, end: End) -> bool
+    ensures { result ≡ spec.is_of pattern end }
+{
+    match (pattern, end) {
+        (EndPattern::Finished, End::Over(OutcomeKind::Finished)) => true,
+        (EndPattern::AllWaiting, End::Over(OutcomeKind::AllWaiting)) => true,
+        (EndPattern::AnyError, End::Over(OutcomeKind::RunError { .. })) => true,
+        (EndPattern::Error(wanted), End::Over(OutcomeKind::RunError { name, .. })) => {
+            is_same_error(wanted, name)
+        }
+        (EndPattern::Alone, End::Alone(_)) => true,
+        (EndPattern::Spins, End::Spins(_)) => true,
+        _ => false,
+    }
+}
+
+/// Whether an end is of one of these kinds.
+pub fn is_named(patterns: &[EndPattern], end: End) -> bool
+    ensures { result ≡ spec.is_named patterns.now end }
+{
+    for pattern in patterns {
+        if is_of(*pattern, end) {
+            return true;
+        }
+    }
+    false
+}
+
+/// Whether a stretch was cut by the limit of steps: this is no end.
+pub fn is_cut(end: End) -> bool
+    ensures { result ≡ spec.is_cut end }
+{
+    match end {
+        End::Over(OutcomeKind::StepLimit) => true,
+        _ => false,
+    }
+}
+
+/// Whether a process is meant.
+pub fn is_meant(wanted: Option<u8>, process: u8) -> bool
+    ensures { result ≡ spec.is_meant wanted process }
+{
+    match wanted {
+        Some(wanted) => process == wanted,
+        None => true,
+    }
+}

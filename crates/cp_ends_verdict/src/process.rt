@@ -1,0 +1,37 @@
+//! Processes as words name them.
+
+ghost use Rattle.std.specs.Prelude.{◌≡◌, map};
+ghost use Rattle.cp_legend.specs.Names.{component_seen};
+ghost use Rattle.cp_ends_verdict.specs.Spelling as spec;
+
+use cp_legend::Legend;
+
+/// The process with this number or name.
+pub fn process_of(legend: &Legend, word: &str) -> Option<u8>
+    ensures { result ≡ spec.process_of (map component_seen legend.now.components.items) word.now }
+{
+    match numbered(legend.processes(), word) {
+        Some(process) => Some(process),
+        None => called(legend, word),
+    }
+}
+
+fn numbered(count: u8, word: &str) -> Option<u8>
+    ensures { result ≡ spec.numbered count word.now }
+{
+    let Ok(number) = word.parse::<u8>() else {
+        return None;
+    };
+    if number < count { Some(number) } else { None }
+}
+
+fn called(legend: &Legend, word: &str) -> Option<u8>
+    ensures { result ≡ spec.called (map component_seen legend.now.components.items) word.now }
+{
+    for process in 0..legend.processes() {
+        if legend.process_name(process) == word {
+            return Some(process);
+        }
+    }
+    None
+}

@@ -1,0 +1,159 @@
+//! What is said with a mark.
+
+ghost use Rattle.std.specs.Prelude.{◌≡◌, IfOk};
+ghost use Rattle.cp_ends_verdict.specs.declared.verdict.EndsMark.TheVariants.{Misread};
+
+use crate::expectation::EndsExpectation;
+use crate::judging::{EndsJudgement, is_whole, judge};
+use crate::known::KnownEnds;
+use crate::verdict::EndsMark;
+use crate::words::{missing_words, push_expectation, push_witness};
+use cp_legend::Legend;
+use std::alloc::{AllocError, Global};
+
+/// Whether an expectation holds.
+#[derive(Clone, Copy, PartialEq, Eq)]
+pub enum Standing {
+    Holds,
+    Fails,
+    Open,
+}
+
+/// What is said of one expectation.
+#[derive(Drop)]
+pub struct Said {
+    /// The expectation as it is written.
+    pub expectation: String,
+    pub standing: Standing,
+    /// Why it does not hold.
+    pub reason: String,
+}
+
+/// A mark, and what is said with it.
+#[derive(Drop)]
+pub struct MarkedEnds {
+    pub mark: EndsMark,
+    /// Lines on all expectations.
+    pub note: String,
+    pub each: Vec<Said>,
+    /// Lines on how the mark was found.
+    pub last: String,
+}
+
+impl MarkedEnds {
+    /// That nothing can be said, and why.
+    pub fn misread(alloc: Global, why: &str) -> Result<MarkedEnds, AllocError>
+        ensures { IfOk result (λ m. m.mark ≡ Misread) }
+    {
+        Ok(MarkedEnds {
+            mark: EndsMark::Misread,
+            note: String::from_str(alloc, why)?,
+            each: Vec::new(alloc),
+            last: String::new(alloc),
+        })
+    }
+
+    /// Adds a line on how the mark was found.
+    pub fn with_line(self, line: &str) -> Result<MarkedEnds, AllocError>
+        ensures { IfOk result (λ m. m.mark ≡ self.mark) }
+    {
+        let mut last = self.last;
+        last.push_str(line)?;
+        Ok(MarkedEnds {
+            mark: self.mark,
+            note: self.note,
+            each: self.each,
+            last,
+        })
+    }
+
+    /// The lines: first those that fail, then those that are not settled.
+    pub fn text(&self, alloc: Global) -> Result<String, AllocError> {
+        let mut text = String::new(alloc);
+        if self.mark == EndsMark::Holds {
+            text.push_str("holds\n")?;
+        }
+        text.push_str(self.note.as_str())?;
+        self.push_those(&mut text, Standing::Fails, "fails: ")?;
+        self.push_those(&mut text, Standing::Open, "not settled: ")?;
+        text.push_str(self.last.as_str())?;
+        Ok(text)
+    }
+
+    fn push_those(
+        &self,
+        text: &mut String,
+        standing: Standing,
+        heading: &str,
+    ) -> Result<(), AllocError> {
+        for said in &self.each {
+            if said.standing == standing {
+                text.push_str(heading)?;
+                text.push_str(said.expectation.as_str())?;
+                text.push('\n')?;
+                text.push_str(said.reason.as_str())?;
+                text.push('\n')?;
+            }
+        }
+        Ok(())
+    }
+}
+
+/// What is said of each expectation; before a schedule, and where it is not settled, these words.
+pub fn sayings_of(
+    alloc: Global,
+    legend: &Legend,
+    known: &KnownEnds,
+    list: &[EndsExpectation],
+    before: &str,
+    open: &str,
+) -> Result<Vec<Said>, AllocError> {
+    let mut each = Vec::new(alloc);
+    for expectation in list {
+        each.push(saying_of(alloc, legend, known, expectation, before, open)?)?;
+    }
+    Ok(each)
+}
+
+fn saying_of(
+    alloc: Global,
+    legend: &Legend,
+    known: &KnownEnds,
+    expectation: &EndsExpectation,
+    before: &str,
+    open: &str,
+) -> Result<Said, AllocError> {
+    let mut reason = String::new(alloc);
+    let standing = match judge(known, expectation) {
+        EndsJudgement::Holds => Standing::Holds,
+        EndsJudgement::Against(witness) => {
+            reason.push_str(before)?;
+            push_witness(legend, &mut reason, witness)?;
+            Standing::Fails
+        }
+        EndsJudgement::Missing => {
+            reason.push_str(missing_words(expectation))?;
+            Standing::Fails
+        }
+        EndsJudgement::Open => {
+            reason.push_str(open)?;
+            Standing::Open
+        }
+    };
+    let mut text = String::new(alloc);
+    push_expectation(legend, &mut text, expectation)?;
+    Ok(Said {
+        expectation: text,
+        standing,
+        reason,
+    })
+}
+
+/// What is said of an expectation that is not settled, where there are not too many states.
+pub fn open_words(known: &KnownEnds) -> &'static str {
+    if is_whole(known) {
+        "it is not known to hold, and no schedule is known to be against it"
+    } else {
+        "some schedules ended at step-limit, and none so far settles it (try greater --steps)"
+    }
+}

@@ -1,0 +1,32 @@
+-- Texts of expectations and of limits, piece by piece.
+use Rattle.std.proofs.Common.{◌≡◌, ◌∙◌, ◌≤◌, ℕ, List, [], ◌∷◌, ◌++◌, Bool, true, false, ◌||◌, ◌==◌, length, take, codes, if◌then◌else◌, refl, ap}
+use Rattle.std.proofs.lemmas.List.{append_assoc, append-nil, take_all}
+use Rattle.cp_run.specs.Table.{each}
+use Rattle.cp_verdict.specs.Written.{item_text, items_text, named_if, comma_text}
+use Rattle.cp_verdict.specs.declared.expectation.OutputItem.{OutputItem}
+
+-- the items so far are all, and there are some
+pub items_whole : (k : ℕ) (items : List OutputItem) (old new : List ℕ) → (length items == 0) ≡ false → length items ≤ k → new ≡ old ++ each (λ j. codes " " ++ item_text j) (take k items) → new ≡ old ++ items_text items
+items_whole k [] old new some le is = absurd (cc)
+items_whole k (i ∷ is) old new some le e = e ∙ ap (λ l. old ++ each (λ j. codes " " ++ item_text j) l) (take_all k (i ∷ is) le)
+
+-- a limit's name, behind a comma where one was named before
+abbrev pub behind_comma : (begun is_met : Bool) → List ℕ → List ℕ
+behind_comma begun is_met name = if is_met then (if begun then codes ", " ++ name else name) else []
+
+three_limits : (a b c : Bool) (x y z : List ℕ) → (behind_comma false a x ++ behind_comma a b y) ++ behind_comma (a || b) c z ≡ comma_text (named_if a x ++ named_if b y ++ named_if c z)
+three_limits true true true x y z = simp (append_assoc, append-nil)
+three_limits true true false x y z = simp (append_assoc, append-nil)
+three_limits true false true x y z = simp (append_assoc, append-nil)
+three_limits true false false x y z = simp append-nil
+three_limits false true true x y z = simp (append_assoc, append-nil)
+three_limits false true false x y z = simp (append_assoc, append-nil)
+three_limits false false true x y z = simp append-nil
+three_limits false false false x y z = refl
+
+pub limits_joined : (a b c d e : Bool) (x y z old one two new : List ℕ) → d ≡ (false || a) → e ≡ (d || b) → one ≡ old ++ behind_comma false a x → two ≡ one ++ behind_comma d b y → new ≡ two ++ behind_comma e c z → new ≡ old ++ comma_text (named_if a x ++ named_if b y ++ named_if c z)
+limits_joined a b c d e x y z old one two new is_d is_e h1 h2 h3 =
+    h3 ∙ ap (λ f. two ++ behind_comma f c z) (is_e ∙ ap (λ f. f || b) is_d) ∙ ap (λ l. l ++ behind_comma (a || b) c z) (h2 ∙ ap (λ f. one ++ behind_comma f b y) is_d ∙ ap (λ l. l ++ behind_comma a b y) h1) ∙ regroup ∙ ap (λ l. old ++ l) (three_limits a b c x y z)
+  where
+    regroup : ((old ++ behind_comma false a x) ++ behind_comma a b y) ++ behind_comma (a || b) c z ≡ old ++ ((behind_comma false a x ++ behind_comma a b y) ++ behind_comma (a || b) c z)
+    regroup = simp append_assoc

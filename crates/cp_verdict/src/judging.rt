@@ -1,0 +1,89 @@
+//! Whether an expectation holds of all schedules.
+
+ghost use Rattle.std.specs.Prelude.{◌≡◌, List, map, IfOk, option_map};
+ghost use Rattle.cp_run.specs.Table.{Line};
+ghost use Rattle.cp_walk.specs.Report.{outcomes_of};
+ghost use Rattle.cp_verdict.specs.Expectations.{is_one_of};
+ghost use Rattle.cp_verdict.specs.Judged as spec;
+
+use crate::expectation::{Claim, Expectation};
+use crate::matching::{is_open, settles};
+use crate::seen::{Seen, SeenRow};
+use cp_slots::Resolved;
+use std::alloc::{AllocError, Global};
+
+/// What a table says of an expectation.
+#[derive(Drop)]
+pub enum Judgement {
+    /// It is true of the whole table, and no schedule that a limit stopped could change that.
+    Holds,
+    /// Some schedule was to be so, and this is the first that is.
+    Shown(SeenRow),
+    /// This is the first schedule against it.
+    Against(SeenRow),
+    /// Some schedule was to be so. None is, and no schedule ended at a limit.
+    Missing,
+    /// No schedule settles it, and some that ended at a limit might.
+    Unsettled,
+}
+
+/// The first row that settles an expectation.
+fn first_settling(
+    alloc: Global,
+    program: &Resolved,
+    expectation: &Expectation,
+    seen: &[Seen],
+) -> Result<Option<SeenRow>, AllocError>
+    ensures { IfOk result (λ found. option_map spec.row_line found ≡ spec.first_settling expectation.now.claim (is_one_of program.now.names expectation.now.outcomes.items) (map spec.line_of seen.now)) }
+{
+    for one in seen {
+        if settles(alloc, program, expectation, one.outcome)? {
+            let row = one.row(alloc)?;
+            return Ok(Some(row));
+        }
+    }
+    Ok(None)
+}
+
+/// Whether a limit stopped some run that might settle an expectation.
+fn has_open(
+    alloc: Global,
+    program: &Resolved,
+    expectation: &Expectation,
+    seen: &[Seen],
+) -> Result<bool, AllocError>
+    ensures { IfOk result (λ b. b ≡ spec.has_open expectation.now.claim (is_one_of program.now.names expectation.now.outcomes.items) (map spec.line_of seen.now)) }
+{
+    for one in seen {
+        if is_open(alloc, program, expectation, one.outcome)? {
+            return Ok(true);
+        }
+    }
+    Ok(false)
+}
+
+fn settle(claim: Claim, found: Option<SeenRow>, left_open: bool) -> Judgement
+    ensures { result ≡ spec.judgement_of claim found left_open }
+{
+    match (claim, found) {
+        (Claim::Sometimes, Some(shown)) => Judgement::Shown(shown),
+        (_, Some(against)) => Judgement::Against(against),
+        (_, None) if left_open => Judgement::Unsettled,
+        (Claim::Sometimes, None) => Judgement::Missing,
+        (_, None) => Judgement::Holds,
+    }
+}
+
+/// What the table with these outcomes, in the order of their first rows, says of an expectation.
+pub fn judge(
+    alloc: Global,
+    program: &Resolved,
+    expectation: &Expectation,
+    seen: &[Seen],
+) -> Result<Judgement, AllocError>
+    ensures { IfOk result (λ j. (lines : List Line) → map spec.line_of seen.now ≡ outcomes_of lines → spec.IsJudged program.now.names expectation.now lines j) }
+{
+    let left_open = has_open(alloc, program, expectation, seen)?;
+    let found = first_settling(alloc, program, expectation, seen)?;
+    Ok(settle(expectation.claim, found, left_open))
+}

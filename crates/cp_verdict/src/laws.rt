@@ -1,0 +1,34 @@
+//! Laws over the definitions alone.
+
+ghost use Rattle.std.specs.Prelude.{◌≡◌, List};
+ghost use Rattle.cp_machine.specs.System.{Machine};
+ghost use Rattle.cp_machine.specs.declared.gates.Gates.{Gates};
+ghost use Rattle.cp_meaning.specs.State.{State};
+ghost use Rattle.cp_run.specs.Slots.{slots};
+ghost use Rattle.cp_run.specs.System.{System};
+ghost use Rattle.cp_slots.specs.Tables.{Tables};
+ghost use Rattle.cp_verdict.specs.Lasting.{HoldsLaw, KeepsOutput, StaysLaw};
+ghost use Rattle.cp_verdict.specs.Plain.{Expected};
+ghost use Rattle.cp_verdict.specs.Spelling.{Spells, Words};
+
+/// An expectation that holds is true of every table of more choices.
+pub fn law_holds()
+    ensures machine { (sys : System Machine) → HoldsLaw sys }
+    ensures meaning { (sys : System State) → HoldsLaw sys }
+{}
+
+/// What a schedule shows is shown with every greater number of choices, unless it ended for want of choices.
+pub fn law_stays()
+    ensures machine { (sys : System Machine) → StaysLaw sys }
+    ensures meaning { (sys : System State) → StaysLaw sys }
+{}
+
+/// What the slot machine displayed is never taken back.
+pub fn law_output()
+    ensures { (r : Tables) (gates : Gates) → KeepsOutput (slots r gates) }
+{}
+
+/// Words spell at most one list of expectations.
+pub fn law_spelling()
+    ensures { (ws : Words) (es fs : List Expected) → Spells ws es → Spells ws fs → es ≡ fs }
+{}

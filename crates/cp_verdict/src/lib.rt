@@ -1,0 +1,29 @@
+//! What is expected of a program, and whether it holds of all schedules.
+#![tactic(auto)]
+
+pub mod comments;
+pub mod expectation;
+pub mod judging;
+pub mod laws;
+pub mod marking;
+pub mod matching;
+pub mod output;
+pub mod program;
+pub mod readable;
+mod reader;
+pub mod reading;
+pub mod seen;
+pub mod value;
+pub mod words;
+
+pub use comments::expectations_in;
+pub use expectation::{Claim, Expectation, KindPattern, OutcomePattern, OutputItem, OutputPattern};
+pub use judging::{Judgement, judge};
+pub use laws::{law_holds, law_output, law_spelling, law_stays};
+pub use marking::{TableMark, judge_each, mark_of};
+pub use program::{MarkFault, Marked, Stops, mark_program, mark_tallies};
+pub use readable::push_readable;
+pub use reader::{claim_of, error_of};
+pub use reading::{Misread, Reading, WantedWord, as_name, expectations, value_of, words_in};
+pub use seen::{Seen, SeenRow};
+pub use words::{misread_text, push_doubt, push_expectation, push_value};

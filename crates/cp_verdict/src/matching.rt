@@ -1,0 +1,183 @@
+//! Whether an outcome is one of those that an expectation names.
+
+ghost use Rattle.std.specs.Prelude.{◌≡◌, IfOk, map, string_bytes};
+ghost use Rattle.cp_verdict.specs.Expectations as spec;
+ghost use Rattle.cp_verdict.specs.Outputs as outputs;
+
+use crate::expectation::{Claim, Expectation, KindPattern, OutcomePattern, OutputPattern};
+use crate::output::reads_as;
+use cp_machine::{ErrorName, Shown};
+use cp_run::{Outcome, OutcomeKind};
+use cp_slots::Resolved;
+use cp_walk::text::push_output;
+use std::alloc::{AllocError, Global};
+
+fn is_same_error(wanted: ErrorName, name: ErrorName) -> bool
+    ensures { result ≡ spec.is_same_error wanted name }
+{
+    match (wanted, name) {
+        (ErrorName::Overflow, ErrorName::Overflow) => true,
+        (ErrorName::ZeroDivisor, ErrorName::ZeroDivisor) => true,
+        (ErrorName::Range, ErrorName::Range) => true,
+        (ErrorName::NoCase, ErrorName::NoCase) => true,
+        (ErrorName::QueueInUse, ErrorName::QueueInUse) => true,
+        (ErrorName::NotInit, ErrorName::NotInit) => true,
+        (ErrorName::InitTwice, ErrorName::InitTwice) => true,
+        _ => false,
+    }
+}
+
+fn is_of_kind(pattern: KindPattern, kind: OutcomeKind) -> bool
+    ensures { result ≡ spec.is_of_kind pattern kind }
+{
+    match (pattern, kind) {
+        (KindPattern::Finished, OutcomeKind::Finished) => true,
+        (KindPattern::AllWaiting, OutcomeKind::AllWaiting) => true,
+        (KindPattern::AnyError, OutcomeKind::RunError { .. }) => true,
+        (KindPattern::Error(wanted), OutcomeKind::RunError { name, .. }) => {
+            is_same_error(wanted, name)
+        }
+        _ => false,
+    }
+}
+
+/// Whether a run of this kind was stopped by a limit.
+pub fn is_limit(kind: OutcomeKind) -> bool
+    ensures { result ≡ spec.is_limit kind }
+{
+    match kind {
+        OutcomeKind::ChoiceLimit => true,
+        OutcomeKind::StepLimit => true,
+        OutcomeKind::OutputLimit => true,
+        _ => false,
+    }
+}
+
+/// A value as a report prints it.
+fn text_of(alloc: Global, program: &Resolved, value: Shown) -> Result<String, AllocError>
+    ensures { IfOk result (λ s. string_bytes s ≡ outputs.value_text program.now.names value) }
+{
+    let mut text = String::new(alloc);
+    push_output(&mut text, program, [value].as_slice())?;
+    Ok(text)
+}
+
+/// The values as a report prints them.
+fn texts_of(alloc: Global, program: &Resolved, values: &[Shown]) -> Result<Vec<String>, AllocError>
+    ensures { IfOk result (λ v. map string_bytes v.items ≡ map (outputs.value_text program.now.names) values.now) }
+{
+    let mut texts = Vec::new(alloc);
+    for value in values {
+        let text = text_of(alloc, program, *value)?;
+        texts.push(text)?;
+    }
+    Ok(texts)
+}
+
+fn has_output(
+    alloc: Global,
+    program: &Resolved,
+    pattern: &OutputPattern,
+    values: &[Shown],
+) -> Result<bool, AllocError>
+    ensures { IfOk result (λ b. b ≡ outputs.reads_as pattern.now.items.items (map (outputs.value_text program.now.names) values.now)) }
+{
+    let texts = texts_of(alloc, program, values)?;
+    reads_as(alloc, pattern.items.as_slice(), texts.as_slice())
+}
+
+/// Whether one of the values is printed so.
+fn shows(
+    alloc: Global,
+    program: &Resolved,
+    text: &str,
+    values: &[Shown],
+) -> Result<bool, AllocError>
+    ensures { IfOk result (λ b. b ≡ spec.shows program.now.names text.now values.now) }
+{
+    for value in values {
+        let printed = text_of(alloc, program, *value)?;
+        if printed.as_bytes() == text.as_bytes() {
+            return Ok(true);
+        }
+    }
+    Ok(false)
+}
+
+fn fits(
+    alloc: Global,
+    program: &Resolved,
+    pattern: &OutcomePattern,
+    outcome: &Outcome,
+) -> Result<bool, AllocError>
+    ensures { IfOk result (λ b. b ≡ spec.fits program.now.names outcome.now pattern.now) }
+{
+    match pattern {
+        OutcomePattern::End { kind, output } => {
+            if !is_of_kind(*kind, outcome.kind) {
+                return Ok(false);
+            }
+            match output {
+                Some(output) => has_output(alloc, program, output, outcome.output.as_slice()),
+                None => Ok(true),
+            }
+        }
+        OutcomePattern::Shows(text) => {
+            shows(alloc, program, text.as_str(), outcome.output.as_slice())
+        }
+    }
+}
+
+/// Whether an outcome fits one of the patterns.
+fn is_one_of(
+    alloc: Global,
+    program: &Resolved,
+    patterns: &[OutcomePattern],
+    outcome: &Outcome,
+) -> Result<bool, AllocError>
+    ensures { IfOk result (λ b. b ≡ spec.is_one_of program.now.names patterns.now outcome.now) }
+{
+    for pattern in patterns {
+        if fits(alloc, program, pattern, outcome)? {
+            return Ok(true);
+        }
+    }
+    Ok(false)
+}
+
+/// Whether one schedule with this outcome settles an expectation.
+pub fn settles(
+    alloc: Global,
+    program: &Resolved,
+    expectation: &Expectation,
+    outcome: &Outcome,
+) -> Result<bool, AllocError>
+    ensures { IfOk result (λ b. b ≡ spec.settles program.now.names expectation.now outcome.now) }
+{
+    let is_named = is_one_of(alloc, program, expectation.outcomes.as_slice(), outcome)?;
+    match expectation.claim {
+        Claim::Only => Ok(!is_named && !is_limit(outcome.kind)),
+        _ => Ok(is_named),
+    }
+}
+
+/// Whether a schedule with this outcome was stopped by a limit, and what it would come to might settle an expectation.
+pub fn is_open(
+    alloc: Global,
+    program: &Resolved,
+    expectation: &Expectation,
+    outcome: &Outcome,
+) -> Result<bool, AllocError>
+    ensures { IfOk result (λ b. b ≡ spec.is_open program.now.names expectation.now outcome.now) }
+{
+    if !is_limit(outcome.kind) {
+        return Ok(false);
+    }
+    match expectation.claim {
+        Claim::Only => {
+            let is_named = is_one_of(alloc, program, expectation.outcomes.as_slice(), outcome)?;
+            Ok(!is_named)
+        }
+        _ => Ok(true),
+    }
+}
