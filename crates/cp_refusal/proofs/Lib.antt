@@ -1,0 +1,9 @@
+pub mod Fronts
+pub mod LineShown
+pub mod Lines
+pub mod Parts
+pub mod Places
+pub mod Shown
+pub mod Telling
+pub mod Texts
+pub mod Told

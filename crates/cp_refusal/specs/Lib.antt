@@ -1,0 +1,4 @@
+pub mod Excerpts
+pub mod Explaining
+pub mod Lines
+pub mod Text

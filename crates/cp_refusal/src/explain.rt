@@ -1,0 +1,378 @@
+//! The answer to a source: why it is refused, or what is rarely meant in it.
+
+ghost use Rattle.std.specs.Prelude.{◌+◌, ◌≤◌, IfOk, MatchOption, MatchResult, codes, drop, length};
+ghost use Rattle.cp_front.specs.Refusals.{check_reason, parse_reason};
+ghost use Rattle.cp_front.specs.declared.refusal.Refusal.TheVariants.{Scan};
+ghost use Rattle.cp_text.specs.Reading.{HasFault, HasTokens};
+ghost use Rattle.cp_refusal.specs.Explaining as spec;
+ghost use Rattle.cp_refusal.specs.Lines.{last_line};
+
+use crate::advice::{Refused, advice, is_reserved_name};
+use crate::candidates::push_wanted;
+use crate::draft::spelling;
+use crate::extent::single;
+use crate::foreign::sign_sentence;
+use crate::further_up::{Missing, what_is_missing};
+use crate::hints::hints;
+use crate::page::{line_number, line_start, push_tokens};
+use crate::place::{ByteRange, Sought, find, is_coded};
+use crate::report::{ExplainedRefusal, Explanation};
+use crate::rules::{Broken, code, mark_at, sentence};
+use cp_check::CheckFault;
+use cp_front::{Loaded, Refusal as LoadRefusal};
+use cp_prose::Prose;
+use cp_text::{ScanCause, ScanFault, Tokens};
+use cp_tree::{ParseFault, Program, Tree};
+use std::alloc::{AllocError, Global};
+
+/// What is said of a source that was loaded, or not: where and why it is refused, or that it is accepted.
+pub fn refusal(
+    alloc: Global,
+    source: &[u8],
+    loaded: Result<&Loaded, &LoadRefusal>,
+) -> Result<Explanation, AllocError>
+    ensures { IfOk result (λ said. MatchResult loaded.entry (λ _. spec.IsAccepted said) (λ r. spec.IsToldOf source.now r.now said)) }
+{
+    match loaded {
+        Ok(loaded) => {
+            answer_accepted(
+                alloc,
+                source,
+                &loaded.tokens,
+                &loaded.checked.tree().program,
+            )
+        }
+        Err(refusal) => explain(alloc, source, refusal),
+    }
+}
+
+// Why a source is refused.
+fn explain(alloc: Global, source: &[u8], refusal: &LoadRefusal) -> Result<Explanation, AllocError>
+    ensures { IfOk result (spec.IsToldOf source.now refusal.now) }
+{
+    match refusal {
+        LoadRefusal::Scan(fault) => scan_refused(alloc, source, *fault),
+        LoadRefusal::Parse { tokens, fault } => parse_refused(alloc, source, tokens, fault),
+        LoadRefusal::Check {
+            tokens,
+            tree,
+            fault,
+        } => check_refused(alloc, source, tokens, tree, fault),
+        LoadRefusal::Memory => Err(AllocError),
+    }
+}
+
+fn check_refused(
+    alloc: Global,
+    source: &[u8],
+    tokens: &Tokens,
+    tree: &Tree,
+    fault: &CheckFault,
+) -> Result<Explanation, AllocError>
+    ensures { IfOk result (λ said. MatchOption (check_reason fault.now) ⊥ (λ reason. spec.IsRefusedAt (drop 6 reason.1) source.now tokens.now reason.0 said)) }
+{
+    match fault {
+        CheckFault::Rule { at, rule } => {
+            let broken = Broken {
+                program: &tree.program,
+                at: *at,
+                rule: *rule,
+            };
+            rule_broken(alloc, source, tokens, broken)
+        }
+        CheckFault::Memory => Err(AllocError),
+    }
+}
+
+fn answer_accepted(
+    alloc: Global,
+    source: &[u8],
+    tokens: &Tokens,
+    program: &Program,
+) -> Result<Explanation, AllocError>
+    ensures { IfOk result spec.IsAccepted }
+{
+    Ok(Explanation::Accepted(hints(alloc, source, tokens, program)?))
+}
+
+// What is said of a piece of the source that is no lexeme.
+fn scan_sentence(cause: ScanCause, text: &[u8]) -> &'static str {
+    match cause {
+        ScanCause::TooLong => "the source has more than 65535 bytes",
+        ScanCause::BadByte => sign_sentence(text),
+        ScanCause::OpenComment => "this comment has no closing quote",
+        ScanCause::OpenChar => "this character has no closing quote on its line",
+        ScanCause::BadChar if is_coded(text) =>
+            "this is no character: the code of a character is 0 to 127",
+        ScanCause::BadChar =>
+            "this is no character: between the quotes stands one sign, as 'a', or its code, as '(:97:)'; there are no strings",
+        ScanCause::NumberTooLarge => "this number is larger than 32767",
+        ScanCause::NameTooLong => "this name has more than 40 characters",
+        ScanCause::TooManyTokens =>
+            "the source has more than 20000 words and signs, counted to this one",
+        ScanCause::Memory => "",
+    }
+}
+
+fn scan_refused(alloc: Global, source: &[u8], fault: ScanFault) -> Result<Explanation, AllocError>
+    ensures { IfOk result (spec.IsToldOf source.now (Scan fault)) }
+{
+    if fault.cause == ScanCause::Memory {
+        return Err(AllocError);
+    }
+    let span = fault_span(source, fault);
+    let text = match span {
+        Some(found) => fault_text(source, fault.cause, found),
+        None => &[],
+    };
+    Ok(Explanation::Refused(ExplainedRefusal {
+        kind: "scan",
+        sentence: String::from_str(alloc, scan_sentence(fault.cause, text))?,
+        more: "see \"Lexemes\" in docs/LANGUAGE.md",
+        span,
+        earlier: None,
+    }))
+}
+
+// The place of a fault, in the line of the fault.
+fn fault_span(source: &[u8], fault: ScanFault) -> Option<ByteRange>
+    ensures { HasFault source.now fault → spec.IsPlaceIn source.now fault.line result }
+{
+    if fault.line == 0 {
+        return None;
+    }
+    let found = match find(source, Sought::Fault(fault.cause)) {
+        Some(span) => span,
+        None => START,
+    };
+    Some(in_line(source, fault.line, found))
+}
+
+// What a sentence looks at: of a sign also what follows it.
+fn fault_text(source: &[u8], cause: ScanCause, span: ByteRange) -> &[u8] {
+    let rest = &source[span.from.min(source.len())..];
+    match cause {
+        ScanCause::BadByte => rest,
+        _ => &rest[..span.len.min(rest.len())],
+    }
+}
+
+fn rule_broken(
+    alloc: Global,
+    source: &[u8],
+    tokens: &Tokens,
+    broken: Broken,
+) -> Result<Explanation, AllocError>
+    ensures { IfOk result (spec.IsRefusedAt (spec.rule_code broken.entry.rule) source.now tokens.now broken.entry.at) }
+{
+    Ok(Explanation::Refused(ExplainedRefusal {
+        kind: code(broken.rule),
+        sentence: sentence(alloc, source, tokens, broken)?,
+        more: "see the rule in docs/RULES.md",
+        span: Some(span_of(source, broken.at, tokens)),
+        earlier: None,
+    }))
+}
+
+const START: ByteRange = ByteRange { from: 0, len: 1 };
+
+// A place if it lies in the line of this number, else the beginning of that line.
+fn in_line(source: &[u8], line: u32, place: ByteRange) -> ByteRange
+    ensures { place.from ≤ length source.now → 1 ≤ line → line ≤ last_line source.now → spec.IsPlaceIn source.now line (Some result) }
+{
+    if line_number(source, place.from) == line as usize {
+        return place;
+    }
+    ByteRange {
+        from: line_start(source, line as usize),
+        len: 1,
+    }
+}
+
+// The place of a token in the line that the scanner found it in.
+fn span_of(source: &[u8], at: usize, tokens: &Tokens) -> ByteRange
+    ensures { HasTokens source.now tokens.now → spec.IsPlaceIn source.now (spec.token_line tokens.now at) (Some result) }
+{
+    let line = tokens.line(at.min(tokens.count()));
+    in_line(source, line, found_span(source, at, tokens))
+}
+
+// Where a token is found; at the end of the tokens the place after the last, and the beginning where there are none.
+fn found_span(source: &[u8], at: usize, tokens: &Tokens) -> ByteRange
+    ensures { result.from ≤ length source.now }
+{
+    if let Some(span) = find(source, Sought::Token(at)) {
+        return span;
+    }
+    match find(source, Sought::Token(tokens.count().saturating_sub(1))) {
+        Some(last) => after(last),
+        None => START,
+    }
+}
+
+// The place after some bytes.
+fn after(span: ByteRange) -> ByteRange
+    ensures { result.from ≤ span.from + span.len }
+{
+    ByteRange {
+        from: span.from.saturating_add(span.len),
+        len: 1,
+    }
+}
+
+// What is expected in the place of a token, what stands there, and what may have been meant.
+fn push_unexpected(refused: Refused, text: &mut Prose, missing: &Missing) {
+    let Refused {
+        alloc,
+        source,
+        tokens,
+        at,
+    } = refused;
+    if tokens.count() == 0 {
+        text.put("a program is missing");
+        return;
+    }
+    text.put("expected ");
+    push_wanted(alloc, text, tokens, at);
+    if at < tokens.count() {
+        text.put(", found \"");
+        push_tokens(text, source, single(at));
+        text.put("\"");
+    } else {
+        text.put(", found the end of the source");
+    }
+    push_advice(refused, text, missing);
+}
+
+fn push_advice(refused: Refused, text: &mut Prose, missing: &Missing) {
+    let (source, tokens) = (refused.source, refused.tokens);
+    match missing {
+        Missing::Semicolon(before) => {
+            text.put(": a semicolon may be missing at the end of line ");
+            text.put_display(line_number(source, span_of(source, *before, tokens).from));
+        }
+        Missing::End(open) => {
+            text.put(": the ");
+            push_tokens(text, source, single(*open));
+            text.put(" of line ");
+            text.put_display(line_number(source, span_of(source, *open, tokens).from));
+            text.put(" has no end");
+        }
+        Missing::Nothing => {
+            push_meant(refused, text);
+        }
+    }
+}
+
+// What may have been meant, where nothing is missing further up.
+fn push_meant(refused: Refused, text: &mut Prose) {
+    if !is_reserved_name(refused, text) {
+        let said = advice(refused, text);
+        text.put(said);
+        return;
+    }
+    text.put(": ");
+    text.put(match mark_at(refused.tokens, refused.at) {
+        Some(mark) => spelling(mark),
+        None => "",
+    });
+    text.put(" is a reserved word");
+}
+
+// The place further up that the excerpt shows too.
+fn earlier(source: &[u8], tokens: &Tokens, missing: &Missing) -> Option<ByteRange> {
+    match missing {
+        Missing::Semicolon(before) => Some(after(span_of(source, *before, tokens))),
+        Missing::End(open) => Some(span_of(source, *open, tokens)),
+        Missing::Nothing => None,
+    }
+}
+
+fn parse_refused(
+    alloc: Global,
+    source: &[u8],
+    tokens: &Tokens,
+    fault: &ParseFault,
+) -> Result<Explanation, AllocError>
+    ensures { IfOk result (λ said. MatchOption (parse_reason fault.now) ⊥ (λ reason. spec.IsRefusedAt (codes "parse") source.now tokens.now reason.0 said)) }
+{
+    match fault {
+        ParseFault::Unexpected(at) => {
+            explain_unexpected(Refused {
+                alloc,
+                source,
+                tokens,
+                at: *at,
+            })
+        }
+        ParseFault::OutsideProfile(at) => outside_profile(alloc, source, tokens, *at),
+        ParseFault::TooDeep(at) => too_deep(alloc, source, tokens, *at),
+        ParseFault::Memory => Err(AllocError),
+    }
+}
+
+fn explain_unexpected(refused: Refused) -> Result<Explanation, AllocError>
+    ensures { IfOk result (spec.IsRefusedAt (codes "parse") refused.entry.source.now refused.entry.tokens.now refused.entry.at) }
+{
+    let mut text = Prose::new(refused.alloc);
+    let missing = what_is_missing(refused, &mut text);
+    push_unexpected(refused, &mut text, &missing);
+    let Refused {
+        source,
+        tokens,
+        at,
+        ..
+    } = refused;
+    not_parsed(
+        source,
+        tokens,
+        at,
+        text.finish(),
+        earlier(source, tokens, &missing),
+    )
+}
+
+fn outside_profile(
+    alloc: Global,
+    source: &[u8],
+    tokens: &Tokens,
+    at: usize,
+) -> Result<Explanation, AllocError>
+    ensures { IfOk result (spec.IsRefusedAt (codes "parse") source.now tokens.now at) }
+{
+    let mut text = Prose::new(alloc);
+    push_tokens(&mut text, source, single(at));
+    text.put(" is a reserved word for what is left out of this language");
+    not_parsed(source, tokens, at, text.finish(), None)
+}
+
+fn too_deep(
+    alloc: Global,
+    source: &[u8],
+    tokens: &Tokens,
+    at: usize,
+) -> Result<Explanation, AllocError>
+    ensures { IfOk result (spec.IsRefusedAt (codes "parse") source.now tokens.now at) }
+{
+    let sentence = String::from_str(alloc, "this is nested more than 50 levels deep");
+    not_parsed(source, tokens, at, sentence, None)
+}
+
+// What is said of a token that the parser refuses, and the place further up that belongs to it.
+fn not_parsed(
+    source: &[u8],
+    tokens: &Tokens,
+    at: usize,
+    sentence: Result<String, AllocError>,
+    earlier: Option<ByteRange>,
+) -> Result<Explanation, AllocError>
+    ensures { IfOk result (spec.IsRefusedAt (codes "parse") source.now tokens.now at) }
+{
+    Ok(Explanation::Refused(ExplainedRefusal {
+        kind: "parse",
+        sentence: sentence?,
+        more: "see \"Grammar\" in docs/LANGUAGE.md",
+        span: Some(span_of(source, at, tokens)),
+        earlier,
+    }))
+}

@@ -1,0 +1,32 @@
+//! Why a source is refused, in words, and hints on what is accepted.
+#![tactic(auto)]
+
+mod advice;
+mod called;
+mod candidates;
+mod changes;
+mod characters;
+mod components;
+mod counts;
+mod declared;
+mod disagree;
+mod draft;
+mod explain;
+mod extent;
+mod foreign;
+mod further_up;
+mod hints;
+mod page;
+mod place;
+mod probe;
+mod report;
+mod rules;
+mod sorts;
+mod spelling;
+mod starts;
+mod waits;
+mod wanted;
+
+pub use explain::refusal;
+pub use place::ByteRange;
+pub use report::{ExplainedRefusal, Explanation, Hint, Hints, Position, position_of, text};
