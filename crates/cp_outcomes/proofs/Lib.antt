@@ -1,0 +1,13 @@
+pub mod Appending
+pub mod Choosing
+pub mod Closing
+pub mod Gathering
+pub mod Jsons
+pub mod Meant
+pub mod Numbering
+pub mod Ordering
+pub mod Rows
+pub mod Sharing
+pub mod Summaries
+pub mod Sums
+pub mod Tenths

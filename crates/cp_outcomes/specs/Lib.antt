@@ -1,0 +1,9 @@
+pub mod Chosen
+pub mod Data
+pub mod Findings
+pub mod Meant
+pub mod Shares
+pub mod Stops
+pub mod Text
+pub mod Told
+pub mod Written

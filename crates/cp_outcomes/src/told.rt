@@ -1,0 +1,180 @@
+//! What is told of each outcome.
+
+ghost use Rattle.std.specs.Prelude.{◌≡◌, ◌-◌, ◌≤◌, ◌++◌, [], IfOk, length, map, string_bytes, slice_index_or};
+ghost use Rattle.std.specs.List.{filter, AllByRecursion};
+ghost use Rattle.cp_legend.specs.Names.{legend_seen};
+ghost use Rattle.cp_merged.specs.Code.{tally_of};
+ghost use Rattle.cp_story.specs.Sentences.{wait_text};
+ghost use Rattle.cp_story.specs.Views.{wait_of};
+ghost use Rattle.cp_outcomes.specs.Told as spec;
+ghost use Rattle.cp_outcomes.specs.Told.{AreTold, IsTold, is_of, setting_of, told_of};
+
+use crate::simples::Simples;
+use crate::stopped::is_stopped;
+use crate::subject::Subject;
+use cp_legend::Legend;
+use cp_machine::Ticks;
+use cp_merged::Tally;
+use cp_run::OutcomeKind;
+use cp_simplest::SimplestSchedule;
+use cp_story::{Wait, tell, wait_words};
+use cp_walk::Job;
+use std::alloc::{AllocError, Global};
+use std::sync::ledger::Ledger;
+
+/// An outcome as it is told: with its simplest schedule, if one is told.
+#[derive(Drop)]
+pub struct ToldOutcome<'a> {
+    pub tally: &'a Tally,
+    pub simple: Option<&'a SimplestSchedule>,
+}
+
+/// The outcomes in the order in which they are told: first those of runs that ended, then those of runs that a limit stopped.
+pub fn tell_outcomes<'a, L: Ledger>(
+    alloc: Global,
+    subject: Subject<'_>,
+    tallies: &'a [Tally],
+    simples: &'a Simples,
+    ticks: &mut Ticks<L>,
+) -> Result<Vec<ToldOutcome<'a>>, AllocError>
+    ensures { IfOk result (λ v. AreTold (setting_of subject.entry subject.entry.limits.choices) (map tally_of tallies.now) (map told_of v.items)) }
+{
+    let mut told = Vec::new(alloc);
+    push_told(alloc, subject, &mut told, tallies, simples, false, ticks)?;
+    push_told(alloc, subject, &mut told, tallies, simples, true, ticks)?;
+    Ok(told)
+}
+
+// Those that a limit stopped, or those that none did.
+fn push_told<'a, L: Ledger>(
+    alloc: Global,
+    subject: Subject<'_>,
+    told: &mut Vec<ToldOutcome<'a>>,
+    tallies: &'a [Tally],
+    simples: &'a Simples,
+    stopped: bool,
+    ticks: &mut Ticks<L>,
+) -> Result<(), AllocError>
+    ensures order { IfOk result (λ _. map (λ o. tally_of o.tally.now) told.new.items ≡ map (λ o. tally_of o.tally.now) told.old.items ++ filter (is_of stopped) (map tally_of tallies.now)) }
+    ensures each { IfOk result (λ _. AllByRecursion (λ o. IsTold (setting_of subject.entry subject.entry.limits.choices) (told_of o)) told.old.items → AllByRecursion (λ o. IsTold (setting_of subject.entry subject.entry.limits.choices) (told_of o)) told.new.items) }
+{
+    for (place, tally) in tallies.iter().enumerate() {
+        if is_among(stopped, tally) {
+            told.push(tell_outcome(alloc, subject, simples, place, tally, ticks)?)?;
+        }
+    }
+    Ok(())
+}
+
+/// Whether an outcome is one of those that a limit stopped, or of the others.
+pub fn is_among(stopped: bool, tally: &Tally) -> bool
+    ensures { result ≡ is_of stopped (tally_of tally.now) }
+{
+    if stopped {
+        is_stopped(tally.outcome.kind)
+    } else {
+        !is_stopped(tally.outcome.kind)
+    }
+}
+
+// The outcome at a place.
+fn tell_outcome<'a, L: Ledger>(
+    alloc: Global,
+    subject: Subject<'_>,
+    simples: &'a Simples,
+    place: usize,
+    tally: &'a Tally,
+    ticks: &mut Ticks<L>,
+) -> Result<ToldOutcome<'a>, AllocError>
+    ensures tally { IfOk result (λ o. o.tally ≡ tally.entry) }
+    ensures so { IfOk result (λ o. IsTold (setting_of subject.entry subject.entry.limits.choices) (told_of o)) }
+{
+    let job = Job {
+        program: subject.program,
+        limits: subject.limits,
+    };
+    let simple = simples.at(alloc, job, place, tally, ticks)?;
+    Ok(ToldOutcome { tally, simple })
+}
+
+/// Who waits where at the end of an outcome's first schedule, or the line of a run error.
+pub fn end_lines<L: Ledger>(
+    alloc: Global,
+    subject: Subject<'_>,
+    tally: &Tally,
+    ticks: &mut Ticks<L>,
+) -> Result<Vec<String>, AllocError>
+    ensures { IfOk result (λ lines. map string_bytes lines.items ≡ spec.end_lines (setting_of subject.entry subject.entry.limits.choices) (tally_of tally.now)) }
+{
+    match tally.outcome.kind {
+        OutcomeKind::AllWaiting => {
+            let waits = waits_of(alloc, subject, tally.first.as_slice(), ticks)?;
+            wait_lines(alloc, subject.legend, &waits)
+        }
+        OutcomeKind::RunError { process, line, .. } => {
+            let mut lines = Vec::new(alloc);
+            lines.push(error_line(alloc, subject, process, line)?)?;
+            Ok(lines)
+        }
+        _ => Ok(Vec::new(alloc)),
+    }
+}
+
+fn wait_lines(alloc: Global, legend: &Legend, waits: &[Wait]) -> Result<Vec<String>, AllocError>
+    ensures { IfOk result (λ lines. map string_bytes lines.items ≡ map (wait_text (legend_seen legend.now)) (map wait_of waits.now)) }
+{
+    let mut lines = Vec::new(alloc);
+    for wait in waits {
+        lines.push(wait_words(alloc, legend, wait)?)?;
+    }
+    Ok(lines)
+}
+
+/// Who waits at the end of a schedule, and where.
+pub fn waits_of<L: Ledger>(
+    alloc: Global,
+    subject: Subject<'_>,
+    word: &[u8],
+    ticks: &mut Ticks<L>,
+) -> Result<Vec<Wait>, AllocError>
+    requires { length word.now ≤ 100 }
+    ensures { IfOk result (λ waits. map wait_of waits.items ≡ spec.waits_after (setting_of subject.entry subject.entry.limits.choices) word.now) }
+{
+    let Subject {
+        program,
+        legend,
+        limits,
+        ..
+    } = subject;
+    Ok(tell(alloc, program, legend, limits, word, ticks)?.waits)
+}
+
+// The process that was in error, and the text of the line at which it was.
+fn error_line(
+    alloc: Global,
+    subject: Subject<'_>,
+    process: u8,
+    line: u32,
+) -> Result<String, AllocError>
+    ensures { IfOk result (λ text. string_bytes text ≡ spec.error_text (setting_of subject.entry subject.entry.limits.choices) process line) }
+{
+    let name = subject.legend.process_name(process);
+    let there = line_of(subject.source, line);
+    format!(in alloc; "{process} {name} at line {line}: {there}")
+}
+
+/// The text of a line, counted from 1, without the spaces around it.
+pub fn line_of(source: &[String], line: u32) -> &str
+    ensures { result.now ≡ spec.source_line (map string_bytes source.now) line }
+{
+    text_at(source, (line as usize).saturating_sub(1)).trim_ascii()
+}
+
+fn text_at(source: &[String], place: usize) -> &str
+    ensures { result.now ≡ slice_index_or (map string_bytes source.now) place [] }
+{
+    match source.get(place) {
+        Some(text) => text.as_str(),
+        None => "",
+    }
+}
