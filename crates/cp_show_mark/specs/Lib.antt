@@ -1,0 +1,6 @@
+pub mod Given
+pub mod MarkData
+pub mod MarkText
+pub mod Showing
+pub mod Stories
+pub mod Told

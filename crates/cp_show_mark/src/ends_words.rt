@@ -1,0 +1,92 @@
+//! What is said of expectations of schedules of any length.
+
+use crate::examinee::Examinee;
+use crate::mark_objects::misread_json;
+use cp_ends_verdict::{EndsMark, MarkedEnds, Said, Standing};
+use cp_story::objects::Object;
+use serde_json::Value;
+use std::alloc::{AllocError, Global};
+
+/// What schedules of any length say of the expectations.
+pub fn ends_told(
+    alloc: Global,
+    examinee: Examinee<'_>,
+    marked: &MarkedEnds,
+) -> Result<String, AllocError> {
+    if !examinee.as_json {
+        return marked.text(alloc);
+    }
+    match marked.mark {
+        EndsMark::Misread => misread_json(alloc, marked.note.as_str()),
+        _ => ends_json(alloc, marked),
+    }
+}
+
+fn ends_json(alloc: Global, marked: &MarkedEnds) -> Result<String, AllocError> {
+    let mut object = Object::new(alloc);
+    put_ends(alloc, &mut object, marked)?;
+    object.into_line()
+}
+
+fn put_ends(alloc: Global, object: &mut Object, marked: &MarkedEnds) -> Result<(), AllocError> {
+    object.text("verdict", ends_verdict_words(marked.mark))?;
+    let items = said_objects(alloc, &marked.each)?;
+    object.put("expectations", Value::Array(items))?;
+    object.put("notes", Value::Array(notes(alloc, marked)?))
+}
+
+fn said_objects(alloc: Global, each: &[Said]) -> Result<Vec<Value>, AllocError> {
+    let mut items = Vec::new(alloc);
+    for said in each {
+        items.push(said_object(alloc, said)?)?;
+    }
+    Ok(items)
+}
+
+fn said_object(alloc: Global, said: &Said) -> Result<Value, AllocError> {
+    let mut item = Object::new(alloc);
+    put_said(&mut item, said)?;
+    Ok(item.into_value())
+}
+
+fn put_said(item: &mut Object, said: &Said) -> Result<(), AllocError> {
+    item.text("expectation", said.expectation.as_str())?;
+    item.text("verdict", standing_words(said.standing))?;
+    if said.reason.is_empty() {
+        Ok(())
+    } else {
+        item.text("said", said.reason.as_str())
+    }
+}
+
+fn notes(alloc: Global, marked: &MarkedEnds) -> Result<Vec<Value>, AllocError> {
+    let mut notes = Vec::new(alloc);
+    push_lines(alloc, &mut notes, marked.note.as_str())?;
+    push_lines(alloc, &mut notes, marked.last.as_str())?;
+    Ok(notes)
+}
+
+fn push_lines(alloc: Global, notes: &mut Vec<Value>, text: &str) -> Result<(), AllocError> {
+    for line in text.lines() {
+        notes.push(Value::String(String::from_str(alloc, line)?))?;
+    }
+    Ok(())
+}
+
+fn ends_verdict_words(mark: EndsMark) -> &'static str {
+    match mark {
+        EndsMark::Holds => "holds",
+        EndsMark::Fails => "fails",
+        EndsMark::Open => "not settled",
+        EndsMark::TooMany => "too many states",
+        EndsMark::Misread => "misread",
+    }
+}
+
+fn standing_words(standing: Standing) -> &'static str {
+    match standing {
+        Standing::Holds => "holds",
+        Standing::Fails => "fails",
+        Standing::Open => "not settled",
+    }
+}

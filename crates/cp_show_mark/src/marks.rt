@@ -1,0 +1,397 @@
+//! The mark of a program, as an answer.
+
+ghost use Rattle.std.specs.Prelude.{◌≡◌, IfOk, List, Some, ℕ, false, map, option_map, string_bytes, true};
+ghost use Rattle.cp_ends_verdict.specs.AtOnce.{can_be_at_once};
+ghost use Rattle.cp_ends_verdict.specs.Marked.{can_be_asked};
+ghost use Rattle.cp_lawful.specs.Accepted.{IsAccepted};
+ghost use Rattle.cp_legend.specs.Names.{component_seen};
+ghost use Rattle.cp_merged.specs.Code.{tally_of};
+ghost use Rattle.cp_refine.specs.Named.{named, named_gates};
+ghost use Rattle.cp_resolved.specs.Enumerations.{constant_names};
+ghost use Rattle.cp_resolved.specs.Resolving.{IsProgramOf};
+ghost use Rattle.cp_run.specs.Slots.{slots};
+ghost use Rattle.cp_run.specs.Table.{table};
+ghost use Rattle.cp_tree.specs.Read.{IsRead};
+ghost use Rattle.cp_tree.specs.Syntax.{Tree};
+ghost use Rattle.cp_verdict.specs.Plain.{expected_of};
+ghost use Rattle.cp_verdict.specs.Words.{words_of};
+ghost use Rattle.cp_ends_verdict.specs.Plain as ends_plain;
+ghost use Rattle.cp_show_mark.specs.Given as given;
+ghost use Rattle.cp_show_mark.specs.MarkText.{setting_of};
+ghost use Rattle.cp_show_mark.specs.Showing as spec;
+ghost use Rattle.cp_show_mark.specs.Told as told_spec;
+ghost use Rattle.cp_show_mark.specs.Told.{IsExcessTold, SaysOfTallies, TellsText, saying};
+ghost use Rattle.cp_show_mark.specs.declared.answer.ShowVerdict.TheVariants.{TooMany};
+
+use crate::answer::{ShowAnswer, ShowVerdict};
+use crate::ends_words::ends_told;
+use crate::examinee::Examinee;
+use crate::excess::{MarkExcess, excess_text};
+use crate::mark_words::{mark_text, misread_text};
+use cp_ends_verdict::{
+    EndsExpectation, EndsMark, EndsReading, MarkSubject, MarkedEnds,
+    expectations as ends_expectations, mark_at_once, mark_in_turn, misread_text as ends_reason,
+};
+use cp_outcomes::completing::greatest_known;
+use cp_outcomes::known::Known;
+use cp_progress::ObserveProgress;
+use cp_show_options::{limits_of, longest_limits_of};
+use cp_verdict::{
+    MarkFault, Marked, Misread, Reading, TableMark, expectations, expectations_in, mark_program,
+    mark_tallies, misread_text as reason,
+};
+use cp_walk::Job;
+use std::alloc::{AllocError, Global};
+
+/// What is said of a program by the expectations of the words; by those of the source where they are asked for, or where there are no words.
+pub fn mark_answer<O: ObserveProgress>(
+    alloc: Global,
+    examinee: Examinee<'_>,
+    observer: &mut O,
+    words: &str,
+    with_own: bool,
+    source: &[u8],
+) -> Result<ShowAnswer, AllocError>
+    ensures mark { IfOk result (λ a. (text : List ℕ) × given.IsGiven words.now with_own source.now text × given.TellsGiven examinee.entry.program.now examinee.entry.options.now (map component_seen examinee.entry.legend.now.components.items) (words_of text) a.verdict) }
+    ensures meaning { (t : Tree) → ∥ IsRead t.program ∥₁ → IsAccepted t → IsProgramOf t examinee.entry.program.now → IfOk result (λ a. (text : List ℕ) × given.IsGiven words.now with_own source.now text × given.MeansGiven t examinee.entry.options.now (map component_seen examinee.entry.legend.now.components.items) (words_of text) a.verdict) }
+    ensures text { examinee.entry.options.now.ends ≡ false → IfOk result (λ a. (text : List ℕ) × given.IsGiven words.now with_own source.now text × given.TellsGivenText (setting_of examinee.entry) (words_of text) a.verdict (string_bytes a.text)) }
+{
+    let text = expectation_text(alloc, words, with_own, source)?;
+    mark_given(alloc, examinee, observer, text.as_str())
+}
+
+// What is said by the expectations of a text, if there are some.
+fn mark_given<O: ObserveProgress>(
+    alloc: Global,
+    examinee: Examinee<'_>,
+    observer: &mut O,
+    text: &str,
+) -> Result<ShowAnswer, AllocError>
+    ensures mark { IfOk result (λ a. given.TellsGiven examinee.entry.program.now examinee.entry.options.now (map component_seen examinee.entry.legend.now.components.items) (words_of text.now) a.verdict) }
+    ensures meaning { (t : Tree) → ∥ IsRead t.program ∥₁ → IsAccepted t → IsProgramOf t examinee.entry.program.now → IfOk result (λ a. given.MeansGiven t examinee.entry.options.now (map component_seen examinee.entry.legend.now.components.items) (words_of text.now) a.verdict) }
+    ensures text { examinee.entry.options.now.ends ≡ false → IfOk result (λ a. given.TellsGivenText (setting_of examinee.entry) (words_of text.now) a.verdict (string_bytes a.text)) }
+{
+    if text.is_empty() {
+        return misread(
+            alloc,
+            examinee,
+            "no expectation: none was given, and the source has no comment that begins (* expect\n",
+        );
+    }
+    mark_by(alloc, examinee, observer, text)
+}
+
+// The expectations as they are written.
+fn expectation_text(
+    alloc: Global,
+    words: &str,
+    with_own: bool,
+    source: &[u8],
+) -> Result<String, AllocError>
+    ensures { IfOk result (λ text. given.IsGiven words.now with_own source.now (string_bytes text)) }
+{
+    if !words.is_empty() && !with_own {
+        return String::from_str(alloc, words);
+    }
+    let own = expectations_in(alloc, source)?;
+    if words.is_empty() {
+        return Ok(own);
+    }
+    join(alloc, words, own.as_str())
+}
+
+fn join(alloc: Global, words: &str, own: &str) -> Result<String, AllocError>
+    ensures { IfOk result (λ text. string_bytes text ≡ given.and_own words.now own.now) }
+{
+    if own.is_empty() {
+        return String::from_str(alloc, words);
+    }
+    format!(in alloc; "{words} and {own}")
+}
+
+// That there is no expectation, or why it is none.
+fn misread(alloc: Global, examinee: Examinee<'_>, said: &str) -> Result<ShowAnswer, AllocError>
+    ensures { IfOk result (λ a. a.verdict ≡ ShowVerdict.Misread) }
+{
+    Ok(ShowAnswer {
+        verdict: ShowVerdict::Misread,
+        text: misread_text(alloc, said, examinee.as_json)?,
+    })
+}
+
+// What is said by the expectations of a text.
+fn mark_by<O: ObserveProgress>(
+    alloc: Global,
+    examinee: Examinee<'_>,
+    observer: &mut O,
+    text: &str,
+) -> Result<ShowAnswer, AllocError>
+    ensures mark { IfOk result (λ a. given.TellsGiven examinee.entry.program.now examinee.entry.options.now (map component_seen examinee.entry.legend.now.components.items) (words_of text.now) a.verdict) }
+    ensures meaning { (t : Tree) → ∥ IsRead t.program ∥₁ → IsAccepted t → IsProgramOf t examinee.entry.program.now → IfOk result (λ a. given.MeansGiven t examinee.entry.options.now (map component_seen examinee.entry.legend.now.components.items) (words_of text.now) a.verdict) }
+    ensures text { examinee.entry.options.now.ends ≡ false → IfOk result (λ a. given.TellsGivenText (setting_of examinee.entry) (words_of text.now) a.verdict (string_bytes a.text)) }
+{
+    if examinee.options.ends {
+        return mark_ends(alloc, examinee, observer, text);
+    }
+    match expectations(alloc, text) {
+        Ok(reading) => mark_of(alloc, examinee, observer, &reading),
+        Err(Misread::Unexpected { wanted, place }) => misread(
+            alloc,
+            examinee,
+            reason(alloc, text, wanted, place)?.as_str(),
+        ),
+        Err(Misread::Memory) => Err(AllocError),
+    }
+}
+
+// The same of schedules of any length.
+fn mark_ends<O: ObserveProgress>(
+    alloc: Global,
+    examinee: Examinee<'_>,
+    observer: &mut O,
+    text: &str,
+) -> Result<ShowAnswer, AllocError>
+    ensures mark { IfOk result (λ a. given.TellsSpelled (given.SpellsEnds (map component_seen examinee.entry.legend.now.components.items) (words_of text.now)) ends_plain.expected_of (λ es. given.TellsEnds examinee.entry.program.now examinee.entry.options.now es a.verdict) a.verdict) }
+    ensures meaning { (t : Tree) → ∥ IsRead t.program ∥₁ → IsAccepted t → IsProgramOf t examinee.entry.program.now → IfOk result (λ a. given.TellsSpelled (given.SpellsEnds (map component_seen examinee.entry.legend.now.components.items) (words_of text.now)) ends_plain.expected_of (λ es. given.MeansEnds t examinee.entry.options.now es a.verdict) a.verdict) }
+{
+    match ends_expectations(alloc, examinee.legend, text)? {
+        EndsReading::Expectations(list) => judge_ends(alloc, examinee, observer, &list),
+        EndsReading::Misread { wanted, place } => misread(
+            alloc,
+            examinee,
+            ends_reason(alloc, text, wanted, place)?.as_str(),
+        ),
+    }
+}
+
+// What schedules of any length say of the expectations.
+fn judge_ends<O: ObserveProgress>(
+    alloc: Global,
+    examinee: Examinee<'_>,
+    observer: &mut O,
+    list: &[EndsExpectation],
+) -> Result<ShowAnswer, AllocError>
+    ensures { IfOk result (λ a. given.TellsEnds examinee.entry.program.now examinee.entry.options.now list.now a.verdict) }
+{
+    if examinee.options.at_once {
+        judge_at_once(alloc, examinee, observer, list)
+    } else {
+        judge_in_turn(alloc, examinee, observer, list)
+    }
+}
+
+// The same without calls at once, but where there are too many states.
+fn judge_in_turn<O: ObserveProgress>(
+    alloc: Global,
+    examinee: Examinee<'_>,
+    observer: &mut O,
+    list: &[EndsExpectation],
+) -> Result<ShowAnswer, AllocError>
+    ensures mark { can_be_asked examinee.entry.options.now.gates list.now ≡ true → IfOk result (λ a. spec.TellsEndsMark examinee.entry.program.now examinee.entry.options.now.gates examinee.entry.options.now.steps examinee.entry.options.now.states list.now a.verdict) }
+    ensures refused { can_be_asked examinee.entry.options.now.gates list.now ≡ false → IfOk result (λ a. a.verdict ≡ ShowVerdict.Misread) }
+{
+    let Examinee {
+        options,
+        program,
+        legend,
+        ..
+    } = examinee;
+    let subject = MarkSubject {
+        program,
+        legend,
+        limits: longest_limits_of(options),
+        most: options.states,
+    };
+    let marked = mark_in_turn(alloc, subject, list, observer)?;
+    ends_answer(alloc, examinee, &marked)
+}
+
+// The same with calls at once.
+fn judge_at_once<O: ObserveProgress>(
+    alloc: Global,
+    examinee: Examinee<'_>,
+    observer: &mut O,
+    list: &[EndsExpectation],
+) -> Result<ShowAnswer, AllocError>
+    ensures mark { can_be_at_once examinee.entry.options.now.gates list.now ≡ true → IfOk result (λ a. spec.TellsMarkAtOnce examinee.entry.program.now examinee.entry.options.now.steps list.now a.verdict) }
+    ensures refused { can_be_at_once examinee.entry.options.now.gates list.now ≡ false → IfOk result (λ a. a.verdict ≡ ShowVerdict.Misread) }
+{
+    let Examinee {
+        options,
+        program,
+        legend,
+        ..
+    } = examinee;
+    let subject = MarkSubject {
+        program,
+        legend,
+        limits: longest_limits_of(options),
+        most: options.states,
+    };
+    let marked = mark_at_once(alloc, subject, list, observer)?;
+    ends_answer(alloc, examinee, &marked)
+}
+
+fn ends_answer(
+    alloc: Global,
+    examinee: Examinee<'_>,
+    marked: &MarkedEnds,
+) -> Result<ShowAnswer, AllocError>
+    ensures { IfOk result (λ a. a.verdict ≡ spec.ends_verdict_of marked.now.mark) }
+{
+    let text = ends_told(alloc, examinee, marked)?;
+    Ok(ShowAnswer {
+        verdict: ends_verdict_of(marked.mark),
+        text,
+    })
+}
+
+fn ends_verdict_of(mark: EndsMark) -> ShowVerdict
+    ensures { result ≡ spec.ends_verdict_of mark }
+{
+    match mark {
+        EndsMark::Holds => ShowVerdict::Reported,
+        EndsMark::Fails => ShowVerdict::Fails,
+        EndsMark::Open => ShowVerdict::Open,
+        EndsMark::TooMany => ShowVerdict::TooMany,
+        EndsMark::Misread => ShowVerdict::Misread,
+    }
+}
+
+/// What the table within the limits of the options says of the expectations.
+pub fn mark_of<O: ObserveProgress>(
+    alloc: Global,
+    examinee: Examinee<'_>,
+    observer: &mut O,
+    reading: &Reading,
+) -> Result<ShowAnswer, AllocError>
+    ensures mark { IfOk result (λ a. spec.TellsMark examinee.entry.program.now.names reading.now.expectations.items (table (slots examinee.entry.program.now examinee.entry.options.now.gates) examinee.entry.options.now.choices examinee.entry.options.now.steps) a.verdict) }
+    ensures meaning { (t : Tree) → ∥ IsRead t.program ∥₁ → IsAccepted t → IsProgramOf t examinee.entry.program.now → IfOk result (λ a. spec.TellsMark (constant_names t.program) reading.now.expectations.items (table (named t (named_gates examinee.entry.options.now.gates)) examinee.entry.options.now.choices examinee.entry.options.now.steps) a.verdict) }
+    ensures text { IfOk result (λ a. TellsText (setting_of examinee.entry) reading.now.expectations.items (option_map (λ w. w.now) reading.now.doubtful) a.verdict (string_bytes a.text)) }
+{
+    let limits = limits_of(examinee.options);
+    let job = Job {
+        program: examinee.program,
+        limits,
+    };
+    let list = reading.expectations.as_slice();
+    match mark_program(alloc, job, examinee.options.states, list, observer) {
+        Ok(marked) => told_answer(alloc, examinee, reading, &marked),
+        Err(MarkFault::Memory) => Err(AllocError),
+        Err(MarkFault::TooManyStates) => {
+            too_many(alloc, examinee, observer, reading, MarkExcess::States)
+        }
+        Err(MarkFault::TooManyOutcomes) => {
+            too_many(alloc, examinee, observer, reading, MarkExcess::Outcomes)
+        }
+    }
+}
+
+fn told_answer(
+    alloc: Global,
+    examinee: Examinee<'_>,
+    reading: &Reading,
+    marked: &Marked,
+) -> Result<ShowAnswer, AllocError>
+    ensures verdict { IfOk result (λ a. a.verdict ≡ spec.verdict_of marked.now.mark) }
+    ensures text { IfOk result (λ a. string_bytes a.text ≡ told_spec.ended examinee.entry.as_json (saying (setting_of examinee.entry) reading.now.expectations.items (option_map (λ w. w.now) reading.now.doubtful) marked.now)) }
+{
+    let said = mark_text(alloc, examinee, reading, marked)?;
+    let text = end_line(examinee, said)?;
+    Ok(ShowAnswer {
+        verdict: verdict_of(marked.mark),
+        text,
+    })
+}
+
+// An object stands on a line of its own.
+fn end_line(examinee: Examinee<'_>, said: String) -> Result<String, AllocError>
+    ensures { IfOk result (λ t. string_bytes t ≡ told_spec.ended examinee.entry.as_json (string_bytes said)) }
+{
+    let mut text = said;
+    if examinee.as_json {
+        text.push_str("\n")?;
+    }
+    Ok(text)
+}
+
+fn verdict_of(mark: TableMark) -> ShowVerdict
+    ensures { result ≡ spec.verdict_of mark }
+{
+    match mark {
+        TableMark::Holds => ShowVerdict::Reported,
+        TableMark::Fails => ShowVerdict::Fails,
+        TableMark::Open => ShowVerdict::Open,
+    }
+}
+
+// What there is too much of, and the mark by schedules of fewer choices.
+fn too_many<O: ObserveProgress>(
+    alloc: Global,
+    examinee: Examinee<'_>,
+    observer: &mut O,
+    reading: &Reading,
+    excess: MarkExcess,
+) -> Result<ShowAnswer, AllocError>
+    ensures verdict { IfOk result (λ a. a.verdict ≡ TooMany) }
+    ensures text { IfOk result (λ a. (said : List ℕ) × IsExcessTold (setting_of examinee.entry) reading.now.expectations.items (option_map (λ w. w.now) reading.now.doubtful) said × (string_bytes a.text ≡ told_spec.ended examinee.entry.as_json said)) }
+{
+    let said = too_many_text(alloc, examinee, observer, reading, excess)?;
+    let text = end_line(examinee, said)?;
+    Ok(ShowAnswer {
+        verdict: ShowVerdict::TooMany,
+        text,
+    })
+}
+
+fn too_many_text<O: ObserveProgress>(
+    alloc: Global,
+    examinee: Examinee<'_>,
+    observer: &mut O,
+    reading: &Reading,
+    excess: MarkExcess,
+) -> Result<String, AllocError>
+    ensures { IfOk result (λ t. IsExcessTold (setting_of examinee.entry) reading.now.expectations.items (option_map (λ w. w.now) reading.now.doubtful) (string_bytes t)) }
+{
+    let job = Job {
+        program: examinee.program,
+        limits: limits_of(examinee.options),
+    };
+    let found = greatest_known(alloc, job, examinee.options.states, observer)?;
+    match found {
+        Some(known) => known_text(alloc, examinee, reading, excess, &known),
+        None => excess_text(alloc, examinee, excess, None),
+    }
+}
+
+// The same with what is said of all schedules of fewer choices.
+fn known_text(
+    alloc: Global,
+    examinee: Examinee<'_>,
+    reading: &Reading,
+    excess: MarkExcess,
+    known: &Known,
+) -> Result<String, AllocError>
+    ensures { IfOk result (λ t. (said : List ℕ) × SaysOfTallies (setting_of examinee.entry) reading.now.expectations.items (option_map (λ w. w.now) reading.now.doubtful) (map tally_of known.now.tallies) said × (string_bytes t ≡ told_spec.excess_saying (setting_of examinee.entry) excess (Some (known.now.choices, said)))) }
+{
+    let said = saying_of_known(alloc, examinee, reading, known)?;
+    excess_text(
+        alloc,
+        examinee,
+        excess,
+        Some((known.choices, said.as_str())),
+    )
+}
+
+fn saying_of_known(
+    alloc: Global,
+    examinee: Examinee<'_>,
+    reading: &Reading,
+    known: &Known,
+) -> Result<String, AllocError>
+    ensures { IfOk result (λ t. SaysOfTallies (setting_of examinee.entry) reading.now.expectations.items (option_map (λ w. w.now) reading.now.doubtful) (map tally_of known.now.tallies) (string_bytes t)) }
+{
+    let list = reading.expectations.as_slice();
+    let marked = mark_tallies(alloc, examinee.program, list, known.tallies.as_slice())?;
+    mark_text(alloc, examinee, reading, &marked)
+}

@@ -1,0 +1,67 @@
+//! The story of a schedule within the limits of the options.
+
+ghost use Rattle.std.specs.Prelude.{◌≡◌, ◌≤◌, IfOk, length, map};
+ghost use Rattle.cp_legend.specs.Names.{legend_seen};
+ghost use Rattle.cp_story.specs.Views.{wait_of};
+ghost use Rattle.cp_story.specs.Waiting.{who_waits};
+ghost use Rattle.cp_walk.specs.Rows.{UsedWithin};
+ghost use Rattle.cp_show_mark.specs.Stories.{IsStoryOf};
+
+use crate::examinee::Examinee;
+use cp_legend::Legend;
+use cp_machine::Ticks;
+use cp_show_options::limits_of;
+use cp_slots::Resolved;
+use cp_story::{Story, Wait, tell};
+use cp_tool::Options;
+use std::alloc::{AllocError, Global};
+use std::marker::Brand;
+use std::sync::ledger::{Blank, Ledger};
+
+/// The story of a word.
+pub fn story_of(
+    alloc: Global,
+    options: &Options,
+    program: &Resolved,
+    legend: &Legend,
+    word: &[u8],
+) -> Result<Story, AllocError>
+    requires { length word.now ≤ 100 }
+    ensures used { IfOk result (λ story. UsedWithin story.end (length word.now)) }
+    ensures so { IfOk result (λ story. IsStoryOf (legend_seen legend.now) program.now options.now.gates options.now.choices options.now.steps word.now story) }
+{
+    story_by::<Brand>(alloc, options, program, legend, word, Blank::new(1))
+}
+
+fn story_by<L: Ledger>(
+    alloc: Global,
+    options: &Options,
+    program: &Resolved,
+    legend: &Legend,
+    word: &[u8],
+    blank: Blank,
+) -> Result<Story, AllocError>
+    requires name { blank.name ≡ L.name }
+    requires parts { blank.parts ≡ L.parts }
+    requires one { L.parts ≡ 1 }
+    requires word { length word.now ≤ 100 }
+    ensures used { IfOk result (λ story. UsedWithin story.end (length word.now)) }
+    ensures so { IfOk result (λ story. IsStoryOf (legend_seen legend.now) program.now options.now.gates options.now.choices options.now.steps word.now story) }
+{
+    let mut ticks: Ticks<L> = Ticks::new(blank);
+    tell(alloc, program, legend, limits_of(options), word, &mut ticks)
+}
+
+/// Who waits where at the end of a word.
+pub fn waits_of(alloc: Global, examinee: Examinee<'_>, word: &[u8]) -> Result<Vec<Wait>, AllocError>
+    requires { length word.now ≤ 100 }
+    ensures { IfOk result (λ waits. map wait_of waits.items ≡ who_waits (legend_seen examinee.entry.legend.now) examinee.entry.program.now examinee.entry.options.now.gates examinee.entry.options.now.choices examinee.entry.options.now.steps word.now) }
+{
+    let Examinee {
+        options,
+        program,
+        legend,
+        ..
+    } = examinee;
+    Ok(story_of(alloc, options, program, legend, word)?.waits)
+}
