@@ -1,0 +1,100 @@
+-- What is shown of a program that is accepted: by each part, a verdict and a text.
+use Rattle.std.specs.Prelude.{◌≡◌, ℕ, List, map, Bool, false, None, MatchOption, codes, option_map, string_bytes}
+use Rattle.cp_tree.specs.Syntax.{Tree}
+use Rattle.cp_symbols.specs.declared.symbols.Symbols.{Symbols}
+use Rattle.cp_slots.specs.Tables.{Tables}
+use Rattle.cp_layout.specs.Laid.{whole}
+use Rattle.cp_layout.specs.Symbols.{AreSymbolsOf}
+use Rattle.cp_resolved.specs.Enumerations.{constant_names}
+use Rattle.cp_resolved.specs.Resolving.{IsProgramOf}
+use Rattle.cp_legend.specs.declared.legend.Legend as code_legend
+use Rattle.cp_legend.specs.Names.{IsLegendOf, component_seen, legend_seen, source_seen}
+use Rattle.cp_legend_laws.specs.Statements.{ComponentsAreNamed}
+use Rattle.cp_run.specs.Code.{answer_of}
+use Rattle.cp_run.specs.Run.{run}
+use Rattle.cp_run.specs.Table.{table}
+use Rattle.cp_run.specs.Trace.{trace}
+use Rattle.cp_refine.specs.Named.{named, named_gates}
+use Rattle.cp_tool.specs.declared.options.Options.{Options}
+use Rattle.cp_story.specs.Told.{lines_of}
+use Rattle.cp_story.specs.Views.{decision_of, told_of, wait_of}
+use Rattle.cp_story_laws.specs.Events.{events_on_names, names_telling}
+use Rattle.cp_story_laws.specs.Statements.{event_on_names, wait_on_names}
+use Rattle.cp_story_laws.specs.Waits.{who_waits_on_names}
+use Rattle.cp_outcomes.specs.Meant.{IsFoundIn}
+use Rattle.cp_outcomes.specs.declared.subject.Format.{Format}
+use Rattle.cp_refusal.specs.Text.{BeginsWith}
+use Rattle.cp_verdict.specs.Words.{words_of}
+use Rattle.cp_verdict.specs.declared.reading.Reading.{Reading}
+use Rattle.cp_show_mark.specs.Given.{IsGiven, MeansGiven, TellsGivenText}
+use Rattle.cp_show_mark.specs.MarkText.{Setting}
+use Rattle.cp_show_mark.specs.Showing.{TellsMark}
+use Rattle.cp_show_mark.specs.Told.{TellsText}
+use Rattle.cp_show_mark.specs.declared.answer.ShowVerdict.{ShowVerdict}
+use Rattle.cp_show_mark.specs.declared.answer.ShowVerdict.TheVariants.{Reported}
+use Rattle.cp_show_options.specs.declared.parts.Asked.{Asked}
+use Rattle.cp_show_options.specs.declared.parts.ShowPart.{ShowPart}
+use Rattle.cp_show_options.specs.declared.parts.ShowPart.TheVariants as part
+use Rattle.cpx_show.specs.Schedules.{IsStoryText, IsTracedAs, trace_form}
+use Rattle.cpx_show.specs.Summaries.{AreOutcomesOf, IsCovered, form_of}
+use Rattle.cpx_show.specs.declared.schedules.ScheduleForm.{ScheduleForm}
+
+-- The tables of a tree, and a legend of what its names stand for. So each component has the path that the language gives it.
+pub record AreNamed (t : Tree) (r : Tables) (l : code_legend.Legend) : Type 0 where
+  pub stands : IsProgramOf t r
+  pub symbols : Symbols
+  pub noted : AreSymbolsOf symbols (whole t)
+  pub legend : IsLegendOf l (source_seen symbols) r.components
+  pub called : ∥ ComponentsAreNamed t r l ∥₁
+
+-- ---- one schedule
+
+-- The story of a word in names is told of the meaning of the program: its events have the lines of the trace, and each is the one that happens there on the program's own
+-- names; so is the last choice, and who waits where the run stops; and it ends as the run does.
+pub record IsTraceInNames (f : ScheduleForm) (o : Options) (t : Tree) (r : Tables) (l : code_legend.Legend) (source : List (List ℕ)) (word : List ℕ) (text : List ℕ) : Type 0 where
+  pub told : IsStoryText f o r (legend_seen l) source word text
+  pub lines : lines_of told.story.events.items ≡ trace (named t (named_gates o.gates)) o.choices o.steps word
+  pub events : ∥ map (event_on_names (legend_seen l)) (map told_of told.story.events.items) ≡ events_on_names t (named_gates o.gates) o.choices o.steps word ∥₁
+  pub last_choice : ∥ option_map decision_of told.story.last_choice ≡ (names_telling t (named_gates o.gates) o.choices o.steps word).past.choice ∥₁
+  pub waits : ∥ map (wait_on_names (legend_seen l)) (map wait_of told.story.waits.items) ≡ who_waits_on_names t (named_gates o.gates) o.choices o.steps word ∥₁
+  pub end : answer_of told.story.end ≡ run (named t (named_gates o.gates)) o.choices o.steps word
+  pub constants : r.names ≡ constant_names t.program
+
+-- ---- the outcomes of all schedules
+
+-- what is told of them is found in the table of the meaning
+pub record AreOutcomes (form : Format) (o : Options) (t : Tree) (r : Tables) (l : code_legend.Legend) (verdict : ShowVerdict) (text : List ℕ) : Type 0 where
+  pub so : AreOutcomesOf form o r l verdict text
+  pub found : IsFoundIn (λ choices. table (named t (named_gates o.gates)) choices o.steps) o.choices so.told.finding
+
+-- with what no schedule comes to behind them, where that is asked for
+abbrev pub AreOutcomesShown : (json cover : Bool) → Options → Tree → Tables → code_legend.Legend → ShowVerdict → List ℕ → Type 0
+AreOutcomesShown json cover o t r l verdict text = (told : List ℕ) × AreOutcomes (form_of json) o t r l verdict told × IsCovered json cover told text
+
+-- ---- the mark
+
+-- the program that is marked, the limits within which it is, and the form in which that is told
+abbrev pub setting_of : (json : Bool) → Options → Tables → code_legend.Legend → (source : List (List ℕ)) → Setting
+setting_of json o r l source = record { legend = legend_seen l; program = r; gates = o.gates; choices = o.choices; steps = o.steps; states = o.states; source = source; as_json = json }
+
+-- the mark of what is read to be expected, by the table of the meaning; and the text or the object that tells it
+pub record IsMarkOf (json : Bool) (o : Options) (t : Tree) (r : Tables) (l : code_legend.Legend) (source : List (List ℕ)) (reading : Reading) (verdict : ShowVerdict) (text : List ℕ) : Type 0 where
+  pub told : TellsMark (constant_names t.program) reading.expectations.items (table (named t (named_gates o.gates)) o.choices o.steps) verdict
+  pub written : TellsText (setting_of json o r l source) reading.expectations.items (option_map (λ w. w.now) reading.doubtful) verdict text
+
+-- the mark of the expectations that the words or the comments of the source give, by the meaning; and what tells it of schedules within the limits
+abbrev pub IsGivenMark : (json : Bool) → Options → Tree → Tables → code_legend.Legend → (words : List ℕ) → (with_own : Bool) → (bytes : List ℕ) → (source : List (List ℕ)) → ShowVerdict → List ℕ → Type 0
+IsGivenMark json o t r l words with_own bytes source verdict text =
+    ((given : List ℕ) × IsGiven words with_own bytes given × MeansGiven t o (map component_seen l.components.items) (words_of given) verdict) × (o.ends ≡ false → (given : List ℕ) × IsGiven words with_own bytes given × TellsGivenText (setting_of json o r l source) (words_of given) verdict text)
+
+-- ---- the parts
+
+-- One schedule in names; all outcomes; the mark of what is expected; or that a program is accepted. Of the other parts no more is said than this.
+abbrev pub IsShown : ShowPart → Asked → Tree → Tables → code_legend.Legend → (bytes : List ℕ) → (source : List (List ℕ)) → ShowVerdict → List ℕ → Type 0
+IsShown (part.Trace json) a t r l bytes source verdict text = IsTracedAs (IsTraceInNames (trace_form json) a.options t r l source) a r verdict text
+IsShown (part.Lanes view) a t r l bytes source verdict text = a.outcome ≡ None → verdict ≡ Reported
+IsShown (part.Page states) a t r l bytes source verdict text = Unit {0}
+IsShown (part.Outcomes json cover) a t r l bytes source verdict text = AreOutcomesShown json cover a.options t r l verdict text
+IsShown (part.Ends json) a t r l bytes source verdict text = Unit {0}
+IsShown (part.Mark words reading own json) a t r l bytes source verdict text = MatchOption reading (IsGivenMark json a.options t r l (string_bytes words) own bytes source verdict text) (λ x. IsMarkOf json a.options t r l source x verdict text)
+IsShown (part.Refusal json file) a t r l bytes source verdict text = (verdict ≡ Reported) × (json ≡ false → BeginsWith (codes "accepted\n") text)

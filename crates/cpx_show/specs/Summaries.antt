@@ -1,0 +1,46 @@
+-- The outcomes of all schedules, from the slot machine on.
+use Rattle.std.specs.Prelude.{◌≡◌, ℕ, List, ◌∷◌, ◌++◌, Bool, true, false, string_bytes, if◌then◌else◌}
+use Rattle.cp_slots.specs.Tables.{Tables}
+use Rattle.cp_legend.specs.declared.legend.Legend as code_legend
+use Rattle.cp_tool.specs.declared.options.Options.{Options}
+use Rattle.cp_outcomes.specs.Written.{TellsOutcomes}
+use Rattle.cp_outcomes.specs.declared.subject.Format.{Format}
+use Rattle.cp_outcomes.specs.declared.subject.Format.TheVariants.{Json, Text}
+use Rattle.cp_outcomes.specs.declared.subject.Subject.{Subject}
+use Rattle.cp_outcomes.specs.declared.subject.Summary.{Summary}
+use Rattle.cp_show_mark.specs.declared.answer.ShowVerdict.{ShowVerdict}
+use Rattle.cp_show_mark.specs.declared.answer.ShowVerdict.TheVariants.{Reported, TooMany}
+
+-- the program, its names, and the limits, whose outcomes are told
+pub record IsSubjectOf (s : Subject) (o : Options) (r : Tables) (l : code_legend.Legend) : Type 0 where
+  pub program : s.program.now ≡ r
+  pub legend : s.legend.now ≡ l
+  pub choices : s.limits.choices ≡ o.choices
+  pub steps : s.limits.steps ≡ o.steps
+  pub gates : s.limits.gates ≡ o.gates
+  pub states : s.states ≡ o.states
+
+abbrev pub form_of : (json : Bool) → Format
+form_of json = if json then Json else Text
+
+abbrev pub verdict_on : (whole : Bool) → ShowVerdict
+verdict_on whole = if whole then Reported else TooMany
+
+-- they are told in this form
+pub record AreOutcomesOf (form : Format) (o : Options) (r : Tables) (l : code_legend.Legend) (verdict : ShowVerdict) (text : List ℕ) : Type 0 where
+  pub subject : Subject
+  pub asked : IsSubjectOf subject o r l
+  pub summary : Summary
+  pub told : TellsOutcomes subject form summary
+  pub verdict_is : verdict ≡ verdict_on summary.is_whole
+  pub text_is : text ≡ string_bytes summary.text
+
+-- Behind them stands what no schedule comes to; of that, and of JSON, nothing is said.
+abbrev pub IsBefore : (json : Bool) → (told text : List ℕ) → Type 0
+IsBefore true told text = Unit {0}
+IsBefore false told text = (cover : List ℕ) × (text ≡ told ++ 10 ∷ cover)
+
+-- where that is asked for
+abbrev pub IsCovered : (json cover : Bool) → (told text : List ℕ) → Type 0
+IsCovered json true told text = IsBefore json told text
+IsCovered json false told text = text ≡ told

@@ -1,0 +1,104 @@
+//! What no schedule comes to, after the outcomes.
+
+ghost use Rattle.std.specs.Prelude.{◌≡◌, IfOk, string_bytes};
+ghost use Rattle.cp_show_mark.specs.declared.answer.ShowAnswer as answers;
+ghost use Rattle.cpx_show.specs.Summaries.{IsBefore};
+
+use cp_cover::{
+    Coverage, Entries, Gaps, cover_json, cover_text, entries_of, find_coverage, gaps_of,
+};
+use cp_front::Loaded;
+use cp_legend::Legend;
+use cp_progress::ObserveProgress;
+use cp_show_mark::ShowAnswer;
+use cp_show_options::limits_of;
+use cp_tool::Options;
+use std::alloc::{AllocError, Global};
+
+/// An answer that has the outcomes, with what no schedule comes to after them.
+pub fn with_coverage<O: ObserveProgress>(
+    alloc: Global,
+    options: &Options,
+    observer: &mut O,
+    loaded: &Loaded,
+    legend: &Legend,
+    answer: Result<ShowAnswer, AllocError>,
+    as_json: bool,
+) -> Result<ShowAnswer, AllocError>
+    ensures { IfOk result (λ a. (before : answers.ShowAnswer) × (answer ≡ Ok before) × (a.verdict ≡ before.verdict) × IsBefore as_json (string_bytes before.text) (string_bytes a.text)) }
+{
+    let answer = answer?;
+    let text = text_with_gaps(
+        alloc,
+        options,
+        observer,
+        loaded,
+        legend,
+        answer.text.as_str(),
+        as_json,
+    )?;
+    Ok(ShowAnswer {
+        verdict: answer.verdict,
+        text,
+    })
+}
+
+fn text_with_gaps<O: ObserveProgress>(
+    alloc: Global,
+    options: &Options,
+    observer: &mut O,
+    loaded: &Loaded,
+    legend: &Legend,
+    told: &str,
+    as_json: bool,
+) -> Result<String, AllocError>
+    ensures { IfOk result (λ text. IsBefore as_json told.now (string_bytes text)) }
+{
+    let gaps = gaps_within(alloc, options, observer, loaded, legend)?;
+    if as_json {
+        let cover = json_of(alloc, &gaps)?;
+        with_member(alloc, told, cover.as_str())
+    } else {
+        let cover = cover_text(alloc, &gaps)?;
+        format!(in alloc; "{told}\n{cover}")
+    }
+}
+
+// What no schedule within the limits of the options comes to.
+fn gaps_within<O: ObserveProgress>(
+    alloc: Global,
+    options: &Options,
+    observer: &mut O,
+    loaded: &Loaded,
+    legend: &Legend,
+) -> Result<Gaps, AllocError> {
+    let coverage = find_coverage(
+        alloc,
+        &loaded.program,
+        limits_of(options),
+        options.states,
+        observer,
+    )?;
+    gaps_beside(alloc, loaded, legend, &coverage)
+}
+
+fn gaps_beside(
+    alloc: Global,
+    loaded: &Loaded,
+    legend: &Legend,
+    coverage: &Coverage,
+) -> Result<Gaps, AllocError> {
+    let entries: Entries = entries_of(alloc, loaded.checked.tree())?;
+    gaps_of(alloc, &loaded.program, legend, &entries, coverage)
+}
+
+fn json_of(alloc: Global, gaps: &Gaps) -> Result<String, AllocError> {
+    cover_json(alloc, gaps)?.to_string(alloc)
+}
+
+// An object on a line of its own, with one member more.
+fn with_member(alloc: Global, object: &str, cover: &str) -> Result<String, AllocError> {
+    let before = object.trim_end();
+    let before = before.strip_suffix('}').unwrap_or(before);
+    format!(in alloc; "{before},\"cover\":{cover}}}\n")
+}
