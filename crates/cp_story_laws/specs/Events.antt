@@ -1,7 +1,6 @@
 -- What is told of a run of a program on its own names: each kernel call, process end and admission, with its process, the entry call and the line, what it displays, the choice
 -- before it, who goes on by it, how the processes stand then, and who is inside each monitor.
-use Rattle.std.specs.Prelude.{ℕ, ◌-◌, ◌==◌, Bool, false, List, [], ◌∷◌, ◌++◌, length, replicate, take, Option, Some, None, pos, slice_get, slice_index_or, slice_set, unwrap_or}
-use Rattle.std.specs.List.{position_or_len}
+use Rattle.std.specs.Prelude.{ℕ, ◌-◌, Bool, false, if◌then◌else◌, List, [], ◌∷◌, ◌++◌, length, replicate, take, Option, Some, None, pos, slice_get, slice_index_or, slice_set, unwrap_or}
 use Rattle.cp_tree.specs.Syntax.{Program, Tree}
 use Rattle.cp_machine.specs.declared.event.Event.{Event}
 use Rattle.cp_machine.specs.declared.event.Event.TheVariants as step
@@ -13,14 +12,21 @@ use Rattle.cp_run.specs.declared.line.TraceEvent.TheVariants.{Kernel, End, Admit
 use Rattle.cp_run.specs.Run.{may, those_below}
 use Rattle.cp_run.specs.Trace.{holders_in}
 use Rattle.cp_meaning.specs.Names.{Name}
-use Rattle.cp_meaning.specs.Readings.{monitors_of}
-use Rattle.cp_meaning.specs.State.{Call, current, process_at, Gates, State}
-use Rattle.cp_meaning.specs.Steps.{opening}
+use Rattle.cp_meaning.specs.Places.{View}
+use Rattle.cp_meaning.specs.State.{Call, Component, current, process_at, Gates, State}
+use Rattle.cp_meaning.specs.Steps.{opening, view_of}
+use Rattle.cp_legend.specs.Values.{Value}
 use Rattle.cp_refine.specs.Named.{named, is_some}
 use Rattle.cp_resolved.specs.Openings.{openings_of}
 use Rattle.cp_run.specs.Fold.{Fold, fold_run}
-use Rattle.cp_story.specs.Story.{Decision}
+use Rattle.cp_story.specs.Changes.{Changed}
+use Rattle.cp_story.specs.Passed.{Given}
+use Rattle.cp_story.specs.Story.{Decision, NamedQueue}
+use Rattle.cp_story_laws.specs.Aims.{ends_now, no_queue, queue_aimed}
+use Rattle.cp_story_laws.specs.Changes.{changes_told}
 use Rattle.cp_story_laws.specs.Lines.{next_line}
+use Rattle.cp_story_laws.specs.MonitorNumbers.{monitor_of}
+use Rattle.cp_story_laws.specs.Passed.{arguments_told, given_back}
 use Rattle.cp_story_laws.specs.Routines.{name_of, routine_of}
 use Rattle.cp_story_laws.specs.Standings.{Standing, standings, standing_at, is_gated, is_queued, resumed, started}
 
@@ -38,6 +44,11 @@ pub record NamedEvent : Type 0 where
   -- whether a call that begins waits at the gate
   pub waits : Bool
   pub displayed : Option Shown
+  -- the queue in which the process is delayed, or which it continues
+  pub queue : Option NamedQueue
+  -- what a call that begins is given, and what one gives back that ends
+  pub arguments : List Value
+  pub returned : List Given
   -- the process that begins
   pub begins : Option ℕ
   pub line : Option ℕ
@@ -49,12 +60,17 @@ pub record NamedEvent : Type 0 where
   -- how each process stands, and the process inside each monitor
   pub standings : List Standing
   pub holders : List (Option ℕ)
+  -- the variables of monitors that changed since the event before
+  pub changes : List Changed
 
--- What is remembered from one event to the next: the choice that was taken, the open entry calls of monitors of each process, the innermost last, and how the processes stood.
+-- What is remembered from one event to the next: the choice that was taken, the open entry calls of monitors of each process, the innermost last, how the processes stood, and
+-- the components; and what comes back from the call that ends with the step to come, if one does.
 pub record Remembered : Type 0 where
   pub choice : Option Decision
   pub calls : List (List EntryCall)
   pub standings : List Standing
+  pub components : List Component
+  pub returned : List Given
 
 pub record NamedTelling : Type 0 where
   pub events : List NamedEvent
@@ -82,10 +98,6 @@ no_call p = record { monitor = 0; routine = name_of (slice_get (openings_of p) 0
 
 abbrev pub innermost : Program → Remembered → ℕ → EntryCall
 innermost p past q = last_of (no_call p) (stack_of past.calls q)
-
--- the number of the monitor that a component is: its place among the monitors
-abbrev pub monitor_of : Program → Gates → (component : ℕ) → ℕ
-monitor_of p g n = position_or_len (λ m. m == n) (monitors_of (opening p g))
 
 -- the call that process p has just begun, from a line
 abbrev pub call_begun : Tree → Gates → State → ℕ → (line : Option ℕ) → EntryCall
@@ -118,6 +130,17 @@ abbrev pub displayed_by : TraceEvent → (output : List Shown) → Option Shown
 displayed_by (Kernel Display) output = Some (last_of (Integer (pos 0)) output)
 displayed_by _ output = None
 
+-- the queue that `delay` and `continue` name in the state before
+abbrev pub queue_by : TraceEvent → NamedQueue → Option NamedQueue
+queue_by (Kernel Delay) queue = Some queue
+queue_by (Kernel Continue) queue = Some queue
+queue_by _ queue = None
+
+-- what the call has that has just begun
+abbrev pub arguments_by : TraceEvent → View → List Value
+arguments_by (Kernel Enter) v = arguments_told v
+arguments_by _ v = []
+
 abbrev pub begun_by : TraceEvent → (before now : List Standing) → Option ℕ
 begun_by (Kernel StartProcess) before now = Some (last_of 0 (started before now))
 begun_by _ before now = None
@@ -129,14 +152,17 @@ line_of_event End line call = None
 line_of_event Admit line call = None
 line_of_event _ line call = line
 
-abbrev pub event_of : Tree → Gates → TraceEvent → ℕ → (line : Option ℕ) → (woken : List ℕ) → State → Remembered → NamedEvent
-event_of t g event p line woken s past =
+abbrev pub event_of : Tree → Gates → TraceEvent → ℕ → (line : Option ℕ) → (queue : NamedQueue) → (woken : List ℕ) → State → Remembered → NamedEvent
+event_of t g event p line queue woken s past =
     record {
       process = p;
       event = event;
       call = call_of_event t g event p line s past;
       waits = waits_then event p (standings t.program s);
       displayed = displayed_by event ((named t g).output s);
+      queue = queue_by event queue;
+      arguments = arguments_by event (view_of t.program s p);
+      returned = past.returned;
       begins = begun_by event past.standings (standings t.program s);
       line = line_of_event event line (innermost t.program past p);
       choice = past.choice;
@@ -144,21 +170,29 @@ event_of t g event p line woken s past =
       let_in = resumed is_gated past.standings (standings t.program s) p;
       standings = standings t.program s;
       holders = holders_in (named t g) s;
+      changes = changes_told t.program g past.components s.components;
     }
 
 abbrev pub remembered_after : Tree → Gates → TraceEvent → ℕ → (line : Option ℕ) → State → Remembered → Remembered
-remembered_after t g event p line s past = record { choice = None; calls = calls_after t g event p line s past.calls; standings = standings t.program s }
+remembered_after t g event p line s past = record { choice = None; calls = calls_after t g event p line s past.calls; standings = standings t.program s; components = s.components; returned = [] }
 
-abbrev pub with_event : Tree → Gates → TraceEvent → ℕ → (line : Option ℕ) → (woken : List ℕ) → State → NamedTelling → NamedTelling
-with_event t g event p line woken s x = record { events = x.events ++ event_of t g event p line woken s x.past ∷ []; past = remembered_after t g event p line s x.past }
+abbrev pub with_event : Tree → Gates → TraceEvent → ℕ → (line : Option ℕ) → (queue : NamedQueue) → (woken : List ℕ) → State → NamedTelling → NamedTelling
+with_event t g event p line queue woken s x = record { events = x.events ++ event_of t g event p line queue woken s x.past ∷ []; past = remembered_after t g event p line s x.past }
 
 -- ---- a run
 
+-- what comes back from the call that ends with the step of process p, seen before it
+abbrev pub returned_then : Tree → State → ℕ → Remembered → List Given
+returned_then t s p past = if ends_now t s p then given_back (view_of t.program s p) else past.returned
+
+abbrev pub expecting : Tree → State → ℕ → NamedTelling → NamedTelling
+expecting t s p x = record { events = x.events; past = record x.past { returned = returned_then t s p x.past } }
+
 -- a local step, a run error and a full output are no events
-abbrev pub with_step : Tree → Gates → ℕ → (line : Option ℕ) → (woken : List ℕ) → Event → State → NamedTelling → NamedTelling
-with_step t g p line woken (step.Kernel call) s x = with_event t g (Kernel call) p line woken s x
-with_step t g p line woken step.Ended s x = with_event t g End p line woken s x
-with_step t g p line woken _ s x = x
+abbrev pub with_step : Tree → Gates → ℕ → (line : Option ℕ) → (queue : NamedQueue) → (woken : List ℕ) → Event → State → NamedTelling → NamedTelling
+with_step t g p line queue woken (step.Kernel call) s x = with_event t g (Kernel call) p line queue woken s x
+with_step t g p line queue woken step.Ended s x = with_event t g End p line queue woken s x
+with_step t g p line queue woken _ s x = x
 
 -- the choice that is due in a state
 abbrev pub decision_of : Tree → Gates → State → ℕ → Decision
@@ -170,13 +204,15 @@ with_choice d x = record { events = x.events; past = record x.past { choice = So
 abbrev pub names_teller : Tree → Gates → Fold State NamedTelling
 names_teller t g =
     record {
-      on_step = λ s p event after x. with_step t g p (next_line t s p) (resumed is_queued (standings t.program s) (standings t.program after) p) event after x;
-      on_admission = λ p after x. with_event t g Admit p None [] after x;
+      on_step = λ s p event after x. with_step t g p (next_line t s p) (queue_aimed t g s p) (resumed is_queued (standings t.program s) (standings t.program after) p) event after (expecting t s p x);
+      on_admission = λ p after x. with_event t g Admit p None no_queue [] after x;
       on_choice = λ s number x. with_choice (decision_of t g s number) x;
     }
 
 abbrev pub nothing_told : Tree → Gates → NamedTelling
-nothing_told t g = let first = opening t.program g in record { events = []; past = record { choice = None; calls = replicate (length first.processes) []; standings = standings t.program first } }
+nothing_told t g =
+    let first = opening t.program g in
+    record { events = []; past = record { choice = None; calls = replicate (length first.processes) []; standings = standings t.program first; components = first.components; returned = [] } }
 
 -- what is told of the run of a word
 abbrev pub names_telling : Tree → Gates → (choices steps : ℕ) → List ℕ → NamedTelling

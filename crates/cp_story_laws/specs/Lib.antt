@@ -1,8 +1,14 @@
+pub mod Aims
+pub mod Changes
 pub mod Events
 pub mod Lines
+pub mod MonitorNumbers
 pub mod OpenCalls
+pub mod Passed
+pub mod Places
 pub mod Queues
 pub mod Routines
+pub mod SameValues
 pub mod Standings
 pub mod Statements
 pub mod Variables

@@ -1,5 +1,5 @@
 -- What the laws say: a story of the slot machine tells what happens on a program's own names.
-use Rattle.std.specs.Prelude.{◌≡◌, ℕ, ◌<◌, Bool, false, List, length, map, option_map, Option, Some, None, slice_get}
+use Rattle.std.specs.Prelude.{◌≡◌, ℕ, ◌<◌, Bool, false, List, [], length, map, option_map, Option, Some, None, slice_get}
 use Rattle.cp_tree.specs.Read.{IsRead}
 use Rattle.cp_tree.specs.Syntax.{Program, Tree}
 use Rattle.cp_symbols.specs.declared.symbols.Symbols.{Symbols}
@@ -10,6 +10,7 @@ use Rattle.cp_lawful.specs.Accepted.{IsAccepted}
 use Rattle.cp_legend.specs.declared.legend.Legend as code_legend
 use Rattle.cp_legend.specs.Names.{Legend, Named, IsLegendOf, legend_seen, monitor_in, name_of_routine, path_in, source_seen}
 use Rattle.cp_legend.specs.Places.{owner, variables_at}
+use Rattle.cp_legend.specs.Values.{Value}
 use Rattle.cp_machine.specs.declared.event.Kernel.TheVariants.{Enter, Leave, Delay, Continue, StartProcess, Display}
 use Rattle.cp_machine.specs.declared.gates.Gates.{Gates}
 use Rattle.cp_machine.specs.declared.process.Status.{Status}
@@ -25,10 +26,11 @@ use Rattle.cp_refine.specs.Named.{monitor_number, named, named_gates}
 use Rattle.cp_resolved.specs.TreeLayouts.{layouts_of}
 use Rattle.cp_run.specs.Slots.{slots}
 use Rattle.cp_run.specs.Stop.{last_state}
-use Rattle.cp_story.specs.Story.{Happened, Enters, Leaves, Delays, Continues, Starts, Displays, Ends, IsAdmitted, Told, story_of, telling}
+use Rattle.cp_story.specs.Story.{Happened, Enters, Leaves, Delays, Continues, Starts, Displays, Ends, IsAdmitted, NamedQueue, Told, story_of, telling}
 use Rattle.cp_story.specs.Waiting.{Waiting, who_waits}
 use Rattle.cp_story.specs.declared.event.OpenCall.{OpenCall}
-use Rattle.cp_story_laws.specs.Events.{EntryCall, NamedEvent, events_on_names, monitor_of, names_telling, stack_of}
+use Rattle.cp_story_laws.specs.Events.{EntryCall, NamedEvent, events_on_names, names_telling, stack_of}
+use Rattle.cp_story_laws.specs.MonitorNumbers.{monitor_of}
 use Rattle.cp_story_laws.specs.OpenCalls.{Entered, monitors_entered}
 use Rattle.cp_story_laws.specs.Queues.{WaitsIn}
 use Rattle.cp_story_laws.specs.Standings.{Standing, not_begun, may_go_on, at_gate_of, in_queue_of, has_ended, path_of}
@@ -67,6 +69,15 @@ abbrev pub displayed_told : Happened → Option Shown
 displayed_told (Displays value) = Some value
 displayed_told _ = None
 
+abbrev pub queue_in : Happened → Option NamedQueue
+queue_in (Delays queue call) = Some queue
+queue_in (Continues queue call) = Some queue
+queue_in _ = None
+
+abbrev pub arguments_in : Happened → List Value
+arguments_in (Enters call arguments waits) = arguments
+arguments_in _ = []
+
 abbrev pub begins_told : Happened → Option ℕ
 begins_told (Starts process) = Some process
 begins_told _ = None
@@ -87,6 +98,9 @@ event_on_names l e =
       call = call_in l e.happened;
       waits = waits_told e.happened;
       displayed = displayed_told e.happened;
+      queue = queue_in e.happened;
+      arguments = arguments_in e.happened;
+      returned = e.returned;
       begins = begins_told e.happened;
       line = e.line;
       choice = e.choice;
@@ -94,6 +108,7 @@ event_on_names l e =
       let_in = e.let_in;
       standings = map (standing_told l) e.statuses;
       holders = e.holders;
+      changes = e.changes;
     }
 
 -- The events of a story, and the last choice, are those of the program on its own names.
