@@ -1,5 +1,5 @@
 -- Along the run of a word, the events that a story tells are those on the program's own names.
-use Rattle.std.proofs.Common.{◌≡◌, ◌∙◌, ℕ, ◌<◌, Bool, true, false, List, [], ◌∷◌, ◌++◌, Option, Some, None, ap, sym, refl, subst, arith, if◌then◌else◌, length}
+use Rattle.std.proofs.Common.{◌≡◌, ◌∙◌, ℕ, ◌<◌, ℤ, Bool, true, false, List, [], ◌∷◌, ◌++◌, Option, Some, None, ap, sym, refl, subst, arith, if◌then◌else◌, length}
 use Rattle.std.specs.Option.{option_to_list}
 use Rattle.std.specs.Prelude.{map, pos, replicate, slice_get}
 use Rattle.std.proofs.lemmas.List.{map-append}
@@ -8,12 +8,10 @@ use Rattle.cp_tree.specs.Syntax.{Tree}
 use Rattle.cp_layout.specs.Laid.{plain, laid}
 use Rattle.cp_slots.specs.Tables.{Tables}
 use Rattle.cp_lawful.specs.Accepted.{IsAccepted}
-use Rattle.cp_legend.specs.Names.{Legend, RoutineNames, legend_seen}
+use Rattle.cp_legend.specs.Names.{Legend, RoutineNames}
 use Rattle.cp_legend_laws.specs.Called.{called_in_legend, tabled}
 use Rattle.cp_legend_laws.specs.Paths.{called_in_language}
 use Rattle.cp_legend_laws.specs.Statements.{routine_text}
-use Rattle.cp_legend_laws.proofs.NamedRoutines.{routines_law}
-use Rattle.cp_legend_laws.proofs.PathsOfTree.{legend_law}
 use Rattle.cp_machine.specs.declared.event.Event.{Event}
 use Rattle.cp_machine.specs.declared.event.Event.TheVariants as step
 use Rattle.cp_machine.specs.declared.event.Kernel as calls
@@ -27,7 +25,7 @@ use Rattle.cp_meaning.specs.Components.{components_of}
 use Rattle.cp_meaning.specs.Names.{Name}
 use Rattle.cp_meaning.specs.State.{Gates, State}
 use Rattle.cp_meaning.specs.State as meaning
-use Rattle.cp_meaning.specs.Steps.{step_of, line_at}
+use Rattle.cp_meaning.specs.Steps.{step_of, line_at, view_of}
 use Rattle.cp_run.specs.declared.line.TraceEvent.{TraceEvent}
 use Rattle.cp_run.specs.declared.line.TraceEvent.TheVariants.{Kernel, End, Admit}
 use Rattle.cp_run.specs.Run.{may, those_below}
@@ -43,16 +41,21 @@ use Rattle.cp_refine.specs.Prepared.{Prepared}
 use Rattle.cp_refine.proofs.Alike.{holders_same, may_same}
 use Rattle.cp_refine.proofs.HoldsInReached.{reached_stands}
 use Rattle.cp_story.specs.Aimed.{aim_in, no_aim}
-use Rattle.cp_story.specs.Passed.{given_back}
+use Rattle.cp_story.specs.Changes.{changes_in}
+use Rattle.cp_story.specs.Passed.{Given, arguments, given_back}
 use Rattle.cp_story.specs.Story as story
-use Rattle.cp_story.specs.Story.{Decision, Telling, Past, calls_of, innermost_call, what_happened, line_told, told_event, told_more, told_step, expecting, choice_taken, decision_in, teller, statuses_in, resumed_processes, started_processes}
+use Rattle.cp_story.specs.Story.{Decision, NamedQueue, Telling, Past, queue_told, calls_of, innermost_call, what_happened, line_told, told_event, told_more, told_step, expecting, choice_taken, decision_in, teller, statuses_in, resumed_processes, started_processes}
 use Rattle.cp_story.specs.declared.aim.Aim.{Aim}
+use Rattle.cp_story_laws.specs.Aims.{ends_now, no_queue, queue_aimed}
+use Rattle.cp_story_laws.specs.Changes.{changes_told}
 use Rattle.cp_story_laws.specs.Events as names
 use Rattle.cp_story_laws.specs.Events.{EntryCall, NamedEvent, NamedTelling, names_teller, stack_of}
 use Rattle.cp_story_laws.specs.Lines.{next_line}
+use Rattle.cp_story_laws.specs.Passed as passed
+use Rattle.cp_story_laws.specs.Passed.{arguments_told}
 use Rattle.cp_story_laws.specs.Standings as stands
 use Rattle.cp_story_laws.specs.Standings.{Standing, standings, resumed}
-use Rattle.cp_story_laws.specs.Statements.{call_told, call_in, event_on_names, event_told, displayed_told, begins_told, waits_told, standing_told, TellsEvents, EventsLaw}
+use Rattle.cp_story_laws.specs.Statements.{arguments_in, call_told, call_in, queue_in, event_on_names, event_told, displayed_told, begins_told, waits_told, standing_told, TellsEvents}
 use Rattle.cp_story_laws.proofs.CalledInProgram.{calls_routine}
 use Rattle.cp_story_laws.proofs.Entered.{call_same, scope_same}
 use Rattle.cp_story_laws.proofs.Entering.{step_enters, enters_seen}
@@ -67,16 +70,30 @@ use Rattle.cp_story_laws.proofs.Waited.{resumed_same, started_same, gated_same, 
 use Rattle.cp_story_laws.proofs.WokenAgree.{is_told, woken_same}
 
 -- what is told on names, and what a story tells
-pub record EventsAgree (l : Legend) (x : NamedTelling) (y : Telling) : Type 0 where
+pub record EventsAgree (Held : List meaning.Component → List ℤ → Type 0) (l : Legend) (x : NamedTelling) (y : Telling) : Type 0 where
   pub events : map (event_on_names l) y.events ≡ x.events
   pub choice : y.past.choice ≡ x.past.choice
   pub calls : map (map (call_told l)) y.past.calls ≡ x.past.calls
   pub standings : map (standing_told l) y.past.statuses ≡ x.past.standings
+  pub returned : y.past.returned ≡ x.past.returned
+  -- the components and the cells of the last event
+  pub held : Held x.past.components y.past.cells
+  pub legend : y.past.legend ≡ l
 
 kernel_of : (c : calls.Kernel) → Kernel c ≡ Kernel Enter → step.Kernel c ≡ step.Kernel Enter
 kernel_of c e = cc
 
-module _ (t : Tree) (r : Tables) (g : slot_gates.Gates) (l : Legend) (routines : map (λ (n : RoutineNames). n.name) l.routines ≡ map routine_text (openings_of t.program)) where
+-- whether an event tells of a queue
+abbrev queue_of : TraceEvent → Bool
+queue_of (Kernel Delay) = true
+queue_of (Kernel Continue) = true
+queue_of _ = false
+
+abbrev pub names_queue : Event → Bool
+names_queue (step.Kernel call) = queue_of (Kernel call)
+names_queue _ = false
+
+module _ (t : Tree) (r : Tables) (g : slot_gates.Gates) (l : Legend) (Held : List meaning.Component → List ℤ → Type 0) (routines : map (λ (n : RoutineNames). n.name) l.routines ≡ map routine_text (openings_of t.program)) where
   abbrev h : Gates
   h = named_gates g
 
@@ -87,12 +104,13 @@ module _ (t : Tree) (r : Tables) (g : slot_gates.Gates) (l : Legend) (routines :
   on_slots = slots r g
 
   abbrev Agree : NamedTelling → Telling → Type 0
-  Agree x y = EventsAgree l x y
+  Agree x y = EventsAgree Held l x y
 
   -- ---- an event
 
-  module _ (p : ℕ) (aim : Aim) (s : State) (m : Machine) (woken : List ℕ) (count : on_names.monitors ≡ on_slots.monitors) (alike : LooksAlike on_names on_slots s m)
-      (now : map (standing_told l) (statuses_in m) ≡ standings t.program s) (wakes : option_to_list aim.wakes ≡ woken) (x : NamedTelling) (y : Telling) (agree : Agree x y) where
+  module _ (p : ℕ) (aim : Aim) (s : State) (m : Machine) (queue : NamedQueue) (woken : List ℕ) (count : on_names.monitors ≡ on_slots.monitors) (alike : LooksAlike on_names on_slots s m)
+      (now : map (standing_told l) (statuses_in m) ≡ standings t.program s) (wakes : option_to_list aim.wakes ≡ woken)
+      (held : Held s.components m.permanents) (changes : (cs : List meaning.Component) (cells : List ℤ) → Held cs cells → changes_in l cells m.permanents ≡ changes_told t.program h cs s.components) (x : NamedTelling) (y : Telling) (agree : Agree x y) where
     kind_same : (event : TraceEvent) → event_told (what_happened event p aim m y.past) ≡ event
     kind_same (Kernel Enter) = refl
     kind_same (Kernel Leave) = refl
@@ -157,6 +175,35 @@ module _ (t : Tree) (r : Tables) (g : slot_gates.Gates) (l : Legend) (routines :
     begins_same End = refl
     begins_same Admit = refl
 
+    abbrev Queued : TraceEvent → Type 0
+    Queued event = queue_of event ≡ true → queue_told l aim.queue ≡ queue
+
+    queues_same : (event : TraceEvent) → Queued event → queue_in (what_happened event p aim m y.past) ≡ names.queue_by event queue
+    queues_same (Kernel Enter) queued = refl
+    queues_same (Kernel Leave) queued = refl
+    queues_same (Kernel Delay) queued = ap Some (ap (λ (k : Legend). queue_told k aim.queue) agree.legend ∙ queued refl)
+    queues_same (Kernel Continue) queued = ap Some (ap (λ (k : Legend). queue_told k aim.queue) agree.legend ∙ queued refl)
+    queues_same (Kernel StartProcess) queued = refl
+    queues_same (Kernel Display) queued = refl
+    queues_same End queued = refl
+    queues_same Admit queued = refl
+
+    abbrev Given : TraceEvent → Type 0
+    Given event = event ≡ Kernel Enter → arguments l (slice_get m.threads p) ≡ arguments_told (view_of t.program s p)
+
+    arguments_same : (event : TraceEvent) → Given event → arguments_in (what_happened event p aim m y.past) ≡ names.arguments_by event (view_of t.program s p)
+    arguments_same (Kernel Enter) given = ap (λ (k : Legend). arguments k (slice_get m.threads p)) agree.legend ∙ given refl
+    arguments_same (Kernel Leave) given = refl
+    arguments_same (Kernel Delay) given = refl
+    arguments_same (Kernel Continue) given = refl
+    arguments_same (Kernel StartProcess) given = refl
+    arguments_same (Kernel Display) given = refl
+    arguments_same End given = refl
+    arguments_same Admit given = refl
+
+    changes_same : changes_in y.past.legend y.past.cells m.permanents ≡ changes_told t.program h x.past.components s.components
+    changes_same = ap (λ (k : Legend). changes_in k y.past.cells m.permanents) agree.legend ∙ changes x.past.components y.past.cells agree.held
+
     line_same : (event : TraceEvent) → line_told (what_happened event p aim m y.past) aim.line ≡ names.line_of_event event aim.line (names.innermost t.program x.past p)
     line_same (Kernel Enter) = refl
     line_same (Kernel Leave) = ap (λ (c : EntryCall). Some c.line) innermost_same
@@ -176,8 +223,8 @@ module _ (t : Tree) (r : Tables) (g : slot_gates.Gates) (l : Legend) (routines :
     holders_are : holders_in on_slots m ≡ holders_in on_names s
     holders_are = sym (holders_same on_names on_slots s m count alike)
 
-    event_same : (event : TraceEvent) → Begun event → event_on_names l (told_event (holders_in on_slots m) event p aim m y.past) ≡ names.event_of t h event p aim.line woken s x.past
-    event_same event begun =
+    event_same : (event : TraceEvent) → Begun event → Queued event → Given event → event_on_names l (told_event (holders_in on_slots m) event p aim m y.past) ≡ names.event_of t h event p aim.line queue woken s x.past
+    event_same event begun queued given =
         let a = kind_same event in
         let b = calls_told event begun in
         let c = waits_same event in
@@ -189,6 +236,10 @@ module _ (t : Tree) (r : Tables) (g : slot_gates.Gates) (l : Legend) (routines :
         let k = let_in_same in
         let n = now in
         let o = holders_are in
+        let q = queues_same event queued in
+        let u = arguments_same event given in
+        let v = agree.returned in
+        let w = changes_same in
         cc
 
     opens : call_told l (story.call_begun (thread_at m.threads p) aim.line) ≡ names.call_begun t h s p aim.line → map (map (call_told l)) (names.pushed y.past.calls p (story.call_begun (thread_at m.threads p) aim.line)) ≡ names.pushed x.past.calls p (names.call_begun t h s p aim.line)
@@ -209,41 +260,45 @@ module _ (t : Tree) (r : Tables) (g : slot_gates.Gates) (l : Legend) (routines :
     calls_same End begun = agree.calls
     calls_same Admit begun = agree.calls
 
-    pub event_agrees : (event : TraceEvent) → Begun event → Agree (names.with_event t h event p aim.line woken s x) (told_more r g event p aim m y)
-    event_agrees event begun =
+    pub event_agrees : (event : TraceEvent) → Begun event → Queued event → Given event → Agree (names.with_event t h event p aim.line queue woken s x) (told_more r g event p aim m y)
+    event_agrees event begun queued given =
         record {
           events =
               map-append (event_on_names l) y.events (told_event (holders_in on_slots m) event p aim m y.past ∷ [])
               ∙ ap (λ (es : List NamedEvent). es ++ event_on_names l (told_event (holders_in on_slots m) event p aim m y.past) ∷ []) agree.events
-              ∙ ap (λ (e : NamedEvent). x.events ++ e ∷ []) (event_same event begun);
+              ∙ ap (λ (e : NamedEvent). x.events ++ e ∷ []) (event_same event begun queued given);
           choice = refl;
           calls = calls_same event begun;
           standings = now;
+          returned = refl;
+          held = held;
+          legend = agree.legend;
         }
 
   -- ---- what is expected of a step is no event
 
-  either_choice : (c : Bool) (a b : Past) → a.choice ≡ b.choice → (if c then a else b).choice ≡ b.choice
-  either_choice true a b e = e
-  either_choice false a b e = refl
+  either_past : {X : Type 0} (c : Bool) (a b : Past) (of : Past → X) → of a ≡ of b → of (if c then a else b) ≡ of b
+  either_past true a b of e = e
+  either_past false a b of e = refl
 
-  either_calls : (c : Bool) (a b : Past) → a.calls ≡ b.calls → (if c then a else b).calls ≡ b.calls
-  either_calls true a b e = e
-  either_calls false a b e = refl
+  module _ (aim : Aim) (s : State) (m : Machine) (p : ℕ) (ends : aim.ends_call ≡ ends_now t s p) (given : ends_now t s p ≡ true → given_back l m.permanents (slice_get m.threads p) ≡ passed.given_back (view_of t.program s p)) where
+    given_now : (c : Bool) → ends_now t s p ≡ c → (past : Past) (before : List Given) → past.legend ≡ l → past.returned ≡ before →
+        (if c then record past { returned = given_back past.legend m.permanents (slice_get m.threads p) } else past).returned ≡ (if c then passed.given_back (view_of t.program s p) else before)
+    given_now true e past before same kept = ap (λ (k : Legend). given_back k m.permanents (slice_get m.threads p)) same ∙ given e
+    given_now false e past before same kept = kept
 
-  either_statuses : (c : Bool) (a b : Past) → a.statuses ≡ b.statuses → (if c then a else b).statuses ≡ b.statuses
-  either_statuses true a b e = e
-  either_statuses false a b e = refl
-
-  expecting_agrees : (aim : Aim) (m : Machine) (p : ℕ) (x : NamedTelling) (y : Telling) → Agree x y → Agree x (expecting aim m p y)
-  expecting_agrees aim m p x y agree =
-      let ended : Past = record y.past { returned = given_back y.past.legend m.permanents (slice_get m.threads p) } in
-      record {
-        events = agree.events;
-        choice = either_choice aim.ends_call ended y.past refl ∙ agree.choice;
-        calls = ap (map (map (call_told l))) (either_calls aim.ends_call ended y.past refl) ∙ agree.calls;
-        standings = ap (map (standing_told l)) (either_statuses aim.ends_call ended y.past refl) ∙ agree.standings;
-      }
+    expecting_agrees : (x : NamedTelling) (y : Telling) → Agree x y → Agree (names.expecting t s p x) (expecting aim m p y)
+    expecting_agrees x y agree =
+        let ended : Past = record y.past { returned = given_back y.past.legend m.permanents (slice_get m.threads p) } in
+        record {
+          events = agree.events;
+          choice = either_past aim.ends_call ended y.past (λ (q : Past). q.choice) refl ∙ agree.choice;
+          calls = ap (map (map (call_told l))) (either_past aim.ends_call ended y.past (λ (q : Past). q.calls) refl) ∙ agree.calls;
+          standings = ap (map (standing_told l)) (either_past aim.ends_call ended y.past (λ (q : Past). q.statuses) refl) ∙ agree.standings;
+          returned = ap (λ (c : Bool). (if c then ended else y.past).returned) ends ∙ given_now (ends_now t s p) refl y.past x.past.returned agree.legend agree.returned;
+          held = subst (λ (cells : List ℤ). Held x.past.components cells) (sym (either_past aim.ends_call ended y.past (λ (q : Past). q.cells) refl)) agree.held;
+          legend = either_past aim.ends_call ended y.past (λ (q : Past). q.legend) refl ∙ agree.legend;
+        }
 
   -- ---- the choice that is due
 
@@ -259,6 +314,15 @@ module _ (t : Tree) (r : Tables) (g : slot_gates.Gates) (l : Legend) (routines :
   module _ (read : IsRead t.program) (ok : IsAccepted t) (same : plain r ≡ laid t) (tables : map tabled l.components ≡ r.components) (paths : map called_in_legend l.components ≡ map (called_in_language t.program) (components_of t.program)) where
     abbrev Related : State → Machine → Type 0
     Related = together.Related t r g read ok same
+
+    -- what is told of a step from its states, beside who calls and who waits
+    pub record StepsAgree : Type 0 where
+      pub held : (s : State) (m : Machine) → Related s m → Held s.components m.permanents
+      pub changes : (cs ds : List meaning.Component) (before now : List ℤ) → Held cs before → Held ds now → changes_in l before now ≡ changes_told t.program h cs ds
+      pub queues : (s : State) (m : Machine) (p : ℕ) → Related s m → CanGo on_names s p → names_queue (on_slots.event m p) ≡ true → queue_told l (aim_in r m p).queue ≡ queue_aimed t h s p
+      pub ending : (s : State) (m : Machine) (p : ℕ) → Related s m → CanGo on_names s p → (aim_in r m p).ends_call ≡ ends_now t s p
+      pub given : (s : State) (m : Machine) (p : ℕ) → Related s m → CanGo on_names s p → ends_now t s p ≡ true → given_back l m.permanents (slice_get m.threads p) ≡ passed.given_back (view_of t.program s p)
+      pub begun : (s : State) (m : Machine) (p : ℕ) → Related s m → CanGo on_names s p → on_slots.event m p ≡ step.Kernel Enter → arguments l (slice_get (on_slots.step m p).threads p) ≡ arguments_told (view_of t.program (on_names.step s p) p)
 
     go : GoInStep on_names on_slots Related
     go = together.go t r g read ok same
@@ -314,53 +378,65 @@ module _ (t : Tree) (r : Tables) (g : slot_gates.Gates) (l : Legend) (routines :
       abbrev back : List ℕ
       back = resumed stands.is_queued (standings t.program s) (standings t.program s2) p
 
-      module _ (x : NamedTelling) (y : Telling) (agree : Agree x y) where
-        told_by : (e : Event) → on_slots.event m p ≡ e → Agree (names.with_step t h p aim.line back e s2 x) (told_step r g p aim e m2 (expecting aim m p y))
-        told_by (step.Kernel call) e =
-            event_agrees p aim s2 m2 back go.monitors (go.alike s2 m2 sim2) (stand_now s2 m2 sim2) (woken_now (ap is_told e)) x (expecting aim m p y) (expecting_agrees aim m p x y agree) (Kernel call)
-            (λ f. entered_now (e ∙ kernel_of call f))
-        told_by step.Ended e =
-            event_agrees p aim s2 m2 back go.monitors (go.alike s2 m2 sim2) (stand_now s2 m2 sim2) (woken_now (ap is_told e)) x (expecting aim m p y) (expecting_agrees aim m p x y agree) End
-            (λ f. absurd (let bad : End ≡ Kernel Enter = f in cc))
-        told_by _ e = expecting_agrees aim m p x y agree
+      module _ (steps : StepsAgree) (x : NamedTelling) (y : Telling) (agree : Agree x y) where
+        abbrev queue : NamedQueue
+        queue = queue_aimed t h s p
 
-        step_kept : Agree (names.with_step t h p (next_line t s p) back (on_names.event s p) s2 x) (told_step r g p aim (on_slots.event m p) m2 (expecting aim m p y))
+        abbrev held_now : Held s2.components m2.permanents
+        held_now = steps.held s2 m2 sim2
+
+        expected : Agree (names.expecting t s p x) (expecting aim m p y)
+        expected = expecting_agrees aim s m p (steps.ending s m p sim can) (steps.given s m p sim can) x y agree
+
+        told_by : (e : Event) → on_slots.event m p ≡ e → Agree (names.with_step t h p aim.line queue back e s2 (names.expecting t s p x)) (told_step r g p aim e m2 (expecting aim m p y))
+        told_by (step.Kernel call) e =
+            event_agrees p aim s2 m2 queue back go.monitors (go.alike s2 m2 sim2) (stand_now s2 m2 sim2) (woken_now (ap is_told e)) held_now (λ cs cells k. steps.changes cs s2.components cells m2.permanents k held_now) (names.expecting t s p x) (expecting aim m p y) expected
+            (Kernel call) (λ f. entered_now (e ∙ kernel_of call f)) (λ f. steps.queues s m p sim can (ap names_queue e ∙ f)) (λ f. steps.begun s m p sim can (e ∙ kernel_of call f))
+        told_by step.Ended e =
+            event_agrees p aim s2 m2 queue back go.monitors (go.alike s2 m2 sim2) (stand_now s2 m2 sim2) (woken_now (ap is_told e)) held_now (λ cs cells k. steps.changes cs s2.components cells m2.permanents k held_now) (names.expecting t s p x) (expecting aim m p y) expected End
+            (λ f. absurd (let bad : End ≡ Kernel Enter = f in cc)) (λ f. absurd (let bad : false ≡ true = f in cc)) (λ f. absurd (let bad : End ≡ Kernel Enter = f in cc))
+        told_by _ e = expected
+
+        step_kept : Agree (names.with_step t h p (next_line t s p) queue back (on_names.event s p) s2 (names.expecting t s p x)) (told_step r g p aim (on_slots.event m p) m2 (expecting aim m p y))
         step_kept =
             let after : Telling = told_step r g p aim (on_slots.event m p) m2 (expecting aim m p y) in
-            subst (λ (e : Event). Agree (names.with_step t h p (next_line t s p) back e s2 x) after) (sym (go.event s m p sim can))
-            (subst (λ (n : Option ℕ). Agree (names.with_step t h p n back (on_slots.event m p) s2 x) after) (sym line_now) (told_by (on_slots.event m p) refl))
+            subst (λ (e : Event). Agree (names.with_step t h p (next_line t s p) queue back e s2 (names.expecting t s p x)) after) (sym (go.event s m p sim can))
+            (subst (λ (n : Option ℕ). Agree (names.with_step t h p n queue back (on_slots.event m p) s2 (names.expecting t s p x)) after) (sym line_now) (told_by (on_slots.event m p) refl))
 
-    admission_kept : (s : State) (m : Machine) (p : ℕ) (x : NamedTelling) (y : Telling) → Related s m → CanEnter on_names s p → Agree x y → Agree (names.with_event t h Admit p None [] (on_names.admit s p) x) (told_more r g Admit p (no_aim false) (on_slots.admit m p) y)
-    admission_kept s m p x y sim can agree =
-        let sim2 : Related (on_names.admit s p) (on_slots.admit m p) = go.admit s m p sim can in
-        event_agrees p (no_aim false) (on_names.admit s p) (on_slots.admit m p) [] go.monitors (go.alike (on_names.admit s p) (on_slots.admit m p) sim2) (stand_now (on_names.admit s p) (on_slots.admit m p) sim2) refl x y agree Admit
-        (λ f. absurd (let bad : Admit ≡ Kernel Enter = f in cc))
+    -- ---- a run
 
-    keeps : KeepRelated on_names on_slots Related (names_teller t h) (teller r g) (λ s m x y. Agree x y)
-    keeps =
-        record {
-          step = λ s m p x y sim can agree. step_kept s m p sim can x y agree;
-          admission = admission_kept;
-          choice = λ s m p x y sim agree. record { events = agree.events; choice = ap Some (decision_same s m go.processes (go.alike s m sim) p); calls = agree.calls; standings = agree.standings };
-        }
+    module _ (steps : StepsAgree) where
+      admission_kept : (s : State) (m : Machine) (p : ℕ) (x : NamedTelling) (y : Telling) → Related s m → CanEnter on_names s p → Agree x y → Agree (names.with_event t h Admit p None no_queue [] (on_names.admit s p) x) (told_more r g Admit p (no_aim false) (on_slots.admit m p) y)
+      admission_kept s m p x y sim can agree =
+          let s2 : State = on_names.admit s p in
+          let m2 : Machine = on_slots.admit m p in
+          let sim2 : Related s2 m2 = go.admit s m p sim can in
+          let held_now = steps.held s2 m2 sim2 in
+          event_agrees p (no_aim false) s2 m2 no_queue [] go.monitors (go.alike s2 m2 sim2) (stand_now s2 m2 sim2) refl held_now (λ cs cells k. steps.changes cs s2.components cells m2.permanents k held_now) x y agree Admit
+          (λ f. absurd (let bad : Admit ≡ Kernel Enter = f in cc)) (λ f. absurd (let bad : false ≡ true = f in cc)) (λ f. absurd (let bad : Admit ≡ Kernel Enter = f in cc))
 
-    begins : Agree (names.nothing_told t h) (story.nothing_told l (machine.opening r g))
-    begins =
-        record {
-          events = refl;
-          choice = refl;
-          calls = each_of_none (call_told l) (length (machine.opening r g).threads) ∙ ap (λ (n : ℕ). replicate n []) (sym go.start.represents.process_count);
-          standings = stand_now on_names.start on_slots.start go.start;
-        }
+      keeps : KeepRelated on_names on_slots Related (names_teller t h) (teller r g) (λ s m x y. Agree x y)
+      keeps =
+          record {
+            step = λ s m p x y sim can agree. step_kept s m p sim can steps x y agree;
+            admission = admission_kept;
+            choice = λ s m p x y sim agree. record agree { choice = ap Some (decision_same s m go.processes (go.alike s m sim) p) };
+          }
 
-    pub ends : (choices steps : ℕ) (word : List ℕ) → EndRelated on_names on_slots Related (names_teller t h) (teller r g) (λ s m x y. Agree x y) choices steps word (names.nothing_told t h) (story.nothing_told l (machine.opening r g))
-    ends choices steps word = ends_related on_names on_slots Related (names_teller t h) (teller r g) (λ s m x y. Agree x y) go keeps (names.nothing_told t h) (story.nothing_told l (machine.opening r g)) begins choices steps word
+      begins : Agree (names.nothing_told t h) (story.nothing_told l (machine.opening r g))
+      begins =
+          record {
+            events = refl;
+            choice = refl;
+            calls = each_of_none (call_told l) (length (machine.opening r g).threads) ∙ ap (λ (n : ℕ). replicate n []) (sym go.start.represents.process_count);
+            standings = stand_now on_names.start on_slots.start go.start;
+            returned = refl;
+            held = steps.held on_names.start on_slots.start go.start;
+            legend = refl;
+          }
 
-    pub tells_events : (choices steps : ℕ) (word : List ℕ) → TellsEvents t r l g choices steps word
-    tells_events choices steps word = let k = (ends choices steps word).gathered in record { events = k.events; last_choice = k.choice }
+      pub ends : (choices steps : ℕ) (word : List ℕ) → EndRelated on_names on_slots Related (names_teller t h) (teller r g) (λ s m x y. Agree x y) choices steps word (names.nothing_told t h) (story.nothing_told l (machine.opening r g))
+      ends choices steps word = ends_related on_names on_slots Related (names_teller t h) (teller r g) (λ s m x y. Agree x y) go keeps (names.nothing_told t h) (story.nothing_told l (machine.opening r g)) begins choices steps word
 
-pub events_law : EventsLaw
-events_law t y r l g read ok symbols same legend choices steps word =
-    let w = legend_law t y r l read ok symbols same legend in
-    let k = routines_law t y r l read ok symbols same legend in
-    tells_events t r g (legend_seen l) k.names read ok same w.tables w.paths choices steps word
+      pub tells_events : (choices steps : ℕ) (word : List ℕ) → TellsEvents t r l g choices steps word
+      tells_events choices steps word = let k = (ends choices steps word).gathered in record { events = k.events; last_choice = k.choice }

@@ -15,7 +15,6 @@ use Rattle.cp_legend.specs.Names.{Legend, Named, legend_seen}
 use Rattle.cp_legend.specs.Places.{variables_at}
 use Rattle.cp_legend_laws.specs.Called.{tabled}
 use Rattle.cp_legend_laws.specs.Statements.{AreVariables, IsVariable, PermanentsAre}
-use Rattle.cp_legend_laws.proofs.NamedRoutines.{routines_law}
 use Rattle.cp_legend_laws.proofs.PathsOfTree.{legend_law}
 use Rattle.cp_legend_laws.proofs.PermanentsNamed.{permanents_law}
 use Rattle.cp_machine.specs.declared.gates.Gates as slot_gates
@@ -48,7 +47,7 @@ use Rattle.cp_store.specs.declared.memory.Address.TheVariants.{Permanent}
 use Rattle.cp_story.specs.Changes.{place}
 use Rattle.cp_story_laws.specs.Statements.{ValuesLaw}
 use Rattle.cp_story_laws.specs.Variables.{HasValue, HaveValues}
-use Rattle.cp_story_laws.proofs.EventsAgree.{ends}
+use Rattle.cp_story_laws.proofs.FoldsInStep.{last_related}
 use Rattle.cp_story_laws.proofs.Together as together
 
 -- ---- lists
@@ -123,7 +122,6 @@ module _ (t : Tree) (r : Tables) (g : slot_gates.Gates) (l : Legend) (read : IsR
 pub values_law : ValuesLaw
 values_law t y r l g read ok symbols same legend choices steps word n c e =
     let w = legend_law t y r l read ok symbols same legend in
-    let k = routines_law t y r l read ok symbols same legend in
     let s = last_state (named t (named_gates g)) choices steps word in
     let m = last_state (slots r g) choices steps word in
-    values_here t r g (legend_seen l) read ok same w.tables (permanents_law t y r l read ok symbols same legend) s m (ends t r g (legend_seen l) k.names read ok same w.tables w.paths choices steps word).states n c e
+    values_here t r g (legend_seen l) read ok same w.tables (permanents_law t y r l read ok symbols same legend) s m (last_related (named t (named_gates g)) (slots r g) (together.Related t r g read ok same) (together.go t r g read ok same) choices steps word) n c e

@@ -12,8 +12,6 @@ use Rattle.cp_legend.specs.Names.{Legend, RoutineNames, legend_seen}
 use Rattle.cp_legend_laws.specs.Called.{called_in_legend, tabled}
 use Rattle.cp_legend_laws.specs.Paths.{called_in_language}
 use Rattle.cp_legend_laws.specs.Statements.{routine_text}
-use Rattle.cp_legend_laws.proofs.NamedRoutines.{routines_law}
-use Rattle.cp_legend_laws.proofs.PathsOfTree.{legend_law}
 use Rattle.cp_machine.specs.declared.gates.Gates as slot_gates
 use Rattle.cp_machine.specs.declared.process.Status as slot_status
 use Rattle.cp_machine.specs.declared.process.Status.TheVariants as status
@@ -21,7 +19,7 @@ use Rattle.cp_machine.specs.Machine as machine
 use Rattle.cp_machine.specs.Machine.{Machine, thread_at}
 use Rattle.cp_meaning.specs.Components.{components_of}
 use Rattle.cp_meaning.specs.Readings as readings
-use Rattle.cp_meaning.specs.State.{Gates, State, Status, unstarted, ready, at_gate, delayed, ended, process_at}
+use Rattle.cp_meaning.specs.State.{Component, Gates, State, Status, unstarted, ready, at_gate, delayed, ended, process_at}
 use Rattle.cp_run.specs.Run.{those_below}
 use Rattle.cp_run.specs.Slots.{slots}
 use Rattle.cp_run.specs.System.{System}
@@ -35,10 +33,10 @@ use Rattle.cp_story.specs.Waiting as story
 use Rattle.cp_story.specs.declared.event.OpenCall.{OpenCall}
 use Rattle.cp_story_laws.specs.Events.{EntryCall, stack_of, names_telling}
 use Rattle.cp_story_laws.specs.Standings.{Standing, at_gate_of, in_queue_of, standing_of}
-use Rattle.cp_story_laws.specs.Statements.{call_told, standing_told, wait_on_names, TellsWaits, WaitsLaw}
+use Rattle.cp_story_laws.specs.Statements.{call_told, standing_told, wait_on_names, TellsWaits}
 use Rattle.cp_story_laws.specs.Waits as names
 use Rattle.cp_story_laws.specs.Waits.{NamedWait, is_held_by}
-use Rattle.cp_story_laws.proofs.EventsAgree.{ends}
+use Rattle.cp_story_laws.proofs.EventsAgree.{StepsAgree, ends}
 use Rattle.cp_story_laws.proofs.OpenCalls.{stack_kept}
 use Rattle.cp_story_laws.proofs.StandingsAgree.{standing_same}
 use Rattle.cp_story_laws.proofs.Together.{go, prepared}
@@ -85,7 +83,7 @@ held_same : (p : ℕ) (o : Option ℕ) → story.is_process p o ≡ is_held_by p
 held_same p None = refl
 held_same p (Some q) = refl
 
-module _ (t : Tree) (r : Tables) (g : slot_gates.Gates) (l : Legend) (routines : map (λ (n : RoutineNames). n.name) l.routines ≡ map routine_text (openings_of t.program)) (read : IsRead t.program) (ok : IsAccepted t) (same : plain r ≡ laid t) (tables : map tabled l.components ≡ r.components) (paths : map called_in_legend l.components ≡ map (called_in_language t.program) (components_of t.program)) where
+module _ (t : Tree) (r : Tables) (g : slot_gates.Gates) (l : Legend) (routines : map (λ (n : RoutineNames). n.name) l.routines ≡ map routine_text (openings_of t.program)) (read : IsRead t.program) (ok : IsAccepted t) (same : plain r ≡ laid t) (tables : map tabled l.components ≡ r.components) (paths : map called_in_legend l.components ≡ map (called_in_language t.program) (components_of t.program)) (Held : List Component → List ℤ → Type 0) (agree : StepsAgree t r g l Held routines read ok same tables paths) where
   abbrev h : Gates
   h = named_gates g
 
@@ -109,7 +107,7 @@ module _ (t : Tree) (r : Tables) (g : slot_gates.Gates) (l : Legend) (routines :
     open_calls = (names_telling t h choices steps word).past.calls
 
     stand : (q : ℕ) → q < length s.processes → standing_of t.program s (process_at s.processes q).status ≡ standing_told l (thread_at m.threads q).status
-    stand q less = standing_same t r (layouts_of t) h ok (prepared t r g read ok same) l tables paths s m (ends t r g l routines read ok same tables paths choices steps word).states q less
+    stand q less = standing_same t r (layouts_of t) h ok (prepared t r g read ok same) l tables paths s m (ends t r g l Held routines read ok same tables paths agree choices steps word).states q less
 
     waits_same : (q : ℕ) → q < length s.processes → story.waits_at m q ≡ readings.is_waiting (process_at s.processes q).status
     waits_same q less = waits_told l (thread_at m.threads q).status ∙ (ap waits (sym (stand q less)) ∙ sym (waits_on_names t.program s (process_at s.processes q).status))
@@ -119,13 +117,13 @@ module _ (t : Tree) (r : Tables) (g : slot_gates.Gates) (l : Legend) (routines :
         sym (slice_get-map (call_told l) (calls_of calls q) (length (calls_of calls q) - 1))
         ∙ (ap (λ (n : ℕ). slice_get (map (call_told l) (calls_of calls q)) (n - 1)) (sym (length-map (calls_of calls q) (call_told l)))
         ∙ (ap (λ (cs : List EntryCall). slice_get cs (length cs - 1)) (sym (stack_kept (call_told l) calls q))
-        ∙ ap (λ (all : List (List EntryCall)). slice_get (stack_of all q) (length (stack_of all q) - 1)) (ends t r g l routines read ok same tables paths choices steps word).gathered.calls))
+        ∙ ap (λ (all : List (List EntryCall)). slice_get (stack_of all q) (length (stack_of all q) - 1)) (ends t r g l Held routines read ok same tables paths agree choices steps word).gathered.calls))
 
     inside_same : (q : ℕ) → those_below r.monitors (story.is_inside m q) ≡ those_below on_names.monitors (λ n. is_held_by q (on_names.holder s n))
     inside_same q =
         let steps_same = go t r g read ok same in
         sym
-        (those_same on_names.monitors (λ n. is_held_by q (on_names.holder s n)) (story.is_inside m q) (λ n less. ap (is_held_by q) ((steps_same.alike s m (ends t r g l routines read ok same tables paths choices steps word).states).holder n less) ∙ sym (held_same q (on_slots.holder m n)))
+        (those_same on_names.monitors (λ n. is_held_by q (on_names.holder s n)) (story.is_inside m q) (λ n less. ap (is_held_by q) ((steps_same.alike s m (ends t r g l Held routines read ok same tables paths agree choices steps word).states).holder n less) ∙ sym (held_same q (on_slots.holder m n)))
         ∙ ap (λ (k : ℕ). those_below k (story.is_inside m q)) steps_same.monitors)
 
     abbrev made : ℕ → Standing → Option EntryCall → List ℕ → NamedWait
@@ -139,14 +137,8 @@ module _ (t : Tree) (r : Tables) (g : slot_gates.Gates) (l : Legend) (routines :
 
     pub tells_waits : TellsWaits t r l g choices steps word
     tells_waits =
-        let count : length m.threads ≡ length s.processes = sym (ends t r g l routines read ok same tables paths choices steps word).states.represents.process_count in
+        let count : length m.threads ≡ length s.processes = sym (ends t r g l Held routines read ok same tables paths agree choices steps word).states.represents.process_count in
         map_map (wait_on_names l) (story.waiting_at r m calls) (those_below (length m.threads) (story.waits_at m))
         ∙ (ap (λ (k : ℕ). map (λ q. wait_on_names l (story.waiting_at r m calls q)) (those_below k (story.waits_at m))) count
         ∙ (maps_below (length s.processes) (story.waits_at m) (λ q. wait_on_names l (story.waiting_at r m calls q)) (names.wait_of t h s open_calls) wait_same
         ∙ ap (map (names.wait_of t h s open_calls)) (those_same (length s.processes) (story.waits_at m) (λ q. readings.is_waiting (process_at s.processes q).status) waits_same)))
-
-pub waits_law : WaitsLaw
-waits_law t y r l g read ok symbols same legend choices steps word =
-    let w = legend_law t y r l read ok symbols same legend in
-    let k = routines_law t y r l read ok symbols same legend in
-    tells_waits t r g (legend_seen l) k.names read ok same w.tables w.paths choices steps word
