@@ -188,10 +188,10 @@ module _ (t : Tree) (r : Tables) (g : slot_gates.Gates) (l : Legend) (Held : Lis
     queues_same End queued = refl
     queues_same Admit queued = refl
 
-    abbrev Given : TraceEvent → Type 0
-    Given event = event ≡ Kernel Enter → arguments l (slice_get m.threads p) ≡ arguments_told (view_of t.program s p)
+    abbrev IsGiven : TraceEvent → Type 0
+    IsGiven event = event ≡ Kernel Enter → arguments l (slice_get m.threads p) ≡ arguments_told (view_of t.program s p)
 
-    arguments_same : (event : TraceEvent) → Given event → arguments_in (what_happened event p aim m y.past) ≡ names.arguments_by event (view_of t.program s p)
+    arguments_same : (event : TraceEvent) → IsGiven event → arguments_in (what_happened event p aim m y.past) ≡ names.arguments_by event (view_of t.program s p)
     arguments_same (Kernel Enter) given = ap (λ (k : Legend). arguments k (slice_get m.threads p)) agree.legend ∙ given refl
     arguments_same (Kernel Leave) given = refl
     arguments_same (Kernel Delay) given = refl
@@ -223,7 +223,7 @@ module _ (t : Tree) (r : Tables) (g : slot_gates.Gates) (l : Legend) (Held : Lis
     holders_are : holders_in on_slots m ≡ holders_in on_names s
     holders_are = sym (holders_same on_names on_slots s m count alike)
 
-    event_same : (event : TraceEvent) → Begun event → Queued event → Given event → event_on_names l (told_event (holders_in on_slots m) event p aim m y.past) ≡ names.event_of t h event p aim.line queue woken s x.past
+    event_same : (event : TraceEvent) → Begun event → Queued event → IsGiven event → event_on_names l (told_event (holders_in on_slots m) event p aim m y.past) ≡ names.event_of t h event p aim.line queue woken s x.past
     event_same event begun queued given =
         let a = kind_same event in
         let b = calls_told event begun in
@@ -260,7 +260,7 @@ module _ (t : Tree) (r : Tables) (g : slot_gates.Gates) (l : Legend) (Held : Lis
     calls_same End begun = agree.calls
     calls_same Admit begun = agree.calls
 
-    pub event_agrees : (event : TraceEvent) → Begun event → Queued event → Given event → Agree (names.with_event t h event p aim.line queue woken s x) (told_more r g event p aim m y)
+    pub event_agrees : (event : TraceEvent) → Begun event → Queued event → IsGiven event → Agree (names.with_event t h event p aim.line queue woken s x) (told_more r g event p aim m y)
     event_agrees event begun queued given =
         record {
           events =
@@ -420,7 +420,15 @@ module _ (t : Tree) (r : Tables) (g : slot_gates.Gates) (l : Legend) (Held : Lis
           record {
             step = λ s m p x y sim can agree. step_kept s m p sim can steps x y agree;
             admission = admission_kept;
-            choice = λ s m p x y sim agree. record agree { choice = ap Some (decision_same s m go.processes (go.alike s m sim) p) };
+            choice = λ s m p x y sim agree. record {
+              events = agree.events;
+              choice = ap Some (decision_same s m go.processes (go.alike s m sim) p);
+              calls = agree.calls;
+              standings = agree.standings;
+              returned = agree.returned;
+              held = agree.held;
+              legend = agree.legend;
+            };
           }
 
       begins : Agree (names.nothing_told t h) (story.nothing_told l (machine.opening r g))
