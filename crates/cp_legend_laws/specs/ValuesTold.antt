@@ -1,8 +1,9 @@
 -- A value of a type as people read it.
-use Rattle.std.specs.Prelude.{ℕ, ℤ, pos, List, [], map, Option, Some, None, codes}
+use Rattle.std.specs.Prelude.{ℕ, ℤ, pos, ◌<◌, List, [], length, map, Option, Some, None, codes}
 use Rattle.cp_meaning.specs.Names.{Name}
-use Rattle.cp_meaning.specs.Types.{Base, integers, Ty, ordinal, queue_type, set_over, array_over, record_with, FieldTypes, more_field_types}
+use Rattle.cp_meaning.specs.Types.{Base, integers, enumerated, Ty, ordinal, queue_type, set_over, array_over, record_with, FieldTypes, more_field_types}
 use Rattle.cp_meaning.specs.Values.{Value, number_value, array_value, record_value, set_value, queue_value, Values, no_values, more_values, FieldValues, more_field_values}
+use Rattle.cp_resolved.specs.Small.{Each}
 use Rattle.cp_legend.specs.Values as told
 use Rattle.cp_legend_laws.specs.Paths.{value_text}
 
@@ -37,3 +38,26 @@ abbrev mutual
   pub fields_told : FieldTypes → FieldValues → told.Members
   fields_told (more_field_types x t ts) (more_field_values y v fs) = told.more_members x (value_told t v) (fields_told ts fs)
   fields_told ts fs = told.no_members
+
+-- ---- the members of sets
+
+-- of a set over an enumeration each is one of its constants
+abbrev pub IsMemberOf : Base → ℕ → Type 0
+IsMemberOf (enumerated at xs) n = n < length xs
+IsMemberOf b n = Unit {0}
+
+-- Each set in a value has members of its base alone.
+abbrev mutual
+  pub HasMembers : Ty → Value → Type 0
+  HasMembers (set_over r) (set_value ns) = Each (IsMemberOf r.base) ns
+  HasMembers (array_over r t) (array_value vs) = HaveMembers t vs
+  HasMembers (record_with ts) (record_value fs) = FieldsHaveMembers ts fs
+  HasMembers t v = Unit {0}
+
+  pub HaveMembers : Ty → Values → Type 0
+  HaveMembers t no_values = Unit {0}
+  HaveMembers t (more_values v vs) = HasMembers t v × HaveMembers t vs
+
+  pub FieldsHaveMembers : FieldTypes → FieldValues → Type 0
+  FieldsHaveMembers (more_field_types x t ts) (more_field_values y v fs) = HasMembers t v × FieldsHaveMembers ts fs
+  FieldsHaveMembers ts fs = Unit {0}
