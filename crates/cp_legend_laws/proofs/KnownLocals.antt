@@ -81,7 +81,6 @@ module _ (cs : List Name) (firsts : ℕ → ℕ) where
   part_opened d (syntax.program_types at ns) e h = definitions_opened d ns e h
   part_opened d (syntax.program_variables at gs) e h = tt
 
-  
   parts_opened : (d : Declared) (qs : List syntax.ProgramPart) → Known (each_in in_program_part qs) → KnownDeclared cs firsts d → Each KnownOpening (parts_openings d qs)
   parts_opened d [] e h = tt
   parts_opened d (q ∷ qs) e h =

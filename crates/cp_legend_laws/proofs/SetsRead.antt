@@ -1,7 +1,7 @@
 -- A set is read from its eight cells as its members, in rising order: each of them has its bit in the words, and no other number has.
-use Rattle.std.proofs.Common.{◌≡◌, ◌≢◌, ◌∙◌, ℕ, zero, suc, ◌+◌, ◌*◌, ◌<◌, ◌≤◌, ◌==◌, ◌⊎◌, inl, inr, ℤ, pos, Bool, true, false, if◌then◌else◌, List, [], ◌∷◌, ◌++◌, map, ap, ap₂, sym, refl, arith, le-ltb, lt-ltb}
+use Rattle.std.proofs.Common.{◌≡◌, ◌∙◌, ℕ, zero, suc, ◌+◌, ◌*◌, ◌<◌, ◌≤◌, ◌==◌, ◌⊎◌, inl, inr, ℤ, pos, Bool, true, false, if◌then◌else◌, List, [], ◌∷◌, ◌++◌, map, ap, ap₂, sym, refl, arith, le-ltb, lt-ltb}
 use Rattle.std.specs.Prelude.{◌-◌, ◌/◌, ◌%◌, ◌^◌, ◌||◌, nat_lt, slice_index_or}
-use Rattle.std.specs.Int.{bit_at, cast_signed, cast_unsigned, w16}
+use Rattle.std.specs.Int.{bit_at, cast_unsigned, w16}
 use Rattle.std.proofs.lemmas.Bool.{cases_lt, cases_eq}
 use Rattle.std.proofs.lemmas.Bool.Decides.{Decides-eqb}
 use Rattle.std.proofs.lemmas.Int.{of_z-to_z}
@@ -13,7 +13,7 @@ use Rattle.cp_symbols.specs.declared.kinds.CellBase.{CellBase}
 use Rattle.cp_symbols.specs.Kinds.{most, plus}
 use Rattle.cp_meaning.specs.Values.{is_member}
 use Rattle.cp_resolved.specs.Encoded.{AreMembers, bits_of, set_cells, word_of}
-use Rattle.cp_legend.specs.Values.{Value, cell, has_member, member_value, members_below, ordinal_value}
+use Rattle.cp_legend.specs.Values.{Value, cell, has_member, members_below, ordinal_value}
 
 -- ---- bits
 

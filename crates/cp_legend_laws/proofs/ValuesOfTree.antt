@@ -1,6 +1,6 @@
 -- Values of the variables and parameters of a tree are read from cells as they are told.
-use Rattle.std.proofs.Common.{◌≡◌, ℕ, zero, suc, ◌<◌, ◌≤◌, ℤ, pos, negsuc, Bool, true, false, ◌&&◌, if◌then◌else◌, List, [], ◌∷◌, ◌++◌, length, map, Option, Some, None, slice_get, refl, sym, ap, ap₂, subst, ◌∙◌, arith}
-use Rattle.std.specs.Prelude.{◌-◌, int_le}
+use Rattle.std.proofs.Common.{◌≡◌, ℕ, zero, suc, ◌<◌, ◌≤◌, ℤ, pos, negsuc, Bool, true, false, if◌then◌else◌, List, [], ◌∷◌, ◌++◌, length, map, Option, Some, None, refl, sym, ap, ap₂, subst, ◌∙◌, arith}
+use Rattle.std.specs.Prelude.{◌-◌}
 use Rattle.cp_legend_laws.proofs.Words.{Compounds, Each, Name, Numbering, Program, Tree, TypeIs, Variable}
 use Rattle.cp_tree.specs.Read.{IsRead}
 use Rattle.cp_symbols.specs.declared.symbols.Symbols as code_symbols
@@ -14,7 +14,7 @@ use Rattle.cp_meaning.specs.Systems.{SystemMeaning, system_of}
 use Rattle.cp_meaning.specs.Types.{Base, integers, booleans, characters, enumerated, Ty, ordinal, queue_type, set_over, array_over, record_with, FieldTypes, no_field_types, more_field_types, has_components, is_within, length_of_range}
 use Rattle.cp_meaning.specs.Values.{Value, number_value, array_value, record_value, set_value, queue_value, Values, no_values, more_values, FieldValues, no_field_values, more_field_values}
 use Rattle.cp_resolved.specs.Encoded.{AllHave, HasType, HaveTypes}
-use Rattle.cp_resolved.specs.Enumerations.{constant_names, enumerations_of}
+use Rattle.cp_resolved.specs.Enumerations.{constant_names}
 use Rattle.cp_resolved.specs.Framed.{system_variables}
 use Rattle.cp_resolved.specs.InStep.{base_of}
 use Rattle.cp_resolved.specs.Layouts.{look}

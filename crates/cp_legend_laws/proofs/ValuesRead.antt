@@ -1,18 +1,17 @@
 -- Where the cells of a value of a type stand, it is read from them as the value that it is.
-use Rattle.std.proofs.Common.{◌≡◌, ℕ, zero, suc, ◌+◌, ◌*◌, ◌<◌, ◌≤◌, ℤ, pos, negsuc, List, [], ◌∷◌, ◌++◌, length, map, Option, Some, None, get_or, refl, sym, ap, ap₂, subst, ◌∙◌, arith, length-append}
-use Rattle.std.specs.Prelude.{◌-◌, int_le, slice_index_or, true, false}
+use Rattle.std.proofs.Common.{◌≡◌, ℕ, zero, suc, ◌+◌, ◌*◌, ◌<◌, ◌≤◌, ℤ, pos, List, [], ◌∷◌, ◌++◌, length, map, Option, Some, None, refl, ap, ap₂, subst, ◌∙◌, arith, length-append}
+use Rattle.std.specs.Prelude.{slice_index_or}
 use Rattle.std.proofs.lemmas.List.{get_or-append-add, get_or_append_left}
-use Rattle.cp_legend_laws.proofs.Words.{Name, CellType, Compounds, Compound, array, Each, Numbering, TypeIs, range_on}
+use Rattle.cp_legend_laws.proofs.Words.{Name, CellType, Compounds, array, Numbering, TypeIs, range_on}
 use Rattle.cp_symbols.specs.declared.kinds.ArrayType.{ArrayType}
 use Rattle.cp_symbols.specs.declared.kinds.CellType.TheVariants as types
 use Rattle.cp_symbols.specs.Kinds as kinds
 use Rattle.cp_symbols.specs.Kinds.{Field, record_with, count_of, most, plus, times}
 use Rattle.cp_layout.specs.Kinds.{array_type}
-use Rattle.cp_meaning.specs.Operations.{range_of_base}
 use Rattle.cp_meaning.specs.Types.{Base, integers, booleans, characters, enumerated, Range, Ty, ordinal, queue_type, set_over, array_over, FieldTypes, no_field_types, more_field_types, length_of_range, is_within}
 use Rattle.cp_meaning.specs.Types as named
 use Rattle.cp_meaning.specs.Values.{Value, number_value, array_value, record_value, set_value, queue_value, Values, no_values, more_values, FieldValues, no_field_values, more_field_values, element_at}
-use Rattle.cp_resolved.specs.Encoded.{AllHave, HasType, HaveTypes, bits_of, encode, encode_all, encode_fields, flag_of, word_of}
+use Rattle.cp_resolved.specs.Encoded.{AllHave, HasType, HaveTypes, bits_of, encode, encode_all, encode_fields, flag_of}
 use Rattle.cp_resolved.specs.InStep.{FieldsAre, base_of}
 use Rattle.cp_resolved.specs.Layouts.{cells_of, cells_in}
 use Rattle.cp_resolved.specs.Resolved.{StandsAt}

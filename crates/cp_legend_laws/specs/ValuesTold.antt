@@ -1,6 +1,5 @@
 -- A value of a type as people read it.
 use Rattle.std.specs.Prelude.{ℕ, ℤ, pos, ◌<◌, List, [], length, map, Option, Some, None, codes}
-use Rattle.cp_meaning.specs.Names.{Name}
 use Rattle.cp_meaning.specs.Types.{Base, integers, enumerated, Ty, ordinal, queue_type, set_over, array_over, record_with, FieldTypes, more_field_types}
 use Rattle.cp_meaning.specs.Values.{Value, number_value, array_value, record_value, set_value, queue_value, Values, no_values, more_values, FieldValues, more_field_values}
 use Rattle.cp_resolved.specs.Small.{Each}
