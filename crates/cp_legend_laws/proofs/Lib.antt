@@ -19,6 +19,7 @@ pub mod PermanentsNoted
 pub mod QueuesNamed
 pub mod QuietSteps
 pub mod SetsRead
+pub mod ValuesNamed
 pub mod ValuesOfTree
 pub mod ValuesRead
 pub mod Walking

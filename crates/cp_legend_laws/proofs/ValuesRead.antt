@@ -2,7 +2,7 @@
 use Rattle.std.proofs.Common.{◌≡◌, ℕ, zero, suc, ◌+◌, ◌*◌, ◌<◌, ◌≤◌, ℤ, pos, List, [], ◌∷◌, ◌++◌, length, map, Option, Some, None, refl, ap, ap₂, subst, ◌∙◌, arith, length-append}
 use Rattle.std.specs.Prelude.{slice_index_or}
 use Rattle.std.proofs.lemmas.List.{get_or-append-add, get_or_append_left}
-use Rattle.cp_legend_laws.proofs.Words.{Name, CellType, Compounds, array, Numbering, TypeIs, range_on}
+use Rattle.cp_legend_laws.proofs.Words.{Name, Program, CellType, Compounds, array, Numbering, TypeIs, range_on}
 use Rattle.cp_symbols.specs.declared.kinds.ArrayType.{ArrayType}
 use Rattle.cp_symbols.specs.declared.kinds.CellType.TheVariants as types
 use Rattle.cp_symbols.specs.Kinds as kinds
@@ -12,15 +12,17 @@ use Rattle.cp_meaning.specs.Types.{Base, integers, booleans, characters, enumera
 use Rattle.cp_meaning.specs.Types as named
 use Rattle.cp_meaning.specs.Values.{Value, number_value, array_value, record_value, set_value, queue_value, Values, no_values, more_values, FieldValues, no_field_values, more_field_values, element_at}
 use Rattle.cp_resolved.specs.Encoded.{AllHave, HasType, HaveTypes, bits_of, encode, encode_all, encode_fields, flag_of}
+use Rattle.cp_resolved.specs.Enumerations.{constant_names}
 use Rattle.cp_resolved.specs.InStep.{FieldsAre, base_of}
 use Rattle.cp_resolved.specs.Layouts.{cells_of, cells_in}
+use Rattle.cp_resolved.specs.Openings.{numbering_of}
 use Rattle.cp_resolved.specs.Resolved.{StandsAt}
 use Rattle.cp_resolved.proofs.frames.Cells.{cells_same, count_same}
 use Rattle.cp_resolved.proofs.frames.EncodedCells.{HoldEarlier}
 use Rattle.cp_legend.specs.Names.{at_each}
 use Rattle.cp_legend.specs.Values as told
 use Rattle.cp_legend.specs.Values.{cell, elements_below, field_value, ordinal_value, value_below, value_by, value_of}
-use Rattle.cp_legend_laws.specs.ValuesTold.{queue_told}
+use Rattle.cp_legend_laws.specs.ValuesTold.{elements_numbered, fields_numbered, queue_told, value_numbered}
 use Rattle.cp_legend_laws.proofs.CompoundsRead.{below, compound_read}
 use Rattle.cp_legend_laws.proofs.SetsRead.{members_read, word_there}
 
@@ -101,31 +103,19 @@ unfolding elements_below at_each
 elements_each cs cells g a at zero = refl
 elements_each cs cells g a at (suc n) = ap (λ (xs : List told.Value). xs ++ value_by cs cells g a.element (plus at (times n a.element_cells)) ∷ []) (elements_each cs cells g a at n)
 
-module _ (cs : List Name) (k : Numbering) where
-  -- by the numbers of constants among those of all enumerations
-  abbrev mutual
-    pub value_seen : Ty → Value → told.Value
-    value_seen (ordinal r) (number_value z) = ordinal_value cs (base_of k r.base) z
-    value_seen queue_type (queue_value o) = queue_told o
-    value_seen (set_over r) (set_value ns) = told.set (told.values_of (map (λ n. ordinal_value cs (base_of k r.base) (pos n)) ns))
-    value_seen (array_over r t) (array_value vs) = told.list (elements_seen t vs)
-    value_seen (named.record_with ts) (record_value fs) = told.record_of (fields_seen ts fs)
-    value_seen t v = told.named []
+module _ (p : Program) where
+  abbrev cs : List Name
+  cs = constant_names p
 
-    pub elements_seen : Ty → Values → told.Values
-    elements_seen t no_values = told.no_values
-    elements_seen t (more_values v vs) = told.more_values (value_seen t v) (elements_seen t vs)
+  abbrev k : Numbering
+  k = numbering_of p
 
-    pub fields_seen : FieldTypes → FieldValues → told.Members
-    fields_seen (more_field_types x t ts) (more_field_values y v fs) = told.more_members x (value_seen t v) (fields_seen ts fs)
-    fields_seen ts fs = told.no_members
-
-  each_seen : (t : Ty) (n : ℕ) (vs : Values) (f : ℕ → told.Value) → AllHave (HasType t) n vs → ((i : ℕ) → i < n → f i ≡ value_seen t (element_at vs i)) → told.values_of (at_each f n) ≡ elements_seen t vs
+  each_numbered : (t : Ty) (n : ℕ) (vs : Values) (f : ℕ → told.Value) → AllHave (HasType t) n vs → ((i : ℕ) → i < n → f i ≡ value_numbered p t (element_at vs i)) → told.values_of (at_each f n) ≡ elements_numbered p t vs
   unfolding at_each
-  each_seen t zero no_values f h same = refl
-  each_seen t (suc n) (more_values v vs) f h same =
-      ap told.values_of (each_first f n) ∙ ap₂ (λ (x : told.Value) (xs : told.Values). told.more_values x xs) (same 0 (omega arith)) (each_seen t n vs (λ i. f (suc i)) h.1 (λ i lt. same (suc i) (omega (arith, lt))))
-  each_seen t _ _ f h same = absurd h
+  each_numbered t zero no_values f h same = refl
+  each_numbered t (suc n) (more_values v vs) f h same =
+      ap told.values_of (each_first f n) ∙ ap₂ (λ (x : told.Value) (xs : told.Values). told.more_values x xs) (same 0 (omega arith)) (each_numbered t n vs (λ i. f (suc i)) h.1 (λ i lt. same (suc i) (omega (arith, lt))))
+  each_numbered t _ _ f h same = absurd h
 
   module _ (ts : Compounds) (earlier : HoldEarlier ts) (cells : List ℤ) (few : length cells ≤ most) where
     abbrev inner : ℕ → ℕ → told.Value
@@ -141,7 +131,7 @@ module _ (cs : List Name) (k : Numbering) where
     queue_read None = refl
     queue_read (Some q) = refl
 
-    set_read : (r : Range) (at : ℕ) (ns : List ℕ) → HasType (set_over r) (set_value ns) → StandsAt cells at (encode (set_value ns)) → read (types.Set (range_on k r)) at ≡ value_seen (set_over r) (set_value ns)
+    set_read : (r : Range) (at : ℕ) (ns : List ℕ) → HasType (set_over r) (set_value ns) → StandsAt cells at (encode (set_value ns)) → read (types.Set (range_on k r)) at ≡ value_numbered p (set_over r) (set_value ns)
     set_read r at ns h st =
         let a : at + 8 ≤ length cells = st.inside in
         ap (λ (xs : List told.Value). told.set (told.values_of xs)) (members_read cs (base_of k r.base) cells at ns h (omega (arith, a, few)) (λ i lt. st.same i lt ∙ word_there (bits_of ns) i lt))
@@ -155,7 +145,7 @@ module _ (cs : List Name) (k : Numbering) where
         ap (λ (c : ℕ). plus at (times i c)) many ∙ omega (arith, inside, few)
 
     mutual
-      value_read : (u : Ty) (shape : CellType) (w : Value) (at : ℕ) → TypeIs k ts u shape → HasType u w → StandsAt cells at (encode w) → read shape at ≡ value_seen u w
+      value_read : (u : Ty) (shape : CellType) (w : Value) (at : ℕ) → TypeIs k ts u shape → HasType u w → StandsAt cells at (encode w) → read shape at ≡ value_numbered p u w
       value_read (ordinal r) shape (number_value z) at is h st = ap (λ (v : CellType). read v at) is ∙ ap (ordinal_value cs (base_of k r.base)) (first_cell at z st)
       value_read queue_type shape (queue_value o) at is h st = ap (λ (v : CellType). read v at) is ∙ (ap told.queue_value (first_cell at (flag_of o) st) ∙ queue_read o)
       value_read (set_over r) shape (set_value ns) at is h st = ap (λ (v : CellType). read v at) is ∙ set_read r at ns h st
@@ -163,14 +153,14 @@ module _ (cs : List Name) (k : Numbering) where
           let a : ArrayType = array_type ts (range_on k r) is.element in
           ap (λ (v : CellType). read v at) is.is ∙ (compound_read cs ts cells earlier is.number (array a) at is.there
           ∙ ap (λ (xs : List told.Value). told.list (told.values_of xs)) (elements_each cs cells inner a at (count_of (range_on k r)) ∙ ap (at_each (λ i. read is.element (plus at (times i a.element_cells)))) (count_same k r))
-          ∙ ap told.list (each_seen t (length_of_range r) vs (λ i. read is.element (plus at (times i a.element_cells))) h
+          ∙ ap told.list (each_numbered t (length_of_range r) vs (λ i. read is.element (plus at (times i a.element_cells))) h
           (λ i lt. (let e = element_is t (length_of_range r) vs cells at i h st lt in ap (read is.element) (element_place t is.element vs at i is.belongs e) ∙ value_read t is.element (element_at vs i) (at + i * cells_of t) is.belongs e.typed e.stands))))
       value_read (named.record_with us) shape (record_value fs) at is h st =
           ap (λ (v : CellType). read v at) is.is ∙ (compound_read cs ts cells earlier is.number (record_with is.fields is.cells) at is.there
           ∙ ap told.record_of (fields_read us is.fields fs at 0 is.cells is.each h (subst (λ j. StandsAt cells j (encode_fields fs)) (let e : at ≡ at + 0 = omega arith in e) st)))
       value_read _ shape _ at is h st = absurd h
 
-      fields_read : (us : FieldTypes) (fs : List Field) (ws : FieldValues) (at n end : ℕ) → FieldsAre k ts us fs n end → HaveTypes us ws → StandsAt cells (at + n) (encode_fields ws) → told.members_of (map (field_value cs cells inner at) fs) ≡ fields_seen us ws
+      fields_read : (us : FieldTypes) (fs : List Field) (ws : FieldValues) (at n end : ℕ) → FieldsAre k ts us fs n end → HaveTypes us ws → StandsAt cells (at + n) (encode_fields ws) → told.members_of (map (field_value cs cells inner at) fs) ≡ fields_numbered p us ws
       fields_read no_field_types fs no_field_values at n end is h st = ap (λ (gs : List Field). told.members_of (map (field_value cs cells inner at) gs)) is.0
       fields_read (more_field_types x t us) fs (more_field_values y w ws) at n end is h st =
           let here = stands_left cells (at + n) (encode w) (encode_fields ws) st in
@@ -184,6 +174,6 @@ module _ (cs : List Name) (k : Numbering) where
           (fields_read us is.rest ws at (plus n (kinds.cells_of ts is.value_type)) end is.others h.2 (subst (λ j. StandsAt cells j (encode_fields ws)) next (stands_right cells (at + n) (encode w) (encode_fields ws) st)))
       fields_read _ fs _ at n end is h st = absurd h
 
-    pub value_is_seen : (u : Ty) (shape : CellType) (w : Value) (at : ℕ) → TypeIs k ts u shape → HasType u w → StandsAt cells at (encode w) → value_of cs ts cells shape at ≡ value_seen u w
+    pub value_is_numbered : (u : Ty) (shape : CellType) (w : Value) (at : ℕ) → TypeIs k ts u shape → HasType u w → StandsAt cells at (encode w) → value_of cs ts cells shape at ≡ value_numbered p u w
     unfolding value_of
-    value_is_seen u shape w at is h st = value_read u shape w at is h st
+    value_is_numbered u shape w at is h st = value_read u shape w at is h st
