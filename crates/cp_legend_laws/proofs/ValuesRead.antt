@@ -8,7 +8,7 @@ use Rattle.cp_symbols.specs.declared.kinds.CellType.TheVariants as types
 use Rattle.cp_symbols.specs.Kinds as kinds
 use Rattle.cp_symbols.specs.Kinds.{Field, record_with, count_of, most, plus, times}
 use Rattle.cp_layout.specs.Kinds.{array_type}
-use Rattle.cp_meaning.specs.Types.{Base, integers, booleans, characters, enumerated, Range, Ty, ordinal, queue_type, set_over, array_over, FieldTypes, no_field_types, more_field_types, length_of_range, is_within}
+use Rattle.cp_meaning.specs.Types.{Range, Ty, ordinal, queue_type, set_over, array_over, FieldTypes, no_field_types, more_field_types, length_of_range}
 use Rattle.cp_meaning.specs.Types as named
 use Rattle.cp_meaning.specs.Values.{Value, number_value, array_value, record_value, set_value, queue_value, Values, no_values, more_values, FieldValues, no_field_values, more_field_values, element_at}
 use Rattle.cp_resolved.specs.Encoded.{AllHave, HasType, HaveTypes, bits_of, encode, encode_all, encode_fields, flag_of}
@@ -21,7 +21,7 @@ use Rattle.cp_resolved.proofs.frames.Cells.{cells_same, count_same}
 use Rattle.cp_resolved.proofs.frames.EncodedCells.{HoldEarlier}
 use Rattle.cp_legend.specs.Names.{at_each}
 use Rattle.cp_legend.specs.Values as told
-use Rattle.cp_legend.specs.Values.{cell, elements_below, field_value, ordinal_value, value_below, value_by, value_of}
+use Rattle.cp_legend.specs.Values.{cell, elements_below, field_value, ordinal_value, value_by, value_of}
 use Rattle.cp_legend_laws.specs.ValuesTold.{elements_numbered, fields_numbered, queue_told, value_numbered}
 use Rattle.cp_legend_laws.proofs.CompoundsRead.{below, compound_read}
 use Rattle.cp_legend_laws.proofs.SetsRead.{members_read, word_there}
