@@ -1,5 +1,7 @@
+pub mod CompoundsRead
 pub mod IndexTexts
 pub mod KnownConstants
+pub mod KnownLocals
 pub mod Lined
 pub mod LinedUp
 pub mod NamedParts
@@ -16,5 +18,9 @@ pub mod PermanentsNamed
 pub mod PermanentsNoted
 pub mod QueuesNamed
 pub mod QuietSteps
+pub mod SetsRead
+pub mod ValuesNamed
+pub mod ValuesOfTree
+pub mod ValuesRead
 pub mod Walking
 mod Words
