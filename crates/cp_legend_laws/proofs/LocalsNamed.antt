@@ -313,7 +313,7 @@ module _ (t : Tree) (read : IsRead t.program) (ok : IsAccepted t) (n : ℕ) (l :
   heading_there : slice_get l.headings n ≡ Some h
   heading_there = ap (λ (hs : List Heading). slice_get hs n) given.own ∙ (ap (slice_get (given.before ++ h ∷ [])) (sym place_is) ∙ last_entry given.before h)
 
-  pub heading_last : slice_get end.headings n ≡ Some h
+  heading_last : slice_get end.headings n ≡ Some h
   heading_last = ap (λ (hs : List Heading). slice_get hs n) given.headings.1 ∙ still_there l.headings given.headings.0 n h heading_there
 
   results : ResultsAre k l.types m.result h.result
@@ -336,7 +336,7 @@ module _ (t : Tree) (read : IsRead t.program) (ok : IsAccepted t) (n : ℕ) (l :
   abbrev bare : RoutineNames
   bare = record { name = h.name; parameters = all_parameters first; variables = all_locals first ++ all_locals second; result = None }
 
-  pub bare_is : (s : Source) → s.declared ≡ end.noted → bare_routine s n (routine_named h) ≡ bare
+  bare_is : (s : Source) → s.declared ≡ end.noted → bare_routine s n (routine_named h) ≡ bare
   bare_is s same =
       let vs : flat_map (local_named n) s.declared ≡ all_locals first ++ all_locals second = ap (flat_map (local_named n)) same ∙ (picked.locals ∙ locals_append first second) in
       let ps : take (length h.parameters) (flat_map (parameter_named n) s.declared) ≡ all_parameters first = ap (λ (ds : List Noted). take (length h.parameters) (flat_map (parameter_named n) ds)) same ∙ (ap (take (length h.parameters)) picked.parameters ∙ given.taken) in
@@ -379,7 +379,7 @@ module _ (t : Tree) (read : IsRead t.program) (ok : IsAccepted t) (n : ℕ) (l :
       )
   with_told _ _ a b c = absurd a
 
-  pub routine_told : RoutineIsTold t end.types n (with_result_if bare h.result)
+  routine_told : RoutineIsTold t end.types n (with_result_if bare h.result)
   routine_told = let x : Told m.result (with_result_if bare h.result) = with_told m.result h.result results values result_cell in record { parameters = x.2; variables = x.0; result = x.1 }
 
 -- ---- the legend
@@ -399,8 +399,8 @@ locals_law t y r l read ok is same named n q at_number =
     let seen : List RoutineNames = map routine_names_seen l.routines.items in
     let names = (routines_law t y r l read ok is same named).names in
     let a = ap (λ (xs : List (List ℕ)). length xs) names in
-    let b = length-map (λ (v : RoutineNames). v.name) seen in
-    let c = length-map routine_text os in
+    let b = length-map seen (λ (v : RoutineNames). v.name) in
+    let c = length-map os routine_text in
     let d = given_many end (all_begun t) os (all_given t) in
     let inside = slice_get_within seen n q at_number in
     let x : (j : Layer) × (slice_get (all_begun t) n ≡ Some j) = there (all_begun t) n (omega (arith, a, b, c, d, inside)) in
