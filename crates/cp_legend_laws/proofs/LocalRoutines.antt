@@ -1,5 +1,5 @@
 -- For each routine and initial statement of a tree: among all names that are noted, its parameters and local variables are those that were noted under its number.
-use Rattle.std.proofs.Common.{◌≡◌, ℕ, zero, suc, ◌+◌, ◌<◌, ◌≤◌, ◌==◌, Bool, true, false, if◌then◌else◌, List, [], ◌∷◌, ◌++◌, length, take, Option, Some, None, slice_get, refl, sym, ap, subst, ◌∙◌, ◌⊎◌, inl, inr, append_assoc, append-nil, arith}
+use Rattle.std.proofs.Common.{◌≡◌, ℕ, zero, suc, ◌<◌, ◌≤◌, ◌==◌, Bool, true, false, if◌then◌else◌, List, [], ◌∷◌, ◌++◌, length, take, Option, Some, None, slice_get, refl, sym, ap, subst, ◌∙◌, ◌⊎◌, inl, inr, append_assoc, append-nil, arith}
 use Rattle.std.proofs.Math.Seq.{take-append_seam}
 use Rattle.std.proofs.lemmas.List.Concat.{flat_map-append}
 use Rattle.std.proofs.lemmas.Option.{same_Some}
@@ -11,12 +11,12 @@ use Rattle.cp_symbols.specs.declared.kinds.CellType.TheVariants as types
 use Rattle.cp_symbols.specs.declared.names.LayoutMeaning.TheVariants as meaning
 use Rattle.cp_layout.specs.Laid.{whole}
 use Rattle.cp_layout.specs.Layers.{Names, Heading, find, is_open, seen_inside, with_name}
-use Rattle.cp_layout.specs.LaidTypes.{with_constant, written_type}
-use Rattle.cp_layout.specs.LaidDeclarations.{Parameters, body, constants, definition, entered, heading, heading_with, initial_statement, opened, permanent_parts, program, program_part, program_parts, routine, routines, system, system_definition, system_definitions, system_groups, system_parameter, type_named, variable_with, variables, with_heading, with_new_frame}
+use Rattle.cp_layout.specs.LaidTypes.{with_constant}
+use Rattle.cp_layout.specs.LaidDeclarations.{Parameters, body, definition, entered, heading_with, initial_statement, opened, program, program_part, program_parts, routine, routines, system, system_definition, system_definitions, system_groups, system_parameter, type_named, variable_with}
 use Rattle.cp_legend.specs.Names as legend
 use Rattle.cp_legend.specs.Names.{local_meant, local_named, parameter_meant, parameter_named}
 use Rattle.cp_legend.specs.declared.legend.LegendParameter.{LegendParameter}
-use Rattle.cp_meaning.specs.Declarations.{Parameter, RoutineMeaning, routine_in}
+use Rattle.cp_meaning.specs.Declarations.{Parameter, routine_in}
 use Rattle.cp_meaning.specs.Scopes as scopes
 use Rattle.cp_meaning.specs.Scopes.{Scope}
 use Rattle.cp_meaning.specs.Systems.{Declared, SystemMeaning, declared, definition_in, own_meaning, program_part_in, program_system, system_in}

@@ -1,5 +1,5 @@
 -- The parameters, the results and the local variables of routines in the legend of a tree are those of the tree, at the cells that its layouts give them.
-use Rattle.std.proofs.Common.{◌≡◌, ℕ, zero, suc, ◌+◌, ◌<◌, Bool, true, false, if◌then◌else◌, List, [], ◌∷◌, ◌++◌, length, map, take, drop, Option, Some, None, slice_get, refl, sym, ap, subst, ◌∙◌, ◌⊎◌, inl, inr, length-append, arith}
+use Rattle.std.proofs.Common.{◌≡◌, ℕ, zero, suc, ◌+◌, Bool, true, false, if◌then◌else◌, List, [], ◌∷◌, ◌++◌, length, map, take, drop, Option, Some, None, slice_get, refl, sym, ap, subst, ◌∙◌, inl, inr, length-append, arith}
 use Rattle.std.proofs.Math.Seq.{take-append_seam, drop-append_seam}
 use Rattle.std.proofs.lemmas.Option.{same_Some}
 use Rattle.std.specs.Prelude.{insert, min}
@@ -47,7 +47,7 @@ use Rattle.cp_resolved.proofs.items.Ended.{AreEnded, all_end}
 use Rattle.cp_resolved.proofs.names.Entries.{last_entry, still_there, there}
 use Rattle.cp_resolved.proofs.names.Steps.{found_in, type_grown}
 use Rattle.cp_resolved.proofs.names.TreeKnown.{Opens, layouts_law, opens_of, undeclared_name}
-use Rattle.cp_legend_laws.specs.Routines.{AreLocals, AreParameters, IsLocal, IsParameter, ResultIs, RoutineIsTold, at_place, local_name, own_variables, passing_of, result_variable, value_parameters}
+use Rattle.cp_legend_laws.specs.Routines.{AreLocals, AreParameters, IsLocal, ResultIs, RoutineIsTold, at_place, passing_of, result_variable, value_parameters}
 use Rattle.cp_legend_laws.specs.Statements.{LocalsLaw, routine_text}
 use Rattle.cp_legend_laws.proofs.LocalRoutines.{AreGiven, Given, GivenAt, Picked, all_given, all_locals, all_parameters, given_at, locals_append, parameters_many}
 use Rattle.cp_legend_laws.proofs.LocalsNoted.{AreValues, AreValuesIf, InOrder, IsNotedAs, PassedAs, as_values, is_held, order_both}
@@ -146,6 +146,14 @@ given_many end _ _ h = absurd h
 not_found : (k : Numbering) (ts : Compounds) (q : Option LayoutMeaning) (s : Scope) → FoundIs k ts q None s → q ≡ None
 not_found k ts None s h = refl
 not_found k ts (Some w) s h = absurd h
+
+-- ---- the routines of a legend by their numbers
+
+from_there : (s : Source) (i : ℕ) (rs : List RoutineName) (n : ℕ) (q : RoutineNames) → slice_get (routines_from s i rs) n ≡ Some q → (r : RoutineName) × (slice_get rs n ≡ Some r) × (q ≡ routine_of s (i + n) r)
+unfolding routines_from
+from_there s i [] n q e = absurd (none-some q e)
+from_there s i (r ∷ rs) zero q e = (r, refl, sym (same_Some (routine_of s i r) q e) ∙ ap (λ (j : ℕ). routine_of s j r) (let a : i ≡ i + 0 = omega arith in a))
+from_there s i (r ∷ rs) (suc n) q e = let w = from_there s (i + 1) rs n q e in (w.0, w.1, w.2 ∙ ap (λ (j : ℕ). routine_of s j w.0) (let a : i + 1 + n ≡ i + suc n = omega arith in a))
 
 -- ---- where the statements of a routine begin
 
@@ -382,14 +390,16 @@ module _ (t : Tree) (read : IsRead t.program) (ok : IsAccepted t) (n : ℕ) (l :
   routine_told : RoutineIsTold t end.types n (with_result_if bare h.result)
   routine_told = let x : Told m.result (with_result_if bare h.result) = with_told m.result h.result results values result_cell in record { parameters = x.2; variables = x.0; result = x.1 }
 
--- ---- the legend
+  -- ---- the legend
 
--- the routine of a number
-from_there : (s : Source) (i : ℕ) (rs : List RoutineName) (n : ℕ) (q : RoutineNames) → slice_get (routines_from s i rs) n ≡ Some q → (r : RoutineName) × (slice_get rs n ≡ Some r) × (q ≡ routine_of s (i + n) r)
-unfolding routines_from
-from_there s i [] n q e = absurd (none-some q e)
-from_there s i (r ∷ rs) zero q e = (r, refl, sym (same_Some (routine_of s i r) q e) ∙ ap (λ (j : ℕ). routine_of s j r) (let a : i ≡ i + 0 = omega arith in a))
-from_there s i (r ∷ rs) (suc n) q e = let w = from_there s (i + 1) rs n q e in (w.0, w.1, w.2 ∙ ap (λ (j : ℕ). routine_of s j w.0) (let a : i + 1 + n ≡ i + suc n = omega arith in a))
+  pub told_as : (s : Source) (q : RoutineNames) → s.declared ≡ end.noted → s.routines ≡ map routine_named end.headings → slice_get (routines_from s 0 s.routines) n ≡ Some q → RoutineIsTold t end.types n q
+  told_as s q noted routines at_number =
+      let w = from_there s 0 s.routines n q at_number in
+      let own : slice_get s.routines n ≡ Some (routine_named h) = ap (λ (rs : List RoutineName). slice_get rs n) routines ∙ map_there routine_named end.headings n h heading_last in
+      let same : w.0 ≡ routine_named h = same_Some w.0 (routine_named h) (sym w.1 ∙ own) in
+      let first_is : q ≡ routine_of s n w.0 = w.2 ∙ ap (λ (i : ℕ). routine_of s i w.0) (let z : 0 + n ≡ n = omega arith in z) in
+      let whole_is : q ≡ with_result_if bare h.result = first_is ∙ (ap (routine_of s n) same ∙ ap (λ (v : RoutineNames). with_result_if v h.result) (bare_is s noted)) in
+      subst (λ (v : RoutineNames). RoutineIsTold t end.types n v) (sym whole_is) routine_told
 
 pub locals_law : LocalsLaw
 locals_law t y r l read ok is same named n q at_number =
@@ -398,17 +408,9 @@ locals_law t y r l read ok is same named n q at_number =
     let os : List Opening = openings_of t.program in
     let seen : List RoutineNames = map routine_names_seen l.routines.items in
     let names = (routines_law t y r l read ok is same named).names in
-    let a = ap (λ (xs : List (List ℕ)). length xs) names in
-    let b = length-map seen (λ (v : RoutineNames). v.name) in
-    let c = length-map os routine_text in
-    let d = given_many end (all_begun t) os (all_given t) in
+    let many : length seen ≡ length os = sym (length-map seen (λ (v : RoutineNames). v.name)) ∙ (ap (λ (xs : List (List ℕ)). length xs) names ∙ length-map os routine_text) in
+    let begun = given_many end (all_begun t) os (all_given t) in
     let inside = slice_get_within seen n q at_number in
-    let x : (j : Layer) × (slice_get (all_begun t) n ≡ Some j) = there (all_begun t) n (omega (arith, a, b, c, d, inside)) in
-    let given = (found_there t read ok n x.0 x.1).given in
-    let w = from_there s 0 s.routines n q (ap (λ (rs : List RoutineNames). slice_get rs n) (sym named.routines) ∙ at_number) in
-    let own : slice_get s.routines n ≡ Some (routine_named given.heading) = ap (λ (rs : List RoutineName). slice_get rs n) is.routines ∙ map_there routine_named end.headings n given.heading (heading_last t read ok n x.0 x.1) in
-    let same_name_of : w.0 ≡ routine_named given.heading = same_Some w.0 (routine_named given.heading) (sym w.1 ∙ own) in
-    let whole_is : q ≡ with_result_if (bare t read ok n x.0 x.1) given.heading.result =
-    w.2 ∙ (ap (λ (i : ℕ). routine_of s i w.0) (let z : 0 + n ≡ n = omega arith in z) ∙ (ap (routine_of s n) same_name_of ∙ ap (λ (v : RoutineNames). with_result_if v given.heading.result) (bare_is t read ok n x.0 x.1 s is.declared))) in
-    let told : RoutineIsTold t end.types n q = subst (λ (v : RoutineNames). RoutineIsTold t end.types n v) (sym whole_is) (routine_told t read ok n x.0 x.1) in
+    let x : (j : Layer) × (slice_get (all_begun t) n ≡ Some j) = there (all_begun t) n (omega (arith, many, begun, inside)) in
+    let told : RoutineIsTold t end.types n q = told_as t read ok n x.0 x.1 s q is.declared is.routines (ap (λ (rs : List RoutineNames). slice_get rs n) (sym named.routines) ∙ at_number) in
     subst (λ (ts : Compounds). RoutineIsTold t ts n q) (sym (named.shapes ∙ is.types)) told
