@@ -4,6 +4,9 @@ pub mod KnownConstants
 pub mod KnownLocals
 pub mod Lined
 pub mod LinedUp
+pub mod LocalRoutines
+pub mod LocalsNamed
+pub mod LocalsNoted
 pub mod NamedParts
 pub mod NamedPaths
 pub mod NamedRoutines
