@@ -94,12 +94,12 @@ abbrev pub constant_text : Option (List ℕ) → ℤ → List ℕ
 constant_text None z = signed_decimal z
 constant_text (Some name) z = name
 
--- by the names of the constants of all enumerations
+-- by the names of the constants of all enumerations; what is behind the last constant of an enumeration is no constant
 abbrev pub ordinal_text : List (List ℕ) → CellBase → ℤ → List ℕ
 ordinal_text names base.Integer z = signed_decimal z
 ordinal_text names base.Boolean z = if int_eq z (pos 0) then codes "false" else codes "true"
 ordinal_text names base.Char z = character_text z
-ordinal_text names (base.Enumeration first last) z = constant_text (slice_get names (plus first (unsigned_abs z))) z
+ordinal_text names (base.Enumeration first last) z = if int_le z last then constant_text (slice_get names (plus first (unsigned_abs z))) z else signed_decimal z
 
 abbrev pub ordinal_value : List (List ℕ) → CellBase → ℤ → Value
 ordinal_value names base.Integer z = integer z

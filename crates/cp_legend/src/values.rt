@@ -30,6 +30,7 @@ pub fn push_ordinal(
         CellBase::Integer => write!(text, "{number}"),
         CellBase::Boolean => text.push_str(if number == 0 { "false" } else { "true" }),
         CellBase::Char => push_character(text, number),
+        CellBase::Enumeration(_, last) if number > last => write!(text, "{number}"),
         CellBase::Enumeration(first, _) => {
             let place = usize::from(first).saturating_add(usize::from(number.unsigned_abs()));
             push_constant(constants, text, place, number)
