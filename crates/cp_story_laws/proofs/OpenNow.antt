@@ -40,8 +40,10 @@ use Rattle.cp_refine.proofs.ReachedKinds.{kinds_agree, monitor_there}
 use Rattle.cp_refine.proofs.steps.Going.{Going}
 use Rattle.cp_run.specs.Fold.{Fold}
 use Rattle.cp_run.specs.Stop.{last_state}
+use Rattle.cp_story.specs.Story.{NamedQueue}
+use Rattle.cp_story_laws.specs.Aims.{no_queue, queue_aimed}
 use Rattle.cp_story_laws.specs.Events as names
-use Rattle.cp_story_laws.specs.Events.{EntryCall, NamedTelling, monitor_of, stack_of, names_teller, names_telling}
+use Rattle.cp_story_laws.specs.Events.{EntryCall, NamedTelling, expecting, stack_of, names_teller, names_telling}
 use Rattle.cp_story_laws.specs.Lines.{next_line}
 use Rattle.cp_story_laws.specs.OpenCalls.{Entered, entered_by, entry_of, monitors_entered}
 use Rattle.cp_story_laws.specs.Standings.{is_queued, resumed, standings}
@@ -118,7 +120,7 @@ module _ (t : Tree) (r : Tables) (g : slot_gates.Gates) (read : IsRead t.program
 
   -- ---- a step of process p from s to u
 
-  module _ (s u : State) (p : ℕ) (less : p < length s.processes) (count : length u.processes ≡ length s.processes) (others : (q : ℕ) → (q ≡ p → ⊥) → monitors_entered u q ≡ monitors_entered s q) (x : NamedTelling) (now : OpenNow s x) (line : Option ℕ) (woken : List ℕ) where
+  module _ (s u : State) (p : ℕ) (less : p < length s.processes) (count : length u.processes ≡ length s.processes) (others : (q : ℕ) → (q ≡ p → ⊥) → monitors_entered u q ≡ monitors_entered s q) (x : NamedTelling) (now : OpenNow s x) (line : Option ℕ) (queue : NamedQueue) (woken : List ℕ) where
     -- one is opened, one is closed, or they are the same
     abbrev Opens : slot_event.Event → Type 0
     Opens (slot.Kernel Enter) = monitors_entered u p ≡ monitors_entered s p ++ entry_of (current (process_at u.processes p).calls) ∷ []
@@ -162,7 +164,7 @@ module _ (t : Tree) (r : Tables) (g : slot_gates.Gates) (read : IsRead t.program
         by (inl at) = ap (monitors_entered u) at ∙ (e ∙ ap (monitors_entered s) (sym at))
         by (inr ne) = others q ne
 
-    pub opens_now : (e : slot_event.Event) → Opens e → OpenNow u (names.with_step t h p line woken e u x)
+    pub opens_now : (e : slot_event.Event) → Opens e → OpenNow u (names.with_step t h p line queue woken e u x)
     opens_now (slot.Kernel Enter) k =
         let c = names.call_begun t h u p line in
         record { many = set_many (stack_of x.past.calls p ++ c ∷ []); entered = with_stack (stack_of x.past.calls p ++ c ∷ []) (one_more c (entry_of (current (process_at u.processes p).calls)) refl k) }
@@ -242,11 +244,11 @@ module _ (t : Tree) (r : Tables) (g : slot_gates.Gates) (read : IsRead t.program
     closes : (k : Entered) → entered_in s.components (framed (process_at s.processes p).calls) ≡ entered_in s.components (framed (process_at u.processes p).calls) ++ k ∷ [] → monitors_entered s p ≡ monitors_entered u p ++ k ∷ []
     closes k e = entered_before p ∙ (e ∙ ap (λ (ns : List Entered). ns ++ k ∷ []) (sym (entered_after p)))
 
-    module _ (x : NamedTelling) (now : OpenNow s x) (line : Option ℕ) (woken : List ℕ) where
+    module _ (x : NamedTelling) (now : OpenNow s x) (line : Option ℕ) (queue : NamedQueue) (woken : List ℕ) where
       stays : entered_in s.components (framed (process_at u.processes p).calls) ≡ entered_in s.components (framed (process_at s.processes p).calls) → monitors_entered u p ≡ monitors_entered s p
       stays e = entered_after p ∙ (e ∙ sym (entered_before p))
 
-      opens : (e : Event) → (step_of t.program s p).event ≡ e → OpensBy t.program s p goes.there goes.was idle has.0 has.1 has.2 e u → Opens s u p goes.there (same_many s u m n sim sim2) others x now line woken (event_of p (line_at t s p) e)
+      opens : (e : Event) → (step_of t.program s p).event ≡ e → OpensBy t.program s p goes.there goes.was idle has.0 has.1 has.2 e u → Opens s u p goes.there (same_many s u m n sim sim2) others x now line queue woken (event_of p (line_at t s p) e)
       opens enter_event e w = entered_after p ∙ (w ∙ ap (λ (ns : List Entered). ns ++ entry_of (current (process_at u.processes p).calls) ∷ []) (sym (entered_before p)))
       opens leave_event e w = (w.0, closes w.0 w.1)
       opens continue_event e w = (entry_of has.0, closes (entry_of has.0) (w (in_monitor e)))
@@ -258,10 +260,10 @@ module _ (t : Tree) (r : Tables) (g : slot_gates.Gates) (read : IsRead t.program
       opens (fault_event f) e w = stays w
       opens output_full e w = stays w
 
-      step_kept : OpenNow u (names.with_step t h p line woken (on_names.event s p) u x)
-      step_kept = opens_now s u p goes.there (same_many s u m n sim sim2) others x now line woken (on_names.event s p) (opens (step_of t.program s p).event refl moves.1)
+      step_kept : OpenNow u (names.with_step t h p line queue woken (on_names.event s p) u x)
+      step_kept = opens_now s u p goes.there (same_many s u m n sim sim2) others x now line queue woken (on_names.event s p) (opens (step_of t.program s p).event refl moves.1)
 
-  admission_kept : (s : State) (m : Machine) (p : ℕ) (x : NamedTelling) → Related s m → CanEnter on_names s p → OpenNow s x → OpenNow (on_names.admit s p) (names.with_event t h Admit p None [] (on_names.admit s p) x)
+  admission_kept : (s : State) (m : Machine) (p : ℕ) (x : NamedTelling) → Related s m → CanEnter on_names s p → OpenNow s x → OpenNow (on_names.admit s p) (names.with_event t h Admit p None no_queue [] (on_names.admit s p) x)
   admission_kept s m p x sim can now =
       let u2 = on_names.admit s p in
       let sim2 = in_step.admit s m p sim can in
@@ -279,7 +281,7 @@ module _ (t : Tree) (r : Tables) (g : slot_gates.Gates) (read : IsRead t.program
   keeps : KeepRelated on_names on_slots Related (names_teller t h) idle_fold (λ s m x y. OpenNow s x)
   keeps =
       record {
-        step = λ s m p x y sim can now. step_kept s m p sim can x now (next_line t s p) (resumed is_queued (standings t.program s) (standings t.program (on_names.step s p)) p);
+        step = λ s m p x y sim can now. step_kept s m p sim can (expecting t s p x) (record { many = now.many; entered = now.entered }) (next_line t s p) (queue_aimed t h s p) (resumed is_queued (standings t.program s) (standings t.program (on_names.step s p)) p);
         admission = λ s m p x y sim can now. admission_kept s m p x sim can now;
         choice = λ s m p x y sim now. record { many = now.many; entered = now.entered };
       }
