@@ -14,6 +14,7 @@ pub mod NamedSystems
 pub mod Noting
 pub mod NotingDeclarations
 pub mod NotingRoutines
+pub mod OwnMonitors
 pub mod PartSystems
 pub mod PathsOfTree
 pub mod PermanentSystems

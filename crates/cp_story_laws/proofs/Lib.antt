@@ -2,6 +2,7 @@ pub mod CalledFrames
 pub mod CalledInProgram
 pub mod CalledRoutines
 pub mod ContinueOnly
+pub mod EndsAgree
 pub mod Entered
 pub mod Entering
 pub mod EntersRoutine
@@ -14,9 +15,13 @@ pub mod OpenCalls
 pub mod OpenMonitors
 pub mod OpenNow
 pub mod Paths
+pub mod PlainItems
+pub mod QueuePlaces
+pub mod QueuesAimed
 pub mod QueuesWaited
 pub mod RoutinesExecuted
 pub mod StandingsAgree
+pub mod StopsTogether
 pub mod Together
 pub mod VariablesHeld
 pub mod Waited

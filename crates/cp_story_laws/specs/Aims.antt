@@ -1,6 +1,6 @@
 -- What a process is about to do: which queue it comes to, and whether its call of a monitor ends.
 use Rattle.std.specs.Prelude.{◌&&◌, ℕ, Bool, true, false, List, [], ◌∷◌, Option, Some, None, Ok, Err}
-use Rattle.cp_tree.specs.Syntax.{Designator, Statement, invoke, Tree}
+use Rattle.cp_tree.specs.Syntax.{Designator, invoke, Tree}
 use Rattle.cp_meaning.specs.Expressions.{meaning_here, target_value}
 use Rattle.cp_meaning.specs.LocalRules.{argument_of}
 use Rattle.cp_meaning.specs.Outcome.{Outcome}
