@@ -1,10 +1,11 @@
 -- An index of an array of components is written as the language means it.
 use Rattle.std.proofs.Common.{◌≡◌, ℕ, ◌<◌, ◌≤◌, ℤ, pos, negsuc, Bool, true, false, ◌&&◌, List, ◌++◌, length, refl, ap, ◌∙◌, arith}
-use Rattle.std.specs.Prelude.{◌+ℤ◌, neg_ℤ, int_le, min, if◌then◌else◌, codes, ◌-◌}
+use Rattle.std.specs.Prelude.{◌+ℤ◌, neg_ℤ, int_le, min, if◌then◌else◌, codes, ◌-◌, slice_get}
 use Rattle.std.specs.Fmt.{signed_decimal}
 use Rattle.std.specs.Int.{saturate_signed, w16}
 use Rattle.std.specs.Ordering.{int_eq}
 use Rattle.cp_legend_laws.proofs.Words.{Name, is_bounded}
+use Rattle.cp_symbols.specs.Kinds.{plus}
 use Rattle.cp_meaning.specs.Types.{Base, integers, booleans, characters, enumerated, Range, natural_of, length_of_range, is_within}
 use Rattle.cp_meaning.specs.Operations.{range_of_base}
 use Rattle.cp_resolved.specs.InStep.{Numbering, base_of, range_on}
@@ -53,7 +54,9 @@ module _ (cs : List Name) (k : Numbering) where
       let le : n ≤ length xs - 1 = search (arith, h) in
       let small : n ≤ 32767 = omega (arith, le, few) in
       let e : min n 32767 ≡ n = omega (arith, small) in
-      ap (λ w. ordinal_text cs (base_of k (enumerated at xs)) w) (ap pos e) ∙ ap (λ o. constant_text o (pos n)) (known.there n (omega (arith, le, some)))
+      let one : int_le (pos n) (pos (length xs - 1)) ≡ true = search (arith, le) in
+      ap (λ w. ordinal_text cs (base_of k (enumerated at xs)) w) (ap pos e)
+      ∙ (ap (λ (b : Bool). if b then constant_text (slice_get cs (plus (k.firsts at) n)) (pos n) else signed_decimal (pos n)) one ∙ ap (λ o. constant_text o (pos n)) (known.there n (omega (arith, le, some))))
   value_same (enumerated at xs) (negsuc n) known l h = absurd (let w : false ≡ true = l in cc)
 
   pub index_same : (r : Range) (i : ℕ) → KnownBase cs k.firsts r.base → is_bounded r ≡ true → i < length_of_range r → legend.index_text cs (range_on k r) i ≡ index_text r i

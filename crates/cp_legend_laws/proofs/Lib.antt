@@ -14,6 +14,7 @@ pub mod NamedSystems
 pub mod Noting
 pub mod NotingDeclarations
 pub mod NotingRoutines
+pub mod OrdinalsTold
 pub mod OwnMonitors
 pub mod PartSystems
 pub mod PathsOfTree
@@ -23,7 +24,6 @@ pub mod PermanentsNoted
 pub mod QueuesNamed
 pub mod QuietSteps
 pub mod SetsRead
-pub mod ValuesNamed
 pub mod ValuesOfTree
 pub mod ValuesRead
 pub mod Walking

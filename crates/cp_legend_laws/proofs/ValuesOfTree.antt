@@ -31,8 +31,7 @@ use Rattle.cp_legend_laws.specs.Statements.{IsTold, ValuesLaw}
 use Rattle.cp_legend_laws.proofs.KnownConstants.{KnownParameters, KnownSystem, KnownType, KnownVariables, each_both, enumerations_known}
 use Rattle.cp_legend_laws.proofs.KnownLocals.{KnownResult, KnownRoutine, routines_are_known}
 use Rattle.cp_legend_laws.proofs.PathsOfTree.{constants_same, known_systems}
-use Rattle.cp_legend_laws.proofs.ValuesNamed.{numbered_told}
-use Rattle.cp_legend_laws.proofs.ValuesRead.{value_is_numbered}
+use Rattle.cp_legend_laws.proofs.ValuesRead.{value_is_told}
 
 -- ---- the variables of system types and routines
 
@@ -102,13 +101,9 @@ module _ (t : Tree) (y : code_symbols.Symbols) (read : IsRead t.program) (ok : I
 
   module _ (l : legend.Legend) (constants : l.constants ≡ source.constants) (shapes : l.shapes ≡ source.types) where
     told_as : (u : Ty) → KnownType (constant_names p) k.firsts u → IsTold t l u
-    told_as u known =
-        record {
-          numbered = λ shape w cells at type typed stands few.
-              (ap₂ (λ (cs : List Name) (ts : Compounds). value_of cs ts cells shape at) (constants ∙ names) shapes
-              ∙ value_is_numbered p source.types earlier cells few u shape w at (subst (λ (ts : Compounds). TypeIs k ts u shape) shapes type) typed stands);
-          named = λ w typed members. numbered_told p u w known typed members;
-        }
+    told_as u known shape w cells at type typed stands few =
+        ap₂ (λ (cs : List Name) (ts : Compounds). value_of cs ts cells shape at) (constants ∙ names) shapes
+        ∙ value_is_told p source.types earlier cells few u shape w at known (subst (λ (ts : Compounds). TypeIs k ts u shape) shapes type) typed stands
 
     permanents : (n : ℕ) (x : Name) (u : Ty) → look x ((layouts_of t).systems n).variables ≡ Some u → IsTold t l u
     permanents n x u found = told_as u (look_each (λ (v : Variable). KnownType (constant_names p) k.firsts v.ty) x u ((layouts_of t).systems n).variables (system n) found)

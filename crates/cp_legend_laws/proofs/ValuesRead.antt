@@ -22,8 +22,10 @@ use Rattle.cp_resolved.proofs.frames.EncodedCells.{HoldEarlier}
 use Rattle.cp_legend.specs.Names.{at_each}
 use Rattle.cp_legend.specs.Values as told
 use Rattle.cp_legend.specs.Values.{cell, elements_below, field_value, ordinal_value, value_by, value_of}
-use Rattle.cp_legend_laws.specs.ValuesTold.{elements_numbered, fields_numbered, queue_told, value_numbered}
+use Rattle.cp_legend_laws.specs.ValuesTold.{elements_told, fields_told, queue_told, value_told}
 use Rattle.cp_legend_laws.proofs.CompoundsRead.{below, compound_read}
+use Rattle.cp_legend_laws.proofs.KnownConstants.{KnownBase, KnownFields, KnownType}
+use Rattle.cp_legend_laws.proofs.OrdinalsTold.{all_members, number_told}
 use Rattle.cp_legend_laws.proofs.SetsRead.{members_read, word_there}
 
 -- ---- a value has the cells of its type
@@ -110,12 +112,12 @@ module _ (p : Program) where
   abbrev k : Numbering
   k = numbering_of p
 
-  each_numbered : (t : Ty) (n : ℕ) (vs : Values) (f : ℕ → told.Value) → AllHave (HasType t) n vs → ((i : ℕ) → i < n → f i ≡ value_numbered p t (element_at vs i)) → told.values_of (at_each f n) ≡ elements_numbered p t vs
+  each_told : (t : Ty) (n : ℕ) (vs : Values) (f : ℕ → told.Value) → AllHave (HasType t) n vs → ((i : ℕ) → i < n → f i ≡ value_told t (element_at vs i)) → told.values_of (at_each f n) ≡ elements_told t vs
   unfolding at_each
-  each_numbered t zero no_values f h same = refl
-  each_numbered t (suc n) (more_values v vs) f h same =
-      ap told.values_of (each_first f n) ∙ ap₂ (λ (x : told.Value) (xs : told.Values). told.more_values x xs) (same 0 (omega arith)) (each_numbered t n vs (λ i. f (suc i)) h.1 (λ i lt. same (suc i) (omega (arith, lt))))
-  each_numbered t _ _ f h same = absurd h
+  each_told t zero no_values f h same = refl
+  each_told t (suc n) (more_values v vs) f h same =
+      ap told.values_of (each_first f n) ∙ ap₂ (λ (x : told.Value) (xs : told.Values). told.more_values x xs) (same 0 (omega arith)) (each_told t n vs (λ i. f (suc i)) h.1 (λ i lt. same (suc i) (omega (arith, lt))))
+  each_told t _ _ f h same = absurd h
 
   module _ (ts : Compounds) (earlier : HoldEarlier ts) (cells : List ℤ) (few : length cells ≤ most) where
     abbrev inner : ℕ → ℕ → told.Value
@@ -131,10 +133,10 @@ module _ (p : Program) where
     queue_read None = refl
     queue_read (Some q) = refl
 
-    set_read : (r : Range) (at : ℕ) (ns : List ℕ) → HasType (set_over r) (set_value ns) → StandsAt cells at (encode (set_value ns)) → read (types.Set (range_on k r)) at ≡ value_numbered p (set_over r) (set_value ns)
-    set_read r at ns h st =
+    set_read : (r : Range) (at : ℕ) (ns : List ℕ) → KnownBase cs k.firsts r.base → HasType (set_over r) (set_value ns) → StandsAt cells at (encode (set_value ns)) → read (types.Set (range_on k r)) at ≡ value_told (set_over r) (set_value ns)
+    set_read r at ns known h st =
         let a : at + 8 ≤ length cells = st.inside in
-        ap (λ (xs : List told.Value). told.set (told.values_of xs)) (members_read cs (base_of k r.base) cells at ns h (omega (arith, a, few)) (λ i lt. st.same i lt ∙ word_there (bits_of ns) i lt))
+        ap (λ (xs : List told.Value). told.set (told.values_of xs)) (members_read cs (base_of k r.base) cells at ns h (omega (arith, a, few)) (λ i lt. st.same i lt ∙ word_there (bits_of ns) i lt) ∙ all_members p r.base ns known)
 
     -- where the element of a number stands
     element_place : (t : Ty) (v : CellType) (vs : Values) (at i : ℕ) → TypeIs k ts t v → ElementIs t vs cells at i → plus at (times i (kinds.cells_of ts v)) ≡ at + i * cells_of t
@@ -145,24 +147,24 @@ module _ (p : Program) where
         ap (λ (c : ℕ). plus at (times i c)) many ∙ omega (arith, inside, few)
 
     mutual
-      value_read : (u : Ty) (shape : CellType) (w : Value) (at : ℕ) → TypeIs k ts u shape → HasType u w → StandsAt cells at (encode w) → read shape at ≡ value_numbered p u w
-      value_read (ordinal r) shape (number_value z) at is h st = ap (λ (v : CellType). read v at) is ∙ ap (ordinal_value cs (base_of k r.base)) (first_cell at z st)
-      value_read queue_type shape (queue_value o) at is h st = ap (λ (v : CellType). read v at) is ∙ (ap told.queue_value (first_cell at (flag_of o) st) ∙ queue_read o)
-      value_read (set_over r) shape (set_value ns) at is h st = ap (λ (v : CellType). read v at) is ∙ set_read r at ns h st
-      value_read (array_over r t) shape (array_value vs) at is h st =
+      value_read : (u : Ty) (shape : CellType) (w : Value) (at : ℕ) → KnownType cs k.firsts u → TypeIs k ts u shape → HasType u w → StandsAt cells at (encode w) → read shape at ≡ value_told u w
+      value_read (ordinal r) shape (number_value z) at known is h st = ap (λ (v : CellType). read v at) is ∙ (ap (ordinal_value cs (base_of k r.base)) (first_cell at z st) ∙ number_told p r.base z known h)
+      value_read queue_type shape (queue_value o) at known is h st = ap (λ (v : CellType). read v at) is ∙ (ap told.queue_value (first_cell at (flag_of o) st) ∙ queue_read o)
+      value_read (set_over r) shape (set_value ns) at known is h st = ap (λ (v : CellType). read v at) is ∙ set_read r at ns known h st
+      value_read (array_over r t) shape (array_value vs) at known is h st =
           let a : ArrayType = array_type ts (range_on k r) is.element in
           ap (λ (v : CellType). read v at) is.is ∙ (compound_read cs ts cells earlier is.number (array a) at is.there
           ∙ ap (λ (xs : List told.Value). told.list (told.values_of xs)) (elements_each cs cells inner a at (count_of (range_on k r)) ∙ ap (at_each (λ i. read is.element (plus at (times i a.element_cells)))) (count_same k r))
-          ∙ ap told.list (each_numbered t (length_of_range r) vs (λ i. read is.element (plus at (times i a.element_cells))) h
-          (λ i lt. (let e = element_is t (length_of_range r) vs cells at i h st lt in ap (read is.element) (element_place t is.element vs at i is.belongs e) ∙ value_read t is.element (element_at vs i) (at + i * cells_of t) is.belongs e.typed e.stands))))
-      value_read (named.record_with us) shape (record_value fs) at is h st =
+          ∙ ap told.list (each_told t (length_of_range r) vs (λ i. read is.element (plus at (times i a.element_cells))) h
+          (λ i lt. (let e = element_is t (length_of_range r) vs cells at i h st lt in ap (read is.element) (element_place t is.element vs at i is.belongs e) ∙ value_read t is.element (element_at vs i) (at + i * cells_of t) known.1 is.belongs e.typed e.stands))))
+      value_read (named.record_with us) shape (record_value fs) at known is h st =
           ap (λ (v : CellType). read v at) is.is ∙ (compound_read cs ts cells earlier is.number (record_with is.fields is.cells) at is.there
-          ∙ ap told.record_of (fields_read us is.fields fs at 0 is.cells is.each h (subst (λ j. StandsAt cells j (encode_fields fs)) (let e : at ≡ at + 0 = omega arith in e) st)))
-      value_read _ shape _ at is h st = absurd h
+          ∙ ap told.record_of (fields_read us is.fields fs at 0 is.cells known is.each h (subst (λ j. StandsAt cells j (encode_fields fs)) (let e : at ≡ at + 0 = omega arith in e) st)))
+      value_read _ shape _ at known is h st = absurd h
 
-      fields_read : (us : FieldTypes) (fs : List Field) (ws : FieldValues) (at n end : ℕ) → FieldsAre k ts us fs n end → HaveTypes us ws → StandsAt cells (at + n) (encode_fields ws) → told.members_of (map (field_value cs cells inner at) fs) ≡ fields_numbered p us ws
-      fields_read no_field_types fs no_field_values at n end is h st = ap (λ (gs : List Field). told.members_of (map (field_value cs cells inner at) gs)) is.0
-      fields_read (more_field_types x t us) fs (more_field_values y w ws) at n end is h st =
+      fields_read : (us : FieldTypes) (fs : List Field) (ws : FieldValues) (at n end : ℕ) → KnownFields cs k.firsts us → FieldsAre k ts us fs n end → HaveTypes us ws → StandsAt cells (at + n) (encode_fields ws) → told.members_of (map (field_value cs cells inner at) fs) ≡ fields_told us ws
+      fields_read no_field_types fs no_field_values at n end known is h st = ap (λ (gs : List Field). told.members_of (map (field_value cs cells inner at) gs)) is.0
+      fields_read (more_field_types x t us) fs (more_field_values y w ws) at n end known is h st =
           let here = stands_left cells (at + n) (encode w) (encode_fields ws) st in
           let long = encode_length t w h.1 in
           let inside = here.inside in
@@ -170,10 +172,10 @@ module _ (p : Program) where
           let place : plus at n ≡ at + n = omega (arith, inside, few) in
           let next : (at + n) + length (encode w) ≡ at + plus n (kinds.cells_of ts is.value_type) = omega (arith, many, long, inside, few) in
           ap (λ (gs : List Field). told.members_of (map (field_value cs cells inner at) gs)) is.first
-          ∙ ap₂ (λ (v : told.Value) (ms : told.Members). told.more_members x v ms) (ap (read is.value_type) place ∙ value_read t is.value_type w (at + n) is.belongs h.1 here)
-          (fields_read us is.rest ws at (plus n (kinds.cells_of ts is.value_type)) end is.others h.2 (subst (λ j. StandsAt cells j (encode_fields ws)) next (stands_right cells (at + n) (encode w) (encode_fields ws) st)))
-      fields_read _ fs _ at n end is h st = absurd h
+          ∙ ap₂ (λ (v : told.Value) (ms : told.Members). told.more_members x v ms) (ap (read is.value_type) place ∙ value_read t is.value_type w (at + n) known.0 is.belongs h.1 here)
+          (fields_read us is.rest ws at (plus n (kinds.cells_of ts is.value_type)) end known.1 is.others h.2 (subst (λ j. StandsAt cells j (encode_fields ws)) next (stands_right cells (at + n) (encode w) (encode_fields ws) st)))
+      fields_read _ fs _ at n end known is h st = absurd h
 
-    pub value_is_numbered : (u : Ty) (shape : CellType) (w : Value) (at : ℕ) → TypeIs k ts u shape → HasType u w → StandsAt cells at (encode w) → value_of cs ts cells shape at ≡ value_numbered p u w
+    pub value_is_told : (u : Ty) (shape : CellType) (w : Value) (at : ℕ) → KnownType cs k.firsts u → TypeIs k ts u shape → HasType u w → StandsAt cells at (encode w) → value_of cs ts cells shape at ≡ value_told u w
     unfolding value_of
-    value_is_numbered u shape w at is h st = value_read u shape w at is h st
+    value_is_told u shape w at known is h st = value_read u shape w at known is h st
