@@ -10,11 +10,14 @@ pub mod Noting
 pub mod NotingDeclarations
 pub mod NotingRoutines
 pub mod PartSystems
+pub mod PartsNamed
 pub mod PathsOfTree
 pub mod PermanentSystems
 pub mod PermanentsNamed
 pub mod PermanentsNoted
 pub mod QueuesNamed
 pub mod QuietSteps
+pub mod TypesOfTree
 pub mod Walking
+pub mod WrittenTypes
 mod Words
