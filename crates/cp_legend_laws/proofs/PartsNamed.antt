@@ -1,8 +1,8 @@
 -- What leads to a part of a variable in the legend is what the source has for it.
-use Rattle.std.proofs.Common.{◌≡◌, ℕ, zero, suc, ◌+◌, ◌*◌, ◌/◌, ◌<◌, ◌≤◌, Bool, true, false, if◌then◌else◌, List, [], ◌∷◌, ◌++◌, length, Option, Some, None, slice_get, ◌==◌, refl, sym, ap, ap₂, subst, ◌∙◌, arith, le-leb}
+use Rattle.std.proofs.Common.{◌≡◌, ℕ, zero, suc, ◌+◌, ◌*◌, ◌/◌, ◌<◌, ◌≤◌, ℤ, pos, negsuc, Bool, true, false, ◌&&◌, if◌then◌else◌, List, [], ◌∷◌, ◌++◌, length, Option, Some, None, slice_get, ◌==◌, refl, sym, ap, ap₂, subst, ◌∙◌, arith, le-leb}
 use Rattle.std.proofs.Math.Nat.{div-eq_of_lt-le}
 use Rattle.std.proofs.lemmas.Bool.{eqb-false, eqb-true, lt-leb, ltb-true}
-use Rattle.std.specs.Prelude.{◌-◌, nat_le, nat_lt, codes, min}
+use Rattle.std.specs.Prelude.{◌-◌, nat_le, nat_lt, codes, ◌+ℤ◌, neg_ℤ, int_le}
 use Rattle.cp_legend_laws.proofs.Words.{CellType, Compound, Compounds, Name, Numbering, TypeIs, array, is_bounded, range_on}
 use Rattle.cp_symbols.specs.declared.kinds.ArrayType.{ArrayType}
 use Rattle.cp_symbols.specs.declared.kinds.CellType.TheVariants as types
@@ -10,12 +10,12 @@ use Rattle.cp_symbols.specs.Kinds as kinds
 use Rattle.cp_symbols.specs.Kinds.{Field, most, plus, times}
 use Rattle.cp_layout.specs.Kinds.{array_type}
 use Rattle.cp_meaning.specs.Names.{same_name}
-use Rattle.cp_meaning.specs.Types.{Range, Ty, ordinal, queue_type, set_over, array_over, record_with, component_of, FieldTypes, no_field_types, more_field_types, field_type_in, length_of_range}
+use Rattle.cp_meaning.specs.Types.{Range, Ty, ordinal, queue_type, set_over, array_over, record_with, component_of, FieldTypes, no_field_types, more_field_types, field_type_in, length_of_range, natural_of, is_within}
+use Rattle.cp_meaning.specs.Operations.{range_of_base}
 use Rattle.cp_meaning.specs.Values.{Choice, the_field, the_element}
 use Rattle.cp_resolved.specs.Encoded.{Chosen, further_chosen, field_chosen, one_chosen, then_chosen, chosen_at}
 use Rattle.cp_resolved.specs.InStep.{FieldsAre}
 use Rattle.cp_resolved.specs.Layouts.{cells_of, cells_in}
-use Rattle.cp_resolved.proofs.counts.FewCells.{some_values}
 use Rattle.cp_resolved.proofs.declarations.StandingParts.{no_part}
 use Rattle.cp_resolved.proofs.frames.Cells.{capped, cells_same, one_more}
 use Rattle.cp_resolved.proofs.frames.EncodedCells.{AreBelow, HoldEarlier, IsBelow}
@@ -26,7 +26,7 @@ use Rattle.cp_legend.specs.Places.{element_at, element_part, element_text, field
 use Rattle.cp_legend.specs.Values.{as_array, fields_in}
 use Rattle.cp_legend_laws.specs.Paths.{index_text}
 use Rattle.cp_legend_laws.specs.PlacesTold.{choice_text, choices_text, part_type, type_at}
-use Rattle.cp_legend_laws.proofs.IndexTexts.{index_same}
+use Rattle.cp_legend_laws.proofs.IndexTexts.{both, index_same}
 use Rattle.cp_legend_laws.proofs.KnownConstants.{KnownBase}
 use Rattle.cp_legend_laws.proofs.TypesOfTree.{IsSome}
 
@@ -52,6 +52,27 @@ quotient n x i lt = go (x == 0) refl
     go : (b : Bool) → (x == 0) ≡ b → (if b then 0 else ((n * x + i) / x)) ≡ n
     go true e = let a = eqb-true x 0 e in absurd (omega (arith, a, lt))
     go false e = div-eq_of_lt-le x (omega arith) (let a = one_more n x in omega (arith, a, lt))
+
+-- ---- ranges
+
+-- up to the last one, if that is not before the first
+not_empty : (a b : ℤ) → int_le a b ≡ true → 1 ≤ natural_of ((b +ℤ neg_ℤ a) +ℤ pos 1)
+not_empty a b h = go ((b +ℤ neg_ℤ a) +ℤ pos 1) refl
+  where
+    go : (z : ℤ) → (b +ℤ neg_ℤ a) +ℤ pos 1 ≡ z → 1 ≤ natural_of z
+    go (pos n) e = search (arith, e, h)
+    go (negsuc n) e = absurd (let bad : int_le a b ≡ false = search (arith, e) in cc)
+
+some_values : (r : Range) → is_bounded r ≡ true → 1 ≤ length_of_range r
+some_values r h =
+    let a = both (is_within (range_of_base r.base) r.low) (is_within (range_of_base r.base) r.high && int_le r.low r.high) h in
+    let b = both (is_within (range_of_base r.base) r.high) (int_le r.low r.high) a.1 in
+    not_empty r.low r.high b.1
+
+-- ---- parts
+
+chosen_same : (c d : Chosen) → Some c ≡ Some d → (c.0 ≡ d.0) × (c.1 ≡ d.1)
+chosen_same c d e = let s : c ≡ d = same_inside c d e in (ap (λ (b : Chosen). b.0) s, ap (λ (b : Chosen). b.1) s)
 
 -- ---- one of the first types
 
@@ -106,9 +127,9 @@ module _ (k : Numbering) (ts : Compounds) (names : List Name) (earlier : HoldEar
       further : (o : Option Chosen) → field_chosen us x ≡ o → further_chosen (cells_of t) o ≡ Some (b, v) → same_name x y ≡ false → ((c : ℕ) → field_chosen us x ≡ Some (c, v) → IsField us x c v) → IsField (more_field_types y t us) x b v
       further None f g other rest = absurd (no_part (b, v) g)
       further (Some d) f g other rest =
-          let s : (cells_of t + d.0, d.1) ≡ (b, v) = same_inside (cells_of t + d.0, d.1) (b, v) g in
-          let before : cells_of t + d.0 ≡ b = ap (λ (c : Chosen). c.0) s in
-          let last = rest d.0 (f ∙ ap (λ (w : Ty). Some (d.0, w)) (ap (λ (c : Chosen). c.1) s)) in
+          let s = chosen_same (cells_of t + d.0, d.1) (b, v) g in
+          let before : cells_of t + d.0 ≡ b = s.0 in
+          let last = rest d.0 (f ∙ ap (λ (w : Ty). Some (d.0, w)) (s.1)) in
           let inside = last.inside in
           record {
             tellable = last.tellable;
@@ -118,9 +139,9 @@ module _ (k : Numbering) (ts : Compounds) (names : List Name) (earlier : HoldEar
 
       go : (c : Bool) → same_name x y ≡ c → (if c then Some (0, t) else further_chosen (cells_of t) (field_chosen us x)) ≡ Some (b, v) → ((c : ℕ) → field_chosen us x ≡ Some (c, v) → IsField us x c v) → IsField (more_field_types y t us) x b v
       go true same f rest =
-          let s : (0, t) ≡ (b, v) = same_inside (0, t) (b, v) f in
-          let first : 0 ≡ b = ap (λ (c : Chosen). c.0) s in
-          let type_same : t ≡ v = ap (λ (c : Chosen). c.1) s in
+          let s = chosen_same (0, t) (b, v) f in
+          let first : 0 ≡ b = s.0 in
+          let type_same : t ≡ v = s.1 in
           let cells : cells_of t ≡ cells_of v = ap cells_of type_same in
           record {
             tellable = subst IsTellable type_same h.0;
@@ -140,11 +161,11 @@ module _ (k : Numbering) (ts : Compounds) (names : List Name) (earlier : HoldEar
       record { part = record { tellable = f.tellable; inside = f.inside }; type_is = f.type_is }
   leads (array_over r t) (the_element n) b v h e = go (nat_lt n (length_of_range r)) refl e
     where
-      go : (c : Bool) → nat_lt n (length_of_range r) ≡ c → (if c then Some (n * cells_of t, t) else None) ≡ Some (b, v) → Leads (array_over r t) (the_element n) b v
+      go : (c : Bool) → nat_lt n (length_of_range r) ≡ c → (let d : Chosen = (n * cells_of t, t) in (if c then Some d else None) ≡ Some (b, v)) → Leads (array_over r t) (the_element n) b v
       go true less f =
-          let s : (n * cells_of t, t) ≡ (b, v) = same_inside (n * cells_of t, t) (b, v) f in
-          let before : n * cells_of t ≡ b = ap (λ (c : Chosen). c.0) s in
-          let type_same : t ≡ v = ap (λ (c : Chosen). c.1) s in
+          let s = chosen_same (n * cells_of t, t) (b, v) f in
+          let before : n * cells_of t ≡ b = s.0 in
+          let type_same : t ≡ v = s.1 in
           let cells : cells_of t ≡ cells_of v = ap cells_of type_same in
           let fits = one_of n (length_of_range r) (cells_of t) (ltb-true n (length_of_range r) less) in
           record { part = record { tellable = subst IsTellable type_same h.2; inside = omega (arith, before, cells, fits) }; type_is = type_same }
@@ -152,9 +173,9 @@ module _ (k : Numbering) (ts : Compounds) (names : List Name) (earlier : HoldEar
   leads _ _ b v h e = absurd (no_part (b, v) e)
 
   -- the part at some choices
-  record IsAt (u : Ty) (cs : List Choice) (i : ℕ) (w : Ty) : Type 0 where
-    part : IsPart u i w
-    type_is : type_at u cs ≡ w
+  pub record IsAt (u : Ty) (cs : List Choice) (i : ℕ) (w : Ty) : Type 0 where
+    pub part : IsPart u i w
+    pub type_is : type_at u cs ≡ w
 
   -- one choice, and the others after it
   record Steps (u : Ty) (c : Choice) (cs : List Choice) (i : ℕ) (w : Ty) : Type 0 where
@@ -171,8 +192,8 @@ module _ (k : Numbering) (ts : Compounds) (names : List Name) (earlier : HoldEar
       last : (b : Chosen) → one_chosen u c ≡ Some b → (o : Option Chosen) → chosen_at b.1 cs ≡ o → further_chosen b.0 o ≡ Some (i, w) → Steps u c cs i w
       last b e None f g = absurd (no_part (i, w) g)
       last b e (Some d) f g =
-          let s : (b.0 + d.0, d.1) ≡ (i, w) = same_inside (b.0 + d.0, d.1) (i, w) g in
-          record { before = b.0; next = b.1; rest = d.0; one = e; others = f ∙ ap (λ (v : Ty). Some (d.0, v)) (ap (λ (c : Chosen). c.1) s); same = ap (λ (c : Chosen). c.0) s }
+          let s = chosen_same (b.0 + d.0, d.1) (i, w) g in
+          record { before = b.0; next = b.1; rest = d.0; one = e; others = f ∙ ap (λ (v : Ty). Some (d.0, v)) (s.1); same = s.0 }
 
       go : (o : Option Chosen) → one_chosen u c ≡ o → then_chosen o (λ v. chosen_at v cs) ≡ Some (i, w) → Steps u c cs i w
       go None e g = absurd (no_part (i, w) g)
@@ -180,9 +201,9 @@ module _ (k : Numbering) (ts : Compounds) (names : List Name) (earlier : HoldEar
 
   pub part_is : (cs : List Choice) (u : Ty) (i : ℕ) (w : Ty) → IsTellable u → chosen_at u cs ≡ Some (i, w) → IsAt u cs i w
   part_is [] u i w h e =
-      let s : (0, u) ≡ (i, w) = same_inside (0, u) (i, w) e in
-      let first : 0 ≡ i = ap (λ (c : Chosen). c.0) s in
-      let type_same : u ≡ w = ap (λ (c : Chosen). c.1) s in
+      let s = chosen_same (0, u) (i, w) e in
+      let first : 0 ≡ i = s.0 in
+      let type_same : u ≡ w = s.1 in
       let cells : cells_of u ≡ cells_of w = ap cells_of type_same in
       record { part = record { tellable = subst IsTellable type_same h; inside = omega (arith, first, cells) }; type_is = type_same }
   part_is (c ∷ cs) u i w h e =
@@ -232,9 +253,9 @@ module _ (k : Numbering) (ts : Compounds) (names : List Name) (earlier : HoldEar
       further : (f : Field) (rest : List Field) → (o : Option Chosen) → field_chosen us x ≡ o → further_chosen (cells_of t) o ≡ Some (b, v) → ((d : ℕ) → field_chosen us x ≡ Some (d, v) → FieldTold rest (n + cells_of t + d) x v below) → FieldTold (f ∷ rest) (n + b) x v below
       further f rest None g i others = absurd (no_part (b, v) i)
       further f rest (Some d) g i others =
-          let s : (cells_of t + d.0, d.1) ≡ (b, v) = same_inside (cells_of t + d.0, d.1) (b, v) i in
-          let before : cells_of t + d.0 ≡ b = ap (λ (c : Chosen). c.0) s in
-          let last = others d.0 (g ∙ ap (λ (w : Ty). Some (d.0, w)) (ap (λ (c : Chosen). c.1) s)) in
+          let s = chosen_same (cells_of t + d.0, d.1) (b, v) i in
+          let before : cells_of t + d.0 ≡ b = s.0 in
+          let last = others d.0 (g ∙ ap (λ (w : Ty). Some (d.0, w)) (s.1)) in
           let at_offset = last.offset in
           record {
             field = last.field;
@@ -248,9 +269,9 @@ module _ (k : Numbering) (ts : Compounds) (names : List Name) (earlier : HoldEar
       go : (f : Field) (rest : List Field) → FieldsAre k ts us rest (n + cells_of t) end → AreBelow below (f ∷ rest) → f.name ≡ y → TypeIs k ts t f.value_type → f.offset ≡ n →
           (c : Bool) → same_name x y ≡ c → (if c then Some (0, t) else further_chosen (cells_of t) (field_chosen us x)) ≡ Some (b, v) → ((d : ℕ) → field_chosen us x ≡ Some (d, v) → FieldTold rest (n + cells_of t + d) x v below) → FieldTold (f ∷ rest) (n + b) x v below
       go f rest r lower named typed begins true same g others =
-          let s : (0, t) ≡ (b, v) = same_inside (0, t) (b, v) g in
-          let first : 0 ≡ b = ap (λ (c : Chosen). c.0) s in
-          let type_same : t ≡ v = ap (λ (c : Chosen). c.1) s in
+          let s = chosen_same (0, t) (b, v) g in
+          let first : 0 ≡ b = s.0 in
+          let type_same : t ≡ v = s.1 in
           let cells : cells_of t ≡ cells_of v = ap cells_of type_same in
           record {
             field = f;
@@ -328,7 +349,7 @@ module _ (k : Numbering) (ts : Compounds) (names : List Name) (earlier : HoldEar
   inner_of (record_with us) (the_field x) b v shape m low h tell few e = record_inner us x b v shape m low h few e
   inner_of (array_over r t) (the_element n) b v shape m low h tell few e = go (nat_lt n (length_of_range r)) refl e
     where
-      go : (c : Bool) → nat_lt n (length_of_range r) ≡ c → (if c then Some (n * cells_of t, t) else None) ≡ Some (b, v) → Inner (array_over r t) (the_element n) b v shape m
+      go : (c : Bool) → nat_lt n (length_of_range r) ≡ c → (let d : Chosen = (n * cells_of t, t) in (if c then Some d else None) ≡ Some (b, v)) → Inner (array_over r t) (the_element n) b v shape m
       go true less f =
           subst (λ (c : Chosen). Inner (array_over r t) (the_element n) c.0 c.1 shape m) (same_inside (n * cells_of t, t) (b, v) f) (array_inner r t n shape m low h few tell.0 tell.1 (ltb-true n (length_of_range r) less))
       go false more f = absurd (no_part (b, v) f)
@@ -347,8 +368,8 @@ module _ (k : Numbering) (ts : Compounds) (names : List Name) (earlier : HoldEar
 
   pub parts_told : (cs : List Choice) (u : Ty) (shape : CellType) (i : ℕ) (w : Ty) (m : ℕ) → IsBelow m shape → TypeIs k ts u shape → IsTellable u → cells_of u ≤ most → chosen_at u cs ≡ Some (i, w) → parts_text names ts (cells_of w) m (part shape i) ≡ choices_text u cs
   parts_told [] u shape i w m low is tell few e =
-      let s : u ≡ w = ap (λ (c : Chosen). c.1) (same_inside (0, u) (i, w) e) in
-      let cells : cells_of u ≡ cells_of w = ap cells_of s in
+      let s = chosen_same (0, u) (i, w) e in
+      let cells : cells_of u ≡ cells_of w = ap cells_of s.1 in
       let all : kinds.cells_of ts shape ≡ cells_of u = cells_same k ts u shape is few in
       no_step shape (cells_of w) m i (le-leb (kinds.cells_of ts shape) (cells_of w) (omega (arith, all, cells)))
   parts_told (c ∷ cs) u shape i w m low is tell few e = go (cells_of (type_at u (c ∷ cs)) == cells_of u) refl (λ v j t l h g f d. parts_told cs v t j w l h g f d)
