@@ -1,3 +1,4 @@
+pub mod ChosenParts
 pub mod IndexTexts
 pub mod KnownConstants
 pub mod Lined
@@ -15,9 +16,11 @@ pub mod PathsOfTree
 pub mod PermanentSystems
 pub mod PermanentsNamed
 pub mod PermanentsNoted
+pub mod PlacesNamed
 pub mod QueuesNamed
 pub mod QuietSteps
 pub mod TypesOfTree
+pub mod VariablesTold
 pub mod Walking
 pub mod WrittenTypes
 mod Words

@@ -28,23 +28,9 @@ use Rattle.cp_legend_laws.specs.Paths.{index_text}
 use Rattle.cp_legend_laws.specs.PlacesTold.{choice_text, choices_text, part_type, type_at}
 use Rattle.cp_legend_laws.proofs.IndexTexts.{both, index_same}
 use Rattle.cp_legend_laws.proofs.KnownConstants.{KnownBase}
-use Rattle.cp_legend_laws.proofs.TypesOfTree.{IsSome}
+use Rattle.cp_legend_laws.proofs.ChosenParts.{IsAt, IsTellable, Leads, Steps, chosen_same, leads, one_of, part_is, some_cells, steps}
 
 -- ---- numbers
-
-one_at_least : (m n : ℕ) → 1 ≤ m → 1 ≤ n → 1 ≤ m * n
-one_at_least zero n h i = absurd (omega (arith, h))
-one_at_least (suc m) n h i = let a = one_more m n in omega (arith, a, i)
-
--- one of so many, each of this size
-one_of : (n m x : ℕ) → n < m → n * x + x ≤ m * x
-one_of n zero x h = absurd (omega (arith, h))
-one_of zero (suc m) x h = let a = one_more m x in omega (arith, a)
-one_of (suc n) (suc m) x h =
-    let a = one_more m x in
-    let b = one_more n x in
-    let c = one_of n m x (omega (arith, h)) in
-    omega (arith, a, b, c)
 
 quotient : (n x i : ℕ) → i < x → (if x == 0 then 0 else ((n * x + i) / x)) ≡ n
 quotient n x i lt = go (x == 0) refl
@@ -52,27 +38,6 @@ quotient n x i lt = go (x == 0) refl
     go : (b : Bool) → (x == 0) ≡ b → (if b then 0 else ((n * x + i) / x)) ≡ n
     go true e = let a = eqb-true x 0 e in absurd (omega (arith, a, lt))
     go false e = div-eq_of_lt-le x (omega arith) (let a = one_more n x in omega (arith, a, lt))
-
--- ---- ranges
-
--- up to the last one, if that is not before the first
-not_empty : (a b : ℤ) → int_le a b ≡ true → 1 ≤ natural_of ((b +ℤ neg_ℤ a) +ℤ pos 1)
-not_empty a b h = go ((b +ℤ neg_ℤ a) +ℤ pos 1) refl
-  where
-    go : (z : ℤ) → (b +ℤ neg_ℤ a) +ℤ pos 1 ≡ z → 1 ≤ natural_of z
-    go (pos n) e = search (arith, e, h)
-    go (negsuc n) e = absurd (let bad : int_le a b ≡ false = search (arith, e) in cc)
-
-some_values : (r : Range) → is_bounded r ≡ true → 1 ≤ length_of_range r
-some_values r h =
-    let a = both (is_within (range_of_base r.base) r.low) (is_within (range_of_base r.base) r.high && int_le r.low r.high) h in
-    let b = both (is_within (range_of_base r.base) r.high) (int_le r.low r.high) a.1 in
-    not_empty r.low r.high b.1
-
--- ---- parts
-
-chosen_same : (c d : Chosen) → Some c ≡ Some d → (c.0 ≡ d.0) × (c.1 ≡ d.1)
-chosen_same c d e = let s : c ≡ d = same_inside c d e in (ap (λ (b : Chosen). b.0) s, ap (λ (b : Chosen). b.1) s)
 
 -- ---- one of the first types
 
@@ -82,141 +47,8 @@ type_higher m n (types.Record j) le h = omega (arith, le, h)
 type_higher m n _ le h = tt
 
 module _ (k : Numbering) (ts : Compounds) (names : List Name) (earlier : HoldEarlier ts) where
-  -- ---- types whose parts are told
-
-  abbrev mutual
-    pub IsTellable : Ty → Type 0
-    IsTellable (array_over r t) = KnownBase names k.firsts r.base × (is_bounded r ≡ true) × IsTellable t
-    IsTellable (record_with us) = IsSome us × AreTellable us
-    IsTellable (component_of n) = ⊥
-    IsTellable u = Unit {0}
-
-    pub AreTellable : FieldTypes → Type 0
-    AreTellable no_field_types = Unit {0}
-    AreTellable (more_field_types x t us) = IsTellable t × AreTellable us
-
-  mutual
-    pub some_cells : (u : Ty) → IsTellable u → 1 ≤ cells_of u
-    some_cells (ordinal r) h = omega arith
-    some_cells queue_type h = omega arith
-    some_cells (set_over r) h = omega arith
-    some_cells (array_over r t) h = one_at_least (length_of_range r) (cells_of t) (some_values r h.1) (some_cells t h.2)
-    some_cells (record_with us) h = some_fields us h.0 h.1
-    some_cells (component_of n) h = absurd h
-
-    some_fields : (us : FieldTypes) → IsSome us → AreTellable us → 1 ≤ cells_in us
-    some_fields no_field_types h i = absurd h
-    some_fields (more_field_types x t us) h i = let a = some_cells t i.0 in omega (arith, a)
-
-  -- ---- parts
-
-  -- a part of a value, with the cells before it
-  pub record IsPart (u : Ty) (b : ℕ) (v : Ty) : Type 0 where
-    pub tellable : IsTellable v
-    pub inside : b + cells_of v ≤ cells_of u
-
-  record IsField (us : FieldTypes) (x : Name) (b : ℕ) (v : Ty) : Type 0 where
-    tellable : IsTellable v
-    inside : b + cells_of v ≤ cells_in us
-    type_is : field_type_in us x ≡ v
-
-  field_is : (us : FieldTypes) (x : Name) (b : ℕ) (v : Ty) → AreTellable us → field_chosen us x ≡ Some (b, v) → IsField us x b v
-  field_is no_field_types x b v h e = absurd (no_part (b, v) e)
-  field_is (more_field_types y t us) x b v h e = go (same_name x y) refl e (λ c g. field_is us x c v h.1 g)
-    where
-      further : (o : Option Chosen) → field_chosen us x ≡ o → further_chosen (cells_of t) o ≡ Some (b, v) → same_name x y ≡ false → ((c : ℕ) → field_chosen us x ≡ Some (c, v) → IsField us x c v) → IsField (more_field_types y t us) x b v
-      further None f g other rest = absurd (no_part (b, v) g)
-      further (Some d) f g other rest =
-          let s = chosen_same (cells_of t + d.0, d.1) (b, v) g in
-          let before : cells_of t + d.0 ≡ b = s.0 in
-          let last = rest d.0 (f ∙ ap (λ (w : Ty). Some (d.0, w)) (s.1)) in
-          let inside = last.inside in
-          record {
-            tellable = last.tellable;
-            inside = omega (arith, before, inside);
-            type_is = ap (λ (c : Bool). if c then t else field_type_in us x) other ∙ last.type_is;
-          }
-
-      go : (c : Bool) → same_name x y ≡ c → (if c then Some (0, t) else further_chosen (cells_of t) (field_chosen us x)) ≡ Some (b, v) → ((c : ℕ) → field_chosen us x ≡ Some (c, v) → IsField us x c v) → IsField (more_field_types y t us) x b v
-      go true same f rest =
-          let s = chosen_same (0, t) (b, v) f in
-          let first : 0 ≡ b = s.0 in
-          let type_same : t ≡ v = s.1 in
-          let cells : cells_of t ≡ cells_of v = ap cells_of type_same in
-          record {
-            tellable = subst IsTellable type_same h.0;
-            inside = omega (arith, first, cells);
-            type_is = ap (λ (c : Bool). if c then t else field_type_in us x) same ∙ type_same;
-          }
-      go false other f rest = further (field_chosen us x) refl f other rest
-
-  -- where one choice leads
-  record Leads (u : Ty) (c : Choice) (b : ℕ) (v : Ty) : Type 0 where
-    part : IsPart u b v
-    type_is : part_type u c ≡ v
-
-  leads : (u : Ty) (c : Choice) (b : ℕ) (v : Ty) → IsTellable u → one_chosen u c ≡ Some (b, v) → Leads u c b v
-  leads (record_with us) (the_field x) b v h e =
-      let f = field_is us x b v h.1 e in
-      record { part = record { tellable = f.tellable; inside = f.inside }; type_is = f.type_is }
-  leads (array_over r t) (the_element n) b v h e = go (nat_lt n (length_of_range r)) refl e
-    where
-      go : (c : Bool) → nat_lt n (length_of_range r) ≡ c → (let d : Chosen = (n * cells_of t, t) in (if c then Some d else None) ≡ Some (b, v)) → Leads (array_over r t) (the_element n) b v
-      go true less f =
-          let s = chosen_same (n * cells_of t, t) (b, v) f in
-          let before : n * cells_of t ≡ b = s.0 in
-          let type_same : t ≡ v = s.1 in
-          let cells : cells_of t ≡ cells_of v = ap cells_of type_same in
-          let fits = one_of n (length_of_range r) (cells_of t) (ltb-true n (length_of_range r) less) in
-          record { part = record { tellable = subst IsTellable type_same h.2; inside = omega (arith, before, cells, fits) }; type_is = type_same }
-      go false more f = absurd (no_part (b, v) f)
-  leads _ _ b v h e = absurd (no_part (b, v) e)
-
-  -- the part at some choices
-  pub record IsAt (u : Ty) (cs : List Choice) (i : ℕ) (w : Ty) : Type 0 where
-    pub part : IsPart u i w
-    pub type_is : type_at u cs ≡ w
-
-  -- one choice, and the others after it
-  record Steps (u : Ty) (c : Choice) (cs : List Choice) (i : ℕ) (w : Ty) : Type 0 where
-    before : ℕ
-    next : Ty
-    rest : ℕ
-    one : one_chosen u c ≡ Some (before, next)
-    others : chosen_at next cs ≡ Some (rest, w)
-    same : before + rest ≡ i
-
-  steps : (u : Ty) (c : Choice) (cs : List Choice) (i : ℕ) (w : Ty) → chosen_at u (c ∷ cs) ≡ Some (i, w) → Steps u c cs i w
-  steps u c cs i w h = go (one_chosen u c) refl h
-    where
-      last : (b : Chosen) → one_chosen u c ≡ Some b → (o : Option Chosen) → chosen_at b.1 cs ≡ o → further_chosen b.0 o ≡ Some (i, w) → Steps u c cs i w
-      last b e None f g = absurd (no_part (i, w) g)
-      last b e (Some d) f g =
-          let s = chosen_same (b.0 + d.0, d.1) (i, w) g in
-          record { before = b.0; next = b.1; rest = d.0; one = e; others = f ∙ ap (λ (v : Ty). Some (d.0, v)) (s.1); same = s.0 }
-
-      go : (o : Option Chosen) → one_chosen u c ≡ o → then_chosen o (λ v. chosen_at v cs) ≡ Some (i, w) → Steps u c cs i w
-      go None e g = absurd (no_part (i, w) g)
-      go (Some b) e g = last b e (chosen_at b.1 cs) refl g
-
-  pub part_is : (cs : List Choice) (u : Ty) (i : ℕ) (w : Ty) → IsTellable u → chosen_at u cs ≡ Some (i, w) → IsAt u cs i w
-  part_is [] u i w h e =
-      let s = chosen_same (0, u) (i, w) e in
-      let first : 0 ≡ i = s.0 in
-      let type_same : u ≡ w = s.1 in
-      let cells : cells_of u ≡ cells_of w = ap cells_of type_same in
-      record { part = record { tellable = subst IsTellable type_same h; inside = omega (arith, first, cells) }; type_is = type_same }
-  part_is (c ∷ cs) u i w h e =
-      let s = steps u c cs i w e in
-      let one = leads u c s.before s.next h s.one in
-      let all = part_is cs s.next s.rest w one.part.tellable s.others in
-      let a = one.part.inside in
-      let b = all.part.inside in
-      let at = s.same in
-      record {
-        part = record { tellable = all.part.tellable; inside = omega (arith, a, b, at) };
-        type_is = ap (λ (v : Ty). type_at v cs) one.type_is ∙ all.type_is;
-      }
+  abbrev Tellable : Ty → Type 0
+  Tellable u = IsTellable names k.firsts u
 
   -- ---- fields
 
@@ -345,7 +177,7 @@ module _ (k : Numbering) (ts : Compounds) (names : List Name) (earlier : HoldEar
             ∙ ap (part h.element) (let whole : times n (cells_of t) ≡ n * cells_of t = capped (n * cells_of t) most (omega (arith, few, fits)) in let rest : (n * cells_of t + i) - times n (cells_of t) ≡ i = omega (arith, whole) in rest)));
       }
 
-  inner_of : (u : Ty) (c : Choice) (b : ℕ) (v : Ty) (shape : CellType) (m : ℕ) → IsBelow m shape → TypeIs k ts u shape → IsTellable u → cells_of u ≤ most → one_chosen u c ≡ Some (b, v) → Inner u c b v shape m
+  inner_of : (u : Ty) (c : Choice) (b : ℕ) (v : Ty) (shape : CellType) (m : ℕ) → IsBelow m shape → TypeIs k ts u shape → Tellable u → cells_of u ≤ most → one_chosen u c ≡ Some (b, v) → Inner u c b v shape m
   inner_of (record_with us) (the_field x) b v shape m low h tell few e = record_inner us x b v shape m low h few e
   inner_of (array_over r t) (the_element n) b v shape m low h tell few e = go (nat_lt n (length_of_range r)) refl e
     where
@@ -366,7 +198,7 @@ module _ (k : Numbering) (ts : Compounds) (names : List Name) (earlier : HoldEar
   unfolding parts_text
   one_step shape cells m i some = ap (λ (b : Bool). if b then [] else step_text names ts (part shape i) ++ parts_text names ts cells m (inner_part ts (part shape i))) some
 
-  pub parts_told : (cs : List Choice) (u : Ty) (shape : CellType) (i : ℕ) (w : Ty) (m : ℕ) → IsBelow m shape → TypeIs k ts u shape → IsTellable u → cells_of u ≤ most → chosen_at u cs ≡ Some (i, w) → parts_text names ts (cells_of w) m (part shape i) ≡ choices_text u cs
+  pub parts_told : (cs : List Choice) (u : Ty) (shape : CellType) (i : ℕ) (w : Ty) (m : ℕ) → IsBelow m shape → TypeIs k ts u shape → Tellable u → cells_of u ≤ most → chosen_at u cs ≡ Some (i, w) → parts_text names ts (cells_of w) m (part shape i) ≡ choices_text u cs
   parts_told [] u shape i w m low is tell few e =
       let s = chosen_same (0, u) (i, w) e in
       let cells : cells_of u ≡ cells_of w = ap cells_of s.1 in
@@ -374,17 +206,17 @@ module _ (k : Numbering) (ts : Compounds) (names : List Name) (earlier : HoldEar
       no_step shape (cells_of w) m i (le-leb (kinds.cells_of ts shape) (cells_of w) (omega (arith, all, cells)))
   parts_told (c ∷ cs) u shape i w m low is tell few e = go (cells_of (type_at u (c ∷ cs)) == cells_of u) refl (λ v j t l h g f d. parts_told cs v t j w l h g f d)
     where
-      s : Steps u c cs i w
-      s = steps u c cs i w e
+      s : Steps names k.firsts u c cs i w
+      s = steps names k.firsts u c cs i w e
 
-      one : Leads u c s.before s.next
-      one = leads u c s.before s.next tell s.one
+      one : Leads names k.firsts u c s.before s.next
+      one = leads names k.firsts u c s.before s.next tell s.one
 
-      here : IsAt u (c ∷ cs) i w
-      here = part_is (c ∷ cs) u i w tell e
+      here : IsAt names k.firsts u (c ∷ cs) i w
+      here = part_is names k.firsts (c ∷ cs) u i w tell e
 
-      there : IsAt s.next cs s.rest w
-      there = part_is cs s.next s.rest w one.part.tellable s.others
+      there : IsAt names k.firsts s.next cs s.rest w
+      there = part_is names k.firsts cs s.next s.rest w one.part.tellable s.others
 
       inner : Inner u c s.before s.next shape m
       inner = inner_of u c s.before s.next shape m low is tell few s.one
@@ -396,10 +228,10 @@ module _ (k : Numbering) (ts : Compounds) (names : List Name) (earlier : HoldEar
       cells = ap cells_of here.type_is
 
       inside : s.rest < cells_of s.next
-      inside = let a = there.part.inside in let b = some_cells w there.part.tellable in omega (arith, a, b)
+      inside = let a = there.part.inside in let b = some_cells names k.firsts w there.part.tellable in omega (arith, a, b)
 
       go : (b : Bool) → (cells_of (type_at u (c ∷ cs)) == cells_of u) ≡ b →
-          ((v : Ty) (j : ℕ) (t : CellType) (l : ℕ) → IsBelow l t → TypeIs k ts v t → IsTellable v → cells_of v ≤ most → chosen_at v cs ≡ Some (j, w) → parts_text names ts (cells_of w) l (part t j) ≡ choices_text v cs) →
+          ((v : Ty) (j : ℕ) (t : CellType) (l : ℕ) → IsBelow l t → TypeIs k ts v t → Tellable v → cells_of v ≤ most → chosen_at v cs ≡ Some (j, w) → parts_text names ts (cells_of w) l (part t j) ≡ choices_text v cs) →
           parts_text names ts (cells_of w) m (part shape i) ≡ (if b then [] else choice_text u c ++ choices_text (part_type u c) cs)
       go true same rest =
           let b = eqb-true (cells_of (type_at u (c ∷ cs))) (cells_of u) same in
