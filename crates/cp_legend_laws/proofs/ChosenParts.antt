@@ -1,5 +1,5 @@
 -- The parts of a type: each has cells, and these are among those of the whole.
-use Rattle.std.proofs.Common.{◌≡◌, ℕ, zero, suc, ◌+◌, ◌*◌, ◌<◌, ◌≤◌, ℤ, pos, negsuc, Bool, true, false, ◌&&◌, if◌then◌else◌, List, [], ◌∷◌, Option, Some, None, refl, sym, ap, subst, ◌∙◌, arith}
+use Rattle.std.proofs.Common.{◌≡◌, ℕ, zero, suc, ◌+◌, ◌*◌, ◌<◌, ◌≤◌, ℤ, pos, negsuc, Bool, true, false, ◌&&◌, if◌then◌else◌, List, [], ◌∷◌, Option, Some, None, refl, ap, subst, ◌∙◌, arith}
 use Rattle.std.proofs.lemmas.Bool.{ltb-true}
 use Rattle.std.specs.Prelude.{nat_lt, ◌+ℤ◌, neg_ℤ, int_le}
 use Rattle.cp_legend_laws.proofs.Words.{Name, is_bounded}
@@ -15,8 +15,8 @@ use Rattle.cp_resolved.proofs.frames.Cells.{one_more}
 use Rattle.cp_resolved.proofs.names.Alike.{same_inside}
 use Rattle.cp_legend_laws.specs.PlacesTold.{part_type, type_at}
 use Rattle.cp_legend_laws.proofs.IndexTexts.{both}
-use Rattle.cp_legend_laws.proofs.KnownConstants.{KnownBase, KnownFields, KnownType}
-use Rattle.cp_legend_laws.proofs.TypesOfTree.{AreFilled, IsFilled, IsSome, IsSound}
+use Rattle.cp_legend_laws.proofs.KnownConstants.{KnownBase, KnownFields}
+use Rattle.cp_legend_laws.proofs.TypesOfTree.{AreFilled, IsSome, IsSound}
 
 -- ---- numbers
 

@@ -1,8 +1,8 @@
 -- What leads to a part of a variable in the legend is what the source has for it.
-use Rattle.std.proofs.Common.{◌≡◌, ℕ, zero, suc, ◌+◌, ◌*◌, ◌/◌, ◌<◌, ◌≤◌, ℤ, pos, negsuc, Bool, true, false, ◌&&◌, if◌then◌else◌, List, [], ◌∷◌, ◌++◌, length, Option, Some, None, slice_get, ◌==◌, refl, sym, ap, ap₂, subst, ◌∙◌, arith, le-leb}
+use Rattle.std.proofs.Common.{◌≡◌, ℕ, zero, suc, ◌+◌, ◌*◌, ◌/◌, ◌<◌, ◌≤◌, Bool, true, false, if◌then◌else◌, List, [], ◌∷◌, ◌++◌, Option, Some, None, ◌==◌, refl, sym, ap, ap₂, subst, ◌∙◌, arith, le-leb}
 use Rattle.std.proofs.Math.Nat.{div-eq_of_lt-le}
 use Rattle.std.proofs.lemmas.Bool.{eqb-false, eqb-true, lt-leb, ltb-true}
-use Rattle.std.specs.Prelude.{◌-◌, nat_le, nat_lt, codes, ◌+ℤ◌, neg_ℤ, int_le}
+use Rattle.std.specs.Prelude.{◌-◌, nat_le, nat_lt, codes}
 use Rattle.cp_legend_laws.proofs.Words.{CellType, Compound, Compounds, Name, Numbering, TypeIs, array, is_bounded, range_on}
 use Rattle.cp_symbols.specs.declared.kinds.ArrayType.{ArrayType}
 use Rattle.cp_symbols.specs.declared.kinds.CellType.TheVariants as types
@@ -10,10 +10,9 @@ use Rattle.cp_symbols.specs.Kinds as kinds
 use Rattle.cp_symbols.specs.Kinds.{Field, most, plus, times}
 use Rattle.cp_layout.specs.Kinds.{array_type}
 use Rattle.cp_meaning.specs.Names.{same_name}
-use Rattle.cp_meaning.specs.Types.{Range, Ty, ordinal, queue_type, set_over, array_over, record_with, component_of, FieldTypes, no_field_types, more_field_types, field_type_in, length_of_range, natural_of, is_within}
-use Rattle.cp_meaning.specs.Operations.{range_of_base}
+use Rattle.cp_meaning.specs.Types.{Range, Ty, array_over, record_with, FieldTypes, no_field_types, more_field_types, length_of_range}
 use Rattle.cp_meaning.specs.Values.{Choice, the_field, the_element}
-use Rattle.cp_resolved.specs.Encoded.{Chosen, further_chosen, field_chosen, one_chosen, then_chosen, chosen_at}
+use Rattle.cp_resolved.specs.Encoded.{Chosen, further_chosen, field_chosen, one_chosen, chosen_at}
 use Rattle.cp_resolved.specs.InStep.{FieldsAre}
 use Rattle.cp_resolved.specs.Layouts.{cells_of, cells_in}
 use Rattle.cp_resolved.proofs.declarations.StandingParts.{no_part}
@@ -26,7 +25,7 @@ use Rattle.cp_legend.specs.Places.{element_at, element_part, element_text, field
 use Rattle.cp_legend.specs.Values.{as_array, fields_in}
 use Rattle.cp_legend_laws.specs.Paths.{index_text}
 use Rattle.cp_legend_laws.specs.PlacesTold.{choice_text, choices_text, part_type, type_at}
-use Rattle.cp_legend_laws.proofs.IndexTexts.{both, index_same}
+use Rattle.cp_legend_laws.proofs.IndexTexts.{index_same}
 use Rattle.cp_legend_laws.proofs.KnownConstants.{KnownBase}
 use Rattle.cp_legend_laws.proofs.ChosenParts.{IsAt, IsTellable, Leads, Steps, chosen_same, leads, one_of, part_is, some_cells, steps}
 

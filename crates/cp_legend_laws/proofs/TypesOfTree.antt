@@ -1,5 +1,5 @@
 -- In a program that was read, each record type has a field, and the constants of the enumerations in all types are known.
-use Rattle.std.proofs.Common.{◌≡◌, ℕ, List, [], ◌∷◌, ◌++◌, length, sym, subst, ◌∙◌}
+use Rattle.std.proofs.Common.{◌≡◌, ℕ, List, [], ◌∷◌, length, sym, subst, ◌∙◌}
 use Rattle.cp_legend_laws.proofs.Words.{Name, Tree, names_of, Each}
 use Rattle.cp_text.specs.declared.token.Kind.{Kind}
 use Rattle.cp_text.specs.declared.token.Kind.TheVariants as kind

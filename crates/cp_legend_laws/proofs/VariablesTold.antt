@@ -1,63 +1,27 @@
 -- Of variables that lie apart, the first in the legend that has a cell is the one that has it.
-use Rattle.std.proofs.Common.{◌≡◌, ℕ, ◌+◌, ◌<◌, ◌≤◌, Bool, true, false, ◌&&◌, if◌then◌else◌, List, [], ◌∷◌, ◌++◌, length, Option, Some, None, slice_get, refl, sym, ap, ap₂, subst, ◌∙◌, ◌⊎◌, inl, inr, arith, le-leb, le-ltb, lt-ltb}
+use Rattle.std.proofs.Common.{◌≡◌, ℕ, ◌+◌, ◌<◌, ◌≤◌, Bool, true, false, ◌&&◌, if◌then◌else◌, List, [], ◌∷◌, ◌++◌, length, Some, refl, sym, ap, ap₂, subst, ◌∙◌, ◌⊎◌, inl, inr, arith, le-leb, le-ltb, lt-ltb}
 use Rattle.std.proofs.lemmas.Bool.{lt-leb}
 use Rattle.std.proofs.lemmas.Option.{same_Some, slice_get_within}
-use Rattle.std.specs.Prelude.{◌-◌, map, nat_le, nat_lt}
-use Rattle.cp_legend_laws.proofs.Words.{length-map, CellType, Compounds, Each, IsStandingVariable, Name, Numbering, Tree, TypeIs, Variable, array, range_on}
-use Rattle.cp_tree.specs.Read.{IsRead}
-use Rattle.cp_slots.specs.Tables.{RoutineView, Tables, routine_at, system_at}
-use Rattle.cp_symbols.specs.declared.kinds.CellType.TheVariants as types
-use Rattle.cp_symbols.specs.declared.symbols.Symbols as code_symbols
+use Rattle.std.specs.Prelude.{◌-◌, nat_le, nat_lt}
+use Rattle.cp_legend_laws.proofs.Words.{CellType, Compounds, Each, Name, Numbering, TypeIs, Variable, array, range_on}
 use Rattle.cp_symbols.specs.Kinds as kinds
 use Rattle.cp_symbols.specs.Kinds.{most}
 use Rattle.cp_layout.specs.Kinds.{array_type}
-use Rattle.cp_layout.specs.Laid.{plain, laid, whole}
-use Rattle.cp_layout.specs.Symbols.{AreSymbolsOf}
-use Rattle.cp_lawful.specs.Accepted.{IsAccepted}
-use Rattle.cp_legend.specs.declared.legend.Legend as code_legend
 use Rattle.cp_legend.specs.Names as legend
-use Rattle.cp_legend.specs.Names.{IsLegendOf, Named, RoutineNames, Source, legend_seen, routine_names_seen, source_seen}
-use Rattle.cp_legend.specs.Places.{has_cell, local_name_in, part, part_name, parts_text, permanent_name_in, place_name, variables_at}
-use Rattle.cp_meaning.specs.Declarations.{Parameter, RoutineMeaning}
+use Rattle.cp_legend.specs.Places.{has_cell, part, part_name, parts_text, place_name}
 use Rattle.cp_meaning.specs.Names.{same_name}
-use Rattle.cp_meaning.specs.Scopes.{local_variable, find}
-use Rattle.cp_meaning.specs.Steps.{parameter_variables}
-use Rattle.cp_meaning.specs.Systems.{SystemMeaning, program_system, system_of}
-use Rattle.cp_meaning.specs.Types.{Ty, ordinal, queue_type, set_over, array_over, record_with, component_of, has_components}
+use Rattle.cp_meaning.specs.Types.{Ty, ordinal, queue_type, set_over, array_over, record_with, component_of}
 use Rattle.cp_meaning.specs.Values.{Choice}
-use Rattle.cp_resolved.specs.BodiesStand.{ground_of}
 use Rattle.cp_resolved.specs.Encoded.{chosen_at}
-use Rattle.cp_resolved.specs.Framed.{AreDifferent, IsOrdinalResult, routine_variables, system_variables}
-use Rattle.cp_resolved.specs.Layouts.{FrameLayout, cell_named, cells_of, look}
-use Rattle.cp_resolved.specs.Names.{IsPlain}
-use Rattle.cp_resolved.specs.Openings.{Opening, meaning_at, numbering_of, openings_of}
-use Rattle.cp_resolved.specs.Resolved.{AreApart, FrameIs, ParametersAre, ParameterIs, ResultIs, RoutineIs, SystemIs}
-use Rattle.cp_resolved.specs.Standing.{IsFreeVariable}
-use Rattle.cp_resolved.specs.TreeLayouts.{layouts_of, parameters_by}
-use Rattle.cp_resolved.proofs.Resolving.{resolving_law}
-use Rattle.cp_resolved.proofs.agreeing.AgreeingWritten.{each_left, each_right}
-use Rattle.cp_resolved.proofs.agreeing.ScopeVariables.{Among, among_all, among_right, look_among}
-use Rattle.cp_resolved.proofs.counts.FewCells.{few_free}
-use Rattle.cp_resolved.proofs.counts.FewCellsOfTables.{few_cells_law}
-use Rattle.cp_resolved.proofs.declarations.FramedOfTrees.{accepted_framed}
-use Rattle.cp_resolved.proofs.declarations.Plain.{plain_law}
-use Rattle.cp_resolved.proofs.declarations.SystemVariables.{accepted_permanents}
+use Rattle.cp_resolved.specs.Layouts.{cells_of, look}
+use Rattle.cp_resolved.specs.Resolved.{AreApart}
+use Rattle.cp_resolved.proofs.agreeing.ScopeVariables.{Among}
 use Rattle.cp_resolved.proofs.frames.Cells.{cells_same}
 use Rattle.cp_resolved.proofs.frames.EncodedCells.{HoldEarlier, IsBelow}
-use Rattle.cp_resolved.proofs.frames.FrameCells.{each_both, itself, same_is}
-use Rattle.cp_resolved.proofs.frames.FrameKnown.{never_both}
-use Rattle.cp_resolved.proofs.laid.EarlierTypes.{program_earlier}
-use Rattle.cp_resolved.proofs.systems.SystemKnown.{found_among}
-use Rattle.cp_legend_laws.specs.PlacesTold.{choices_text, part_text}
-use Rattle.cp_legend_laws.specs.Routines.{AreLocals, RoutineIsTold, local_name, own_variables, result_variable, value_parameters}
-use Rattle.cp_legend_laws.specs.Statements.{AreVariables, LocalIsNamed, LocalsLaw, PlacesLaw}
-use Rattle.cp_legend_laws.proofs.ChosenParts.{IsTellable, free_tellable, part_is, some_cells, standing_tellable}
-use Rattle.cp_legend_laws.proofs.LinedUp.{same_types}
-use Rattle.cp_legend_laws.proofs.NamedRoutines.{routines_law}
+use Rattle.cp_resolved.proofs.frames.FrameCells.{itself, same_is}
+use Rattle.cp_legend_laws.specs.PlacesTold.{part_text}
+use Rattle.cp_legend_laws.proofs.ChosenParts.{IsTellable, part_is, some_cells}
 use Rattle.cp_legend_laws.proofs.PartsNamed.{parts_told}
-use Rattle.cp_legend_laws.proofs.PermanentsNamed.{permanents_law}
-use Rattle.cp_legend_laws.proofs.TypesOfTree.{IsSound, sound_types}
-use Rattle.cp_legend_laws.proofs.WrittenTypes.{RoutineHas, SystemHas}
 
 -- ---- variables with cells
 
