@@ -17,7 +17,6 @@ pub mod PermanentSystems
 pub mod PermanentsNamed
 pub mod PermanentsNoted
 pub mod PlacesNamed
-pub mod QueuesNamed
 pub mod QuietSteps
 pub mod TypesOfTree
 pub mod VariablesTold

@@ -27,7 +27,7 @@ use Rattle.cp_legend_laws.proofs.NamedPaths.{parts_from, parts_entries, IsNamed,
 use Rattle.cp_legend_laws.proofs.NamedSystems.{home_entries, Told, told_program, told_of, told_own}
 use Rattle.cp_legend_laws.proofs.PartSystems.{IsHome, type_home, program_home}
 
-pub each_right : {A : Type 0} (P : A → Type 0) (xs ys : List A) → Each P (xs ++ ys) → Each P ys
+each_right : {A : Type 0} (P : A → Type 0) (xs ys : List A) → Each P (xs ++ ys) → Each P ys
 each_right P [] ys h = h
 each_right P (x ∷ xs) ys h = each_right P xs ys h.1
 

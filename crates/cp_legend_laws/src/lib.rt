@@ -3,6 +3,4 @@
 
 pub mod laws;
 
-pub use laws::{
-    law_components, law_legend, law_paths, law_permanents, law_places, law_queues, law_routines,
-};
+pub use laws::{law_components, law_legend, law_paths, law_permanents, law_places, law_routines};
