@@ -3,6 +3,9 @@ pub mod IndexTexts
 pub mod KnownConstants
 pub mod Lined
 pub mod LinedUp
+pub mod LocalRoutines
+pub mod LocalsNamed
+pub mod LocalsNoted
 pub mod NamedParts
 pub mod NamedPaths
 pub mod NamedRoutines

@@ -23,7 +23,6 @@ use Rattle.cp_resolved.proofs.names.Alike.{same_inside}
 use Rattle.cp_legend.specs.Names as legend
 use Rattle.cp_legend.specs.Places.{element_at, element_part, element_text, field_at, field_from, field_part, field_text, inner_by, inner_part, later_field, part, parts_text, step_text, step_text_by}
 use Rattle.cp_legend.specs.Values.{as_array, fields_in}
-use Rattle.cp_legend_laws.specs.Paths.{index_text}
 use Rattle.cp_legend_laws.specs.PlacesTold.{choice_text, choices_text, part_type, type_at}
 use Rattle.cp_legend_laws.proofs.IndexTexts.{index_same}
 use Rattle.cp_legend_laws.proofs.KnownConstants.{KnownBase}

@@ -43,8 +43,9 @@ use Rattle.cp_resolved.proofs.laid.EarlierTypes.{program_earlier}
 use Rattle.cp_resolved.proofs.systems.SystemKnown.{found_among}
 use Rattle.cp_legend_laws.specs.PlacesTold.{part_text}
 use Rattle.cp_legend_laws.specs.Routines.{AreLocals, local_name, own_variables, result_variable, value_parameters}
-use Rattle.cp_legend_laws.specs.Statements.{AreVariables, LocalIsNamed, LocalsLaw, PlacesLaw, RoutinesAreTold, routine_text}
+use Rattle.cp_legend_laws.specs.Statements.{AreVariables, LocalIsNamed, PlacesLaw, RoutinesAreTold, routine_text}
 use Rattle.cp_legend_laws.proofs.ChosenParts.{IsTellable, free_tellable, standing_tellable}
+use Rattle.cp_legend_laws.proofs.LocalsNamed.{locals_law}
 use Rattle.cp_legend_laws.proofs.NamedRoutines.{routines_law}
 use Rattle.cp_legend_laws.proofs.PermanentsNamed.{permanents_law}
 use Rattle.cp_legend_laws.proofs.TypesOfTree.{IsSound, sound_types}
@@ -260,10 +261,9 @@ module _ (t : Tree) (y : code_symbols.Symbols) (r : Tables) (l : code_legend.Leg
       let are : AreLocals t (source_seen y).types n q.name (own_variables (meaning_at t.program n)) q.variables = subst (λ (us : Compounds). AreLocals t us n q.name (own_variables (meaning_at t.program n)) q.variables) named.shapes (told n q e).variables in
       locals_moved n q (own_variables (meaning_at t.program n)) (locals_told t y r read ok is same n below q.name q.variables are)
 
--- with the variables of routines as the legend has them
-pub places_law_with : LocalsLaw → PlacesLaw
-places_law_with locals t y r l read ok is same named =
+pub places_law : PlacesLaw
+places_law t y r l read ok is same named =
     record {
       permanents = permanents_named t y r l read ok is same named;
-      locals = locals_named t y r l read ok is same named (locals t y r l read ok is same named);
+      locals = locals_named t y r l read ok is same named (locals_law t y r l read ok is same named);
     }

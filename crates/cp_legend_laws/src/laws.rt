@@ -1,6 +1,6 @@
 //! Laws over the definitions alone.
 
-ghost use Rattle.cp_legend_laws.specs.Statements.{ComponentsLaw, LegendLaw, PathsLaw, PermanentsLaw, PlacesLaw, RoutinesLaw};
+ghost use Rattle.cp_legend_laws.specs.Statements.{ComponentsLaw, LegendLaw, LocalsLaw, PathsLaw, PermanentsLaw, PlacesLaw, RoutinesLaw};
 
 /// A legend has all components of the tables, in their order, each under the path of a part that is declared of its system type.
 pub fn law_components()
@@ -30,4 +30,9 @@ pub fn law_permanents()
 /// The cells of each part of a variable are told under its name, with the fields and indices that lead to it: of permanent variables in each component, and of the variables of each routine.
 pub fn law_places()
     ensures { PlacesLaw }
+{}
+
+/// Each routine of a legend has the parameters, the result and the local variables of the tree's: each under its name, at its cell, and with its type.
+pub fn law_locals()
+    ensures { LocalsLaw }
 {}

@@ -3,4 +3,6 @@
 
 pub mod laws;
 
-pub use laws::{law_components, law_legend, law_paths, law_permanents, law_places, law_routines};
+pub use laws::{
+    law_components, law_legend, law_locals, law_paths, law_permanents, law_places, law_routines,
+};
