@@ -9,20 +9,20 @@ use Rattle.cp_symbols.specs.Kinds.{plus}
 use Rattle.cp_meaning.specs.Names.{Name, same_name}
 use Rattle.cp_meaning.specs.Types.{Base, enumerated, Ty, ordinal, queue_type, set_over, array_over, record_with, component_of, FieldTypes, no_field_types, more_field_types, range_of}
 use Rattle.cp_meaning.specs.Scopes.{Meaning, constant_meaning, type_meaning, local_variable, permanent_variable, routine_meaning, standard_meaning, Scope, find, is_seen, seen_inside, predeclared}
-use Rattle.cp_meaning.specs.Declarations.{Variable, Block, Heading, constant_meant, constant_of_kind, constant_of, type_named, names_of, with_constants, simple_in, more_of_type, type_in, fields_in, group_in, constants_in, types_in, named_variables, with_names, variables_in, part_in, parts_in, with_group, with_groups}
+use Rattle.cp_meaning.specs.Declarations.{Variable, Parameter, Block, Heading, constant_meant, constant_of_kind, constant_of, type_named, names_of, with_constants, simple_in, more_of_type, type_in, fields_in, group_in, constants_in, types_in, named_variables, with_names, variables_in, part_in, parts_in, parameters_named, with_group, with_groups}
 use Rattle.cp_meaning.specs.Systems.{SystemMeaning, system_in, Declared, definition_in, definitions_in, program_part_in, program_parts_in, declared, own_meaning, or_own, system_of}
 use Rattle.cp_resolved.specs.Enumerations.{Enumerated, in_simple, in_type, in_groups, in_group, each_in, in_part, in_routine, in_definition, in_program_part, enumerations_of, names_among, constant_names}
 use Rattle.cp_resolved.specs.Fit.{nothing_declared}
 
-each_left : {A : Type 0} (P : A → Type 0) (xs ys : List A) → Each P (xs ++ ys) → Each P xs
+pub each_left : {A : Type 0} (P : A → Type 0) (xs ys : List A) → Each P (xs ++ ys) → Each P xs
 each_left P [] ys h = tt
 each_left P (x ∷ xs) ys h = (h.0, each_left P xs ys h.1)
 
-each_right : {A : Type 0} (P : A → Type 0) (xs ys : List A) → Each P (xs ++ ys) → Each P ys
+pub each_right : {A : Type 0} (P : A → Type 0) (xs ys : List A) → Each P (xs ++ ys) → Each P ys
 each_right P [] ys h = h
 each_right P (x ∷ xs) ys h = each_right P xs ys h.1
 
-each_both : {A : Type 0} (P : A → Type 0) (xs ys : List A) → Each P xs → Each P ys → Each P (xs ++ ys)
+pub each_both : {A : Type 0} (P : A → Type 0) (xs ys : List A) → Each P xs → Each P ys → Each P (xs ++ ys)
 each_both P [] ys h i = i
 each_both P (x ∷ xs) ys h i = (h.0, each_both P xs ys h.1 i)
 
@@ -86,7 +86,7 @@ module _ (cs : List Name) (firsts : ℕ → ℕ) where
   constant_known s (constant_kind.Name o i) h = found_known i.name s h
   constant_known s _ h = tt
 
-  named_known : (x : Name) (s : Scope) → KnownScope s → KnownType (type_named s x)
+  pub named_known : (x : Name) (s : Scope) → KnownScope s → KnownType (type_named s x)
   named_known x [] h = tt
   named_known x ((n, type_meaning t) ∷ s) h = go (same_name x n) (named_known x s h.1)
     where
@@ -103,9 +103,9 @@ module _ (cs : List Name) (firsts : ℕ → ℕ) where
   with_known b n [] s k h = h
   with_known b n (x ∷ xs) s k h = with_known b (suc n) xs ((x, constant_meaning b (pos n)) ∷ s) k (k, h)
 
-  permanent_known : (xs : List Name) (t : Ty) (s : Scope) → KnownScope s → KnownScope (with_names xs (permanent_variable t) s)
-  permanent_known [] t s h = h
-  permanent_known (x ∷ xs) t s h = permanent_known xs t ((x, permanent_variable t) ∷ s) (tt, h)
+  names_known : (xs : List Name) (m : Meaning) (s : Scope) → KnownMeaning m → KnownScope s → KnownScope (with_names xs m s)
+  names_known [] m s k h = h
+  names_known (x ∷ xs) m s k h = names_known xs m ((x, m) ∷ s) k (k, h)
 
   -- ---- types
 
@@ -166,31 +166,49 @@ module _ (cs : List Name) (firsts : ℕ → ℕ) where
   abbrev pub KnownBlock : Block → Type 0
   KnownBlock b = KnownVariables b.variables × KnownScope b.scope
 
-  variables_known : (b : Block) (gs : List syntax.VariableGroup) → AllKnown (each_in (λ g. in_type g.variable_type) gs) → KnownBlock b → KnownBlock (variables_in permanent_variable b gs)
-  variables_known b [] e h = h
-  variables_known b (g ∷ gs) e h =
-      let rest = each_in (λ (g : syntax.VariableGroup). in_type g.variable_type) gs in
-      let y = type_in b.scope g.variable_type in
-      let a = type_known b.scope g.variable_type (each_left (λ (e : Enumerated). IsKnown e.at (names_of e.names)) (in_type g.variable_type) rest e) h.1 in
-      let c : Block = record { variables = b.variables ++ named_variables (names_of g.names) y.0; scope = with_names (names_of g.names) (permanent_variable y.0) y.1 } in
-      variables_known c gs (each_right (λ (e : Enumerated). IsKnown e.at (names_of e.names)) (in_type g.variable_type) rest e)
-      (each_both (λ (v : Variable). KnownType v.ty) b.variables (named_variables (names_of g.names) y.0) h.0 (all_variables (names_of g.names) y.0 a.0), permanent_known (names_of g.names) y.0 y.1 a.1)
+  abbrev pub KnownParameters : List Parameter → Type 0
+  KnownParameters qs = Each (λ (q : Parameter). KnownType q.ty) qs
 
-  part_known : (b : Block) (p : syntax.Part) → AllKnown (in_part p) → KnownBlock b → KnownBlock (part_in permanent_variable b p)
-  part_known b (syntax.constants at ds) e h = (h.0, constants_known b.scope ds h.1)
-  part_known b (syntax.types at ds) e h = (h.0, types_known b.scope ds e h.1)
-  part_known b (syntax.variables at gs) e h = variables_known b gs e h
+  abbrev pub KnownHeading : Heading → Type 0
+  KnownHeading h = KnownParameters h.parameters × KnownScope h.scope
 
-  parts_known : (b : Block) (ps : List syntax.Part) → AllKnown (each_in in_part ps) → KnownBlock b → KnownBlock (parts_in permanent_variable b ps)
-  parts_known b [] e h = h
-  parts_known b (p ∷ ps) e h =
-      parts_known (part_in permanent_variable b p) ps (each_right (λ (e : Enumerated). IsKnown e.at (names_of e.names)) (in_part p) (each_in in_part ps) e) (part_known b p (each_left (λ (e : Enumerated). IsKnown e.at (names_of e.names)) (in_part p) (each_in in_part ps) e) h)
+  all_parameters : (xs : List Name) (t : Ty) (b : Bool) → KnownType t → KnownParameters (parameters_named xs t b)
+  all_parameters [] t b h = tt
+  all_parameters (x ∷ xs) t b h = (h, all_parameters xs t b h)
 
-  groups_scope : (h : Heading) (gs : List syntax.Group) → KnownScope h.scope → KnownScope (with_groups permanent_variable h gs).scope
-  groups_scope h [] k = k
-  groups_scope h (g ∷ gs) k = groups_scope (with_group permanent_variable false h g) gs (permanent_known (names_of g.names) (type_named h.scope g.type_name.name) h.scope k)
+  -- where a variable is permanent, or local
+  module _ (m : Ty → Meaning) (plain : (t : Ty) → KnownMeaning (m t)) where
+    variables_known : (b : Block) (gs : List syntax.VariableGroup) → AllKnown (each_in (λ g. in_type g.variable_type) gs) → KnownBlock b → KnownBlock (variables_in m b gs)
+    variables_known b [] e h = h
+    variables_known b (g ∷ gs) e h =
+        let rest = each_in (λ (g : syntax.VariableGroup). in_type g.variable_type) gs in
+        let y = type_in b.scope g.variable_type in
+        let a = type_known b.scope g.variable_type (each_left (λ (e : Enumerated). IsKnown e.at (names_of e.names)) (in_type g.variable_type) rest e) h.1 in
+        let c : Block = record { variables = b.variables ++ named_variables (names_of g.names) y.0; scope = with_names (names_of g.names) (m y.0) y.1 } in
+        variables_known c gs (each_right (λ (e : Enumerated). IsKnown e.at (names_of e.names)) (in_type g.variable_type) rest e)
+        (each_both (λ (v : Variable). KnownType v.ty) b.variables (named_variables (names_of g.names) y.0) h.0 (all_variables (names_of g.names) y.0 a.0), names_known (names_of g.names) (m y.0) y.1 (plain y.0) a.1)
 
-  inside_known : (s : Scope) → KnownScope s → KnownScope (seen_inside s)
+    part_known : (b : Block) (p : syntax.Part) → AllKnown (in_part p) → KnownBlock b → KnownBlock (part_in m b p)
+    part_known b (syntax.constants at ds) e h = (h.0, constants_known b.scope ds h.1)
+    part_known b (syntax.types at ds) e h = (h.0, types_known b.scope ds e h.1)
+    part_known b (syntax.variables at gs) e h = variables_known b gs e h
+
+    pub parts_known : (b : Block) (ps : List syntax.Part) → AllKnown (each_in in_part ps) → KnownBlock b → KnownBlock (parts_in m b ps)
+    parts_known b [] e h = h
+    parts_known b (p ∷ ps) e h =
+        parts_known (part_in m b p) ps (each_right (λ (e : Enumerated). IsKnown e.at (names_of e.names)) (in_part p) (each_in in_part ps) e) (part_known b p (each_left (λ (e : Enumerated). IsKnown e.at (names_of e.names)) (in_part p) (each_in in_part ps) e) h)
+
+    pub group_headed : (b : Bool) (h : Heading) (g : syntax.Group) → KnownHeading h → KnownHeading (with_group m b h g)
+    group_headed b h g k =
+        let t = type_named h.scope g.type_name.name in
+        let a = named_known g.type_name.name h.scope k.1 in
+        (each_both (λ (q : Parameter). KnownType q.ty) h.parameters (parameters_named (names_of g.names) t b) k.0 (all_parameters (names_of g.names) t b a), names_known (names_of g.names) (m t) h.scope (plain t) k.1)
+
+    pub groups_headed : (h : Heading) (gs : List syntax.Group) → KnownHeading h → KnownHeading (with_groups m h gs)
+    groups_headed h [] k = k
+    groups_headed h (g ∷ gs) k = groups_headed (with_group m false h g) gs (group_headed false h g k)
+
+  pub inside_known : (s : Scope) → KnownScope s → KnownScope (seen_inside s)
   inside_known [] h = tt
   inside_known (d ∷ ds) h = go (is_seen d.1) (inside_known ds h.1)
     where
@@ -200,21 +218,22 @@ module _ (cs : List Name) (firsts : ℕ → ℕ) where
 
   -- ---- system types
 
-  abbrev KnownSystem : SystemMeaning → Type 0
-  KnownSystem m = KnownVariables m.variables
+  abbrev pub KnownSystem : SystemMeaning → Type 0
+  KnownSystem m = KnownParameters m.parameters × KnownVariables m.variables
 
   pub record KnownDeclared (d : Declared) : Type 0 where
     pub systems : Each KnownSystem d.systems
     pub variables : KnownVariables d.variables
     pub scope : KnownScope d.scope
 
-  definition_known : (d : Declared) (n : syntax.SystemDefinition) (v : syntax.Definition) → AllKnown (in_definition v) → KnownDeclared d → KnownDeclared (definition_in d n v)
+  pub definition_known : (d : Declared) (n : syntax.SystemDefinition) (v : syntax.Definition) → AllKnown (in_definition v) → KnownDeclared d → KnownDeclared (definition_in d n v)
   definition_known d n (syntax.type_definition t) e h = let a = type_known d.scope t e h.scope in record { systems = h.systems; variables = h.variables; scope = (a.0, a.1) }
   definition_known d n (syntax.system_definition s) e h =
       let u : Scope = seen_inside d.scope in
       let g : Heading = with_groups permanent_variable (record { parameters = []; scope = u }) s.parameters in
-      let a = parts_known (record { variables = []; scope = g.scope }) s.parts (each_left (λ (e : Enumerated). IsKnown e.at (names_of e.names)) (each_in in_part s.parts) (each_in in_routine s.routines) e) (tt, groups_scope (record { parameters = []; scope = u }) s.parameters (inside_known d.scope h.scope)) in
-      record { systems = each_both KnownSystem d.systems (system_in u s ∷ []) h.systems (a.0, tt); variables = h.variables; scope = (tt, h.scope) }
+      let w = groups_headed permanent_variable (λ t. tt) (record { parameters = []; scope = u }) s.parameters (tt, inside_known d.scope h.scope) in
+      let a = parts_known permanent_variable (λ t. tt) (record { variables = []; scope = g.scope }) s.parts (each_left (λ (e : Enumerated). IsKnown e.at (names_of e.names)) (each_in in_part s.parts) (each_in in_routine s.routines) e) (tt, w.1) in
+      record { systems = each_both KnownSystem d.systems (system_in u s ∷ []) h.systems ((w.0, a.0), tt); variables = h.variables; scope = (tt, h.scope) }
 
   definitions_known : (d : Declared) (ns : List syntax.SystemDefinition) → AllKnown (each_in (λ n. in_definition n.value) ns) → KnownDeclared d → KnownDeclared (definitions_in d ns)
   definitions_known d [] e h = h
@@ -222,18 +241,18 @@ module _ (cs : List Name) (firsts : ℕ → ℕ) where
       let rest = each_in (λ (n : syntax.SystemDefinition). in_definition n.value) ns in
       definitions_known (definition_in d n n.value) ns (each_right (λ (e : Enumerated). IsKnown e.at (names_of e.names)) (in_definition n.value) rest e) (definition_known d n n.value (each_left (λ (e : Enumerated). IsKnown e.at (names_of e.names)) (in_definition n.value) rest e) h)
 
-  program_part_known : (d : Declared) (p : syntax.ProgramPart) → AllKnown (in_program_part p) → KnownDeclared d → KnownDeclared (program_part_in d p)
+  pub program_part_known : (d : Declared) (p : syntax.ProgramPart) → AllKnown (in_program_part p) → KnownDeclared d → KnownDeclared (program_part_in d p)
   program_part_known d (syntax.program_constants at ds) e h = record { systems = h.systems; variables = h.variables; scope = constants_known d.scope ds h.scope }
   program_part_known d (syntax.program_types at ns) e h = definitions_known d ns e h
-  program_part_known d (syntax.program_variables at gs) e h = let a = variables_known (record { variables = d.variables; scope = d.scope }) gs e (h.variables, h.scope) in record { systems = h.systems; variables = a.0; scope = a.1 }
+  program_part_known d (syntax.program_variables at gs) e h = let a = variables_known permanent_variable (λ t. tt) (record { variables = d.variables; scope = d.scope }) gs e (h.variables, h.scope) in record { systems = h.systems; variables = a.0; scope = a.1 }
 
-  program_parts_known : (d : Declared) (ps : List syntax.ProgramPart) → AllKnown (each_in in_program_part ps) → KnownDeclared d → KnownDeclared (program_parts_in d ps)
+  pub program_parts_known : (d : Declared) (ps : List syntax.ProgramPart) → AllKnown (each_in in_program_part ps) → KnownDeclared d → KnownDeclared (program_parts_in d ps)
   program_parts_known d [] e h = h
   program_parts_known d (p ∷ ps) e h =
       program_parts_known (program_part_in d p) ps (each_right (λ (e : Enumerated). IsKnown e.at (names_of e.names)) (in_program_part p) (each_in in_program_part ps) e)
       (program_part_known d p (each_left (λ (e : Enumerated). IsKnown e.at (names_of e.names)) (in_program_part p) (each_in in_program_part ps) e) h)
 
-  predeclared_known : KnownScope predeclared
+  pub predeclared_known : KnownScope predeclared
   predeclared_known = (tt, (tt, (tt, (tt, (tt, (tt, (tt, (tt, (tt, (tt, (tt, (tt, (tt, (tt, (tt, tt)))))))))))))))
 
   system_known : (ms : List SystemMeaning) (own : SystemMeaning) (j : ℕ) → Each KnownSystem ms → KnownSystem own → KnownSystem (or_own own (slice_get ms j))
@@ -241,11 +260,11 @@ module _ (cs : List Name) (firsts : ℕ → ℕ) where
   system_known (m ∷ ms) own zero h k = h.0
   system_known (m ∷ ms) own (suc j) h k = system_known ms own j h.1 k
 
-  -- in all variables of system types
-  pub variables_are_known : (p : syntax.Program) → AllKnown (enumerations_of p) → (j : ℕ) → KnownVariables (system_of p j).variables
-  variables_are_known p e j =
+  -- in all parameters and variables of system types
+  pub systems_are_known : (p : syntax.Program) → AllKnown (enumerations_of p) → (j : ℕ) → KnownSystem (system_of p j)
+  systems_are_known p e j =
       let all = program_parts_known nothing_declared p.parts (each_left (λ (e : Enumerated). IsKnown e.at (names_of e.names)) (each_in in_program_part p.parts) (each_in in_routine p.routines) e) (record { systems = tt; variables = tt; scope = predeclared_known }) in
-      system_known (declared p).systems (own_meaning (declared p) p) j all.systems all.variables
+      system_known (declared p).systems (own_meaning (declared p) p) j all.systems (tt, all.variables)
 
 -- ---- the enumerations of a program
 

@@ -1,6 +1,8 @@
 pub mod ChosenParts
+pub mod CompoundsRead
 pub mod IndexTexts
 pub mod KnownConstants
+pub mod KnownLocals
 pub mod Lined
 pub mod LinedUp
 pub mod LocalRoutines
@@ -21,7 +23,11 @@ pub mod PermanentsNamed
 pub mod PermanentsNoted
 pub mod PlacesNamed
 pub mod QuietSteps
+pub mod SetsRead
 pub mod TypesOfTree
+pub mod ValuesNamed
+pub mod ValuesOfTree
+pub mod ValuesRead
 pub mod VariablesTold
 pub mod Walking
 pub mod WrittenTypes

@@ -20,7 +20,7 @@ use Rattle.cp_legend.specs.Names.{Source, component_seen, components_of, source_
 use Rattle.cp_legend_laws.specs.Paths.{variable_type, type_in_system}
 use Rattle.cp_legend_laws.specs.Called.{called_in_legend, tabled}
 use Rattle.cp_legend_laws.specs.Statements.{LegendLaw, PathsAre, PathsLaw}
-use Rattle.cp_legend_laws.proofs.KnownConstants.{KnownVariables, enumerations_known, variables_are_known}
+use Rattle.cp_legend_laws.proofs.KnownConstants.{KnownSystem, KnownVariables, enumerations_known, systems_are_known}
 use Rattle.cp_legend_laws.proofs.LinedUp.{count, below, same_types, lined_up}
 use Rattle.cp_legend_laws.proofs.NamedParts.{among, Match}
 use Rattle.cp_legend_laws.proofs.NamedPaths.{parts_from, parts_entries, IsNamed, all_called_same}
@@ -51,13 +51,16 @@ module _ (t : Tree) (y : code_symbols.Symbols) (is : AreSymbolsOf y (whole t)) (
   told : Told k end (declared p)
   told = told_program k t.lines p plain.small plain.fit plain.numbered (opened_all p)
 
-  constants_same : source.constants ≡ constant_names p
+  pub constants_same : source.constants ≡ constant_names p
   unfolding laid tables_laid
   constants_same = is.constants ∙ names_laid k t plain.small plain.fit plain.numbered (opened_all p)
 
+  pub known_systems : (n : ℕ) → KnownSystem source.constants k.firsts (system_of p n)
+  known_systems n = subst (λ cs. KnownSystem cs k.firsts (system_of p n)) (sym constants_same) (systems_are_known (constant_names p) k.firsts p (enumerations_known p k.firsts plain.numbered few) n)
+
   -- the enumerations that index their arrays
   pub known : (n : ℕ) → KnownVariables source.constants k.firsts (system_of p n).variables
-  known n = subst (λ cs. KnownVariables cs k.firsts (system_of p n).variables) (sym constants_same) (variables_are_known (constant_names p) k.firsts p (enumerations_known p k.firsts plain.numbered few) n)
+  known n = (known_systems n).1
 
   many : length source.systems ≡ program_system p
   many = count t y is ∙ count_same t plain

@@ -31,7 +31,7 @@ use Rattle.cp_legend_laws.specs.Called.{all_called, called_in_legend, tabled}
 use Rattle.cp_legend_laws.specs.Paths.{called_in_language}
 use Rattle.cp_legend_laws.specs.PlacesTold.{part_text}
 use Rattle.cp_legend_laws.specs.Routines.{RoutineIsTold, local_name, own_variables}
-use Rattle.cp_legend_laws.specs.ValuesTold.{value_told}
+use Rattle.cp_legend_laws.specs.ValuesTold.{HasMembers, value_numbered, value_told}
 
 -- The legend of a tree has all components of its tables, in their order, each under the path of a declared part of the system type that it has in the tables.
 pub record ComponentsLineUp (t : Tree) (s : code_symbols.Symbols) : Type 0 where
@@ -106,11 +106,11 @@ LocalsLaw = (t : Tree) (s : code_symbols.Symbols) (r : Tables) (l : code_legend.
 
 -- ---- values
 
--- Wherever the cells of a value of this type stand, they are told as this value.
-abbrev pub IsTold : Tree → legend.Legend → Ty → Type 0
-IsTold t l u =
-    (shape : CellType) (w : Value) (cells : List ℤ) (at : ℕ) → TypeIs (numbering_of t.program) l.shapes u shape → HasType u w → StandsAt cells at (encode w) → length cells ≤ most →
-    value_of l.constants l.shapes cells shape at ≡ value_told u w
+-- Wherever the cells of a value of this type stand, they are told as this value, with the members of sets by their numbers; and so by their names, if each set in it has members of its base alone.
+pub record IsTold (t : Tree) (l : legend.Legend) (u : Ty) : Type 0 where
+  pub numbered : (shape : CellType) (w : Value) (cells : List ℤ) (at : ℕ) → TypeIs (numbering_of t.program) l.shapes u shape → HasType u w → StandsAt cells at (encode w) → length cells ≤ most →
+      value_of l.constants l.shapes cells shape at ≡ value_numbered t.program u w
+  pub named : (w : Value) → HasType u w → HasMembers u w → value_numbered t.program u w ≡ value_told u w
 
 -- of the type of each permanent variable of a system type, and of each parameter and variable of a routine
 pub record ValuesAreTold (t : Tree) (l : legend.Legend) : Type 0 where

@@ -1,6 +1,6 @@
 //! Laws over the definitions alone.
 
-ghost use Rattle.cp_legend_laws.specs.Statements.{ComponentsLaw, LegendLaw, LocalsLaw, PathsLaw, PermanentsLaw, PlacesLaw, RoutinesLaw};
+ghost use Rattle.cp_legend_laws.specs.Statements.{ComponentsLaw, LegendLaw, LocalsLaw, PathsLaw, PermanentsLaw, PlacesLaw, RoutinesLaw, ValuesLaw};
 
 /// A legend has all components of the tables, in their order, each under the path of a part that is declared of its system type.
 pub fn law_components()
@@ -35,4 +35,9 @@ pub fn law_places()
 /// Each routine of a legend has the parameters, the result and the local variables of the tree's: each under its name, at its cell, and with its type.
 pub fn law_locals()
     ensures { LocalsLaw }
+{}
+
+/// Wherever the cells of a value stand, for a variable or a parameter, they are told as this value.
+pub fn law_values()
+    ensures { ValuesLaw }
 {}

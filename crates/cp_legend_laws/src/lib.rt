@@ -5,4 +5,5 @@ pub mod laws;
 
 pub use laws::{
     law_components, law_legend, law_locals, law_paths, law_permanents, law_places, law_routines,
+    law_values,
 };
