@@ -2,7 +2,6 @@ pub mod ChosenParts
 pub mod CompoundsRead
 pub mod IndexTexts
 pub mod KnownConstants
-pub mod KnownLocals
 pub mod Lined
 pub mod LinedUp
 pub mod LocalRoutines

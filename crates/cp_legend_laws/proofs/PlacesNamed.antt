@@ -50,17 +50,13 @@ use Rattle.cp_legend_laws.proofs.NamedRoutines.{routines_law}
 use Rattle.cp_legend_laws.proofs.PermanentsNamed.{permanents_law}
 use Rattle.cp_legend_laws.proofs.TypesOfTree.{IsSound, sound_types}
 use Rattle.cp_legend_laws.proofs.VariablesTold.{AreLaid, IsHeld, place_told}
-use Rattle.cp_legend_laws.proofs.WrittenTypes.{RoutineHas, SystemHas}
+use Rattle.cp_legend_laws.proofs.WrittenTypes.{RoutineHas, SystemHas, variables_have}
 
 -- what holds of the types of some holds of that of each
 among_each : (P : Ty → Type 0) (x : Name) (u : Ty) (vs : List Variable) → Each (λ (v : Variable). P v.ty) vs → Among x u vs → P u
 among_each P x u [] h a = absurd a
 among_each P x u (v ∷ vs) h (inl a) = subst P a.1 h.0
 among_each P x u (v ∷ vs) h (inr a) = among_each P x u vs h.1 a
-
-parameters_each : (P : Ty → Type 0) (qs : List Parameter) → Each (λ (q : Parameter). P q.ty) qs → Each (λ (v : Variable). P v.ty) (parameter_variables qs)
-parameters_each P [] h = tt
-parameters_each P (q ∷ qs) h = (h.0, parameters_each P qs h.1)
 
 -- ---- of a tree
 
@@ -114,7 +110,7 @@ module _ (t : Tree) (y : code_symbols.Symbols) (r : Tables) (read : IsRead t.pro
     tellable x u e =
         let a = among_all false x u (system_variables m) (look_among x u held e) in
         let h : SystemHas Sound m = (sound_types t y is (plain_law t read ok) read).systems n in
-        let sound : Each (λ (v : Variable). Sound v.ty) (system_variables m) = each_both (λ (v : Variable). Sound v.ty) (parameter_variables m.parameters) m.variables (parameters_each Sound m.parameters h.parameters) h.variables in
+        let sound : Each (λ (v : Variable). Sound v.ty) (system_variables m) = each_both (λ (v : Variable). Sound v.ty) (parameter_variables m.parameters) m.variables (variables_have Sound m.parameters h.parameters) h.variables in
         let standing : is_standing u ≡ true = among_each (λ (w : Ty). is_standing w ≡ true) x u (system_variables m) ((accepted_framed t read ok).standing n) a.0 in
         standing_tellable names k.firsts u (among_each Sound x u (system_variables m) sound a.0) standing a.1
 

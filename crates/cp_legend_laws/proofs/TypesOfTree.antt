@@ -162,16 +162,18 @@ module _ (cs : List Name) (firsts : ℕ → ℕ) where
 
 -- ---- the types of a tree
 
-constants_same : (t : Tree) (y : code_symbols.Symbols) → AreSymbolsOf y (whole t) → IsPlain t.program → (source_seen y).constants ≡ constant_names t.program
+-- all parameters and variables, and results
+pub types_are_sound : (p : syntax.Program) → IsPlain p → IsRead p → ProgramHas (IsSound (constant_names p) (numbering_of p).firsts) p
+types_are_sound p plain read =
+    let cs : List Name = constant_names p in
+    let firsts : ℕ → ℕ = (numbering_of p).firsts in
+    let named : AllKnown cs firsts (enumerations_of p) = enumerations_known p firsts plain.numbered (read_few p read) in
+    program_has (KnownBase cs firsts) (IsSound cs firsts) (sound_rules cs firsts) p (program_fits cs firsts (length (spell p)) p read.proper.indexed named)
+
+pub constants_same : (t : Tree) (y : code_symbols.Symbols) → AreSymbolsOf y (whole t) → IsPlain t.program → (source_seen y).constants ≡ constant_names t.program
 unfolding laid tables_laid
 constants_same t y is plain = is.constants ∙ names_laid (numbering_of t.program) t plain.small plain.fit plain.numbered (opened_all t.program)
 
--- all parameters and variables, and results
-pub sound_types : (t : Tree) (y : code_symbols.Symbols) → AreSymbolsOf y (whole t) → IsPlain t.program → IsRead t.program →
-    ProgramHas (IsSound (source_seen y).constants (numbering_of t.program).firsts) t.program
-sound_types t y is plain read =
-    let firsts : ℕ → ℕ = (numbering_of t.program).firsts in
-    let named : AllKnown (constant_names t.program) firsts (enumerations_of t.program) = enumerations_known t.program firsts plain.numbered (read_few t.program read) in
-    subst (λ (cs : List Name). ProgramHas (IsSound cs firsts) t.program) (sym (constants_same t y is plain))
-    (program_has (KnownBase (constant_names t.program) firsts) (IsSound (constant_names t.program) firsts) (sound_rules (constant_names t.program) firsts) t.program
-    (program_fits (constant_names t.program) firsts (length (spell t.program)) t.program read.proper.indexed named))
+-- by the constants that the legend has
+pub sound_types : (t : Tree) (y : code_symbols.Symbols) → AreSymbolsOf y (whole t) → IsPlain t.program → IsRead t.program → ProgramHas (IsSound (source_seen y).constants (numbering_of t.program).firsts) t.program
+sound_types t y is plain read = subst (λ (cs : List Name). ProgramHas (IsSound cs (numbering_of t.program).firsts) t.program) (sym (constants_same t y is plain)) (types_are_sound t.program plain read)

@@ -8,6 +8,7 @@ use Rattle.cp_meaning.specs.Names.{same_name}
 use Rattle.cp_meaning.specs.Types.{Base, integers, booleans, characters, enumerated, Range, Ty, ordinal, queue_type, set_over, array_over, record_with, component_of, FieldTypes, no_field_types, more_field_types, all_integers, all_booleans, all_characters, range_of}
 use Rattle.cp_meaning.specs.Scopes.{Meaning, constant_meaning, type_meaning, local_variable, permanent_variable, routine_meaning, standard_meaning, Scope, find, is_seen, seen_inside, predeclared}
 use Rattle.cp_meaning.specs.Declarations.{Block, Heading, Parameter, RoutineMeaning, constant_meant, constant_of_kind, constant_of, type_named, names_of, with_constants, simple_in, more_of_type, type_in, fields_in, group_in, constants_in, types_in, with_names, variables_in, part_in, parts_in, parameters_named, with_group, with_groups, with_parameter_groups, heading_of, result_of, routine_in}
+use Rattle.cp_meaning.specs.Steps.{parameter_variables}
 use Rattle.cp_meaning.specs.Systems.{SystemMeaning, system_in, Declared, definition_in, definitions_in, program_part_in, program_parts_in, declared, own_meaning, or_own, program_system, system_of}
 use Rattle.cp_resolved.specs.Fit.{nothing_declared}
 use Rattle.cp_resolved.specs.Openings.{Opening, with_routine, routine_openings, initial_opening, system_openings, parts_scope, definition_openings, definitions_openings, part_openings, parts_openings, openings_of, meaning_in, meaning_at}
@@ -104,6 +105,10 @@ module _ (T : Ty → Type 0) where
   pub record ProgramHas (p : syntax.Program) : Type 0 where
     pub systems : (k : ℕ) → SystemHas (system_of p k)
     pub routines : (n : ℕ) → RoutineHas (meaning_at p n)
+
+pub variables_have : (T : Ty → Type 0) (qs : List Parameter) → ParametersHave T qs → VariablesHave T (parameter_variables qs)
+variables_have T [] h = tt
+variables_have T (q ∷ qs) h = (h.0, variables_have T qs h.1)
 
 module _ (B : Base → Type 0) (T : Ty → Type 0) (rules : TypeRules B T) where
   abbrev MeaningHas : Meaning → Type 0
@@ -218,18 +223,18 @@ module _ (B : Base → Type 0) (T : Ty → Type 0) (rules : TypeRules B T) where
 
   -- of permanent variables, or of local ones
   module _ (m : Ty → Meaning) (any : (t : Ty) → MeaningHas (m t)) where
-    variables_have : (b : Block) (gs : List syntax.VariableGroup) → Each (λ (g : syntax.VariableGroup). TypeFits B g.variable_type) gs → BlockHas b → BlockHas (variables_in m b gs)
-    variables_have b [] e h = h
-    variables_have b (g ∷ gs) e h =
+    groups_of_variables : (b : Block) (gs : List syntax.VariableGroup) → Each (λ (g : syntax.VariableGroup). TypeFits B g.variable_type) gs → BlockHas b → BlockHas (variables_in m b gs)
+    groups_of_variables b [] e h = h
+    groups_of_variables b (g ∷ gs) e h =
         let y = type_in b.scope g.variable_type in
         let a = type_has b.scope g.variable_type e.0 h.1 in
         let c : Block = record { variables = b.variables ++ named_variables (names_of g.names) y.0; scope = with_names (names_of g.names) (m y.0) y.1 } in
-        variables_have c gs e.1 (each_both (λ (v : Variable). T v.ty) b.variables (named_variables (names_of g.names) y.0) h.0 (all_variables (names_of g.names) y.0 a.0), names_have (names_of g.names) (m y.0) y.1 (any y.0) a.1)
+        groups_of_variables c gs e.1 (each_both (λ (v : Variable). T v.ty) b.variables (named_variables (names_of g.names) y.0) h.0 (all_variables (names_of g.names) y.0 a.0), names_have (names_of g.names) (m y.0) y.1 (any y.0) a.1)
 
     part_has : (b : Block) (p : syntax.Part) → PartFits B p → BlockHas b → BlockHas (part_in m b p)
     part_has b (syntax.constants at ds) e h = (h.0, definitions_of_constants b.scope ds h.1)
     part_has b (syntax.types at ds) e h = (h.0, definitions_of_types b.scope ds e h.1)
-    part_has b (syntax.variables at gs) e h = variables_have b gs e h
+    part_has b (syntax.variables at gs) e h = groups_of_variables b gs e h
 
     parts_have : (b : Block) (ps : List syntax.Part) → Each (PartFits B) ps → BlockHas b → BlockHas (parts_in m b ps)
     parts_have b [] e h = h
@@ -330,7 +335,7 @@ module _ (B : Base → Type 0) (T : Ty → Type 0) (rules : TypeRules B T) where
   program_part_has d (syntax.program_constants at ds) e h = (record { systems = h.systems; variables = h.variables; scope = definitions_of_constants d.scope ds h.scope }, tt)
   program_part_has d (syntax.program_types at ns) e h = definitions_have d ns e h
   program_part_has d (syntax.program_variables at gs) e h =
-      let a = variables_have permanent_variable (λ t. tt) (record { variables = d.variables; scope = d.scope }) gs e (h.variables, h.scope) in (record { systems = h.systems; variables = a.0; scope = a.1 }, tt)
+      let a = groups_of_variables permanent_variable (λ t. tt) (record { variables = d.variables; scope = d.scope }) gs e (h.variables, h.scope) in (record { systems = h.systems; variables = a.0; scope = a.1 }, tt)
 
   program_parts_have : (d : Declared) (ps : List syntax.ProgramPart) → Each (ProgramPartFits B) ps → DeclaredHas d → DeclaredHas (program_parts_in d ps) × Each OpeningHas (parts_openings d ps)
   program_parts_have d [] e h = (h, tt)
