@@ -1,7 +1,7 @@
+pub mod ChosenParts
 pub mod CompoundsRead
 pub mod IndexTexts
 pub mod KnownConstants
-pub mod KnownLocals
 pub mod Lined
 pub mod LinedUp
 pub mod LocalRoutines
@@ -17,14 +17,18 @@ pub mod NotingRoutines
 pub mod OrdinalsTold
 pub mod OwnMonitors
 pub mod PartSystems
+pub mod PartsNamed
 pub mod PathsOfTree
 pub mod PermanentSystems
 pub mod PermanentsNamed
 pub mod PermanentsNoted
-pub mod QueuesNamed
+pub mod PlacesNamed
 pub mod QuietSteps
 pub mod SetsRead
+pub mod TypesOfTree
 pub mod ValuesOfTree
 pub mod ValuesRead
+pub mod VariablesTold
 pub mod Walking
+pub mod WrittenTypes
 mod Words

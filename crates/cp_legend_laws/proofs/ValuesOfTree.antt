@@ -17,21 +17,19 @@ use Rattle.cp_resolved.specs.Names.{IsPlain}
 use Rattle.cp_resolved.specs.Openings.{meaning_at, numbering_of}
 use Rattle.cp_resolved.specs.TreeLayouts.{components_among, layouts_of}
 use Rattle.cp_resolved.proofs.counts.FewReferences.{each_weaker}
-use Rattle.cp_resolved.proofs.declarations.EnumerationsRead.{read_few}
 use Rattle.cp_resolved.proofs.declarations.Plain.{plain_law}
-use Rattle.cp_resolved.proofs.declarations.SystemVariables.{accepted_own}
 use Rattle.cp_resolved.proofs.frames.EncodedCells.{HoldEarlier}
-use Rattle.cp_resolved.proofs.frames.FrameCells.{look_each}
+use Rattle.cp_resolved.proofs.frames.FrameCells.{each_both, look_each}
 use Rattle.cp_resolved.proofs.laid.EarlierTypes.{program_earlier}
 use Rattle.cp_legend.specs.Names as legend
 use Rattle.cp_legend.specs.Names.{Source, legend_seen, source_seen}
 use Rattle.cp_legend.specs.Values.{value_of}
 use Rattle.cp_legend_laws.specs.Routines.{own_variables, result_variable, value_parameters}
 use Rattle.cp_legend_laws.specs.Statements.{IsTold, ValuesLaw}
-use Rattle.cp_legend_laws.proofs.KnownConstants.{KnownParameters, KnownSystem, KnownType, KnownVariables, each_both, enumerations_known}
-use Rattle.cp_legend_laws.proofs.KnownLocals.{KnownResult, KnownRoutine, routines_are_known}
-use Rattle.cp_legend_laws.proofs.PathsOfTree.{constants_same, known_systems}
+use Rattle.cp_legend_laws.proofs.KnownConstants.{KnownType}
+use Rattle.cp_legend_laws.proofs.TypesOfTree.{IsSound, constants_same, types_are_sound}
 use Rattle.cp_legend_laws.proofs.ValuesRead.{value_is_told}
+use Rattle.cp_legend_laws.proofs.WrittenTypes.{ParametersHave, ProgramHas, ResultHas, RoutineHas, VariablesHave, variables_have}
 
 -- ---- the variables of system types and routines
 
@@ -43,30 +41,26 @@ each_celled P (v ∷ vs) h = go (has_components v.ty) (each_celled P vs h.1)
     go true rest = rest
     go false rest = (h.0, rest)
 
-module _ (cs : List Name) (firsts : ℕ → ℕ) where
-  as_variables : (qs : List Parameter) → KnownParameters cs firsts qs → KnownVariables cs firsts (parameter_variables qs)
-  as_variables [] h = tt
-  as_variables (q ∷ qs) h = (h.0, as_variables qs h.1)
-
-  with_values : (qs : List Parameter) → KnownParameters cs firsts qs → KnownVariables cs firsts (value_parameters qs)
+module _ (T : Ty → Type 0) where
+  with_values : (qs : List Parameter) → ParametersHave T qs → VariablesHave T (value_parameters qs)
   with_values [] h = tt
   with_values (q ∷ qs) h = go q.is_var (with_values qs h.1)
     where
       v : Variable
       v = record { name = q.name; ty = q.ty }
 
-      go : (b : Bool) → KnownVariables cs firsts (value_parameters qs) → KnownVariables cs firsts (if b then value_parameters qs else v ∷ value_parameters qs)
+      go : (b : Bool) → VariablesHave T (value_parameters qs) → VariablesHave T (if b then value_parameters qs else v ∷ value_parameters qs)
       go true rest = rest
       go false rest = (h.0, rest)
 
-  of_result : (o : Option Ty) → KnownResult cs firsts o → KnownVariables cs firsts (result_variable o)
+  of_result : (o : Option Ty) → ResultHas T o → VariablesHave T (result_variable o)
   of_result None h = tt
   of_result (Some t) h = (h, tt)
 
-  own_known : (m : RoutineMeaning) → KnownRoutine cs firsts m → KnownVariables cs firsts (own_variables m)
-  own_known m h =
-      let P = λ (v : Variable). KnownType cs firsts v.ty in
-      each_both P (value_parameters m.parameters) (result_variable m.result ++ m.variables) (with_values m.parameters h.0) (each_both P (result_variable m.result) m.variables (of_result m.result h.2) h.1)
+  own_have : (m : RoutineMeaning) → RoutineHas T m → VariablesHave T (own_variables m)
+  own_have m h =
+      let P = λ (v : Variable). T v.ty in
+      each_both P (value_parameters m.parameters) (result_variable m.result ++ m.variables) (with_values m.parameters h.parameters) (each_both P (result_variable m.result) m.variables (of_result m.result h.result) h.variables)
 
 -- ---- the law
 
@@ -87,17 +81,20 @@ module _ (t : Tree) (y : code_symbols.Symbols) (read : IsRead t.program) (ok : I
   earlier = subst HoldEarlier (sym is.types) (program_earlier t.lines p)
 
   names : source.constants ≡ constant_names p
-  names = constants_same t y is plain_tree (accepted_own t read ok) (read_few p read)
+  names = constants_same t y is plain_tree
 
-  system : (n : ℕ) → KnownVariables (constant_names p) k.firsts ((layouts_of t).systems n).variables
+  abbrev Sound : Ty → Type 0
+  Sound u = IsSound (constant_names p) k.firsts u
+
+  sound : ProgramHas Sound p
+  sound = types_are_sound p plain_tree read
+
+  system : (n : ℕ) → VariablesHave Sound ((layouts_of t).systems n).variables
   system n =
       let m : SystemMeaning = system_of p n in
-      let P = λ (v : Variable). KnownType (constant_names p) k.firsts v.ty in
-      let all = subst (λ (cs : List Name). KnownSystem cs k.firsts m) names (known_systems t y is plain_tree (accepted_own t read ok) (read_few p read) n) in
-      each_celled P (system_variables m) (each_both P (parameter_variables m.parameters) m.variables (as_variables (constant_names p) k.firsts m.parameters all.0) all.1)
-
-  routine : (n : ℕ) → KnownRoutine (constant_names p) k.firsts (meaning_at p n)
-  routine n = routines_are_known (constant_names p) k.firsts p (enumerations_known p k.firsts plain_tree.numbered (read_few p read)) n
+      let h = sound.systems n in
+      let P = λ (v : Variable). Sound v.ty in
+      each_celled P (system_variables m) (each_both P (parameter_variables m.parameters) m.variables (variables_have Sound m.parameters h.parameters) h.variables)
 
   module _ (l : legend.Legend) (constants : l.constants ≡ source.constants) (shapes : l.shapes ≡ source.types) where
     told_as : (u : Ty) → KnownType (constant_names p) k.firsts u → IsTold t l u
@@ -106,14 +103,14 @@ module _ (t : Tree) (y : code_symbols.Symbols) (read : IsRead t.program) (ok : I
         ∙ value_is_told p source.types earlier cells few u shape w at known (subst (λ (ts : Compounds). TypeIs k ts u shape) shapes type) typed stands
 
     permanents : (n : ℕ) (x : Name) (u : Ty) → look x ((layouts_of t).systems n).variables ≡ Some u → IsTold t l u
-    permanents n x u found = told_as u (look_each (λ (v : Variable). KnownType (constant_names p) k.firsts v.ty) x u ((layouts_of t).systems n).variables (system n) found)
+    permanents n x u found = told_as u (look_each (λ (v : Variable). Sound v.ty) x u ((layouts_of t).systems n).variables (system n) found).0
 
     parameters : (n : ℕ) → Each (λ (q : Parameter). IsTold t l q.ty) (meaning_at p n).parameters
-    parameters n = each_weaker (λ (q : Parameter). KnownType (constant_names p) k.firsts q.ty) (λ (q : Parameter). IsTold t l q.ty) (λ q h. told_as q.ty h) (meaning_at p n).parameters (routine n).0
+    parameters n = each_weaker (λ (q : Parameter). Sound q.ty) (λ (q : Parameter). IsTold t l q.ty) (λ q h. told_as q.ty h.0) (meaning_at p n).parameters (sound.routines n).parameters
 
     locals : (n : ℕ) → Each (λ (v : Variable). IsTold t l v.ty) (own_variables (meaning_at p n))
     locals n =
-        each_weaker (λ (v : Variable). KnownType (constant_names p) k.firsts v.ty) (λ (v : Variable). IsTold t l v.ty) (λ v h. told_as v.ty h) (own_variables (meaning_at p n)) (own_known (constant_names p) k.firsts (meaning_at p n) (routine n))
+        each_weaker (λ (v : Variable). Sound v.ty) (λ (v : Variable). IsTold t l v.ty) (λ v h. told_as v.ty h.0) (own_variables (meaning_at p n)) (own_have Sound (meaning_at p n) (sound.routines n))
 
 pub values_law : ValuesLaw
 values_law t y r l read ok is same named =
