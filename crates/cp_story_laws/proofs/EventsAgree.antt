@@ -61,6 +61,7 @@ use Rattle.cp_story_laws.proofs.Entered.{call_same, scope_same}
 use Rattle.cp_story_laws.proofs.Entering.{step_enters, enters_seen}
 use Rattle.cp_story_laws.proofs.EntersRoutine.{enters_routine}
 use Rattle.cp_story_laws.proofs.FoldsInStep.{KeepRelated, EndRelated, ends_related}
+use Rattle.cp_story_laws.proofs.NamedCalls.{AreNamed}
 use Rattle.cp_story_laws.proofs.NextLines.{lines_same}
 use Rattle.cp_story_laws.proofs.Together as together
 use Rattle.cp_story_laws.proofs.OpenCalls.{each_of_none, stack_kept, last_kept, pushed_kept, popped_kept}
@@ -321,8 +322,13 @@ module _ (t : Tree) (r : Tables) (g : slot_gates.Gates) (l : Legend) (Held : Lis
       pub changes : (cs ds : List meaning.Component) (before now : List ℤ) → Held cs before → Held ds now → changes_in l before now ≡ changes_told t.program h cs ds
       pub queues : (s : State) (m : Machine) (p : ℕ) → Related s m → CanGo on_names s p → names_queue (on_slots.event m p) ≡ true → queue_told l (aim_in r m p).queue ≡ queue_aimed t h s p
       pub ending : (s : State) (m : Machine) (p : ℕ) → Related s m → CanGo on_names s p → (aim_in r m p).ends_call ≡ ends_now t s p
-      pub given : (s : State) (m : Machine) (p : ℕ) → Related s m → CanGo on_names s p → ends_now t s p ≡ true → given_back l m.permanents (slice_get m.threads p) ≡ passed.given_back (view_of t.program s p)
+      pub given : (s : State) (m : Machine) (p : ℕ) → Related s m → CanGo on_names s p → AreNamed (openings_of t.program) m → ends_now t s p ≡ true → given_back l m.permanents (slice_get m.threads p) ≡ passed.given_back (view_of t.program s p)
       pub begun : (s : State) (m : Machine) (p : ℕ) → Related s m → CanGo on_names s p → on_slots.event m p ≡ step.Kernel Enter → arguments l (slice_get (on_slots.step m p).threads p) ≡ arguments_told (view_of t.program (on_names.step s p) p)
+
+      -- each frame that a return leaves executes a routine that has a name
+      pub named_start : AreNamed (openings_of t.program) on_slots.start
+      pub named_step : (m : Machine) (p : ℕ) → AreNamed (openings_of t.program) m → AreNamed (openings_of t.program) (on_slots.step m p)
+      pub named_admission : (m : Machine) (p : ℕ) → AreNamed (openings_of t.program) m → AreNamed (openings_of t.program) (on_slots.admit m p)
 
     go : GoInStep on_names on_slots Related
     go = together.go t r g read ok same
@@ -378,7 +384,7 @@ module _ (t : Tree) (r : Tables) (g : slot_gates.Gates) (l : Legend) (Held : Lis
       abbrev back : List ℕ
       back = resumed stands.is_queued (standings t.program s) (standings t.program s2) p
 
-      module _ (steps : StepsAgree) (x : NamedTelling) (y : Telling) (agree : Agree x y) where
+      module _ (steps : StepsAgree) (named_now : AreNamed (openings_of t.program) m) (x : NamedTelling) (y : Telling) (agree : Agree x y) where
         abbrev queue : NamedQueue
         queue = queue_aimed t h s p
 
@@ -386,7 +392,7 @@ module _ (t : Tree) (r : Tables) (g : slot_gates.Gates) (l : Legend) (Held : Lis
         held_now = steps.held s2 m2 sim2
 
         expected : Agree (names.expecting t s p x) (expecting aim m p y)
-        expected = expecting_agrees aim s m p (steps.ending s m p sim can) (steps.given s m p sim can) x y agree
+        expected = expecting_agrees aim s m p (steps.ending s m p sim can) (steps.given s m p sim can named_now) x y agree
 
         told_by : (e : Event) → on_slots.event m p ≡ e → Agree (names.with_step t h p aim.line queue back e s2 (names.expecting t s p x)) (told_step r g p aim e m2 (expecting aim m p y))
         told_by (step.Kernel call) e =
@@ -415,20 +421,27 @@ module _ (t : Tree) (r : Tables) (g : slot_gates.Gates) (l : Legend) (Held : Lis
           event_agrees p (no_aim false) s2 m2 no_queue [] go.monitors (go.alike s2 m2 sim2) (stand_now s2 m2 sim2) refl held_now (λ cs cells k. steps.changes cs s2.components cells m2.permanents k held_now) x y agree Admit
           (λ f. absurd (let bad : Admit ≡ Kernel Enter = f in cc)) (λ f. absurd (let bad : false ≡ true = f in cc)) (λ f. absurd (let bad : Admit ≡ Kernel Enter = f in cc))
 
-      keeps : KeepRelated on_names on_slots Related (names_teller t h) (teller r g) (λ s m x y. Agree x y)
+      abbrev AgreeNow : State → Machine → NamedTelling → Telling → Type 0
+      AgreeNow s m x y = Agree x y × AreNamed (openings_of t.program) m
+
+      choice_kept : (s : State) (m : Machine) (p : ℕ) (x : NamedTelling) (y : Telling) → Related s m → Agree x y → Agree (names.with_choice (names.decision_of t h s p) x) (choice_taken y (decision_in r g m p))
+      choice_kept s m p x y sim agree =
+          record {
+            events = agree.events;
+            choice = ap Some (decision_same s m go.processes (go.alike s m sim) p);
+            calls = agree.calls;
+            standings = agree.standings;
+            returned = agree.returned;
+            held = agree.held;
+            legend = agree.legend;
+          }
+
+      keeps : KeepRelated on_names on_slots Related (names_teller t h) (teller r g) AgreeNow
       keeps =
           record {
-            step = λ s m p x y sim can agree. step_kept s m p sim can steps x y agree;
-            admission = admission_kept;
-            choice = λ s m p x y sim agree. record {
-              events = agree.events;
-              choice = ap Some (decision_same s m go.processes (go.alike s m sim) p);
-              calls = agree.calls;
-              standings = agree.standings;
-              returned = agree.returned;
-              held = agree.held;
-              legend = agree.legend;
-            };
+            step = λ s m p x y sim can k. (step_kept s m p sim can steps k.1 x y k.0, steps.named_step m p k.1);
+            admission = λ s m p x y sim can k. (admission_kept s m p x y sim can k.0, steps.named_admission m p k.1);
+            choice = λ s m p x y sim k. (choice_kept s m p x y sim k.0, k.1);
           }
 
       begins : Agree (names.nothing_told t h) (story.nothing_told l (machine.opening r g))
@@ -443,8 +456,9 @@ module _ (t : Tree) (r : Tables) (g : slot_gates.Gates) (l : Legend) (Held : Lis
             legend = refl;
           }
 
-      pub ends : (choices steps : ℕ) (word : List ℕ) → EndRelated on_names on_slots Related (names_teller t h) (teller r g) (λ s m x y. Agree x y) choices steps word (names.nothing_told t h) (story.nothing_told l (machine.opening r g))
-      ends choices steps word = ends_related on_names on_slots Related (names_teller t h) (teller r g) (λ s m x y. Agree x y) go keeps (names.nothing_told t h) (story.nothing_told l (machine.opening r g)) begins choices steps word
+      pub ends : (choices limit : ℕ) (word : List ℕ) → EndRelated on_names on_slots Related (names_teller t h) (teller r g) AgreeNow choices limit word (names.nothing_told t h) (story.nothing_told l (machine.opening r g))
+      ends choices limit word =
+          ends_related on_names on_slots Related (names_teller t h) (teller r g) AgreeNow go keeps (names.nothing_told t h) (story.nothing_told l (machine.opening r g)) (begins, steps.named_start) choices limit word
 
       pub tells_events : (choices steps : ℕ) (word : List ℕ) → TellsEvents t r l g choices steps word
-      tells_events choices steps word = let k = (ends choices steps word).gathered in record { events = k.events; last_choice = k.choice }
+      tells_events choices limit word = let k = (ends choices limit word).gathered.0 in record { events = k.events; last_choice = k.choice }

@@ -124,16 +124,3 @@ module _ {S T X Y : Type 0} (a : System S) (b : System T) (R : S → T → Type 
   ends_related x y r choices steps word =
       let k = on_word steps choices word (opened a steps) (opened b steps) (fold_opened a f steps x) (fold_opened b h steps y) (on_opened steps x y r) in
       record { states = k.0; gathered = k.1 }
-
--- So the states are related in which they stop.
-pub last_related : {S T : Type 0} (a : System S) (b : System T) (R : S → T → Type 0) → GoInStep a b R → (choices steps : ℕ) (word : List ℕ) → R (last_state a choices steps word) (last_state b choices steps word)
-last_related {S} {T} a b R g choices steps word = (ends_related a b R nothing_left nothing_right (λ s t x y. Unit {0}) g keeps 0 0 tt choices steps word).states
-  where
-    nothing_left : Fold S ℕ
-    nothing_left = record { on_step = λ s p event after x. x; on_admission = λ p after x. x; on_choice = λ s number x. x }
-
-    nothing_right : Fold T ℕ
-    nothing_right = record { on_step = λ s p event after x. x; on_admission = λ p after x. x; on_choice = λ s number x. x }
-
-    keeps : KeepRelated a b R nothing_left nothing_right (λ s t x y. Unit {0})
-    keeps = record { step = λ s t p x y r c q. tt; admission = λ s t p x y r c q. tt; choice = λ s t p x y r q. tt }

@@ -16,8 +16,9 @@ use Rattle.cp_meaning.specs.Steps.{view_of}
 use Rattle.cp_legend.specs.Names.{Legend, legend_seen}
 use Rattle.cp_legend_laws.specs.Called.{called_in_legend, tabled}
 use Rattle.cp_legend_laws.specs.Paths.{called_in_language}
-use Rattle.cp_legend_laws.specs.Statements.{PlacesAreNamed, PlacesLaw}
+use Rattle.cp_legend_laws.specs.Statements.{PlacesAreNamed}
 use Rattle.cp_legend_laws.proofs.PathsOfTree.{legend_law}
+use Rattle.cp_legend_laws.proofs.PlacesNamed.{places_law}
 use Rattle.cp_refine.specs.Named.{named, named_gates}
 use Rattle.cp_run.specs.Slots.{slots}
 use Rattle.cp_run.specs.Stop.{last_state}
@@ -38,8 +39,8 @@ waits_in t r g l read ok same tables paths places s m sim q n cell less e f =
       told = name_told t r (named_gates g) ok (together.prepared t r g read ok same) l tables paths s m sim n cell k.0 k.1 k.2 places q;
     }
 
-pub queues_law_with : PlacesLaw → QueuesLaw
-queues_law_with places t y r l g read ok symbols same legend choices steps word q n cell less e f =
+pub queues_law : QueuesLaw
+queues_law t y r l g read ok symbols same legend choices steps word q n cell less e f =
     let w = legend_law t y r l read ok symbols same legend in
-    waits_in t r g (legend_seen l) read ok same w.tables w.paths (places t y r l read ok symbols same legend) (last_state (named t (named_gates g)) choices steps word) (last_state (slots r g) choices steps word)
+    waits_in t r g (legend_seen l) read ok same w.tables w.paths (places_law t y r l read ok symbols same legend) (last_state (named t (named_gates g)) choices steps word) (last_state (slots r g) choices steps word)
     (stop_related t r g read ok same choices steps word) q n cell less e f

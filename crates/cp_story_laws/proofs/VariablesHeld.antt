@@ -47,7 +47,7 @@ use Rattle.cp_store.specs.declared.memory.Address.TheVariants.{Permanent}
 use Rattle.cp_story.specs.Changes.{place}
 use Rattle.cp_story_laws.specs.Statements.{ValuesLaw}
 use Rattle.cp_story_laws.specs.Variables.{HasValue, HaveValues}
-use Rattle.cp_story_laws.proofs.FoldsInStep.{last_related}
+use Rattle.cp_story_laws.proofs.StopsTogether.{stop_related}
 use Rattle.cp_story_laws.proofs.Together as together
 
 -- ---- lists
@@ -124,4 +124,4 @@ values_law t y r l g read ok symbols same legend choices steps word n c e =
     let w = legend_law t y r l read ok symbols same legend in
     let s = last_state (named t (named_gates g)) choices steps word in
     let m = last_state (slots r g) choices steps word in
-    values_here t r g (legend_seen l) read ok same w.tables (permanents_law t y r l read ok symbols same legend) s m (last_related (named t (named_gates g)) (slots r g) (together.Related t r g read ok same) (together.go t r g read ok same) choices steps word) n c e
+    values_here t r g (legend_seen l) read ok same w.tables (permanents_law t y r l read ok symbols same legend) s m (stop_related t r g read ok same choices steps word) n c e

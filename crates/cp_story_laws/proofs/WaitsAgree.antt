@@ -117,7 +117,7 @@ module _ (t : Tree) (r : Tables) (g : slot_gates.Gates) (l : Legend) (routines :
         sym (slice_get-map (call_told l) (calls_of calls q) (length (calls_of calls q) - 1))
         ∙ (ap (λ (n : ℕ). slice_get (map (call_told l) (calls_of calls q)) (n - 1)) (sym (length-map (calls_of calls q) (call_told l)))
         ∙ (ap (λ (cs : List EntryCall). slice_get cs (length cs - 1)) (sym (stack_kept (call_told l) calls q))
-        ∙ ap (λ (all : List (List EntryCall)). slice_get (stack_of all q) (length (stack_of all q) - 1)) (ends t r g l Held routines read ok same tables paths agree choices steps word).gathered.calls))
+        ∙ ap (λ (all : List (List EntryCall)). slice_get (stack_of all q) (length (stack_of all q) - 1)) (ends t r g l Held routines read ok same tables paths agree choices steps word).gathered.0.calls))
 
     inside_same : (q : ℕ) → those_below r.monitors (story.is_inside m q) ≡ those_below on_names.monitors (λ n. is_held_by q (on_names.holder s n))
     inside_same q =

@@ -16,8 +16,7 @@ use Rattle.cp_refine.specs.Law.{SameRuns}
 use Rattle.cp_refine.specs.Named.{named, named_gates}
 use Rattle.cp_refine.proofs.Meaning.{runs_as_meant}
 use Rattle.cp_story_laws.specs.Statements.{TellsEvents, TellsWaits, event_on_names, wait_on_names}
-use Rattle.cp_story_laws.proofs.EventsAgree.{events_law}
-use Rattle.cp_story_laws.proofs.WaitsAgree.{waits_law}
+use Rattle.cp_story_laws.proofs.StoriesOfTrees.{events_law, waits_law}
 use Rattle.cp_outcomes.specs.Meant.{IsFoundIn}
 use Rattle.cp_outcomes.specs.declared.subject.Format.{Format}
 use Rattle.cp_show_mark.specs.declared.answer.ShowVerdict.{ShowVerdict}

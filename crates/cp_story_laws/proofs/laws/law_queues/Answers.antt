@@ -1,5 +1,5 @@
-use Rattle.cp_story_laws.proofs.QueuesWaited.{queues_law_with}
+use Rattle.cp_story_laws.proofs.QueuesWaited.{queues_law}
 use Rattle.cp_story_laws.proofs.laws.law_queues.Goals as goal
 
 pub returns : goal.returns
-returns c = queues_law_with ?
+returns c = queues_law
