@@ -2,6 +2,7 @@ pub mod IndexTexts
 pub mod KnownConstants
 pub mod Lined
 pub mod LinedUp
+pub mod MonitorsAround
 pub mod NamedParts
 pub mod NamedPaths
 pub mod NamedRoutines

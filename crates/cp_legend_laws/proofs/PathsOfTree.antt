@@ -91,7 +91,7 @@ module _ (t : Tree) (y : code_symbols.Symbols) (is : AreSymbolsOf y (whole t)) (
           let less : n < program_system p = omega (arith, le, other) in
           record { parts = parts_entries source n (Some n) (type_home source n (omega (arith, less, many))) (below t y is); match = matched n (Some n) (told_of k end p told [] n less) }
 
-  named : IsNamed p source k
+  pub named : IsNamed p source k
   named =
       record {
         count = many;
