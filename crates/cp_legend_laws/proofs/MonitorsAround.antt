@@ -10,11 +10,13 @@ use Rattle.cp_layout.specs.Laid.{PlainTables, plain, laid, whole}
 use Rattle.cp_layout.specs.Symbols.{AreSymbolsOf}
 use Rattle.cp_lawful.specs.Accepted.{IsAccepted}
 use Rattle.cp_lawful.proofs.Earlier.{TyBelow, VariablesBelow, systems_below}
+use Rattle.cp_meaning.specs.Steps.{parameter_variables}
 use Rattle.cp_meaning.specs.Types.{Ty, array_over, component_of, length_of_range}
 use Rattle.cp_meaning.specs.Systems.{program_system, system_of}
 use Rattle.cp_meaning.specs.Components as language
 use Rattle.cp_meaning.specs.Components.{PathStep, Path, Listed, around, step_down, listed_elements, listed_variable, listed_variables, listed}
 use Rattle.cp_meaning.proofs.ComponentTree.{around_step}
+use Rattle.cp_resolved.specs.Declared.{IsVisible}
 use Rattle.cp_resolved.proofs.frames.FrameCells.{each_both}
 use Rattle.cp_resolved.proofs.declarations.EnumerationsRead.{read_few}
 use Rattle.cp_resolved.proofs.declarations.Plain.{plain_law}
@@ -36,6 +38,24 @@ one_listed j path = (let l : Listed = record { path = path; system = j } in l) �
 -- those that its variables are, without what they contain
 abbrev pub children : Path → List Variable → List Listed
 children path vs = listed_variables one_listed path vs
+
+-- what a step down by each variable has, they all have
+module _ (P : Listed → Type 0) (path : Path) where
+  abbrev pub HasBelow : Variable → Type 0
+  HasBelow v = (o : Option ℕ) (j : ℕ) → P (record { path = step_down path v.name o; system = j })
+
+  elements_have : (v : Variable) (j : ℕ) → HasBelow v → (count n : ℕ) → Each P (listed_elements (one_listed j) path v.name count n)
+  elements_have v j h zero n = tt
+  elements_have v j h (suc count) n = (h (Some n) j, elements_have v j h count (suc n))
+
+  variable_has : (v : Variable) → HasBelow v → (t : Ty) → Each P (listed_variable one_listed path v.name t)
+  variable_has v h (component_of j) = (h None j, tt)
+  variable_has v h (array_over r (component_of j)) = elements_have v j h (length_of_range r) 0
+  variable_has v h t = tt
+
+  pub children_have : (vs : List Variable) → Each HasBelow vs → Each P (children path vs)
+  children_have [] h = tt
+  children_have (v ∷ vs) h = each_both P (listed_variable one_listed path v.name v.ty) (children path vs) (variable_has v h.0 v.ty) (children_have vs h.1)
 
 module _ (inner : ℕ → Path → List Listed) where
   abbrev pub inside_each : List Listed → List Listed
@@ -117,18 +137,26 @@ module _ (p : Program) where
     children_are [] e low = tt
     children_are (v ∷ vs) e low = each_both (IsChild path n) (listed_variable one_listed path v.name v.ty) (children path vs) (variable_is v.name v.ty e.0 low.0) (children_are vs e.1 low.1)
 
+  -- what each component hands down to those right inside it, all that are listed have
+  pub listed_each : (P : Listed → Type 0) → ((path : Path) (n : ℕ) → P (record { path = path; system = n }) → Each P (children path (system_of p n).variables)) → (depth n : ℕ) (path : Path) → P (record { path = path; system = n }) → Each P (listed p depth n path)
+  listed_each P down zero n path h = tt
+  listed_each P down (suc depth) n path h =
+      (h, subst (Each P) (sym (variables_each (listed p depth) path (system_of p n).variables)) (each (children path (system_of p n).variables) (λ j way i. listed_each P down depth j way i) (down path n h)))
+    where
+      each : (qs : List Listed) → ((j : ℕ) (way : Path) → P (record { path = way; system = j }) → Each P (listed p depth j way)) → Each P qs → Each P (inside_each (listed p depth) qs)
+      each [] more h = tt
+      each (q ∷ qs) more h = each_both P (listed p depth q.system q.path) (inside_each (listed p depth) qs) (more q.system q.path h.0) (each qs more h.1)
+
   abbrev pub IsReached : Listed → Type 0
   IsReached q = reached p q.path ≡ q.system
 
-  -- each listed component has the system type that its path leads to
-  pub listed_reached : (types : (n : ℕ) → Each (λ (v : Variable). type_in_system p n v.name ≡ v.ty) (system_of p n).variables) (depth n : ℕ) (path : Path) → reached p path ≡ n → Each IsReached (listed p depth n path)
-  listed_reached types zero n path here = tt
-  listed_reached types (suc depth) n path here =
-      (here, subst (Each IsReached) (sym (variables_each (listed p depth) path (system_of p n).variables)) (each (children path (system_of p n).variables) (λ j way at. listed_reached types depth j way at) (children_are path n here (system_of p n).variables (types n) (systems_below p n).1)))
-    where
-      each : (qs : List Listed) → ((j : ℕ) (way : Path) → reached p way ≡ j → Each IsReached (listed p depth j way)) → Each (IsChild path n) qs → Each IsReached (inside_each (listed p depth) qs)
-      each [] more h = tt
-      each (q ∷ qs) more h = each_both IsReached (listed p depth q.system q.path) (inside_each (listed p depth) qs) (more q.system q.path h.0.1) (each qs more h.1)
+  reached_children : (path : Path) (n : ℕ) (qs : List Listed) → Each (IsChild path n) qs → Each IsReached qs
+  reached_children path n [] h = tt
+  reached_children path n (q ∷ qs) h = (h.0.1, reached_children path n qs h.1)
+
+  -- each component has the system type that its path leads to
+  pub all_reached : ((n : ℕ) → Each (λ (v : Variable). type_in_system p n v.name ≡ v.ty) (system_of p n).variables) → Each IsReached (language.components_of p)
+  all_reached types = listed_each IsReached (λ path n here. reached_children path n (children path (system_of p n).variables) (children_are path n here (system_of p n).variables (types n) (systems_below p n).1)) (suc (program_system p)) (program_system p) [] refl
 
   -- ---- the parts of a system type are of the system types of those components
 
@@ -229,3 +257,8 @@ pub legend_told : (t : Tree) (y : code_symbols.Symbols) (r : Tables) (l : code_l
 legend_told t y r l read accepted is tables seen told top e =
     let h = tree.named t y is (plain_law t read accepted) (accepted_own t read accepted) (read_few t.program read) in
     ap (λ (cs : List Named). map (λ (c : Named). c.monitor) cs) seen.components ∙ all_told t.program (source_seen y) _ h r.components told top e
+
+-- each name of a component variable stands for it
+pub types_visible : (t : Tree) → IsRead t.program → IsAccepted t → (n : ℕ) → Each (λ (v : Variable). type_in_system t.program n v.name ≡ v.ty) (system_of t.program n).variables
+types_visible t read accepted n =
+    tree.visible_types t.program n (system_of t.program n).variables (tree.each_right (IsVisible (system_of t.program n)) (parameter_variables (system_of t.program n).parameters) (system_of t.program n).variables ((accepted_own t read accepted).visible n))

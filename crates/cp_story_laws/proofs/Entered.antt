@@ -34,7 +34,8 @@ use Rattle.cp_refine.proofs.ReachedKinds.{kinds_agree, monitor_there, monitor_kn
 use Rattle.cp_refine.proofs.control.Control.{call_scope, top_frame}
 use Rattle.cp_refine.proofs.gates.MonitorNumbers.{one_number}
 use Rattle.cp_story.specs.Story as story
-use Rattle.cp_story_laws.specs.Events.{EntryCall, monitor_of, call_begun}
+use Rattle.cp_story_laws.specs.Events.{EntryCall, call_begun}
+use Rattle.cp_story_laws.specs.MonitorNumbers.{monitor_of}
 use Rattle.cp_story_laws.specs.Routines.{routine_of}
 use Rattle.cp_story_laws.specs.Statements.{call_told}
 

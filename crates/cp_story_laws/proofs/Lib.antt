@@ -9,6 +9,8 @@ pub mod EventsAgree
 pub mod FoldsInStep
 pub mod Lists
 pub mod Monitors
+pub mod MonitorsTold
+pub mod NamesInside
 pub mod NextLines
 pub mod OpenCalls
 pub mod OpenMonitors
@@ -16,6 +18,7 @@ pub mod OpenNow
 pub mod Paths
 pub mod QueuesWaited
 pub mod RoutinesExecuted
+pub mod SameCells
 pub mod StandingsAgree
 pub mod Together
 pub mod VariablesHeld
