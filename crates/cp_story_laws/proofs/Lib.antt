@@ -1,6 +1,8 @@
 pub mod CalledFrames
 pub mod CalledInProgram
 pub mod CalledRoutines
+pub mod CellsHeld
+pub mod ChangesAgree
 pub mod ContinueOnly
 pub mod Entered
 pub mod Entering
