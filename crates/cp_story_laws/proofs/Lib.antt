@@ -13,6 +13,7 @@ pub mod Lists
 pub mod Monitors
 pub mod MonitorsTold
 pub mod NamesInside
+pub mod NamesSpelled
 pub mod NextLines
 pub mod OpenCalls
 pub mod OpenMonitors
@@ -23,6 +24,7 @@ pub mod RoutinesExecuted
 pub mod SameCells
 pub mod StandingsAgree
 pub mod Together
+pub mod TokensAfter
 pub mod VariablesHeld
 pub mod Waited
 pub mod WaitsAgree
