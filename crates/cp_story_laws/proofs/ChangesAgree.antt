@@ -9,18 +9,22 @@ use Rattle.cp_tree.specs.declared.declaration.SystemKind.{SystemKind}
 use Rattle.cp_tree.specs.declared.declaration.SystemKind.TheVariants as system_kind
 use Rattle.cp_tree.specs.Read.{IsRead}
 use Rattle.cp_tree.specs.Syntax.{Program, Tree}
+use Rattle.cp_layout.specs.Laid.{plain, laid, whole}
+use Rattle.cp_layout.specs.Symbols.{AreSymbolsOf}
 use Rattle.cp_lawful.specs.Accepted.{IsAccepted}
 use Rattle.cp_lawful.proofs.Accepting.{well_formed}
 use Rattle.cp_slots.specs.declared.tables.Component as table
 use Rattle.cp_slots.specs.declared.tables.ComponentKind.{ComponentKind}
 use Rattle.cp_slots.specs.declared.tables.ComponentKind.TheVariants as kind
 use Rattle.cp_slots.specs.Tables.{Tables, component_at, no_component}
+use Rattle.cp_symbols.specs.declared.symbols.Symbols as code_symbols
 use Rattle.cp_symbols.specs.declared.kinds.CellType.{CellType}
 use Rattle.cp_symbols.specs.declared.kinds.CellType.TheVariants as types
 use Rattle.cp_symbols.specs.Kinds as kinds
 use Rattle.cp_symbols.specs.Kinds.{Compounds, most}
+use Rattle.cp_legend.specs.declared.legend.Legend as code_legend
 use Rattle.cp_legend.specs.Names as legend
-use Rattle.cp_legend.specs.Names.{Legend, Named, inside, monitor_in, path_in}
+use Rattle.cp_legend.specs.Names.{IsLegendOf, Legend, Named, inside, legend_seen, monitor_in, path_in, source_seen}
 use Rattle.cp_legend.specs.Places.{variables_at}
 use Rattle.cp_legend.specs.Values as values
 use Rattle.cp_legend_laws.specs.Called.{Called, called_in_legend, tabled}
@@ -30,12 +34,14 @@ use Rattle.cp_legend_laws.specs.ValuesTold.{value_told}
 use Rattle.cp_legend_laws.proofs.MonitorsAround.{IsReached, all_reached, types_visible}
 use Rattle.cp_legend_laws.proofs.NamedPaths.{reached}
 use Rattle.cp_legend_laws.proofs.PathsOfTree.{each_right}
+use Rattle.cp_machine.specs.declared.gates.Gates as slot_gates
+use Rattle.cp_machine.specs.Machine.{Machine}
 use Rattle.cp_meaning.specs.Components.{Listed, Path, components_of}
 use Rattle.cp_meaning.specs.Declarations.{Variable}
 use Rattle.cp_meaning.specs.Names.{Name}
 use Rattle.cp_meaning.specs.Places.{component_with}
 use Rattle.cp_meaning.specs.State as meaning
-use Rattle.cp_meaning.specs.State.{Component, Gates}
+use Rattle.cp_meaning.specs.State.{Component, Gates, State}
 use Rattle.cp_meaning.specs.Steps.{first_component, first_components}
 use Rattle.cp_meaning.specs.Systems.{program_system, system_of}
 use Rattle.cp_meaning.specs.Types.{Ty, queue_type, array_over, record_with, has_components}
@@ -59,6 +65,7 @@ use Rattle.cp_resolved.proofs.frames.Cells as cells
 use Rattle.cp_resolved.proofs.names.Entries.{entry_at, there}
 use Rattle.cp_resolved.proofs.systems.SystemKnown.{found_among}
 use Rattle.cp_refine.specs.Law.{ground_of}
+use Rattle.cp_refine.specs.Named.{named_gates}
 use Rattle.cp_refine.specs.Prepared.{Prepared}
 use Rattle.cp_refine.specs.Represents.{LiesAt}
 use Rattle.cp_refine.proofs.expressions.Parts.{encode_length}
@@ -69,12 +76,14 @@ use Rattle.cp_story_laws.specs.Changes as changes
 use Rattle.cp_story_laws.specs.Changes.{changes_told, is_queues, monitor_around, monitor_with, name_inside, value_there}
 use Rattle.cp_story_laws.specs.MonitorNumbers.{monitor_of}
 use Rattle.cp_story_laws.specs.SameValues.{same_value}
-use Rattle.cp_story_laws.proofs.CellsHeld.{CellsHold, Held, permanent_memory}
+use Rattle.cp_story_laws.proofs.CellsHeld.{CellsHold, Held, held as held_by, permanent_memory}
 use Rattle.cp_story_laws.proofs.Entered.{number_is}
-use Rattle.cp_story_laws.proofs.MonitorsTold.{IsAround, MonitorsAreTold, is_around, number_told, program_first, same_around}
+use Rattle.cp_story_laws.proofs.MonitorsTold.{IsAround, MonitorsAreTold, is_around, monitors_told, number_told, program_first, same_around}
 use Rattle.cp_story_laws.proofs.NamesInside.{IsSome, name_between}
+use Rattle.cp_story_laws.proofs.NamesSpelled.{paths_named}
 use Rattle.cp_story_laws.proofs.Paths.{monitor_path}
 use Rattle.cp_story_laws.proofs.SameCells.{cells_same}
+use Rattle.cp_story_laws.proofs.Together as together
 
 -- ---- lists
 
@@ -124,8 +133,7 @@ told_not false true = refl
 told_not false false = refl
 
 module _ (t : Tree) (r : Tables) (g : Gates) (l : Legend) (read : IsRead t.program) (ok : IsAccepted t) (prepared : Prepared t r (layouts_of t)) (tables : map tabled l.components ≡ r.components)
-    (paths : map called_in_legend l.components ≡ map (called_in_language t.program) (components_of t.program)) (permanents : PermanentsAre t l) (told : ValuesAreTold t l) (monitors : MonitorsAreTold t g l)
-    (names : Each (λ (q : Listed). Each IsSome q.path) (components_of t.program)) where
+    (paths : map called_in_legend l.components ≡ map (called_in_language t.program) (components_of t.program)) (permanents : PermanentsAre t l) (told : ValuesAreTold t l) (monitors : MonitorsAreTold t g l) where
   abbrev p : Program
   p = t.program
 
@@ -145,7 +153,7 @@ module _ (t : Tree) (r : Tables) (g : Gates) (l : Legend) (read : IsRead t.progr
     has_reached = each_at (IsReached p) (components_of p) n y (all_reached p (types_visible t read ok)) e
 
     is_named : Each IsSome y.path
-    is_named = each_at (λ (q : Listed). Each IsSome q.path) (components_of p) n y names e
+    is_named = each_at (λ (q : Listed). Each IsSome q.path) (components_of p) n y (paths_named p read) e
 
     there_in_tables : n < length r.components
     there_in_tables = let a = slice_get_within (components_of p) n y e in let b = length-map (components_of p) (first_component p) in let c = stands.count in omega (arith, a, b, c)
@@ -178,21 +186,24 @@ module _ (t : Tree) (r : Tables) (g : Gates) (l : Legend) (read : IsRead t.progr
         ∙ ap (λ (c : Component). path_text p c.path) (first_is m z e)
 
   module _ (ns : List Component) (same : SameTree first ns) (n : ℕ) (y : Listed) (e : slice_get (components_of t.program) n ≡ Some y) (m : ℕ) (in_it : IsAround first y.path m) where
+    name_by : (z : Listed) → slice_get (components_of t.program) m ≡ Some z → (x : Name) → name_in (path_in (monitor_in l.components (monitor_of p g m))) (path_text p y.path) x ≡ name_inside p ns m n x
+    name_by z f x =
+        let monitor : meaning.component_at first m ≡ first_component p z = first_is m z f in
+        let whole : y.path ≡ z.path ++ in_it.more = in_it.whole ∙ ap (λ (c : Component). c.path ++ in_it.more) monitor in
+        let own : (meaning.component_at ns m).path ≡ z.path = same.path m ∙ ap (λ (c : Component). c.path) monitor in
+        let system : (meaning.component_at ns m).system ≡ reached p z.path = same.system m ∙ ap (λ (c : Component). c.system) monitor ∙ sym (has_reached m z f) in
+        let path : (meaning.component_at ns n).path ≡ z.path ++ in_it.more = same.path n ∙ ap (λ (c : Component). c.path) (first_is n y e) ∙ whole in
+        let steps : Each IsSome (z.path ++ in_it.more) = subst (Each IsSome) whole (is_named n y e) in
+        ap₂ (λ (a b : List ℕ). name_in a b x) (monitor_called m z f in_it.monitor) (ap (path_text p) whole) ∙ from_monitor z.path in_it.more x (below_program m z f in_it.monitor) steps
+        ∙ ap (λ (way : Path). inside (text_below p (reached p z.path) [] way) x) (sym (drop-append_seam z.path in_it.more))
+        ∙ ap₂ (λ (a b : Path). inside (text_below p (reached p z.path) [] (drop (length a) b)) x) (sym own) (sym path)
+        ∙ ap (λ (k : ℕ). inside (text_below p k [] (drop (length (meaning.component_at ns m).path) (meaning.component_at ns n).path)) x) (sym system)
+
     name_same : (x : Name) → name_in (path_in (monitor_in l.components (monitor_of p g m))) (path_text p y.path) x ≡ name_inside p ns m n x
     name_same x =
         let many = length-map (components_of p) (first_component p) in
         let z = there (components_of p) m (let a = in_it.there in omega (arith, a, many)) in
-        let monitor : meaning.component_at first m ≡ first_component p z.0 = first_is m z.0 z.1 in
-        let whole : y.path ≡ z.0.path ++ in_it.more = in_it.whole ∙ ap (λ (c : Component). c.path ++ in_it.more) monitor in
-        let own : (meaning.component_at ns m).path ≡ z.0.path = same.path m ∙ ap (λ (c : Component). c.path) monitor in
-        let system : (meaning.component_at ns m).system ≡ reached p z.0.path = same.system m ∙ ap (λ (c : Component). c.system) monitor ∙ sym (has_reached m z.0 z.1) in
-        let path : (meaning.component_at ns n).path ≡ z.0.path ++ in_it.more = same.path n ∙ ap (λ (c : Component). c.path) (first_is n y e) ∙ whole in
-        let steps : Each IsSome (z.0.path ++ in_it.more) = subst (Each IsSome) whole (is_named n y e) in
-        ap₂ (λ (a b : List ℕ). name_in a b x) (monitor_called m z.0 z.1 in_it.monitor) (ap (path_text p) whole)
-        ∙ from_monitor z.0.path in_it.more x (below_program m z.0 z.1 in_it.monitor) steps
-        ∙ ap (λ (way : Path). inside (text_below p (reached p z.0.path) [] way) x) (sym (drop-append_seam z.0.path in_it.more))
-        ∙ ap₂ (λ (a b : Path). inside (text_below p (reached p z.0.path) [] (drop (length a) b)) x) (sym own) (sym path)
-        ∙ ap (λ (k : ℕ). inside (text_below p k [] (drop (length (meaning.component_at ns m).path) (meaning.component_at ns n).path)) x) (sym system)
+        name_by z.0 z.1 x
 
   -- ---- the variables of a component
 
@@ -320,3 +331,19 @@ module _ (t : Tree) (r : Tables) (g : Gates) (l : Legend) (read : IsRead t.progr
       (λ i c at. (let y = there (components_of p) i (let a = slice_get_within l.components i c at in omega (arith, a, many)) in
       component_same i c at y.0 y.1 bs ns before now hb hn ∙ (let z : i ≡ 0 + i = omega arith in ap (λ (n : ℕ). changes.changes_inside p g bs ns n (monitor_with ns n)) z)))
       ∙ ap (λ (n : ℕ). flat_map (λ i. changes.changes_inside p g bs ns i (monitor_with ns i)) (range_with_len 0 n)) count
+
+-- between any two states of runs
+module _ (t : Tree) (r : Tables) (g : slot_gates.Gates) (l : Legend) (read : IsRead t.program) (ok : IsAccepted t) (same : plain r ≡ laid t) (tables : map tabled l.components ≡ r.components)
+    (paths : map called_in_legend l.components ≡ map (called_in_language t.program) (components_of t.program)) (permanents : PermanentsAre t l) (told : ValuesAreTold t l) (monitors : MonitorsAreTold t (named_gates g) l) where
+  abbrev Related : State → Machine → Type 0
+  Related = together.Related t r g read ok same
+
+  pub held_same : (bs ns : List Component) (before now : List ℤ) → Held t r bs before → Held t r ns now → story.changes_in l before now ≡ changes_told t.program (named_gates g) bs ns
+  held_same = changes_same t r (named_gates g) l read ok (together.prepared t r g read ok same) tables paths permanents told monitors
+
+  pub related_same : (s u : State) (m n : Machine) → Related s m → Related u n → story.changes_in l m.permanents n.permanents ≡ changes_told t.program (named_gates g) s.components u.components
+  related_same s u m n h i = held_same s.components u.components m.permanents n.permanents (held_by t r g read ok same s m h) (held_by t r g read ok same u n i)
+
+-- of a legend beside the tables of a tree
+pub legend_monitors : (t : Tree) (y : code_symbols.Symbols) (r : Tables) (l : code_legend.Legend) (g : slot_gates.Gates) → IsRead t.program → IsAccepted t → AreSymbolsOf y (whole t) → plain r ≡ laid t → IsLegendOf l (source_seen y) r.components → MonitorsAreTold t (named_gates g) (legend_seen l)
+legend_monitors t y r l g read ok symbols same seen = monitors_told t y r l (named_gates g) (layouts_of t) read ok symbols same seen (together.prepared t r g read ok same).stands
