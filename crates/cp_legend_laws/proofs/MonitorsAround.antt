@@ -6,7 +6,7 @@ use Rattle.cp_legend_laws.proofs.Words.{eqb-false, eqb-true, length-map, map-app
 use Rattle.cp_tree.specs.Read.{IsRead}
 use Rattle.cp_symbols.specs.declared.symbols.Symbols as code_symbols
 use Rattle.cp_slots.specs.Tables.{Tables}
-use Rattle.cp_layout.specs.Laid.{PlainTables, plain, laid, whole}
+use Rattle.cp_layout.specs.Laid.{plain, laid, whole}
 use Rattle.cp_layout.specs.Symbols.{AreSymbolsOf}
 use Rattle.cp_lawful.specs.Accepted.{IsAccepted}
 use Rattle.cp_lawful.proofs.Earlier.{TyBelow, VariablesBelow, systems_below}
@@ -22,10 +22,10 @@ use Rattle.cp_resolved.proofs.declarations.EnumerationsRead.{read_few}
 use Rattle.cp_resolved.proofs.declarations.Plain.{plain_law}
 use Rattle.cp_resolved.proofs.declarations.SystemVariables.{accepted_own}
 use Rattle.cp_legend.specs.declared.legend.Legend as code_legend
-use Rattle.cp_legend.specs.Names.{IsLegendOf, Source, Part, Named, Naming, at_each, component_seen, components_of, inside, legend_seen, monitor_of, named, named_below, next_by, parts_at, parts_by, parts_of, source_seen}
+use Rattle.cp_legend.specs.Names.{IsLegendOf, Source, Part, Named, Naming, at_each, components_of, inside, legend_seen, monitor_of, named, named_below, next_by, parts_at, parts_by, parts_of, source_seen}
 use Rattle.cp_legend_laws.specs.Called.{Called, Calling, called_at, called_parts}
 use Rattle.cp_legend_laws.specs.Paths.{called_in_language, system_below, type_in_system}
-use Rattle.cp_legend_laws.proofs.NamedPaths.{IsNamed, along_last, parts_from, reached, text_of, variables_called}
+use Rattle.cp_legend_laws.proofs.NamedPaths.{IsNamed, along_last, reached, text_of, variables_called}
 use Rattle.cp_legend_laws.proofs.PartSystems.{systems_of}
 use Rattle.cp_legend_laws.proofs.PathsOfTree as tree
 use Rattle.cp_legend_laws.proofs.Walking.{each_there}

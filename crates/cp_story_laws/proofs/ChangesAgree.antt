@@ -19,9 +19,8 @@ use Rattle.cp_slots.specs.declared.tables.ComponentKind.TheVariants as kind
 use Rattle.cp_slots.specs.Tables.{Tables, component_at, no_component}
 use Rattle.cp_symbols.specs.declared.symbols.Symbols as code_symbols
 use Rattle.cp_symbols.specs.declared.kinds.CellType.{CellType}
-use Rattle.cp_symbols.specs.declared.kinds.CellType.TheVariants as types
 use Rattle.cp_symbols.specs.Kinds as kinds
-use Rattle.cp_symbols.specs.Kinds.{Compounds, most}
+use Rattle.cp_symbols.specs.Kinds.{Compounds}
 use Rattle.cp_legend.specs.declared.legend.Legend as code_legend
 use Rattle.cp_legend.specs.Names as legend
 use Rattle.cp_legend.specs.Names.{IsLegendOf, Legend, Named, inside, legend_seen, monitor_in, path_in, source_seen}
@@ -44,10 +43,9 @@ use Rattle.cp_meaning.specs.State as meaning
 use Rattle.cp_meaning.specs.State.{Component, Gates, State}
 use Rattle.cp_meaning.specs.Steps.{first_component, first_components}
 use Rattle.cp_meaning.specs.Systems.{program_system, system_of}
-use Rattle.cp_meaning.specs.Types.{Ty, queue_type, array_over, record_with, has_components}
-use Rattle.cp_meaning.specs.Values.{Value}
+use Rattle.cp_meaning.specs.Types.{Ty, array_over, record_with, has_components}
 use Rattle.cp_meaning.proofs.ComponentTree.{SameTree}
-use Rattle.cp_resolved.specs.Encoded.{HasType, encode}
+use Rattle.cp_resolved.specs.Encoded.{encode}
 use Rattle.cp_resolved.specs.Framed.{system_variables}
 use Rattle.cp_resolved.specs.InStep.{Numbering, TypeIs}
 use Rattle.cp_resolved.specs.Layouts.{cells_of, look}

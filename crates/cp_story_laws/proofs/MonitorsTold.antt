@@ -1,12 +1,12 @@
 -- A legend beside the tables of a tree has for each component the number of the monitor that the component is or inside which it is, by its path.
-use Rattle.std.proofs.Common.{◌≡◌, ◌∙◌, ℕ, zero, suc, ◌+◌, ◌<◌, ◌≤◌, List, [], ◌∷◌, ◌++◌, length, map, Option, Some, None, ap, refl, sym, subst, arith, append_assoc, append-nil}
+use Rattle.std.proofs.Common.{◌≡◌, ◌∙◌, ℕ, zero, suc, ◌+◌, ◌<◌, List, [], ◌∷◌, ◌++◌, length, map, Option, Some, None, ap, refl, sym, subst, arith, append_assoc, append-nil}
 use Rattle.std.proofs.lemmas.List.{length-map}
 use Rattle.std.proofs.lemmas.Option.{same_Some, slice_get-get_or, slice_get_within}
-use Rattle.std.specs.Prelude.{option_map, slice_get, slice_index_or}
+use Rattle.std.specs.Prelude.{option_map, slice_get}
 use Rattle.cp_tree.specs.declared.declaration.SystemKind.{SystemKind}
 use Rattle.cp_tree.specs.declared.declaration.SystemKind.TheVariants as system_kind
 use Rattle.cp_tree.specs.Read.{IsRead}
-use Rattle.cp_tree.specs.Syntax.{Program, Tree}
+use Rattle.cp_tree.specs.Syntax.{Tree}
 use Rattle.cp_lawful.specs.Accepted.{IsAccepted}
 use Rattle.cp_layout.specs.Laid.{plain, laid, whole}
 use Rattle.cp_layout.specs.Symbols.{AreSymbolsOf}
@@ -19,7 +19,6 @@ use Rattle.cp_meaning.specs.Places.{component_with}
 use Rattle.cp_meaning.specs.State as named
 use Rattle.cp_meaning.specs.State.{Component, Gates}
 use Rattle.cp_meaning.specs.Steps.{first_component, first_components}
-use Rattle.cp_meaning.specs.Systems.{program_system, system_of}
 use Rattle.cp_meaning.proofs.ComponentTree.{SameTree, found}
 use Rattle.cp_meaning.proofs.LocalLaw.{within}
 use Rattle.cp_legend.specs.declared.legend.Legend as code_legend
@@ -29,10 +28,8 @@ use Rattle.cp_legend_laws.proofs.MonitorsAround.{AreTold, IsTold, legend_told}
 use Rattle.cp_resolved.specs.Layouts.{Layouts}
 use Rattle.cp_resolved.specs.Resolved.{KindIs, Stands}
 use Rattle.cp_resolved.proofs.components.ComponentsOfTree.{program_kind}
-use Rattle.cp_resolved.proofs.components.ComponentsStand.{map_there}
 use Rattle.cp_resolved.proofs.components.Contained.{found_by_path}
 use Rattle.cp_resolved.proofs.declarations.Plain.{plain_law}
-use Rattle.cp_resolved.proofs.names.Entries.{entry_at}
 use Rattle.cp_refine.specs.Law.{ground_of}
 use Rattle.cp_lawful.proofs.Accepting.{well_formed}
 use Rattle.cp_story_laws.specs.Changes.{monitor_around, monitor_by}
