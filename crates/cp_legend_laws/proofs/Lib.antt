@@ -7,6 +7,7 @@ pub mod LinedUp
 pub mod LocalRoutines
 pub mod LocalsNamed
 pub mod LocalsNoted
+pub mod MonitorsAround
 pub mod NamedParts
 pub mod NamedPaths
 pub mod NamedRoutines

@@ -119,7 +119,7 @@ module _ (p : Program) where
   along k [] = k
   along k (s ∷ path) = along (system_below (type_in_system p k s.name)) path
 
-  along_last : (k : ℕ) (path : Path) (s : PathStep) → along k (path ++ s ∷ []) ≡ system_below (type_in_system p (along k path) s.name)
+  pub along_last : (k : ℕ) (path : Path) (s : PathStep) → along k (path ++ s ∷ []) ≡ system_below (type_in_system p (along k path) s.name)
   along_last k [] s = refl
   along_last k (t ∷ path) s = along_last (system_below (type_in_system p k t.name)) path s
 

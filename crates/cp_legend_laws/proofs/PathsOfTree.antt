@@ -31,7 +31,7 @@ each_right : {A : Type 0} (P : A → Type 0) (xs ys : List A) → Each P (xs ++ 
 each_right P [] ys h = h
 each_right P (x ∷ xs) ys h = each_right P xs ys h.1
 
-visible_types : (p : Program) (n : ℕ) (vs : List Variable) → Each (IsVisible (system_of p n)) vs → Each (λ (v : Variable). type_in_system p n v.name ≡ v.ty) vs
+pub visible_types : (p : Program) (n : ℕ) (vs : List Variable) → Each (IsVisible (system_of p n)) vs → Each (λ (v : Variable). type_in_system p n v.name ≡ v.ty) vs
 visible_types p n [] h = tt
 visible_types p n (v ∷ vs) h = (ap variable_type h.0, visible_types p n vs h.1)
 
@@ -87,7 +87,7 @@ module _ (t : Tree) (y : code_symbols.Symbols) (is : AreSymbolsOf y (whole t)) (
           let less : n < program_system p = omega (arith, le, other) in
           record { parts = parts_entries source n (Some n) (type_home source n (omega (arith, less, many))) (below t y is); match = matched n (Some n) (told_of k end p told [] n less) }
 
-  named : IsNamed p source k
+  pub named : IsNamed p source k
   named =
       record {
         count = many;

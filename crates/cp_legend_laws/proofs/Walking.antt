@@ -89,7 +89,7 @@ unfolding at_each
 each_length f zero = refl
 each_length f (suc n) = (let a = length-append (at_each f n) (f n ∷ []) in let b = each_length f n in omega (arith, a, b))
 
-each_there : {X : Type 0} (f : ℕ → X) (bound n : ℕ) → n < bound → slice_get (at_each f bound) n ≡ Some (f n)
+pub each_there : {X : Type 0} (f : ℕ → X) (bound n : ℕ) → n < bound → slice_get (at_each f bound) n ≡ Some (f n)
 unfolding at_each
 each_there f zero n h = absurd (omega (arith, h))
 each_there f (suc bound) n h = go (n == bound) refl (λ less. each_there f bound n less)

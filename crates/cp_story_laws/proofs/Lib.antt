@@ -1,6 +1,8 @@
 pub mod CalledFrames
 pub mod CalledInProgram
 pub mod CalledRoutines
+pub mod CellsHeld
+pub mod ChangesAgree
 pub mod ContinueOnly
 pub mod EndsAgree
 pub mod Entered
@@ -10,6 +12,9 @@ pub mod EventsAgree
 pub mod FoldsInStep
 pub mod Lists
 pub mod Monitors
+pub mod MonitorsTold
+pub mod NamesInside
+pub mod NamesSpelled
 pub mod NextLines
 pub mod OpenCalls
 pub mod OpenMonitors
@@ -20,9 +25,11 @@ pub mod QueuePlaces
 pub mod QueuesAimed
 pub mod QueuesWaited
 pub mod RoutinesExecuted
+pub mod SameCells
 pub mod StandingsAgree
 pub mod StopsTogether
 pub mod Together
+pub mod TokensAfter
 pub mod VariablesHeld
 pub mod Waited
 pub mod WaitsAgree
