@@ -25,7 +25,8 @@ use Rattle.cp_meaning.specs.Components.{components_of}
 use Rattle.cp_meaning.specs.State.{Component}
 use Rattle.cp_resolved.specs.Openings.{openings_of}
 use Rattle.cp_story_laws.specs.Statements.{EventsLaw, WaitsLaw}
-use Rattle.cp_story_laws.proofs.ChangesAgree.{Held, held_by, held_same, legend_monitors}
+use Rattle.cp_story_laws.proofs.CellsHeld.{Held, held}
+use Rattle.cp_story_laws.proofs.ChangesAgree.{held_same, legend_monitors}
 use Rattle.cp_story_laws.proofs.EndsAgree.{ends_same}
 use Rattle.cp_story_laws.proofs.EventsAgree.{StepsAgree, tells_events}
 use Rattle.cp_story_laws.proofs.PassedNow.{arguments_now, given_now, named_admission, named_start, named_step}
@@ -63,7 +64,7 @@ module _ (t : Tree) (y : Symbols) (r : Tables) (k : code_legend.Legend) (g : Gat
   steps_agree : StepsAgree t r g l Holds names read ok same tables paths
   steps_agree =
       record {
-        held = held_by t r g read ok same;
+        held = held t r g read ok same;
         changes = held_same t r g l read ok same tables paths permanents values (legend_monitors t y r k g read ok symbols same legend);
         queues = λ s m p sim can e. queue_same t r g l read ok same tables paths (own_monitors k (source_seen y) r.components legend) places s m p sim can;
         ending = ends_same t r g read ok same;
