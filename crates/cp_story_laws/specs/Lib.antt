@@ -13,3 +13,4 @@ pub mod Standings
 pub mod Statements
 pub mod Variables
 pub mod Waits
+pub mod Scratch5

@@ -1,6 +1,7 @@
 //! Laws over the definitions alone.
 
 ghost use Rattle.cp_story_laws.specs.Statements.{EventsLaw, MonitorsLaw, OpenCallsLaw, QueuesLaw, ValuesLaw, WaitsLaw};
+ghost use Rattle.cp_story_laws.specs.Scratch5.{Scratch5};
 
 /// Each event of a story is the one of the program on its own names: its process, what it is, the line, the entry call with the name of its routine and the displayed value, the choice before it, who is
 /// woken and who is let in, how each process stands then, and who is inside each monitor.
@@ -31,4 +32,9 @@ pub fn law_values()
 /// Where a run stops, a process that is delayed waits by the meaning in the queue under whose name the story tells it.
 pub fn law_queues()
     ensures { QueuesLaw }
+{}
+
+/// To be taken away again.
+pub fn law_scratch5()
+    ensures { Scratch5 }
 {}
