@@ -17,6 +17,7 @@ pub mod OpenMonitors
 pub mod OpenNow
 pub mod OwnNames
 pub mod PassedAgree
+pub mod PassedNow
 pub mod Paths
 pub mod PlacesAgree
 pub mod QueuesWaited
