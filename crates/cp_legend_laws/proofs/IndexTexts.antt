@@ -13,7 +13,7 @@ use Rattle.cp_legend.specs.Names as legend
 use Rattle.cp_legend_laws.specs.Paths.{value_text, index_text}
 use Rattle.cp_legend_laws.proofs.KnownConstants.{KnownBase}
 
-both : (a b : Bool) → (a && b) ≡ true → (a ≡ true) × (b ≡ true)
+pub both : (a b : Bool) → (a && b) ≡ true → (a ≡ true) × (b ≡ true)
 both true true h = (refl, refl)
 both true false h = absurd (let w : false ≡ true = h in cc)
 both false b h = absurd (let w : false ≡ true = h in cc)

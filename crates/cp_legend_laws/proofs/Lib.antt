@@ -1,7 +1,12 @@
+pub mod ChosenParts
+pub mod CompoundsRead
 pub mod IndexTexts
 pub mod KnownConstants
 pub mod Lined
 pub mod LinedUp
+pub mod LocalRoutines
+pub mod LocalsNamed
+pub mod LocalsNoted
 pub mod NamedParts
 pub mod NamedPaths
 pub mod NamedRoutines
@@ -10,11 +15,19 @@ pub mod Noting
 pub mod NotingDeclarations
 pub mod NotingRoutines
 pub mod PartSystems
+pub mod PartsNamed
 pub mod PathsOfTree
 pub mod PermanentSystems
 pub mod PermanentsNamed
 pub mod PermanentsNoted
-pub mod QueuesNamed
+pub mod PlacesNamed
 pub mod QuietSteps
+pub mod SetsRead
+pub mod TypesOfTree
+pub mod ValuesNamed
+pub mod ValuesOfTree
+pub mod ValuesRead
+pub mod VariablesTold
 pub mod Walking
+pub mod WrittenTypes
 mod Words

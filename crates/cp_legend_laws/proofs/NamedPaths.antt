@@ -109,7 +109,7 @@ low_right : (n : ℕ) (cs ds : List Contained) → AreLow n (cs ++ ds) → AreLo
 low_right n [] ds h = h
 low_right n (c ∷ cs) ds h = low_right n cs ds h.1
 
-pub both_left : (a b : Bool) → (a && b) ≡ true → a ≡ true
+both_left : (a b : Bool) → (a && b) ≡ true → a ≡ true
 both_left true b h = refl
 both_left false b h = h
 

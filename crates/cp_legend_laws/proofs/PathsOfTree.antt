@@ -1,33 +1,33 @@
 -- The paths in the legend of a tree are those of the language.
 use Rattle.std.proofs.Common.{◌≡◌, ℕ, ◌<◌, ◌≤◌, Bool, true, false, if◌then◌else◌, List, [], ◌∷◌, ◌++◌, length, map, Option, Some, None, ◌==◌, refl, sym, ap, subst, ◌∙◌, arith}
-use Rattle.cp_legend_laws.proofs.Words.{eqb-false, eqb-true, Program, Tree, Layer, Variable, Numbering, Each, IsStandingVariable, HasFew}
+use Rattle.cp_legend_laws.proofs.Words.{eqb-false, eqb-true, Program, Tree, Layer, Variable, Numbering, Each, IsStandingVariable}
+use Rattle.cp_tree.specs.Read.{IsRead}
 use Rattle.cp_symbols.specs.declared.symbols.Symbols as code_symbols
-use Rattle.cp_layout.specs.Laid.{PlainTables, laid, whole, tables_laid}
+use Rattle.cp_layout.specs.Laid.{PlainTables, laid, whole}
 use Rattle.cp_layout.specs.Symbols.{AreSymbolsOf}
 use Rattle.cp_meaning.specs.Systems.{declared, program_system, system_of}
 use Rattle.cp_resolved.specs.Declared.{AreOwn, IsVisible}
-use Rattle.cp_resolved.specs.Enumerations.{enumerations_of, constant_names}
 use Rattle.cp_resolved.specs.Names.{IsPlain}
 use Rattle.cp_resolved.specs.Openings.{numbering_of}
 use Rattle.cp_meaning.specs.Steps.{parameter_variables}
 use Rattle.cp_resolved.proofs.names.Opened.{opened_all}
-use Rattle.cp_resolved.proofs.names.StepsOfProgram.{names_laid}
 use Rattle.cp_resolved.proofs.components.ComponentsOfTree.{count_same, low}
-use Rattle.cp_resolved.proofs.declarations.EnumerationsRead.{read_few}
+use Rattle.cp_resolved.proofs.counts.FewReferences.{each_weaker}
 use Rattle.cp_resolved.proofs.declarations.Plain.{plain_law}
 use Rattle.cp_resolved.proofs.declarations.SystemVariables.{accepted_own}
 use Rattle.cp_legend.specs.Names.{Source, component_seen, components_of, source_seen, parts_of}
 use Rattle.cp_legend_laws.specs.Paths.{variable_type, type_in_system}
 use Rattle.cp_legend_laws.specs.Called.{called_in_legend, tabled}
 use Rattle.cp_legend_laws.specs.Statements.{LegendLaw, PathsAre, PathsLaw}
-use Rattle.cp_legend_laws.proofs.KnownConstants.{KnownVariables, enumerations_known, variables_are_known}
+use Rattle.cp_legend_laws.proofs.KnownConstants.{KnownType, KnownVariables}
 use Rattle.cp_legend_laws.proofs.LinedUp.{count, below, same_types, lined_up}
 use Rattle.cp_legend_laws.proofs.NamedParts.{among, Match}
 use Rattle.cp_legend_laws.proofs.NamedPaths.{parts_from, parts_entries, IsNamed, all_called_same}
 use Rattle.cp_legend_laws.proofs.NamedSystems.{home_entries, Told, told_program, told_of, told_own}
 use Rattle.cp_legend_laws.proofs.PartSystems.{IsHome, type_home, program_home}
+use Rattle.cp_legend_laws.proofs.TypesOfTree.{IsSound, sound_types}
 
-pub each_right : {A : Type 0} (P : A → Type 0) (xs ys : List A) → Each P (xs ++ ys) → Each P ys
+each_right : {A : Type 0} (P : A → Type 0) (xs ys : List A) → Each P (xs ++ ys) → Each P ys
 each_right P [] ys h = h
 each_right P (x ∷ xs) ys h = each_right P xs ys h.1
 
@@ -35,7 +35,7 @@ visible_types : (p : Program) (n : ℕ) (vs : List Variable) → Each (IsVisible
 visible_types p n [] h = tt
 visible_types p n (v ∷ vs) h = (ap variable_type h.0, visible_types p n vs h.1)
 
-module _ (t : Tree) (y : code_symbols.Symbols) (is : AreSymbolsOf y (whole t)) (plain : IsPlain t.program) (own : AreOwn t.program) (few : Each HasFew (enumerations_of t.program)) where
+module _ (t : Tree) (y : code_symbols.Symbols) (is : AreSymbolsOf y (whole t)) (plain : IsPlain t.program) (own : AreOwn t.program) (read : IsRead t.program) where
   abbrev p : Program
   p = t.program
 
@@ -51,13 +51,9 @@ module _ (t : Tree) (y : code_symbols.Symbols) (is : AreSymbolsOf y (whole t)) (
   told : Told k end (declared p)
   told = told_program k t.lines p plain.small plain.fit plain.numbered (opened_all p)
 
-  constants_same : source.constants ≡ constant_names p
-  unfolding laid tables_laid
-  constants_same = is.constants ∙ names_laid k t plain.small plain.fit plain.numbered (opened_all p)
-
   -- the enumerations that index their arrays
-  pub known : (n : ℕ) → KnownVariables source.constants k.firsts (system_of p n).variables
-  known n = subst (λ cs. KnownVariables cs k.firsts (system_of p n).variables) (sym constants_same) (variables_are_known (constant_names p) k.firsts p (enumerations_known p k.firsts plain.numbered few) n)
+  known : (n : ℕ) → KnownVariables source.constants k.firsts (system_of p n).variables
+  known n = each_weaker (λ (v : Variable). IsSound source.constants k.firsts v.ty) (λ (v : Variable). KnownType source.constants k.firsts v.ty) (λ v h. h.0) (system_of p n).variables ((sound_types t y is plain read).systems n).variables
 
   many : length source.systems ≡ program_system p
   many = count t y is ∙ count_same t plain
@@ -108,7 +104,7 @@ module _ (t : Tree) (y : code_symbols.Symbols) (is : AreSymbolsOf y (whole t)) (
   paths_are = record { paths = (lined_up t y is).declared ∙ all_called_same p source k named }
 
 pub paths_law : PathsLaw
-paths_law t y read accepted is = paths_are t y is (plain_law t read accepted) (accepted_own t read accepted) (read_few t.program read)
+paths_law t y read accepted is = paths_are t y is (plain_law t read accepted) (accepted_own t read accepted) read
 
 pub legend_law : LegendLaw
 legend_law t y r l read accepted is tables named =

@@ -1,13 +1,13 @@
 -- The parameters, the result and the local variables of a routine as the legend has them.
-use Rattle.std.specs.Prelude.{◌≡◌, ℕ, if◌then◌else◌, Bool, true, false, List, [], ◌∷◌, ◌++◌, length, Option, Some, None, slice_get, unwrap_or}
-use Rattle.cp_tree.specs.Syntax.{Program, Tree}
+use Rattle.std.specs.Prelude.{◌≡◌, ℕ, if◌then◌else◌, Bool, true, false, List, [], ◌∷◌, ◌++◌, Option, Some, None, slice_get}
+use Rattle.cp_tree.specs.Syntax.{Tree}
 use Rattle.cp_meaning.specs.Declarations.{Parameter, RoutineMeaning, Variable}
 use Rattle.cp_meaning.specs.Names.{Name, result_name, same_name}
 use Rattle.cp_meaning.specs.Types.{Ty}
 use Rattle.cp_symbols.specs.Kinds.{Compounds}
 use Rattle.cp_resolved.specs.InStep.{TypeIs}
-use Rattle.cp_resolved.specs.Layouts.{FrameLayout, cell_named}
-use Rattle.cp_resolved.specs.Openings.{Opening, meaning_at, numbering_of, openings_of}
+use Rattle.cp_resolved.specs.Layouts.{cell_named}
+use Rattle.cp_resolved.specs.Openings.{meaning_at, numbering_of}
 use Rattle.cp_resolved.specs.TreeLayouts.{layouts_of}
 use Rattle.cp_legend.specs.declared.legend.LegendParameter.{LegendParameter}
 use Rattle.cp_legend.specs.declared.legend.LegendPassing.{LegendPassing}

@@ -1,5 +1,5 @@
 -- What the laws say of the names of components.
-use Rattle.std.specs.Prelude.{◌≡◌, ◌+◌, ◌<◌, ◌≤◌, ◌==◌, if◌then◌else◌, ℕ, ℤ, List, [], ◌∷◌, ◌++◌, length, Some, map, slice_get, unwrap_or}
+use Rattle.std.specs.Prelude.{◌≡◌, ◌+◌, ◌<◌, ◌≤◌, ℕ, ℤ, List, [], ◌∷◌, length, Some, map, slice_get, unwrap_or}
 use Rattle.cp_tree.specs.Read.{IsRead}
 use Rattle.cp_tree.specs.Syntax.{Tree}
 use Rattle.cp_symbols.specs.declared.symbols.Symbols as code_symbols
@@ -15,8 +15,8 @@ use Rattle.cp_legend.specs.Places.{local_name_in, permanent_name_in, variables_a
 use Rattle.cp_legend.specs.Values.{value_of}
 use Rattle.cp_meaning.specs.Declarations.{Parameter, Variable}
 use Rattle.cp_meaning.specs.Names.{Name}
-use Rattle.cp_meaning.specs.Systems.{program_system, system_of}
-use Rattle.cp_meaning.specs.Types.{Ty, queue_type, array_over, length_of_range}
+use Rattle.cp_meaning.specs.Systems.{program_system}
+use Rattle.cp_meaning.specs.Types.{Ty}
 use Rattle.cp_meaning.specs.Values.{Choice, Value}
 use Rattle.cp_symbols.specs.declared.kinds.CellType.{CellType}
 use Rattle.cp_symbols.specs.Kinds.{Compounds, most}
@@ -28,10 +28,10 @@ use Rattle.cp_resolved.specs.Resolved.{StandsAt}
 use Rattle.cp_resolved.specs.Small.{Each}
 use Rattle.cp_resolved.specs.TreeLayouts.{layouts_of}
 use Rattle.cp_legend_laws.specs.Called.{all_called, called_in_legend, tabled}
-use Rattle.cp_legend_laws.specs.Paths.{called_in_language, index_text}
+use Rattle.cp_legend_laws.specs.Paths.{called_in_language}
 use Rattle.cp_legend_laws.specs.PlacesTold.{part_text}
 use Rattle.cp_legend_laws.specs.Routines.{RoutineIsTold, local_name, own_variables}
-use Rattle.cp_legend_laws.specs.ValuesTold.{value_told}
+use Rattle.cp_legend_laws.specs.ValuesTold.{HasMembers, value_numbered, value_told}
 
 -- The legend of a tree has all components of its tables, in their order, each under the path of a declared part of the system type that it has in the tables.
 pub record ComponentsLineUp (t : Tree) (s : code_symbols.Symbols) : Type 0 where
@@ -95,28 +95,6 @@ PermanentsAre t l = (k : ℕ) → k ≤ program_system t.program → AreVariable
 abbrev pub PermanentsLaw : Type 0
 PermanentsLaw = (t : Tree) (s : code_symbols.Symbols) (r : Tables) (l : code_legend.Legend) → IsRead t.program → IsAccepted t → AreSymbolsOf s (whole t) → plain r ≡ laid t → IsLegendOf l (source_seen s) r.components → PermanentsAre t (legend_seen l)
 
--- ---- queues
-
--- how many queues a variable is: one, or one for each index
-abbrev pub queues_in : Ty → ℕ
-queues_in queue_type = 1
-queues_in (array_over r queue_type) = length_of_range r
-queues_in u = 0
-
--- the name of one of them: its variable, with its index if there are others
-abbrev pub queue_text : Name → Ty → (place : ℕ) → List ℕ
-queue_text x (array_over r u) n = if length_of_range r == 1 then x else x ++ index_text r n
-queue_text x u n = x
-
--- In a component, the cell of each queue that its system type declares is told under the name of the queue.
-abbrev pub QueuesAreNamed : Tree → legend.Legend → Type 0
-QueuesAreNamed t l =
-    (c : Named) → c.system ≤ program_system t.program →
-    Each (λ (v : Variable). (n : ℕ) → n < queues_in v.ty → permanent_name_in l.constants l.shapes l.permanents (Some c) (c.base + (((layouts_of t).systems c.system).slots v.name + n)) 1 ≡ queue_text v.name v.ty n) (system_of t.program c.system).variables
-
-abbrev pub QueuesLaw : Type 0
-QueuesLaw = (t : Tree) (s : code_symbols.Symbols) (r : Tables) (l : code_legend.Legend) → IsRead t.program → IsAccepted t → AreSymbolsOf s (whole t) → plain r ≡ laid t → IsLegendOf l (source_seen s) r.components → QueuesAreNamed t (legend_seen l)
-
 -- ---- the parameters and variables of routines
 
 -- Each routine of the legend is told with the parameters, variables and the result of the language's.
@@ -128,11 +106,11 @@ LocalsLaw = (t : Tree) (s : code_symbols.Symbols) (r : Tables) (l : code_legend.
 
 -- ---- values
 
--- Wherever the cells of a value of this type stand, they are told as this value.
-abbrev pub IsTold : Tree → legend.Legend → Ty → Type 0
-IsTold t l u =
-    (shape : CellType) (w : Value) (cells : List ℤ) (at : ℕ) → TypeIs (numbering_of t.program) l.shapes u shape → HasType u w → StandsAt cells at (encode w) → length cells ≤ most →
-    value_of l.constants l.shapes cells shape at ≡ value_told u w
+-- Wherever the cells of a value of this type stand, they are told as this value, with the members of sets by their numbers; and so by their names, if each set in it has members of its base alone.
+pub record IsTold (t : Tree) (l : legend.Legend) (u : Ty) : Type 0 where
+  pub numbered : (shape : CellType) (w : Value) (cells : List ℤ) (at : ℕ) → TypeIs (numbering_of t.program) l.shapes u shape → HasType u w → StandsAt cells at (encode w) → length cells ≤ most →
+      value_of l.constants l.shapes cells shape at ≡ value_numbered t.program u w
+  pub named : (w : Value) → HasType u w → HasMembers u w → value_numbered t.program u w ≡ value_told u w
 
 -- of the type of each permanent variable of a system type, and of each parameter and variable of a routine
 pub record ValuesAreTold (t : Tree) (l : legend.Legend) : Type 0 where

@@ -1,6 +1,6 @@
 //! Laws over the definitions alone.
 
-ghost use Rattle.cp_legend_laws.specs.Statements.{ComponentsLaw, LegendLaw, PathsLaw, PermanentsLaw, QueuesLaw, RoutinesLaw};
+ghost use Rattle.cp_legend_laws.specs.Statements.{ComponentsLaw, LegendLaw, LocalsLaw, PathsLaw, PermanentsLaw, PlacesLaw, RoutinesLaw, ValuesLaw};
 
 /// A legend has all components of the tables, in their order, each under the path of a part that is declared of its system type.
 pub fn law_components()
@@ -27,7 +27,17 @@ pub fn law_permanents()
     ensures { PermanentsLaw }
 {}
 
-/// In each component, the cell of a queue that its system type declares is told under the name of that queue.
-pub fn law_queues()
-    ensures { QueuesLaw }
+/// The cells of each part of a variable are told under its name, with the fields and indices that lead to it: of permanent variables in each component, and of the variables of each routine.
+pub fn law_places()
+    ensures { PlacesLaw }
+{}
+
+/// Each routine of a legend has the parameters, the result and the local variables of the tree's: each under its name, at its cell, and with its type.
+pub fn law_locals()
+    ensures { LocalsLaw }
+{}
+
+/// Wherever the cells of a value stand, for a variable or a parameter, they are told as this value.
+pub fn law_values()
+    ensures { ValuesLaw }
 {}

@@ -3,4 +3,7 @@
 
 pub mod laws;
 
-pub use laws::{law_components, law_legend, law_paths, law_permanents, law_queues, law_routines};
+pub use laws::{
+    law_components, law_legend, law_locals, law_paths, law_permanents, law_places, law_routines,
+    law_values,
+};
