@@ -21,6 +21,7 @@ pub mod PassedNow
 pub mod Paths
 pub mod PlacesAgree
 pub mod QueuesWaited
+pub mod ReferencesFilled
 pub mod RoutinesExecuted
 pub mod RoutinesMeant
 pub mod StandingsAgree

@@ -57,6 +57,7 @@ use Rattle.cp_story_laws.specs.Passed.{argument_told, arguments_told, content_gi
 use Rattle.cp_story_laws.specs.Places.{parameters_in, place_text, result_in, routine_meant}
 use Rattle.cp_story_laws.proofs.CalledRoutines.{HasName}
 use Rattle.cp_story_laws.proofs.PlacesAgree as agree
+use Rattle.cp_story_laws.proofs.ReferencesFilled.{references_filled}
 use Rattle.cp_story_laws.proofs.RoutinesMeant.{meant_at}
 use Rattle.cp_story_laws.proofs.Together as together
 
@@ -104,7 +105,6 @@ top_call r l m (c ∷ cs) f fs h = (h.0, h.1)
 
 module _ (t : Tree) (r : Tables) (g : slot_gates.Gates) (l : Legend) (read_so : IsRead t.program) (ok : IsAccepted t) (same : plain r ≡ laid t) (tables : map tabled l.components ≡ r.components) (paths : map called_in_legend l.components ≡ map (called_in_language t.program) (components_of t.program))
     (names : map (λ (n : RoutineNames). n.name) l.routines ≡ map routine_text (openings_of t.program)) (places : PlacesAreNamed t l) (locals : RoutinesAreTold t l) (values : ValuesAreTold t l)
-    (filled : (n : ℕ) (x : Name) (u : Ty) → look x ((layouts_of t).frames n).references ≡ Some u → 1 ≤ cells_of u)
     (s : State) (m : Machine) (sim : together.Related t r g read_so ok same s m) (p : ℕ) (there : p < length m.threads) (runs : Runs (ground_of t r) t.program (layouts_of t) (meaning.process_at s.processes p) (thread_at m.threads p))
     (has : HasName (slice_get (openings_of t.program) (thread_at m.threads p).frame.routine)) where
   abbrev lay : Layouts
@@ -194,7 +194,7 @@ module _ (t : Tree) (r : Tables) (g : slot_gates.Gates) (l : Legend) (read_so : 
     name_told : place_named l thread w ≡ place_text v place
     name_told =
         ap₂ (λ (o : Option Address) (k : ℕ). name_at l thread.stack o k) address many
-        ∙ agree.place_told t r g l read_so ok same tables paths names places locals s m sim p there runs place q.ty a at.2 (filled n q.name q.ty refers_so)
+        ∙ agree.place_told t r g l read_so ok same tables paths names places locals s m sim p there runs place q.ty a at.2 (references_filled t read_so ok n q.name q.ty refers_so)
 
     value_is : IsTold t l q.ty → slots.value_at l m.permanents thread.cells (address_of thread w) w.shape ≡ value_told q.ty (value_at v place)
     value_is told_so = ap (λ (o : Option Address). slots.value_at l m.permanents thread.cells o w.shape) address ∙ value_there t l (memory_at m p) q.ty (value_at v place) w.shape a few_permanents few_cells told_so is.shape lies

@@ -1,5 +1,5 @@
 -- What a story tells that a call is given as it enters a monitor, and gives back as it ends, is what the meaning says.
-use Rattle.std.proofs.Common.{◌≡◌, ◌∙◌, ℕ, ◌<◌, ◌≤◌, ◌&&◌, Bool, true, false, List, [], ◌∷◌, Option, Some, map, length, slice_get, ap, sym, refl, subst, arith}
+use Rattle.std.proofs.Common.{◌≡◌, ◌∙◌, ℕ, ◌<◌, ◌&&◌, Bool, true, false, List, [], ◌∷◌, Option, Some, map, length, slice_get, ap, sym, refl, subst, arith}
 use Rattle.std.proofs.lemmas.Option.{slice_get-get_or}
 use Rattle.cp_tree.specs.Read.{IsRead}
 use Rattle.cp_tree.specs.Syntax.{Designator, Expressions, Tree, invoke}
@@ -18,15 +18,13 @@ use Rattle.cp_machine.specs.declared.process.Status.TheVariants as status
 use Rattle.cp_machine.specs.Machine.{Machine, no_thread, thread_at}
 use Rattle.cp_meaning.specs.Components.{components_of}
 use Rattle.cp_meaning.specs.Expressions.{meaning_here}
-use Rattle.cp_meaning.specs.Names.{Name}
 use Rattle.cp_meaning.specs.Scopes.{Meaning, continue_procedure, standard_meaning}
 use Rattle.cp_meaning.specs.State as meaning
 use Rattle.cp_meaning.specs.State.{Call, CallKind, Gates, Item, State, Status, at_gate, current, delayed, ended, entry_routine, initial_statement, is_entry_kind, local_routine, own_statement, ready, return, statement_item, unstarted}
 use Rattle.cp_meaning.specs.Steps.{line_at, step_of, view_of}
-use Rattle.cp_meaning.specs.Types.{Ty}
 use Rattle.cp_run.specs.Slots.{slots}
 use Rattle.cp_run.specs.System.{System}
-use Rattle.cp_resolved.specs.Layouts.{Layouts, cells_of, look}
+use Rattle.cp_resolved.specs.Layouts.{Layouts}
 use Rattle.cp_resolved.specs.Openings.{openings_of}
 use Rattle.cp_resolved.specs.TreeLayouts.{layouts_of}
 use Rattle.cp_refine.specs.InStep.{CanGo, GoInStep}
@@ -42,7 +40,7 @@ use Rattle.cp_story_laws.specs.Passed as on_names
 use Rattle.cp_story_laws.proofs.CalledInProgram.{calls_routine}
 use Rattle.cp_story_laws.proofs.Entering.{enters_seen, step_enters}
 use Rattle.cp_story_laws.proofs.EntersRoutine.{enters_routine}
-use Rattle.cp_story_laws.proofs.NamedCalls.{AreNamed, entry_named}
+use Rattle.cp_story_laws.proofs.NamedCalls.{AreNamed, admitted_named, entry_named, opening_named, step_named}
 use Rattle.cp_story_laws.proofs.PassedAgree.{arguments_same, given_same}
 use Rattle.cp_story_laws.proofs.Together as together
 
@@ -64,8 +62,7 @@ continues_as (Some (standard_meaning continue_procedure)) e = refl
 continues_as _ e = absurd (cc)
 
 module _ (t : Tree) (r : Tables) (g : slot_gates.Gates) (l : Legend) (read : IsRead t.program) (ok : IsAccepted t) (same : plain r ≡ laid t) (tables : map tabled l.components ≡ r.components) (paths : map called_in_legend l.components ≡ map (called_in_language t.program) (components_of t.program))
-    (names : map (λ (n : RoutineNames). n.name) l.routines ≡ map routine_text (openings_of t.program)) (places : PlacesAreNamed t l) (locals : RoutinesAreTold t l) (values : ValuesAreTold t l)
-    (filled : (n : ℕ) (x : Name) (u : Ty) → look x ((layouts_of t).frames n).references ≡ Some u → 1 ≤ cells_of u) where
+    (names : map (λ (n : RoutineNames). n.name) l.routines ≡ map routine_text (openings_of t.program)) (places : PlacesAreNamed t l) (locals : RoutinesAreTold t l) (values : ValuesAreTold t l) where
   abbrev h : Gates
   h = named_gates g
 
@@ -83,6 +80,17 @@ module _ (t : Tree) (r : Tables) (g : slot_gates.Gates) (l : Legend) (read : IsR
 
   abbrev lay : Layouts
   lay = layouts_of t
+
+  -- ---- frames that are left by a return, in each state of a run
+
+  pub named_start : AreNamed (openings_of t.program) on_slots.start
+  named_start = opening_named (openings_of t.program) r g
+
+  pub named_step : (m : Machine) (p : ℕ) → AreNamed (openings_of t.program) m → AreNamed (openings_of t.program) (on_slots.step m p)
+  named_step m p k = step_named (openings_of t.program) r m p k (calls_routine t r same)
+
+  pub named_admission : (m : Machine) (p : ℕ) → AreNamed (openings_of t.program) m → AreNamed (openings_of t.program) (on_slots.admit m p)
+  named_admission m p k = admitted_named (openings_of t.program) m p k
 
   module _ (s : State) (m : Machine) (p : ℕ) (sim : Related s m) (can : CanGo on_states s p) where
     going : Going (ground_of t r) t.program lay s m p
@@ -120,7 +128,7 @@ module _ (t : Tree) (r : Tables) (g : slot_gates.Gates) (l : Legend) (read : IsR
         let less : p < length s2.processes = (let a = sim2.represents.process_count in omega (arith, a, many2)) in
         let runs = runs_of (meaning.process_at s2.processes p).status (thread_at m2.threads p).status (sim2.represents.processes p less).status entered.0 in
         let called = enters_routine r (openings_of t.program) m p k.many (calls_routine t r same) e in
-        ap (arguments l) (slice_get-get_or m2.threads p no_thread many2) ∙ arguments_same t r g l read ok same tables paths names places locals values filled s2 m2 sim2 p many2 runs called
+        ap (arguments l) (slice_get-get_or m2.threads p no_thread many2) ∙ arguments_same t r g l read ok same tables paths names places locals values s2 m2 sim2 p many2 runs called
 
     -- ---- a call that ends
 
@@ -141,4 +149,4 @@ module _ (t : Tree) (r : Tables) (g : slot_gates.Gates) (l : Legend) (read : IsR
         let entry = ends_entry process.items refl e in
         let has = entry_named (openings_of t.program) (ground_of t r) t.program lay thread.stack thread.frame process.calls process.items k.stack entry (named_so p) in
         ap (given_back l m.permanents) (slice_get-get_or m.threads p no_thread k.many)
-        ∙ given_same t r g l read ok same tables paths names places locals values filled s m sim p k.many (record { stack = k.stack; calls = k.calls }) has
+        ∙ given_same t r g l read ok same tables paths names places locals values s m sim p k.many (record { stack = k.stack; calls = k.calls }) has
