@@ -2,8 +2,8 @@
 
 ghost use Rattle.cp_story_laws.specs.Statements.{EventsLaw, MonitorsLaw, OpenCallsLaw, QueuesLaw, ValuesLaw, WaitsLaw};
 
-/// Each event of a story is the one of the program on its own names: its process, what it is, the line, the entry call with the name of its routine and the displayed value, the choice before it, who is
-/// woken and who is let in, how each process stands then, and who is inside each monitor.
+/// Each event of a story is the one of the program on its own names: its process, what it is, the line, the entry call with the name of its routine, its queue, what a call is given and gives back, the
+/// displayed value, the choice before it, who is woken and who is let in, how each process stands then, who is inside each monitor, and which variables of monitors changed.
 pub fn law_events()
     ensures { EventsLaw }
 {}
