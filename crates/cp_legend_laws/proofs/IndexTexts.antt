@@ -54,7 +54,7 @@ module _ (cs : List Name) (k : Numbering) where
       let le : n ≤ length xs - 1 = search (arith, h) in
       let small : n ≤ 32767 = omega (arith, le, few) in
       let e : min n 32767 ≡ n = omega (arith, small) in
-      let one : int_le (pos n) (pos (length xs - 1)) ≡ true = search (arith, le) in
+      let one : int_le (pos n) (pos (length xs - 1)) ≡ true = search (arith, h) in
       ap (λ w. ordinal_text cs (base_of k (enumerated at xs)) w) (ap pos e)
       ∙ (ap (λ (b : Bool). if b then constant_text (slice_get cs (plus (k.firsts at) n)) (pos n) else signed_decimal (pos n)) one ∙ ap (λ o. constant_text o (pos n)) (known.there n (omega (arith, le, some))))
   value_same (enumerated at xs) (negsuc n) known l h = absurd (let w : false ≡ true = l in cc)

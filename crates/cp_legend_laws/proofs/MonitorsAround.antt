@@ -18,7 +18,6 @@ use Rattle.cp_meaning.specs.Components.{PathStep, Path, Listed, around, step_dow
 use Rattle.cp_meaning.proofs.ComponentTree.{around_step}
 use Rattle.cp_resolved.specs.Declared.{IsVisible}
 use Rattle.cp_resolved.proofs.frames.FrameCells.{each_both}
-use Rattle.cp_resolved.proofs.declarations.EnumerationsRead.{read_few}
 use Rattle.cp_resolved.proofs.declarations.Plain.{plain_law}
 use Rattle.cp_resolved.proofs.declarations.SystemVariables.{accepted_own}
 use Rattle.cp_legend.specs.declared.legend.Legend as code_legend
@@ -27,6 +26,7 @@ use Rattle.cp_legend_laws.specs.Called.{Called, Calling, called_at, called_parts
 use Rattle.cp_legend_laws.specs.Paths.{called_in_language, system_below, type_in_system}
 use Rattle.cp_legend_laws.proofs.NamedPaths.{IsNamed, along_last, reached, text_of, variables_called}
 use Rattle.cp_legend_laws.proofs.PartSystems.{systems_of}
+use Rattle.cp_resolved.proofs.agreeing.AgreeingWritten.{each_right}
 use Rattle.cp_legend_laws.proofs.PathsOfTree as tree
 use Rattle.cp_legend_laws.proofs.Walking.{each_there}
 
@@ -255,10 +255,10 @@ module _ (p : Program) where
 pub legend_told : (t : Tree) (y : code_symbols.Symbols) (r : Tables) (l : code_legend.Legend) → IsRead t.program → IsAccepted t → AreSymbolsOf y (whole t) → plain r ≡ laid t → IsLegendOf l (source_seen y) r.components → (told : Path → Option ℕ) → told [] ≡ None →
     AreTold r.components told 0 (language.components_of t.program) → map (λ (c : Named). c.monitor) (legend_seen l).components ≡ map (λ (q : Listed). told q.path) (language.components_of t.program)
 legend_told t y r l read accepted is tables seen told top e =
-    let h = tree.named t y is (plain_law t read accepted) (accepted_own t read accepted) (read_few t.program read) in
+    let h = tree.named t y is (plain_law t read accepted) (accepted_own t read accepted) read in
     ap (λ (cs : List Named). map (λ (c : Named). c.monitor) cs) seen.components ∙ all_told t.program (source_seen y) _ h r.components told top e
 
 -- each name of a component variable stands for it
 pub types_visible : (t : Tree) → IsRead t.program → IsAccepted t → (n : ℕ) → Each (λ (v : Variable). type_in_system t.program n v.name ≡ v.ty) (system_of t.program n).variables
 types_visible t read accepted n =
-    tree.visible_types t.program n (system_of t.program n).variables (tree.each_right (IsVisible (system_of t.program n)) (parameter_variables (system_of t.program n).parameters) (system_of t.program n).variables ((accepted_own t read accepted).visible n))
+    tree.visible_types t.program n (system_of t.program n).variables (each_right (IsVisible (system_of t.program n)) (parameter_variables (system_of t.program n).parameters) (system_of t.program n).variables ((accepted_own t read accepted).visible n))

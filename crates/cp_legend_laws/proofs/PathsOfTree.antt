@@ -10,6 +10,7 @@ use Rattle.cp_resolved.specs.Declared.{AreOwn, IsVisible}
 use Rattle.cp_resolved.specs.Names.{IsPlain}
 use Rattle.cp_resolved.specs.Openings.{numbering_of}
 use Rattle.cp_meaning.specs.Steps.{parameter_variables}
+use Rattle.cp_resolved.proofs.agreeing.AgreeingWritten.{each_right}
 use Rattle.cp_resolved.proofs.names.Opened.{opened_all}
 use Rattle.cp_resolved.proofs.components.ComponentsOfTree.{count_same, low}
 use Rattle.cp_resolved.proofs.counts.FewReferences.{each_weaker}
@@ -26,10 +27,6 @@ use Rattle.cp_legend_laws.proofs.NamedPaths.{parts_from, parts_entries, IsNamed,
 use Rattle.cp_legend_laws.proofs.NamedSystems.{home_entries, Told, told_program, told_of, told_own}
 use Rattle.cp_legend_laws.proofs.PartSystems.{IsHome, type_home, program_home}
 use Rattle.cp_legend_laws.proofs.TypesOfTree.{IsSound, sound_types}
-
-each_right : {A : Type 0} (P : A → Type 0) (xs ys : List A) → Each P (xs ++ ys) → Each P ys
-each_right P [] ys h = h
-each_right P (x ∷ xs) ys h = each_right P xs ys h.1
 
 pub visible_types : (p : Program) (n : ℕ) (vs : List Variable) → Each (IsVisible (system_of p n)) vs → Each (λ (v : Variable). type_in_system p n v.name ≡ v.ty) vs
 visible_types p n [] h = tt

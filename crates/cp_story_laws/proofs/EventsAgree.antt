@@ -61,7 +61,7 @@ use Rattle.cp_story_laws.proofs.Entered.{call_same, scope_same}
 use Rattle.cp_story_laws.proofs.Entering.{step_enters, enters_seen}
 use Rattle.cp_story_laws.proofs.EntersRoutine.{enters_routine}
 use Rattle.cp_story_laws.proofs.FoldsInStep.{KeepRelated, EndRelated, ends_related}
-use Rattle.cp_story_laws.proofs.NamedCalls.{AreNamed}
+use Rattle.cp_story_laws.proofs.passed.NamedCalls.{AreNamed}
 use Rattle.cp_story_laws.proofs.NextLines.{lines_same}
 use Rattle.cp_story_laws.proofs.Together as together
 use Rattle.cp_story_laws.proofs.OpenCalls.{each_of_none, stack_kept, last_kept, pushed_kept, popped_kept}
@@ -324,7 +324,6 @@ module _ (t : Tree) (r : Tables) (g : slot_gates.Gates) (l : Legend) (Held : Lis
       pub ending : (s : State) (m : Machine) (p : ℕ) → Related s m → CanGo on_names s p → (aim_in r m p).ends_call ≡ ends_now t s p
       pub given : (s : State) (m : Machine) (p : ℕ) → Related s m → CanGo on_names s p → AreNamed (openings_of t.program) m → ends_now t s p ≡ true → given_back l m.permanents (slice_get m.threads p) ≡ passed.given_back (view_of t.program s p)
       pub begun : (s : State) (m : Machine) (p : ℕ) → Related s m → CanGo on_names s p → on_slots.event m p ≡ step.Kernel Enter → arguments l (slice_get (on_slots.step m p).threads p) ≡ arguments_told (view_of t.program (on_names.step s p) p)
-
       -- each frame that a return leaves executes a routine that has a name
       pub named_start : AreNamed (openings_of t.program) on_slots.start
       pub named_step : (m : Machine) (p : ℕ) → AreNamed (openings_of t.program) m → AreNamed (openings_of t.program) (on_slots.step m p)

@@ -44,7 +44,6 @@ use Rattle.cp_story.specs.Story.{NamedQueue}
 use Rattle.cp_story_laws.specs.Aims.{no_queue, queue_aimed}
 use Rattle.cp_story_laws.specs.Events as names
 use Rattle.cp_story_laws.specs.Events.{EntryCall, NamedTelling, stack_of, names_teller, names_telling}
-use Rattle.cp_story_laws.specs.MonitorNumbers.{monitor_of}
 use Rattle.cp_story_laws.specs.Lines.{next_line}
 use Rattle.cp_story_laws.specs.OpenCalls.{Entered, entered_by, entry_of, monitors_entered}
 use Rattle.cp_story_laws.specs.Standings.{is_queued, resumed, standings}

@@ -25,12 +25,12 @@ use Rattle.cp_meaning.specs.Components.{components_of}
 use Rattle.cp_meaning.specs.State.{Component}
 use Rattle.cp_resolved.specs.Openings.{openings_of}
 use Rattle.cp_story_laws.specs.Statements.{EventsLaw, WaitsLaw}
-use Rattle.cp_story_laws.proofs.CellsHeld.{Held, held}
-use Rattle.cp_story_laws.proofs.ChangesAgree.{held_same, legend_monitors}
-use Rattle.cp_story_laws.proofs.EndsAgree.{ends_same}
+use Rattle.cp_story_laws.proofs.changes.CellsHeld.{Held, held}
+use Rattle.cp_story_laws.proofs.changes.ChangesAgree.{held_same, legend_monitors}
+use Rattle.cp_story_laws.proofs.aims.EndsAgree.{ends_same}
 use Rattle.cp_story_laws.proofs.EventsAgree.{StepsAgree, tells_events}
-use Rattle.cp_story_laws.proofs.PassedNow.{arguments_now, given_now, named_admission, named_start, named_step}
-use Rattle.cp_story_laws.proofs.QueuesAimed.{queue_same}
+use Rattle.cp_story_laws.proofs.passed.PassedNow.{arguments_now, given_now, named_admission, named_start, named_step}
+use Rattle.cp_story_laws.proofs.aims.QueuesAimed.{queue_same}
 use Rattle.cp_story_laws.proofs.WaitsAgree.{tells_waits}
 
 module _ (t : Tree) (y : Symbols) (r : Tables) (k : code_legend.Legend) (g : Gates) (read : IsRead t.program) (ok : IsAccepted t) (symbols : AreSymbolsOf y (whole t)) (same : plain r ≡ laid t) (legend : IsLegendOf k (source_seen y) r.components) where

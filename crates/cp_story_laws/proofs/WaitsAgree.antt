@@ -8,7 +8,7 @@ use Rattle.cp_tree.specs.Syntax.{Program, Tree}
 use Rattle.cp_layout.specs.Laid.{plain, laid}
 use Rattle.cp_slots.specs.Tables.{Tables}
 use Rattle.cp_lawful.specs.Accepted.{IsAccepted}
-use Rattle.cp_legend.specs.Names.{Legend, RoutineNames, legend_seen}
+use Rattle.cp_legend.specs.Names.{Legend, RoutineNames}
 use Rattle.cp_legend_laws.specs.Called.{called_in_legend, tabled}
 use Rattle.cp_legend_laws.specs.Paths.{called_in_language}
 use Rattle.cp_legend_laws.specs.Statements.{routine_text}

@@ -1,4 +1,4 @@
-use Rattle.cp_story_laws.proofs.QueuesWaited.{queues_law}
+use Rattle.cp_story_laws.proofs.aims.QueuesWaited.{queues_law}
 use Rattle.cp_story_laws.proofs.laws.law_queues.Goals as goal
 
 pub returns : goal.returns

@@ -1,8 +1,8 @@
 -- What a story tells that a call is given as it enters a monitor, and gives back as it ends, is what the meaning says.
-use Rattle.std.proofs.Common.{◌≡◌, ◌∙◌, ℕ, ◌<◌, ◌&&◌, Bool, true, false, List, [], ◌∷◌, Option, Some, map, length, slice_get, ap, sym, refl, subst, arith}
+use Rattle.std.proofs.Common.{◌≡◌, ◌∙◌, ℕ, ◌<◌, ◌&&◌, Bool, true, false, List, ◌∷◌, Option, Some, map, length, slice_get, ap, sym, refl, arith}
 use Rattle.std.proofs.lemmas.Option.{slice_get-get_or}
 use Rattle.cp_tree.specs.Read.{IsRead}
-use Rattle.cp_tree.specs.Syntax.{Designator, Expressions, Tree, invoke}
+use Rattle.cp_tree.specs.Syntax.{Tree, invoke}
 use Rattle.cp_layout.specs.Laid.{plain, laid}
 use Rattle.cp_slots.specs.Tables.{Tables}
 use Rattle.cp_lawful.specs.Accepted.{IsAccepted}
@@ -35,13 +35,13 @@ use Rattle.cp_refine.proofs.HoldsInReached.{reached_stands}
 use Rattle.cp_refine.proofs.Meaning.{known}
 use Rattle.cp_refine.proofs.steps.Going.{Going}
 use Rattle.cp_story.specs.Passed.{arguments, given_back}
-use Rattle.cp_story_laws.specs.Aims.{ends_call, ends_first, ends_now, is_continue}
+use Rattle.cp_story_laws.specs.Aims.{ends_first, ends_now, is_continue}
 use Rattle.cp_story_laws.specs.Passed as on_names
 use Rattle.cp_story_laws.proofs.CalledInProgram.{calls_routine}
 use Rattle.cp_story_laws.proofs.Entering.{enters_seen, step_enters}
 use Rattle.cp_story_laws.proofs.EntersRoutine.{enters_routine}
-use Rattle.cp_story_laws.proofs.NamedCalls.{AreNamed, admitted_named, entry_named, opening_named, step_named}
-use Rattle.cp_story_laws.proofs.PassedAgree.{arguments_same, given_same}
+use Rattle.cp_story_laws.proofs.passed.NamedCalls.{AreNamed, admitted_named, entry_named, opening_named, step_named}
+use Rattle.cp_story_laws.proofs.passed.PassedAgree.{arguments_same, given_same}
 use Rattle.cp_story_laws.proofs.Together as together
 
 -- ---- what ends a call

@@ -28,8 +28,8 @@ use Rattle.cp_meaning.specs.Types.{Ty}
 use Rattle.cp_resolved.specs.Small.{Each}
 use Rattle.cp_resolved.proofs.frames.FrameCells.{each_both}
 use Rattle.cp_legend_laws.proofs.MonitorsAround.{HasBelow, children_have, listed_each}
-use Rattle.cp_story_laws.proofs.NamesInside.{IsSome}
-use Rattle.cp_story_laws.proofs.TokensAfter as after
+use Rattle.cp_story_laws.proofs.changes.NamesInside.{IsSome}
+use Rattle.cp_story_laws.proofs.changes.TokensAfter as after
 
 -- ---- tokens
 

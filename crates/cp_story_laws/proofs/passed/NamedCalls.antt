@@ -1,5 +1,5 @@
 -- In each state of the slot machine a frame that is left by a return executes a routine, which has a name, and not an initial statement.
-use Rattle.std.proofs.Common.{◌≡◌, ◌∙◌, ◌⊎◌, inl, inr, ℕ, ◌<◌, ◌≤◌, ◌==◌, Bool, true, false, if◌then◌else◌, List, [], ◌∷◌, length, Option, Some, None, Result, Ok, Err, ap, map, sym, refl, subst, arith}
+use Rattle.std.proofs.Common.{◌≡◌, ◌∙◌, ◌⊎◌, inl, inr, ℕ, ◌<◌, ◌≤◌, ◌==◌, Bool, true, false, if◌then◌else◌, List, [], ◌∷◌, length, Option, Some, None, Result, Ok, Err, ap, map, sym, subst, arith}
 use Rattle.std.proofs.lemmas.Bool.{cases_lt}
 use Rattle.std.proofs.lemmas.List.{get_or-map, get_or_past, length-map}
 use Rattle.std.specs.Ordering.{int_eq}
@@ -28,12 +28,12 @@ use Rattle.cp_machine.specs.declared.process.Status.{Status}
 use Rattle.cp_machine.specs.declared.process.Status.TheVariants.{AtGate, Delayed, Ended, Ready}
 use Rattle.cp_machine.specs.declared.state.TheConstants.{MOST_SHOWN}
 use Rattle.cp_machine.specs.Calls.{called, called_in, called_by, started, start_inside, delayed_in, delay_at, continue_at, continued_from, frame_behind, left, opened}
-use Rattle.cp_machine.specs.Kernel.{continued, delayed, entered, entered_by, first_in, goes_in, let_in, let_in_by, one_in, resumed, waits_in}
-use Rattle.cp_machine.specs.Machine.{Machine, Thread, is_initialised, is_uninitialised, is_unstarted, monitor_at, no_thread, phase_at, thread_at, with_stack, with_status, with_thread}
+use Rattle.cp_machine.specs.Kernel.{continued, delayed, entered_by, first_in, let_in, let_in_by, one_in, resumed, waits_in}
+use Rattle.cp_machine.specs.Machine.{Machine, Thread, is_initialised, is_uninitialised, is_unstarted, monitor_at, no_thread, phase_at, thread_at, with_stack, with_status}
 use Rattle.cp_machine.specs.Memory.{address_of, arguments_of, component_of, parameters_bound, set_of, value_of}
 use Rattle.cp_machine.specs.Opening.{admitted, admitted_at, opening, still, unstarted_thread}
 use Rattle.cp_machine.specs.Stack.{from_end, rest_of}
-use Rattle.cp_machine.specs.Statements.{Stepped, arm_for, fault, gone_on, is_beyond, next_value, succeeded, with_value}
+use Rattle.cp_machine.specs.Statements.{Stepped, arm_for, gone_on, is_beyond, next_value, succeeded, with_value}
 use Rattle.cp_machine.specs.Step.{act, step_at, take_top}
 use Rattle.cp_meaning.proofs.Frames.{at_set}
 use Rattle.cp_meaning.specs.State as named

@@ -32,7 +32,7 @@ use Rattle.cp_legend_laws.specs.Statements.{AreVariables, IsVariable, Permanents
 use Rattle.cp_legend_laws.specs.ValuesTold.{value_told}
 use Rattle.cp_legend_laws.proofs.MonitorsAround.{IsReached, all_reached, types_visible}
 use Rattle.cp_legend_laws.proofs.NamedPaths.{reached}
-use Rattle.cp_legend_laws.proofs.PathsOfTree.{each_right}
+use Rattle.cp_resolved.proofs.agreeing.AgreeingWritten.{each_right}
 use Rattle.cp_machine.specs.declared.gates.Gates as slot_gates
 use Rattle.cp_machine.specs.Machine.{Machine}
 use Rattle.cp_meaning.specs.Components.{Listed, Path, components_of}
@@ -74,13 +74,13 @@ use Rattle.cp_story_laws.specs.Changes as changes
 use Rattle.cp_story_laws.specs.Changes.{changes_told, is_queues, monitor_around, monitor_with, name_inside, value_there}
 use Rattle.cp_story_laws.specs.MonitorNumbers.{monitor_of}
 use Rattle.cp_story_laws.specs.SameValues.{same_value}
-use Rattle.cp_story_laws.proofs.CellsHeld.{CellsHold, Held, held as held_by, permanent_memory}
+use Rattle.cp_story_laws.proofs.changes.CellsHeld.{CellsHold, Held, held as held_by, permanent_memory}
 use Rattle.cp_story_laws.proofs.Entered.{number_is}
-use Rattle.cp_story_laws.proofs.MonitorsTold.{IsAround, MonitorsAreTold, is_around, monitors_told, number_told, program_first, same_around}
-use Rattle.cp_story_laws.proofs.NamesInside.{IsSome, name_between}
-use Rattle.cp_story_laws.proofs.NamesSpelled.{paths_named}
+use Rattle.cp_story_laws.proofs.changes.MonitorsTold.{IsAround, MonitorsAreTold, is_around, monitors_told, number_told, program_first, same_around}
+use Rattle.cp_story_laws.proofs.changes.NamesInside.{IsSome, name_between}
+use Rattle.cp_story_laws.proofs.changes.NamesSpelled.{paths_named}
 use Rattle.cp_story_laws.proofs.Paths.{monitor_path}
-use Rattle.cp_story_laws.proofs.SameCells.{cells_same}
+use Rattle.cp_story_laws.proofs.changes.SameCells.{cells_same}
 use Rattle.cp_story_laws.proofs.Together as together
 
 -- ---- lists

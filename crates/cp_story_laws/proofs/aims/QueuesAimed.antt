@@ -72,8 +72,8 @@ use Rattle.cp_story_laws.specs.Aims as aims
 use Rattle.cp_story_laws.specs.Aims.{component_of, first_queue, place_found, queue_aimed, queue_meant, queue_of_item}
 use Rattle.cp_story_laws.specs.MonitorNumbers.{monitor_of}
 use Rattle.cp_story_laws.specs.Places.{place_text}
-use Rattle.cp_story_laws.proofs.PlainItems.{call_plain, comes_to_none, item_plain, plain_at}
-use Rattle.cp_story_laws.proofs.QueuePlaces.{monitor_told, name_told}
+use Rattle.cp_story_laws.proofs.aims.PlainItems.{call_plain, comes_to_none, item_plain, plain_at}
+use Rattle.cp_story_laws.proofs.aims.QueuePlaces.{monitor_told, name_told}
 use Rattle.cp_story_laws.proofs.Together as together
 
 -- ---- the queue of an action, by its view

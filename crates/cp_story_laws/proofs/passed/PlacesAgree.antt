@@ -25,7 +25,7 @@ use Rattle.cp_legend_laws.specs.PlacesTold.{part_text}
 use Rattle.cp_legend_laws.specs.Routines.{AreLocals, IsLocal, local_name, own_variables}
 use Rattle.cp_legend_laws.specs.Statements.{LocalIsNamed, PlacesAreNamed, RoutinesAreTold, routine_text}
 use Rattle.cp_machine.specs.declared.gates.Gates as slot_gates
-use Rattle.cp_machine.specs.Fits.{ThreadFits, size_of}
+use Rattle.cp_machine.specs.Fits.{ThreadFits}
 use Rattle.cp_machine.specs.Machine.{Machine, Thread, thread_at}
 use Rattle.cp_machine.specs.Memory.{memory_at}
 use Rattle.cp_meaning.specs.Components.{components_of}
@@ -48,8 +48,8 @@ use Rattle.cp_resolved.proofs.frames.FrameCells.{look_each}
 use Rattle.cp_refine.specs.Law.{ground_of}
 use Rattle.cp_refine.specs.Named.{named_gates}
 use Rattle.cp_refine.specs.Prepared.{Prepared}
-use Rattle.cp_refine.specs.Represents.{BeginsAt, CallHolds, CallIs, CallsHold, InComponent, InFrame, LiesAt, PlaceAt, Runs, frame_above, frames_of, further, own_memory}
-use Rattle.cp_refine.proofs.HoldsInReached.{HoldsInReached, reached_stands}
+use Rattle.cp_refine.specs.Represents.{BeginsAt, CallIs, CallsHold, InComponent, InFrame, LiesAt, PlaceAt, Runs, frame_above, further, own_memory}
+use Rattle.cp_refine.proofs.HoldsInReached.{reached_stands}
 use Rattle.cp_refine.proofs.assignments.Overlaps.{part_ends}
 use Rattle.cp_refine.proofs.control.Control.{top_frame}
 use Rattle.cp_refine.proofs.control.Running.{all_lie}
@@ -59,12 +59,12 @@ use Rattle.cp_story.specs.Passed.{frame_with, name_at, name_in_frame}
 use Rattle.cp_story_laws.specs.Places.{place_text, routine_meant, text_held, text_with, variables_in, variables_of}
 use Rattle.cp_story_laws.specs.Routines.{routine_of}
 use Rattle.cp_story_laws.proofs.CalledRoutines.{HasName}
-use Rattle.cp_story_laws.proofs.FramesFound.{found}
-use Rattle.cp_story_laws.proofs.OwnNames.{HasNoHidden, IsHidden, no_hidden, own_looked, own_or_hidden}
+use Rattle.cp_story_laws.proofs.passed.FramesFound.{found}
+use Rattle.cp_story_laws.proofs.passed.OwnNames.{HasNoHidden, IsHidden, no_hidden, own_looked, own_or_hidden}
 use Rattle.cp_story_laws.proofs.Paths as by_number
 use Rattle.cp_story_laws.proofs.Paths.{owner_component, same_component}
 use Rattle.cp_story_laws.proofs.RoutinesExecuted.{executes_named}
-use Rattle.cp_story_laws.proofs.RoutinesMeant.{HoldsOf, holds_inside, meant_at, own_named}
+use Rattle.cp_story_laws.proofs.passed.RoutinesMeant.{HoldsOf, holds_inside, meant_at, own_named}
 use Rattle.cp_story_laws.proofs.Together as together
 
 no_routine : RoutineNames

@@ -1,5 +1,5 @@
 -- A frame has the own variables of its routine, and the temporary names of the function calls in it, which are names of no own variables.
-use Rattle.std.proofs.Common.{◌≡◌, ◌∙◌, ℕ, ◌<◌, ◌⊎◌, inl, inr, Bool, true, false, if◌then◌else◌, List, [], ◌∷◌, ◌++◌, Option, Some, None, length, ap, sym, refl, subst}
+use Rattle.std.proofs.Common.{◌≡◌, ◌∙◌, ℕ, ◌⊎◌, inl, inr, Bool, true, false, if◌then◌else◌, List, [], ◌∷◌, ◌++◌, Option, Some, None, ap, sym, refl, subst}
 use Rattle.cp_tree.specs.Read.{IsRead}
 use Rattle.cp_tree.specs.Syntax.{Tree}
 use Rattle.cp_slots.specs.Tables.{Tables, routine_at}
@@ -23,14 +23,13 @@ use Rattle.cp_resolved.proofs.agreeing.AgreeingWritten.{each_right}
 use Rattle.cp_resolved.proofs.agreeing.ScopeVariables.{Among, among_right, look_among}
 use Rattle.cp_resolved.proofs.declarations.FramedOfTrees.{accepted_framed}
 use Rattle.cp_resolved.proofs.declarations.Placed.{placed_law}
-use Rattle.cp_resolved.proofs.frames.FrameCells.{each_both, look_each, look_either, look_left, look_right, none_both, none_left, none_right}
+use Rattle.cp_resolved.proofs.frames.FrameCells.{each_both, look_either, look_left, look_right, none_both, none_left, none_right}
 use Rattle.cp_resolved.proofs.frames.FrameKnown.{never_both, no_word, temporary_of}
 use Rattle.cp_resolved.proofs.frames.FrameStands.{is_result}
 use Rattle.cp_resolved.proofs.frames.FramesBegun.{no_parameter}
 use Rattle.cp_legend_laws.specs.Routines.{own_variables, result_variable, value_parameters}
 
 -- ---- lists
-
 
 values_same : (qs : List Parameter) → value_parameters qs ≡ parameters_by false qs
 values_same [] = refl

@@ -1,10 +1,10 @@
 -- What a story tells that the innermost call of a process is given and gives back is what the meaning says.
-use Rattle.std.proofs.Common.{◌≡◌, ◌∙◌, ℕ, ◌+◌, ◌<◌, ◌≤◌, ℤ, Bool, true, false, List, [], ◌∷◌, ◌++◌, Option, Some, None, flat_map, map, length, slice_get, ap, ap₂, sym, refl, subst, arith}
+use Rattle.std.proofs.Common.{◌≡◌, ◌∙◌, ℕ, ◌+◌, ◌<◌, ◌≤◌, Bool, true, false, List, [], ◌∷◌, ◌++◌, Option, Some, None, flat_map, map, length, slice_get, ap, ap₂, sym, refl, arith}
 use Rattle.std.proofs.lemmas.Option.{slice_get-get_or, slice_get_within}
 use Rattle.cp_tree.specs.Read.{IsRead}
 use Rattle.cp_tree.specs.Syntax.{Tree}
 use Rattle.cp_layout.specs.Laid.{plain, laid}
-use Rattle.cp_slots.specs.Tables.{Tables, RoutineView, routine_at}
+use Rattle.cp_slots.specs.Tables.{Tables, routine_at}
 use Rattle.cp_store.specs.declared.memory.Address.{Address}
 use Rattle.cp_store.specs.declared.memory.Address.TheVariants.{Permanent, Local}
 use Rattle.cp_store.specs.declared.memory.Frame.{Frame}
@@ -56,9 +56,9 @@ use Rattle.cp_story_laws.specs.Passed as on_names
 use Rattle.cp_story_laws.specs.Passed.{argument_told, arguments_told, content_given, content_told}
 use Rattle.cp_story_laws.specs.Places.{parameters_in, place_text, result_in, routine_meant}
 use Rattle.cp_story_laws.proofs.CalledRoutines.{HasName}
-use Rattle.cp_story_laws.proofs.PlacesAgree as agree
-use Rattle.cp_story_laws.proofs.ReferencesFilled.{references_filled}
-use Rattle.cp_story_laws.proofs.RoutinesMeant.{meant_at}
+use Rattle.cp_story_laws.proofs.passed.PlacesAgree as agree
+use Rattle.cp_story_laws.proofs.passed.ReferencesFilled.{references_filled}
+use Rattle.cp_story_laws.proofs.passed.RoutinesMeant.{meant_at}
 use Rattle.cp_story_laws.proofs.Together as together
 
 -- ---- cells

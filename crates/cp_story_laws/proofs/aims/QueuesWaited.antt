@@ -24,7 +24,7 @@ use Rattle.cp_run.specs.Slots.{slots}
 use Rattle.cp_run.specs.Stop.{last_state}
 use Rattle.cp_story_laws.specs.Queues.{WaitsIn}
 use Rattle.cp_story_laws.specs.Statements.{QueuesLaw}
-use Rattle.cp_story_laws.proofs.QueuePlaces.{name_told}
+use Rattle.cp_story_laws.proofs.aims.QueuePlaces.{name_told}
 use Rattle.cp_story_laws.proofs.StopsTogether.{stop_related}
 use Rattle.cp_story_laws.proofs.Together as together
 

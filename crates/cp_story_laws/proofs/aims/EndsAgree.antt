@@ -40,7 +40,7 @@ use Rattle.cp_story.specs.Aimed.{aim_in, aim_of_top}
 use Rattle.cp_story.specs.Aimed as aimed
 use Rattle.cp_story_laws.specs.Aims.{ends_call, ends_first, ends_now, is_continue}
 use Rattle.cp_story_laws.specs.OpenCalls.{is_monitor}
-use Rattle.cp_story_laws.proofs.PlainItems.{call_plain, ends_none, item_plain}
+use Rattle.cp_story_laws.proofs.aims.PlainItems.{call_plain, ends_none, item_plain}
 use Rattle.cp_story_laws.proofs.Together as together
 
 -- ---- by an item

@@ -1,0 +1,5 @@
+pub mod EndsAgree
+pub mod PlainItems
+pub mod QueuePlaces
+pub mod QueuesAimed
+pub mod QueuesWaited
