@@ -1,11 +1,11 @@
 //! What changed, in words.
 
 use crate::labels::WIDTH;
-use crate::wrapping::wrap;
-use cp_legend::Legend;
+use crate::pictures::Scene;
+use crate::wrapping::LineRoom;
 use cp_prose::Prose;
 use cp_story::{Change, StoryEvent};
-use std::alloc::{AllocError, Global};
+use std::alloc::AllocError;
 use std::mem;
 
 /// A line of what changed in a monitor.
@@ -16,42 +16,40 @@ pub struct ChangeLine {
 }
 
 /// What changed in some events: `count := 1`, with the monitor before it where there is more than one.
-pub fn changes_words(
-    alloc: Global,
-    legend: &Legend,
-    events: &[StoryEvent],
-) -> Result<String, AllocError> {
-    let mut text = Prose::new(alloc);
-    let mut named = None;
-    for (place, event) in events.iter().enumerate() {
-        let later = events.get(place.saturating_add(1)..).unwrap_or(&[]);
-        for change in &event.changes {
-            if !is_changed(later, change) {
-                put_change(alloc, legend, &mut text, change, named);
-                named = Some(change.monitor);
-            }
-        }
+pub fn changes_words(scene: Scene<'_>, events: &[StoryEvent]) -> Result<String, AllocError> {
+    let lines = changes_in_lines(scene, events, f64::INFINITY)?;
+    let mut text = Prose::new(scene.alloc);
+    let mut before = "";
+    for line in &lines {
+        text.put(before);
+        text.put(line.words.as_str());
+        before = ", ";
     }
     text.finish()
 }
 
 /// What changed in some events, in lines as wide as their column. Each monitor begins a line.
 pub fn changes_in_lines(
-    alloc: Global,
-    legend: &Legend,
+    scene: Scene<'_>,
     events: &[StoryEvent],
     width: f64,
 ) -> Result<Vec<ChangeLine>, AllocError> {
-    let mut lines = ChangeLines::new(alloc, width);
+    let mut lines = ChangeLines {
+        lines: Vec::new(scene.alloc),
+        width,
+        monitor: None,
+        words: Prose::new(scene.alloc),
+        is_refused: false,
+    };
     for (place, event) in events.iter().enumerate() {
         let later = events.get(place.saturating_add(1)..).unwrap_or(&[]);
         for change in &event.changes {
             if !is_changed(later, change) {
-                lines.put(alloc, legend, change);
+                lines.put(scene, change);
             }
         }
     }
-    lines.finish(alloc)
+    lines.finish(scene)
 }
 
 // Whether the same variable is changed in one of these events.
@@ -66,23 +64,6 @@ fn is_changed(events: &[StoryEvent], change: &Change) -> bool {
     false
 }
 
-fn put_change(
-    alloc: Global,
-    legend: &Legend,
-    text: &mut Prose,
-    change: &Change,
-    named: Option<u8>,
-) {
-    text.put(if named.is_some() { ", " } else { "" });
-    if legend.monitors() > 1 && named != Some(change.monitor) {
-        text.put(legend.monitor_name(change.monitor));
-        text.put(": ");
-    }
-    text.put(change.name.as_str());
-    text.put(" := ");
-    text.put_made(change.value.text(alloc));
-}
-
 // Lines that are written change by change, with what changed in the last monitor, which is no line yet. Whether memory was refused for some part of
 // them is told at the end.
 #[derive(Drop)]
@@ -95,29 +76,27 @@ struct ChangeLines {
 }
 
 impl ChangeLines {
-    fn new(alloc: Global, width: f64) -> ChangeLines {
-        ChangeLines {
-            lines: Vec::new(alloc),
-            width,
-            monitor: None,
-            words: Prose::new(alloc),
-            is_refused: false,
+    fn put(&mut self, scene: Scene<'_>, change: &Change) {
+        if self.monitor == Some(change.monitor) {
+            self.words.put(", ");
+        } else {
+            self.end_monitor(scene);
+            self.monitor = Some(change.monitor);
+            if scene.legend.monitors() > 1 {
+                self.words.put(scene.legend.monitor_name(change.monitor));
+                self.words.put(": ");
+            }
         }
-    }
-
-    fn put(&mut self, alloc: Global, legend: &Legend, change: &Change) {
-        if self.monitor != Some(change.monitor) {
-            self.end_monitor(alloc);
-        }
-        put_change(alloc, legend, &mut self.words, change, self.monitor);
-        self.monitor = Some(change.monitor);
+        self.words.put(change.name.as_str());
+        self.words.put(" := ");
+        self.words.put_made(change.value.text(scene.alloc));
     }
 
     // Breaks what changed in the last monitor into lines.
-    fn end_monitor(&mut self, alloc: Global) {
+    fn end_monitor(&mut self, scene: Scene<'_>) {
         if let Some(monitor) = self.monitor.take() {
-            let words = mem::replace(&mut self.words, Prose::new(alloc));
-            match break_words(alloc, words, self.width) {
+            let words = mem::replace(&mut self.words, Prose::new(scene.alloc));
+            match break_words(scene, words, self.width) {
                 Ok(lines) => self.push_all(monitor, lines),
                 Err(_) => self.is_refused = true,
             }
@@ -132,9 +111,9 @@ impl ChangeLines {
         }
     }
 
-    fn finish(self, alloc: Global) -> Result<Vec<ChangeLine>, AllocError> {
+    fn finish(self, scene: Scene<'_>) -> Result<Vec<ChangeLine>, AllocError> {
         let mut changes = self;
-        changes.end_monitor(alloc);
+        changes.end_monitor(scene);
         if changes.is_refused {
             return Err(AllocError);
         }
@@ -142,6 +121,6 @@ impl ChangeLines {
     }
 }
 
-fn break_words(alloc: Global, words: Prose, width: f64) -> Result<Vec<String>, AllocError> {
-    wrap(alloc, words.as_str()?, width, 10.5 * WIDTH)
+fn break_words(scene: Scene<'_>, words: Prose, width: f64) -> Result<Vec<String>, AllocError> {
+    LineRoom::new(scene.alloc, width, 10.5 * WIDTH).wrap(words.as_str()?)
 }

@@ -2,29 +2,29 @@
 
 use crate::labels::{Face, PictureLabel, points, put_routine};
 use crate::palette::{RED, hue_of};
-use crate::pictures::Scene;
+use crate::pictures::{Layout, Scene};
 use crate::plan::Plan;
-use crate::sheet::Sheet;
-use crate::spans::{Hold, Life, Pause, Spans, Stay};
-use crate::svg::{Block, Style, Svg};
+use crate::spans::{Hold, Life, Pause, Stay};
+use crate::svg::{BOLD_MIDDLE, Block, Style, Svg};
 use crate::wrapping::label_lines;
 use cp_prose::Prose;
 use cp_run::{OutcomeKind, RunEnd};
 use cp_story::{Story, push_call};
-use std::alloc::{AllocError, Global};
+use std::alloc::AllocError;
 
 /// How many monitors a process is drawn inside of at once.
 const DEEPEST: usize = 16;
 
 /// Draws what lasts longer than an event.
-pub fn spans_drawn(alloc: Global, svg: &mut Svg, scene: Scene<'_>, plan: &Plan, spans: &Spans) {
+pub fn spans_drawn(svg: &mut Svg, scene: Scene<'_>, layout: Layout<'_>) {
+    let Layout { plan, spans, .. } = layout;
     for life in &spans.lives {
         draw_life(svg, plan, life);
     }
     for depth in 0..DEEPEST {
         for stay in &spans.stays {
             if stay.depth == depth {
-                draw_stay(alloc, svg, scene, plan, stay);
+                draw_stay(svg, scene, plan, stay);
             }
         }
     }
@@ -47,40 +47,39 @@ pub fn all_wait(story: &Story) -> bool {
 
 fn draw_life(svg: &mut Svg, plan: &Plan, life: &Life) {
     let x = plan.dot(life.process);
-    svg.line(
-        (x, life.top),
-        (x, life.bottom),
-        "#9aa5b1",
-        "stroke-width=\"1.6\"",
-    );
+    let thin = "stroke-width=\"1.6\"";
+    svg.line((x, life.top), (x, life.bottom), "#9aa5b1", thin);
 }
 
-fn draw_stay(alloc: Global, svg: &mut Svg, scene: Scene<'_>, plan: &Plan, stay: &Stay) {
+/// Writes which process it is, by number and name.
+pub fn write_process(svg: &mut Svg, scene: Scene<'_>, process: u8) {
+    svg.digits(u32::from(process));
+    svg.raw(" ");
+    svg.escape(scene.legend.process_name(process));
+}
+
+fn draw_stay(svg: &mut Svg, scene: Scene<'_>, plan: &Plan, stay: &Stay) {
     let lane = plan.lane(stay.process);
     let hue = hue_of(stay.call.monitor);
     let inset = points(stay.depth) * 8.0;
     svg.begin_title();
-    svg.digits(u32::from(stay.process));
-    svg.raw(" ");
-    svg.escape(scene.legend.process_name(stay.process));
+    write_process(svg, scene, stay.process);
     svg.raw(" is inside ");
-    svg.escape_made(call_words(alloc, scene, stay));
+    svg.escape_made(call_words(scene, stay));
     svg.end_title();
+    let left = lane.left + 1.0 + inset;
+    let width = lane.width - 2.0 - inset - inset;
     svg.block(Block {
-        left: lane.left + 1.0 + inset,
-        top: stay.top,
-        width: lane.width - 2.0 - inset - inset,
-        height: stay.bottom - stay.top,
         radius: 7.0,
-        fill: hue.soft,
         stroke: hue.strong,
         stroke_width: 1.5,
+        ..Block::plain(left, stay.top, width, stay.bottom - stay.top, hue.soft)
     });
     svg.close();
 }
 
-fn call_words(alloc: Global, scene: Scene<'_>, stay: &Stay) -> Result<String, AllocError> {
-    let mut words = String::new(alloc);
+fn call_words(scene: Scene<'_>, stay: &Stay) -> Result<String, AllocError> {
+    let mut words = String::new(scene.alloc);
     push_call(scene.legend, &mut words, stay.call, &[])?;
     Ok(words)
 }
@@ -89,9 +88,7 @@ fn draw_pause(svg: &mut Svg, scene: Scene<'_>, plan: &Plan, pause: &Pause, is_st
     let hue = hue_of(pause.monitor);
     let is_red = pause.lasts && is_stuck;
     svg.begin_title();
-    svg.digits(u32::from(pause.process));
-    svg.raw(" ");
-    svg.escape(scene.legend.process_name(pause.process));
+    write_process(svg, scene, pause.process);
     svg.raw(if pause.at_gate {
         " waits at the gate of "
     } else {
@@ -99,15 +96,14 @@ fn draw_pause(svg: &mut Svg, scene: Scene<'_>, plan: &Plan, pause: &Pause, is_st
     });
     svg.escape(scene.legend.monitor_name(pause.monitor));
     svg.end_title();
+    let left = plan.dot(pause.process) - 9.0;
+    let height = (pause.bottom - pause.top).max(6.0);
+    let fill = if pause.at_gate { hue.gate } else { hue.queue };
     svg.block(Block {
-        left: plan.dot(pause.process) - 9.0,
-        top: pause.top,
-        width: 18.0,
-        height: (pause.bottom - pause.top).max(6.0),
         radius: 5.0,
-        fill: if pause.at_gate { hue.gate } else { hue.queue },
         stroke: if is_red { RED } else { hue.strong },
         stroke_width: if is_red { 2.0 } else { 1.2 },
+        ..Block::plain(left, pause.top, 18.0, height, fill)
     });
     svg.close();
 }
@@ -118,95 +114,54 @@ fn draw_hold(svg: &mut Svg, scene: Scene<'_>, plan: &Plan, hold: &Hold) {
     svg.begin_title();
     svg.escape(scene.legend.monitor_name(hold.monitor));
     svg.raw(" is held by ");
-    svg.digits(u32::from(hold.process));
-    svg.raw(" ");
-    svg.escape(scene.legend.process_name(hold.process));
+    write_process(svg, scene, hold.process);
     svg.end_title();
+    let height = (hold.bottom - hold.top).max(14.0);
+    let fill = hue_of(hold.monitor).strong;
     svg.block(Block {
-        left: middle - 12.0,
-        top: hold.top,
-        width: 24.0,
-        height: (hold.bottom - hold.top).max(14.0),
         radius: 5.0,
-        fill: hue_of(hold.monitor).strong,
-        stroke: "",
-        stroke_width: 0.0,
+        ..Block::plain(middle - 12.0, hold.top, 24.0, height, fill)
     });
     let y = (hold.top + hold.bottom) / 2.0 + 4.0;
-    svg.number(
-        middle,
-        y,
-        Style {
-            size: 11.0,
-            fill: "#fff",
-            more: "text-anchor=\"middle\" font-weight=\"bold\"",
-        },
-        u32::from(hold.process),
-    );
+    let white = Style::new(11.0, "#fff", BOLD_MIDDLE);
+    svg.number(middle, y, white, u32::from(hold.process));
     svg.close();
 }
 
-// The process with which the run stops, where no event tells of it.
-fn stopped_process(story: &Story) -> Option<u8> {
-    match &story.stop {
-        Some(stop) => Some(stop.process),
-        None => None,
-    }
-}
-
 /// Draws where a process goes on whom another one let go on, if no event of its own follows at once.
-pub fn draw_resumed(
-    alloc: Global,
-    svg: &mut Svg,
-    scene: Scene<'_>,
-    plan: &Plan,
-    sheet: &Sheet,
-    stay: &Stay,
-) {
+pub fn draw_resumed(svg: &mut Svg, scene: Scene<'_>, layout: Layout<'_>, stay: &Stay) {
     let Some(event) = stay.resumed else {
         return;
     };
     let event = event.saturating_add(1);
-    let next = match scene.story.events.get(event) {
-        Some(event) => Some(event.plain.process),
-        None => stopped_process(scene.story),
+    let next = match (scene.story.events.get(event), &scene.story.stop) {
+        (Some(event), _) => Some(event.plain.process),
+        (None, Some(stop)) => Some(stop.process),
+        (None, None) => None,
     };
-    let Some(row) = sheet.row_of(event) else {
+    let Some(row) = layout.sheet.row_of(event) else {
         return;
     };
     let y = row.middle();
     if next == Some(stay.process) || y > stay.bottom {
         return;
     }
-    let lane = plan.lane(stay.process);
-    let style = Style {
-        size: 10.5,
-        fill: hue_of(stay.call.monitor).strong,
-        more: "font-style=\"italic\"",
-    };
-    let lines = resumed_lines(alloc, scene, stay, lane.width - 36.0);
+    let lane = layout.plan.lane(stay.process);
+    let colour = hue_of(stay.call.monitor).strong;
+    let style = Style::new(10.5, colour, "font-style=\"italic\"");
+    let lines = resumed_lines(scene, stay, lane.width - 36.0);
     svg.lines_made(lane.left + 31.0, y, style, lines);
 }
 
 // Where a process goes on, in lines.
-fn resumed_lines(
-    alloc: Global,
-    scene: Scene<'_>,
-    stay: &Stay,
-    room: f64,
-) -> Result<Vec<String>, AllocError> {
-    let label = PictureLabel {
-        words: resumed_words(alloc, scene, stay)?,
-        face: Face::Plain,
-        brief: None,
-        pill: None,
-    };
-    label_lines(alloc, &label, room, room)
+fn resumed_lines(scene: Scene<'_>, stay: &Stay, room: f64) -> Result<Vec<String>, AllocError> {
+    let label = PictureLabel::new(resumed_words(scene, stay)?, Face::Plain);
+    label_lines(scene.alloc, &label, room, room)
 }
 
-fn resumed_words(alloc: Global, scene: Scene<'_>, stay: &Stay) -> Result<String, AllocError> {
-    let mut words = Prose::new(alloc);
+fn resumed_words(scene: Scene<'_>, stay: &Stay) -> Result<String, AllocError> {
+    let mut words = Prose::new(scene.alloc);
     words.put("in ");
-    put_routine(alloc, scene.legend, &mut words, stay.call, &[]);
+    put_routine(scene, &mut words, stay.call, &[]);
     words.finish()
 }

@@ -1,23 +1,17 @@
 //! What stands around the lanes: patterns, ground, heads, the end and the key.
 
 use crate::draw::all_wait;
-use crate::labels::{BOLD, WIDTH, bold_width, cut_bold, cut_plain, plain_width, points};
-use crate::palette::{GREEN, GREY, HUES, INK, PALE, RED, SLATE, hue_of};
-use crate::pictures::Scene;
+use crate::labels::{BOLD, WIDTH, bold_width, plain_width, points};
+use crate::palette::{FAINT, GREEN, GREY, HUES, INK, PALE, RED, SLATE, hue_of};
+use crate::pictures::{Layout, Scene};
 use crate::plan::{Column, Plan, TOP};
-use crate::sheet::{EDGE, Sheet};
-use crate::svg::{Block, Style, Svg};
-use crate::wrapping::wrap;
+use crate::sheet::EDGE;
+use crate::svg::{BOLD_MIDDLE, BOLD_TYPE, Block, Style, Svg};
+use crate::wrapping::LineRoom;
 use cp_prose::Prose;
 use cp_run::{OutcomeKind, RunEnd};
 use cp_story::{Story, end_words, unused_words, wait_words};
 use std::alloc::{AllocError, Global};
-
-const FAINT: Style<'static> = Style {
-    size: 10.5,
-    fill: GREY,
-    more: "",
-};
 
 const BRACKET: &str = "stroke-width=\"2\"";
 
@@ -25,14 +19,14 @@ const MARKER: &str =
     "<marker id=\"arrow\" markerWidth=\"9\" markerHeight=\"8\" refX=\"7.5\" refY=\"4\" orient=\"auto\" markerUnits=\"userSpaceOnUse\"><path d=\"M0,0.5 L8,4 L0,7.5 z\" fill=\"#1f2933\"/></marker>\n";
 
 /// The picture's title, the patterns of the monitors' colours, and the point of an arrow.
-pub fn draw_patterns(alloc: Global, svg: &mut Svg, scene: Scene<'_>, title: &str) {
+pub fn draw_patterns(svg: &mut Svg, scene: Scene<'_>, title: &str) {
     svg.raw("<title>");
     if !title.is_empty() {
         svg.escape(title);
         svg.raw(", ");
     }
     if let RunEnd::Ended { .. } = scene.story.end {
-        svg.escape_made(end_words(alloc, scene.story));
+        svg.escape_made(end_words(scene.alloc, scene.story));
         svg.raw(", ");
     }
     svg.raw("schedule ");
@@ -64,36 +58,25 @@ fn draw_pattern(svg: &mut Svg, number: u8) {
 }
 
 /// White, and every other row shaded.
-pub fn draw_ground(svg: &mut Svg, plan: &Plan, sheet: &Sheet, above: f64, height: f64) {
-    svg.block(plain(0.0, 0.0 - above, plan.width, height + above, "#fff"));
-    for (place, row) in sheet.rows.iter().enumerate() {
+pub fn draw_ground(svg: &mut Svg, layout: Layout<'_>, above: f64, height: f64) {
+    let width = layout.plan.width;
+    svg.block(Block::plain(0.0, 0.0 - above, width, height + above, "#fff"));
+    for (place, row) in layout.sheet.rows.iter().enumerate() {
         if place % 2 == 0 {
-            svg.block(plain(14.0, row.top, plan.width - 28.0, row.height, "#f5f7fa"));
+            svg.block(Block::plain(14.0, row.top, width - 28.0, row.height, "#f5f7fa"));
         }
     }
 }
 
-fn plain<'a>(left: f64, top: f64, width: f64, height: f64, fill: &'a str) -> Block<'a> {
-    Block {
-        left,
-        top,
-        width,
-        height,
-        radius: 0.0,
-        fill,
-        stroke: "",
-        stroke_width: 0.0,
-    }
-}
-
 /// The heads of the columns.
-pub fn draw_heads(alloc: Global, svg: &mut Svg, scene: Scene<'_>, plan: &Plan, sheet: &Sheet) {
+pub fn draw_heads(svg: &mut Svg, scene: Scene<'_>, layout: Layout<'_>) {
+    let plan = layout.plan;
     svg.words(20.0, 71.0, FAINT, "who may go on");
     for process in 0..scene.legend.processes() {
-        draw_lane_head(alloc, svg, scene, plan, process);
+        draw_lane_head(svg, scene, plan, process);
     }
     for monitor in 0..scene.legend.monitors() {
-        draw_bar_head(alloc, svg, scene, plan, sheet, monitor);
+        draw_bar_head(svg, scene, layout, monitor);
     }
     if plan.changes.width > 0.0 {
         svg.words(plan.changes.left, 71.0, FAINT, "what changed inside");
@@ -104,23 +87,19 @@ pub fn draw_heads(alloc: Global, svg: &mut Svg, scene: Scene<'_>, plan: &Plan, s
     svg.words(plan.numbers - 20.0, 71.0, FAINT, "line");
 }
 
-fn draw_lane_head(alloc: Global, svg: &mut Svg, scene: Scene<'_>, plan: &Plan, process: u8) {
+fn draw_lane_head(svg: &mut Svg, scene: Scene<'_>, plan: &Plan, process: u8) {
     let lane = plan.lane(process);
     let name = scene.legend.process_name(process);
     let type_name = scene.legend.process_type(process);
     open_lane(svg, process, name, type_name);
     svg.block(Block {
         radius: 6.0,
-        ..plain(lane.left, 52.0, lane.width, 30.0, "#eaeef2")
+        ..Block::plain(lane.left, 52.0, lane.width, 30.0, "#eaeef2")
     });
     svg.circle(lane.left + 17.0, 67.0, 10.0, INK, "");
-    let white = Style {
-        size: 11.5,
-        fill: "#fff",
-        more: "text-anchor=\"middle\" font-weight=\"bold\"",
-    };
+    let white = Style::new(11.5, "#fff", BOLD_MIDDLE);
     svg.number(lane.left + 17.0, 71.0, white, u32::from(process));
-    draw_names(alloc, svg, lane, name, type_name);
+    draw_names(svg, scene, lane, name, type_name);
     svg.close();
 }
 
@@ -138,7 +117,7 @@ fn open_lane(svg: &mut Svg, process: u8, name: &str, type_name: &str) {
 }
 
 // The name of a process and its type, one below the other where there is no room for both in a line.
-fn draw_names(alloc: Global, svg: &mut Svg, lane: Column, name: &str, type_name: &str) {
+fn draw_names(svg: &mut Svg, scene: Scene<'_>, lane: Column, name: &str, type_name: &str) {
     let room = lane.width - 36.0;
     let left = lane.left + 33.0;
     let used = bold_width(name, 12.0) + 9.0;
@@ -152,50 +131,23 @@ fn draw_names(alloc: Global, svg: &mut Svg, lane: Column, name: &str, type_name:
     }
     if bold_width(name, 11.0) <= room {
         svg.words(left, 65.0, bold(11.0, INK), name);
-        svg.words_made(
-            left,
-            77.5,
-            light(10.0),
-            cut_plain(alloc, type_name, room, 10.0),
-        );
+        let type_name = LineRoom::new(scene.alloc, room, 10.0 * WIDTH).cut(type_name);
+        svg.words_made(left, 77.5, light(10.0), type_name);
         return;
     }
-    draw_halves(alloc, svg, left, bold(10.0, INK), room, name);
+    draw_halves(svg, scene, left, bold(10.0, INK), room, name);
 }
 
 fn bold(size: f64, fill: &'static str) -> Style<'static> {
-    Style {
-        size,
-        fill,
-        more: "font-weight=\"bold\"",
-    }
-}
-
-fn ink(size: f64) -> Style<'static> {
-    Style {
-        size,
-        fill: INK,
-        more: "",
-    }
+    Style::new(size, fill, BOLD_TYPE)
 }
 
 fn light(size: f64) -> Style<'static> {
-    Style {
-        size,
-        fill: GREY,
-        more: "",
-    }
+    Style::new(size, GREY, "")
 }
 
-fn draw_bar_head(
-    alloc: Global,
-    svg: &mut Svg,
-    scene: Scene<'_>,
-    plan: &Plan,
-    sheet: &Sheet,
-    monitor: u8,
-) {
-    let bar = plan.bar(monitor);
+fn draw_bar_head(svg: &mut Svg, scene: Scene<'_>, layout: Layout<'_>, monitor: u8) {
+    let bar = layout.plan.bar(monitor);
     let middle = bar.left + bar.width / 2.0;
     let name = scene.legend.monitor_name(monitor);
     svg.begin_title();
@@ -206,83 +158,50 @@ fn draw_bar_head(
     svg.end_title();
     svg.block(Block {
         radius: 6.0,
-        ..plain(bar.left, 52.0, bar.width, 30.0, hue_of(monitor).strong)
+        ..Block::plain(bar.left, 52.0, bar.width, 30.0, hue_of(monitor).strong)
     });
-    draw_bar_name(alloc, svg, middle, bar.width - 6.0, name);
-    svg.line(
-        (middle, 98.0),
-        (middle, sheet.end + 4.0),
-        "#c9d1d9",
-        "stroke-width=\"1\"",
-    );
+    draw_bar_name(svg, scene, middle, bar.width - 6.0, name);
+    let bottom = layout.sheet.end + 4.0;
+    let thin = "stroke-width=\"1\"";
+    svg.line((middle, 98.0), (middle, bottom), "#c9d1d9", thin);
     svg.close();
 }
 
 // The name of a monitor in one line or in two.
-fn draw_bar_name(alloc: Global, svg: &mut Svg, middle: f64, room: f64, name: &str) {
-    let style = Style {
-        size: 10.5,
-        fill: "#fff",
-        more: "text-anchor=\"middle\" font-weight=\"bold\"",
-    };
+fn draw_bar_name(svg: &mut Svg, scene: Scene<'_>, middle: f64, room: f64, name: &str) {
+    let style = Style::new(10.5, "#fff", BOLD_MIDDLE);
     if bold_width(name, 10.5) <= room {
         svg.words(middle, 71.0, style, name);
         return;
     }
     let small = Style { size: 9.5, ..style };
-    draw_halves(alloc, svg, middle, small, room, name);
+    draw_halves(svg, scene, middle, small, room, name);
 }
 
 // A name in two lines, of which the second one is cut where there is no room.
-fn draw_halves(alloc: Global, svg: &mut Svg, x: f64, style: Style<'_>, room: f64, name: &str) {
-    let count = count_fitting(name, room, style.size);
-    svg.words_made(x, 64.5, style, part_of_name(alloc, name, 0, count));
-    svg.words_made(
-        x,
-        77.0,
-        style,
-        rest_of_name(alloc, name, count, room, style.size),
-    );
-}
-
-// How many characters there is room for.
-fn count_fitting(name: &str, room: f64, size: f64) -> usize {
+fn draw_halves(svg: &mut Svg, scene: Scene<'_>, x: f64, style: Style<'_>, room: f64, name: &str) {
+    let mut first = Prose::new(scene.alloc);
+    let mut rest = Prose::new(scene.alloc);
     let mut count = 0usize;
-    for _ in name.chars() {
-        if points(count) * size * BOLD + bold_width("m", size) <= room {
-            count = count.saturating_add(1);
-        }
-    }
-    count
-}
-
-// The characters after the first ones, cut where there is no room.
-fn rest_of_name(
-    alloc: Global,
-    name: &str,
-    count: usize,
-    room: f64,
-    size: f64,
-) -> Result<String, AllocError> {
-    let rest = part_of_name(alloc, name, count, usize::MAX)?;
-    cut_bold(alloc, rest.as_str(), room, size)
-}
-
-// The characters from a place on up to another one.
-fn part_of_name(alloc: Global, name: &str, from: usize, to: usize) -> Result<String, AllocError> {
-    let mut part = Prose::new(alloc);
-    let mut place = 0usize;
     for character in name.chars() {
-        if from <= place && place < to {
-            part.put_char(character);
+        if points(count) * style.size * BOLD + bold_width("m", style.size) <= room {
+            first.put_char(character);
+            count = count.saturating_add(1);
+        } else {
+            rest.put_char(character);
         }
-        place = place.saturating_add(1);
     }
-    part.finish()
+    svg.words_made(x, 64.5, style, first.finish());
+    svg.words_made(x, 77.0, style, cut_rest(scene, rest, room, style.size));
+}
+
+fn cut_rest(scene: Scene<'_>, rest: Prose, room: f64, size: f64) -> Result<String, AllocError> {
+    LineRoom::new(scene.alloc, room, size * BOLD).cut(rest.as_str()?)
 }
 
 /// A bracket from a row to the last one, which says that they can be gone again and again.
-pub fn draw_again(svg: &mut Svg, plan: &Plan, sheet: &Sheet, event: usize) {
+pub fn draw_again(svg: &mut Svg, layout: Layout<'_>, event: usize) {
+    let Layout { plan, sheet, .. } = layout;
     let top = match sheet.row_of(event) {
         Some(row) => row.top,
         None => TOP,
@@ -292,28 +211,21 @@ pub fn draw_again(svg: &mut Svg, plan: &Plan, sheet: &Sheet, event: usize) {
     svg.line((10.0, top), (16.0, top), INK, BRACKET);
     svg.line((10.0, top), (10.0, bottom), INK, BRACKET);
     svg.line((10.0, bottom), (16.0, bottom), INK, BRACKET);
-    svg.line(
-        (16.0, top),
-        (plan.width - 14.0, top),
-        INK,
-        "stroke-width=\"1\" stroke-dasharray=\"4 3\"",
-    );
-    svg.words(
-        10.0,
-        sheet.bottom() + 16.0,
-        bold(12.0, INK),
-        "again and again",
-    );
+    let broken = "stroke-width=\"1\" stroke-dasharray=\"4 3\"";
+    svg.line((16.0, top), (plan.width - 14.0, top), INK, broken);
+    let below = sheet.bottom() + 16.0;
+    svg.words(10.0, below, bold(12.0, INK), "again and again");
     svg.close();
 }
 
 /// Broken edges where rows are left out before the first or after the last.
-pub fn draw_edges(alloc: Global, svg: &mut Svg, plan: &Plan, sheet: &Sheet) {
+pub fn draw_edges(svg: &mut Svg, scene: Scene<'_>, layout: Layout<'_>) {
+    let Layout { plan, sheet, .. } = layout;
     if sheet.before > 0 {
-        draw_edge(alloc, svg, plan, TOP, sheet.before);
+        draw_edge(svg, scene, plan, TOP, sheet.before);
     }
     if sheet.after > 0 {
-        draw_edge(alloc, svg, plan, sheet.end, sheet.after);
+        draw_edge(svg, scene, plan, sheet.end, sheet.after);
     }
 }
 
@@ -325,8 +237,8 @@ fn edge_words(alloc: Global, count: usize) -> Result<String, AllocError> {
 }
 
 // A broken edge, which says how many rows are left out.
-fn draw_edge(alloc: Global, svg: &mut Svg, plan: &Plan, top: f64, count: usize) {
-    match edge_words(alloc, count) {
+fn draw_edge(svg: &mut Svg, scene: Scene<'_>, plan: &Plan, top: f64, count: usize) {
+    match edge_words(scene.alloc, count) {
         Ok(words) => draw_edge_with(svg, plan, top, words.as_str()),
         Err(_) => svg.refuse(),
     }
@@ -335,75 +247,55 @@ fn draw_edge(alloc: Global, svg: &mut Svg, plan: &Plan, top: f64, count: usize) 
 fn draw_edge_with(svg: &mut Svg, plan: &Plan, top: f64, words: &str) {
     svg.open(words);
     let middle = top + EDGE / 2.0;
-    svg.block(plain(14.0, top + 2.0, plan.width - 28.0, EDGE - 4.0, "#fff"));
-    svg.zigzag((14.0, middle), plan.width - 14.0, PALE);
+    let right = plan.width - 14.0;
+    svg.block(Block::plain(14.0, top + 2.0, plan.width - 28.0, EDGE - 4.0, "#fff"));
+    svg.zigzag((14.0, middle), right, PALE);
     let width = plain_width(words, 10.5) + 16.0;
-    svg.block(plain(40.0, top + 2.0, width, EDGE - 4.0, "#fff"));
+    svg.block(Block::plain(40.0, top + 2.0, width, EDGE - 4.0, "#fff"));
     svg.words(48.0, middle + 4.0, FAINT, words);
     svg.close();
 }
 
 /// What stands below the rows: how the run stops, who waits then, and that numbers of the schedule are not used.
-pub fn draw_end(
-    alloc: Global,
-    svg: &mut Svg,
-    scene: Scene<'_>,
-    plan: &Plan,
-    top: f64,
-    unused: &[String],
-) {
-    match end_words(alloc, scene.story) {
-        Ok(words) => draw_outcome(alloc, svg, scene, plan, top, words.as_str()),
+pub fn draw_end(svg: &mut Svg, scene: Scene<'_>, plan: &Plan, top: f64, unused: &[String]) {
+    match end_words(scene.alloc, scene.story) {
+        Ok(words) => draw_outcome(svg, scene, plan, top, words.as_str()),
         Err(_) => svg.refuse(),
     }
     let mut y = top + 46.0;
-    let style = Style {
-        size: 12.0,
-        fill: if all_wait(scene.story) { RED } else { INK },
-        more: "",
-    };
+    let colour = if all_wait(scene.story) { RED } else { INK };
     for wait in &scene.story.waits {
-        svg.words_made(26.0, y, style, wait_words(alloc, scene.legend, wait));
+        let words = wait_words(scene.alloc, scene.legend, wait);
+        svg.words_made(26.0, y, Style::new(12.0, colour, ""), words);
         y += 20.0;
     }
     for line in unused {
-        svg.words(26.0, y, ink(12.0), line.as_str().trim());
+        svg.words(26.0, y, Style::new(12.0, INK, ""), line.as_str().trim());
         y += 20.0;
     }
 }
 
 /// What says that numbers of the schedule are not used, in lines of a picture of this width.
-pub fn unused_lines(alloc: Global, story: &Story, width: f64) -> Result<Vec<String>, AllocError> {
-    match unused_words(alloc, story.left)? {
-        Some(words) => wrap(alloc, words.as_str(), width - 46.0, 12.0 * WIDTH),
-        None => Ok(Vec::new(alloc)),
+pub fn unused_lines(scene: Scene<'_>, width: f64) -> Result<Vec<String>, AllocError> {
+    let room = LineRoom::new(scene.alloc, width - 46.0, 12.0 * WIDTH);
+    match unused_words(scene.alloc, scene.story.left)? {
+        Some(words) => room.wrap(words.as_str()),
+        None => Ok(Vec::new(scene.alloc)),
     }
 }
 
 // How the run stops, with the last line of the trace beside it.
-fn draw_outcome(
-    alloc: Global,
-    svg: &mut Svg,
-    scene: Scene<'_>,
-    plan: &Plan,
-    top: f64,
-    words: &str,
-) {
+fn draw_outcome(svg: &mut Svg, scene: Scene<'_>, plan: &Plan, top: f64, words: &str) {
     let width = bold_width(words, 12.5) + 26.0;
     svg.open(scene.end.trim());
     svg.block(Block {
         radius: 13.0,
-        ..plain(20.0, top, width, 26.0, end_colour(scene.story))
+        ..Block::plain(20.0, top, width, 26.0, end_colour(scene.story))
     });
-    let white = Style {
-        size: 12.5,
-        fill: "#fff",
-        more: "font-weight=\"bold\"",
-    };
-    svg.words(33.0, top + 17.5, white, words);
+    svg.words(33.0, top + 17.5, bold(12.5, "#fff"), words);
     let beside = 20.0 + width + 14.0;
-    let room = plan.width - beside - 20.0;
-    let outcome = cut_plain(alloc, outcome_of(scene.end), room, 12.0);
+    let room = LineRoom::new(scene.alloc, plan.width - beside - 20.0, 12.0 * WIDTH);
+    let outcome = room.cut(outcome_of(scene.end));
     svg.words_made(beside, top + 17.5, light(12.0), outcome);
     svg.close();
 }

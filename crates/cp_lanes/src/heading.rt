@@ -3,26 +3,13 @@
 use crate::labels::{BOLD, WIDTH, bold_width, plain_width, points};
 use crate::palette::{GREY, INK};
 use crate::pictures::Scene;
-use crate::svg::{Style, Svg};
+use crate::svg::{BOLD_TYPE, Style, Svg};
 use crate::title::sentence;
-use crate::wrapping::{break_lines, wrap_in_lines};
-use cp_prose::Prose;
-use std::alloc::{AllocError, Global};
+use crate::wrapping::LineRoom;
+use std::alloc::AllocError;
 
 /// The most lines of a heading, after which it is cut.
 const MOST_LINES: usize = 2;
-
-const BOLD_LINE: Style<'static> = Style {
-    size: 16.0,
-    fill: INK,
-    more: "font-weight=\"bold\"",
-};
-
-const GREY_LINE: Style<'static> = Style {
-    size: 12.5,
-    fill: GREY,
-    more: "",
-};
 
 /// The heading of a picture, and its schedule, in lines.
 #[derive(Drop)]
@@ -36,38 +23,24 @@ pub struct PictureHeading {
 }
 
 /// The heading of what is drawn.
-pub fn heading_of(
-    alloc: Global,
-    scene: Scene<'_>,
-    width: f64,
-) -> Result<PictureHeading, AllocError> {
+pub fn heading_of(scene: Scene<'_>, width: f64) -> Result<PictureHeading, AllocError> {
     let mut heading = PictureHeading {
-        title: sentence(alloc, scene.source)?,
-        lines: Vec::new(alloc),
-        schedule: Vec::new(alloc),
+        title: sentence(scene.alloc, scene.source)?,
+        lines: Vec::new(scene.alloc),
+        schedule: Vec::new(scene.alloc),
         is_beside: false,
     };
-    heading.break_all(alloc, scene, width - 40.0)?;
+    heading.break_all(scene, width - 40.0)?;
     Ok(heading)
 }
 
-fn schedule_in_lines(
-    alloc: Global,
-    scene: Scene<'_>,
-    room: f64,
-) -> Result<Vec<String>, AllocError> {
+fn schedule_in_lines(scene: Scene<'_>, room: f64) -> Result<Vec<String>, AllocError> {
+    let (alloc, schedule) = (scene.alloc, scene.schedule);
     if scene.is_plain {
         return Ok(Vec::new(alloc));
     }
-    let words = schedule_words(alloc, scene)?;
-    break_lines(alloc, words.as_str(), '.', room, 12.5 * WIDTH)
-}
-
-fn schedule_words(alloc: Global, scene: Scene<'_>) -> Result<String, AllocError> {
-    let mut words = Prose::new(alloc);
-    words.put("schedule ");
-    words.put(scene.schedule);
-    words.finish()
+    let words = format!(in alloc; "schedule {schedule}")?;
+    LineRoom::new(alloc, room, 12.5 * WIDTH).break_at(words.as_str(), '.')
 }
 
 // Whether a line of the heading and one of the schedule have room side by side.
@@ -82,12 +55,12 @@ fn fits_beside(lines: &[String], schedule: &[String], room: f64) -> bool {
 
 impl PictureHeading {
     // Breaks the heading and the schedule into lines for which there is room.
-    fn break_all(&mut self, alloc: Global, scene: Scene<'_>, room: f64) -> Result<(), AllocError> {
+    fn break_all(&mut self, scene: Scene<'_>, room: f64) -> Result<(), AllocError> {
         if !self.title.is_empty() {
-            let each = 16.0 * BOLD;
-            self.lines = wrap_in_lines(alloc, self.title.as_str(), room, each, MOST_LINES)?;
+            let line = LineRoom::new(scene.alloc, room, 16.0 * BOLD);
+            self.lines = line.wrap_in_lines(self.title.as_str(), MOST_LINES)?;
         }
-        self.schedule = schedule_in_lines(alloc, scene, room)?;
+        self.schedule = schedule_in_lines(scene, room)?;
         self.is_beside = fits_beside(&self.lines, &self.schedule, room);
         Ok(())
     }
@@ -111,7 +84,7 @@ impl PictureHeading {
 pub fn draw_heading(svg: &mut Svg, heading: &PictureHeading) {
     let mut y = 28.0 - heading.extra();
     for line in &heading.lines {
-        svg.words(20.0, y, BOLD_LINE, line.as_str());
+        svg.words(20.0, y, Style::new(16.0, INK, BOLD_TYPE), line.as_str());
         y += 22.0;
     }
     let mut x = 20.0;
@@ -122,7 +95,7 @@ pub fn draw_heading(svg: &mut Svg, heading: &PictureHeading) {
         }
     }
     for line in &heading.schedule {
-        svg.words(x, y, GREY_LINE, line.as_str());
+        svg.words(x, y, Style::new(12.5, GREY, ""), line.as_str());
         y += 22.0;
     }
 }

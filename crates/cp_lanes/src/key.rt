@@ -1,10 +1,8 @@
 //! What the signs mean that occur in a picture.
 
 use crate::labels::plain_width;
-use crate::palette::{GREY, INK, hue_of};
-use crate::pictures::Scene;
-use crate::sheet::Sheet;
-use crate::spans::Spans;
+use crate::palette::{FAINT, INK, hue_of};
+use crate::pictures::{Layout, Scene};
 use crate::svg::{Block, Style, Svg};
 use cp_story::{Choice, Happening, StoryEvent};
 
@@ -22,17 +20,12 @@ pub struct Signs {
     lost: bool,
 }
 
-const FAINT: Style<'static> = Style {
-    size: 10.5,
-    fill: GREY,
-    more: "",
-};
+/// The attributes of an arrow to who is started or woken, and of one to who is let in.
+pub const FULL: &str = "stroke-width=\"1.5\" marker-end=\"url(#arrow)\"";
 
-const FULL: &str = "stroke-width=\"1.5\" marker-end=\"url(#arrow)\"";
+pub const BROKEN: &str = "stroke-width=\"1.5\" stroke-dasharray=\"4 3\" marker-end=\"url(#arrow)\"";
 
-const BROKEN: &str = "stroke-width=\"1.5\" stroke-dasharray=\"4 3\" marker-end=\"url(#arrow)\"";
-
-/// A sign of the key.
+/// How a sign of the key is drawn.
 #[derive(Clone, Copy)]
 enum KeySign {
     Stay,
@@ -45,45 +38,45 @@ enum KeySign {
     Lost,
 }
 
-const ALL: [KeySign; 8] = [
-    KeySign::Stay,
-    KeySign::Gate,
-    KeySign::Queue,
-    KeySign::Chosen,
-    KeySign::Admitted,
-    KeySign::Full,
-    KeySign::Broken,
-    KeySign::Lost,
+/// The signs, how wide each is drawn with the space after it, and what it means.
+static KEY: [(KeySign, f64, &str); 8] = [
+    (KeySign::Stay, 28.0, "inside a monitor"),
+    (KeySign::Gate, 28.0, "waits at its gate"),
+    (KeySign::Queue, 28.0, "delayed in a queue of it"),
+    (KeySign::Chosen, 44.0, "chosen; the other could go on too"),
+    (
+        KeySign::Admitted,
+        44.0,
+        "let in; the other waits at the gate too",
+    ),
+    (KeySign::Full, 34.0, "starts or wakes"),
+    (KeySign::Broken, 34.0, "lets in"),
+    (KeySign::Lost, 20.0, "continues a queue where nobody waits"),
 ];
 
 /// The signs that occur in the rows.
-pub fn signs_of(scene: Scene<'_>, sheet: &Sheet, spans: &Spans) -> Signs {
+pub fn signs_of(scene: Scene<'_>, layout: Layout<'_>) -> Signs {
     let mut signs = Signs {
-        stays: !spans.stays.is_empty(),
-        gates: has_pause(spans, true),
-        queues: has_pause(spans, false),
+        stays: !layout.spans.stays.is_empty(),
+        gates: false,
+        queues: false,
         chosen: false,
         admitted: false,
         full: false,
         broken: false,
         lost: false,
     };
-    for row in &sheet.rows {
+    for pause in &layout.spans.pauses {
+        signs.gates = signs.gates || pause.at_gate;
+        signs.queues = signs.queues || !pause.at_gate;
+    }
+    for row in &layout.sheet.rows {
         for event in row.events(scene.story) {
             signs.see_event(event);
         }
     }
     signs.see_choice(&scene.story.last_choice);
     signs
-}
-
-fn has_pause(spans: &Spans, at_gate: bool) -> bool {
-    for pause in &spans.pauses {
-        if pause.at_gate == at_gate {
-            return true;
-        }
-    }
-    false
 }
 
 impl Signs {
@@ -117,64 +110,53 @@ impl Signs {
 
     /// How much room the key wants in a picture of a width.
     pub fn height(self, width: f64) -> f64 {
-        let mut x = 20.0;
-        let mut height = 36.0;
-        for sign in &ALL {
+        let mut next = KeyPlace { x: LEFT, y: 36.0 };
+        for (sign, drawn, words) in &KEY {
             if self.has(*sign) {
-                let next = x + width_of(*sign);
-                if x > 20.0 && next > width {
-                    x = 20.0;
-                    height += 24.0;
-                }
-                x += width_of(*sign);
+                next.take(whole_width(*drawn, words), width);
             }
         }
-        height
+        next.y
     }
 }
 
-fn words_of(sign: KeySign) -> &'static str {
-    match sign {
-        KeySign::Stay => "inside a monitor",
-        KeySign::Gate => "waits at its gate",
-        KeySign::Queue => "delayed in a queue of it",
-        KeySign::Chosen => "chosen; the other could go on too",
-        KeySign::Admitted => "let in; the other waits at the gate too",
-        KeySign::Full => "starts or wakes",
-        KeySign::Broken => "lets in",
-        KeySign::Lost => "continues a queue where nobody waits",
+/// The left edge of the key.
+const LEFT: f64 = 20.0;
+
+/// Where a sign stands.
+#[derive(Clone, Copy)]
+struct KeyPlace {
+    x: f64,
+    y: f64,
+}
+
+impl KeyPlace {
+    // Where a sign of this width stands, in another line where there is no room for it; the next one stands after it.
+    fn take(&mut self, wide: f64, width: f64) -> KeyPlace {
+        if self.x > LEFT && self.x + wide > width {
+            self.x = LEFT;
+            self.y += 24.0;
+        }
+        let place = *self;
+        self.x += wide;
+        place
     }
 }
 
-// How wide the picture of a sign is, with the space after it.
-fn sign_width(sign: KeySign) -> f64 {
-    match sign {
-        KeySign::Stay | KeySign::Gate | KeySign::Queue => 28.0,
-        KeySign::Chosen | KeySign::Admitted => 44.0,
-        KeySign::Full | KeySign::Broken => 34.0,
-        KeySign::Lost => 20.0,
-    }
-}
-
-fn width_of(sign: KeySign) -> f64 {
-    sign_width(sign) + plain_width(words_of(sign), 10.5) + 24.0
+// How wide a sign is with what it means, and with the space after that.
+fn whole_width(drawn: f64, words: &str) -> f64 {
+    drawn + plain_width(words, 10.5) + 24.0
 }
 
 /// Draws the signs that occur, with what they mean, in as many lines as they need.
 pub fn draw_key(svg: &mut Svg, signs: Signs, width: f64, top: f64) {
     svg.open("what the signs mean");
-    let mut x = 20.0;
-    let mut y = top;
-    for sign in &ALL {
+    let mut next = KeyPlace { x: LEFT, y: top };
+    for (sign, drawn, words) in &KEY {
         if signs.has(*sign) {
-            let next = x + width_of(*sign);
-            if x > 20.0 && next > width {
-                x = 20.0;
-                y += 24.0;
-            }
+            let KeyPlace { x, y } = next.take(whole_width(*drawn, words), width);
             draw_sign(svg, *sign, x, y);
-            svg.words(x + sign_width(*sign), y + 11.0, FAINT, words_of(*sign));
-            x += width_of(*sign);
+            svg.words(x + *drawn, y + 11.0, FAINT, words);
         }
     }
     svg.close();
@@ -191,8 +173,8 @@ fn draw_sign(svg: &mut Svg, sign: KeySign, x: f64, y: f64) {
             svg.circle(x + 27.0, y + 7.0, 7.5, "#fff", "stroke=\"#aab4be\"")
         }
         KeySign::Admitted => {
-            draw_square(svg, x, y, INK, INK);
-            draw_square(svg, x + 19.0, y, "#fff", "#aab4be")
+            draw_square(svg, x, y - 1.0, 16.0, INK, INK);
+            draw_square(svg, x + 19.0, y - 1.0, 16.0, "#fff", "#aab4be")
         }
         KeySign::Full => svg.line((x, y + 7.0), (x + 26.0, y + 7.0), INK, FULL),
         KeySign::Broken => svg.line((x, y + 7.0), (x + 26.0, y + 7.0), INK, BROKEN),
@@ -202,27 +184,20 @@ fn draw_sign(svg: &mut Svg, sign: KeySign, x: f64, y: f64) {
 
 fn draw_box(svg: &mut Svg, x: f64, y: f64, fill: &str) {
     svg.block(Block {
-        left: x,
-        top: y,
-        width: 22.0,
-        height: 14.0,
         radius: 5.0,
-        fill,
         stroke: hue_of(0).strong,
         stroke_width: 1.3,
+        ..Block::plain(x, y, 22.0, 14.0, fill)
     });
 }
 
-fn draw_square(svg: &mut Svg, x: f64, y: f64, fill: &str, stroke: &str) {
+/// The square of one of those at a gate.
+pub fn draw_square(svg: &mut Svg, left: f64, top: f64, side: f64, fill: &str, stroke: &str) {
     svg.block(Block {
-        left: x,
-        top: y - 1.0,
-        width: 16.0,
-        height: 16.0,
         radius: 2.5,
-        fill,
         stroke,
         stroke_width: 1.0,
+        ..Block::plain(left, top, side, side, fill)
     });
 }
 

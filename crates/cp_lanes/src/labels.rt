@@ -1,9 +1,10 @@
 //! The words beside the events.
 
-use crate::sheet::{Fold, PictureRow};
-use cp_legend::{Legend, SourceValue};
+use crate::pictures::Scene;
+use crate::sheet::Fold;
+use cp_legend::SourceValue;
 use cp_prose::Prose;
-use cp_story::{Happening, OpenCall, Returned, Story, StoryEvent, push_returned, push_shown};
+use cp_story::{Happening, OpenCall, Returned, StoryEvent, push_returned, push_shown};
 use std::alloc::{AllocError, Global};
 
 /// How wide a character is, for each point of its size.
@@ -13,7 +14,7 @@ pub const WIDTH: f64 = 0.57;
 pub const BOLD: f64 = 0.63;
 
 /// The same in type of one width.
-const FIXED: f64 = 0.605;
+pub const FIXED: f64 = 0.605;
 
 /// The face of a label.
 #[derive(Clone, Copy, PartialEq, Eq)]
@@ -39,142 +40,75 @@ pub fn points(count: usize) -> f64 {
     f64::from(u32::try_from(count).unwrap_or(u32::MAX))
 }
 
+/// How wide words of a size are, where a character has this width for each point of it.
+pub fn text_width(words: &str, size: f64, factor: f64) -> f64 {
+    points(words.chars().count()) * size * factor
+}
+
 pub fn plain_width(words: &str, size: f64) -> f64 {
-    points(words.chars().count()) * size * WIDTH
+    text_width(words, size, WIDTH)
 }
 
 pub fn bold_width(words: &str, size: f64) -> f64 {
-    points(words.chars().count()) * size * BOLD
+    text_width(words, size, BOLD)
 }
 
-pub fn fixed_width(words: &str, size: f64) -> f64 {
-    points(words.chars().count()) * size * FIXED
-}
-
-/// The words, or as many characters as there is room for with a mark that some are missing.
-pub fn cut_to_fit(
-    alloc: Global,
-    words: &str,
-    room: f64,
-    size: f64,
-    factor: f64,
-) -> Result<String, AllocError> {
-    let each = size * factor;
-    if points(words.chars().count()) * each <= room {
-        return String::from_str(alloc, words);
-    }
-    let mut text = Prose::new(alloc);
-    let mut used = each;
-    for character in words.chars() {
-        used += each;
-        if used > room {
-            break;
-        }
-        text.put_char(character);
-    }
-    text.put("…");
-    text.finish()
-}
-
-pub fn cut_plain(alloc: Global, words: &str, room: f64, size: f64) -> Result<String, AllocError> {
-    cut_to_fit(alloc, words, room, size, WIDTH)
-}
-
-pub fn cut_bold(alloc: Global, words: &str, room: f64, size: f64) -> Result<String, AllocError> {
-    cut_to_fit(alloc, words, room, size, BOLD)
-}
-
-pub fn cut_fixed(alloc: Global, words: &str, room: f64, size: f64) -> Result<String, AllocError> {
-    cut_to_fit(alloc, words, room, size, FIXED)
-}
-
-/// The label of a row, where it is none of a stop.
+/// The label of a row of these events, where it is none of a stop.
 pub fn label_of(
-    alloc: Global,
-    legend: &Legend,
-    story: &Story,
-    row: PictureRow,
-) -> Result<Option<PictureLabel>, AllocError> {
-    match row.fold {
-        Fold::None => match story.events.get(row.first) {
-            Some(event) => event_label(alloc, legend, event),
-            None => Ok(None),
-        },
-        Fold::Starts => starts_label(alloc, row.count),
-        Fold::Rounds(rounds) => rounds_label(alloc, rounds, row.count),
-    }
-}
-
-fn starts_label(alloc: Global, count: usize) -> Result<Option<PictureLabel>, AllocError> {
-    plain_label(format!(in alloc; "starts {count}"))
-}
-
-fn rounds_label(
-    alloc: Global,
-    rounds: usize,
+    scene: Scene<'_>,
+    first: usize,
     count: usize,
+    fold: Fold,
 ) -> Result<Option<PictureLabel>, AllocError> {
-    plain_label(format!(in alloc; "the same {rounds} times more: {count} events"))
-}
-
-fn plain_label(words: Result<String, AllocError>) -> Result<Option<PictureLabel>, AllocError> {
-    Ok(Some(PictureLabel {
-        words: words?,
-        brief: None,
-        face: Face::Faint,
-        pill: None,
-    }))
-}
-
-fn event_label(
-    alloc: Global,
-    legend: &Legend,
-    event: &StoryEvent,
-) -> Result<Option<PictureLabel>, AllocError> {
-    let mut label = PictureLabel {
-        words: event_words(alloc, legend, event)?,
-        brief: None,
-        face: face_of(event),
-        pill: None,
+    let alloc = scene.alloc;
+    let words = match fold {
+        Fold::None => {
+            return match scene.story.events.get(first) {
+                Some(event) => event_label(scene, event),
+                None => Ok(None),
+            };
+        }
+        Fold::Starts => format!(in alloc; "starts {count}"),
+        Fold::Rounds(rounds) => {
+            format!(in alloc; "the same {rounds} times more: {count} events")
+        }
     };
-    label.complete(alloc, legend, event)?;
+    Ok(Some(PictureLabel::new(words?, Face::Faint)))
+}
+
+fn event_label(scene: Scene<'_>, event: &StoryEvent) -> Result<Option<PictureLabel>, AllocError> {
+    let mut label = PictureLabel::new(event_words(scene, event)?, face_of(event));
+    label.brief = brief_words(scene, event)?;
+    label.pill = pill_of(scene, event)?;
     Ok(Some(label))
 }
 
 // The value that an event displays.
-fn pill_of(
-    alloc: Global,
-    legend: &Legend,
-    event: &StoryEvent,
-) -> Result<Option<String>, AllocError> {
+fn pill_of(scene: Scene<'_>, event: &StoryEvent) -> Result<Option<String>, AllocError> {
     let Happening::Display(value) = event.happening else {
         return Ok(None);
     };
-    let mut shown = String::new(alloc);
-    push_shown(legend, &mut shown, value)?;
+    let mut shown = String::new(scene.alloc);
+    push_shown(scene.legend, &mut shown, value)?;
     Ok(Some(shown))
 }
 
-fn event_words(alloc: Global, legend: &Legend, event: &StoryEvent) -> Result<String, AllocError> {
-    let mut words = Prose::new(alloc);
-    put_words(alloc, legend, &mut words, event);
-    words.put_made(values_by_name(alloc, &event.returned));
+fn event_words(scene: Scene<'_>, event: &StoryEvent) -> Result<String, AllocError> {
+    let mut words = Prose::new(scene.alloc);
+    put_words(scene, &mut words, event);
+    words.put_made(values_by_name(scene.alloc, &event.returned));
     words.finish()
 }
 
 // What happened, and one value that comes back without its name; none where there are more values, or none.
-fn brief_words(
-    alloc: Global,
-    legend: &Legend,
-    event: &StoryEvent,
-) -> Result<Option<String>, AllocError> {
+fn brief_words(scene: Scene<'_>, event: &StoryEvent) -> Result<Option<String>, AllocError> {
     let (1, Some(one)) = (event.returned.len(), event.returned.first()) else {
         return Ok(None);
     };
-    let mut brief = Prose::new(alloc);
-    put_words(alloc, legend, &mut brief, event);
+    let mut brief = Prose::new(scene.alloc);
+    put_words(scene, &mut brief, event);
     brief.put(", = ");
-    brief.put_made(one.value.text(alloc));
+    brief.put_made(one.value.text(scene.alloc));
     Ok(Some(brief.finish()?))
 }
 
@@ -193,30 +127,28 @@ fn face_of(event: &StoryEvent) -> Face {
     }
 }
 
-fn put_words(alloc: Global, legend: &Legend, words: &mut Prose, event: &StoryEvent) {
+fn put_words(scene: Scene<'_>, words: &mut Prose, event: &StoryEvent) {
     match &event.happening {
         Happening::Enter {
             call,
             arguments,
             waits,
         } => {
-            put_routine(alloc, legend, words, *call, arguments);
+            put_routine(scene, words, *call, arguments);
             words.put(if *waits { ", at the gate" } else { "" });
         }
         Happening::Leave(_) => words.put("leaves"),
         Happening::Delay(queue, _) => put_queue(words, "delay(", queue.name.as_str()),
         Happening::Continue(queue, _) => {
             put_queue(words, "continue(", queue.name.as_str());
-            words.put(if event.wakes_nobody() {
-                ": nobody waits"
-            } else {
-                ""
-            });
+            if event.wakes_nobody() {
+                words.put(": nobody waits");
+            }
             put_woken(words, event.woken.as_slice());
         }
         Happening::Start(process) => {
             words.put("starts ");
-            words.put(legend.process_name(*process));
+            words.put(scene.legend.process_name(*process));
         }
         Happening::Display(_) => words.put("displays"),
         Happening::End => words.put("ends"),
@@ -225,18 +157,12 @@ fn put_words(alloc: Global, legend: &Legend, words: &mut Prose, event: &StoryEve
 }
 
 /// Appends a call with its routine first: the colour names the monitor.
-pub fn put_routine(
-    alloc: Global,
-    legend: &Legend,
-    words: &mut Prose,
-    call: OpenCall,
-    arguments: &[SourceValue],
-) {
-    words.put(legend.routine_name(call.routine));
+pub fn put_routine(scene: Scene<'_>, words: &mut Prose, call: OpenCall, arguments: &[SourceValue]) {
+    words.put(scene.legend.routine_name(call.routine));
     let mut before = "(";
     for argument in arguments {
         words.put(before);
-        words.put_made(argument.text(alloc));
+        words.put_made(argument.text(scene.alloc));
         before = ", ";
     }
     words.put(if arguments.is_empty() {
@@ -244,7 +170,7 @@ pub fn put_routine(
     } else {
         ") in "
     });
-    words.put(legend.monitor_name(call.monitor));
+    words.put(scene.legend.monitor_name(call.monitor));
 }
 
 fn put_queue(words: &mut Prose, before: &str, name: &str) {
@@ -261,16 +187,14 @@ fn put_woken(words: &mut Prose, woken: &[u8]) {
 }
 
 impl PictureLabel {
-    // Adds the brief words, and the value that is displayed.
-    fn complete(
-        &mut self,
-        alloc: Global,
-        legend: &Legend,
-        event: &StoryEvent,
-    ) -> Result<(), AllocError> {
-        self.brief = brief_words(alloc, legend, event)?;
-        self.pill = pill_of(alloc, legend, event)?;
-        Ok(())
+    /// A label of words alone.
+    pub fn new(words: String, face: Face) -> PictureLabel {
+        PictureLabel {
+            words,
+            brief: None,
+            face,
+            pill: None,
+        }
     }
 
     /// How wide the label is.
@@ -284,7 +208,7 @@ impl PictureLabel {
 
     /// How wide its words are.
     pub fn words_width(&self) -> f64 {
-        points(self.words.as_str().chars().count()) * 11.5 * self.factor()
+        text_width(self.words.as_str(), 11.5, self.factor())
     }
 
     /// How wide a character of it is, for each point of its size.

@@ -1,5 +1,7 @@
 //! Colours. A colour is a monitor; after the eighth they begin again.
 
+use crate::svg::Style;
+
 /// The colours of a monitor.
 #[derive(Clone, Copy)]
 pub struct Hue {
@@ -15,6 +17,13 @@ pub struct Hue {
 pub const INK: &str = "#1f2933";
 
 pub const GREY: &str = "#66727f";
+
+/// The style of what matters less.
+pub const FAINT: Style<'static> = Style {
+    size: 10.5,
+    fill: GREY,
+    more: "",
+};
 
 pub const PALE: &str = "#98a2ad";
 

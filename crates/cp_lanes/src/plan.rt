@@ -1,10 +1,11 @@
 //! Where everything stands in the picture.
 
-use crate::labels::{PictureLabel, bold_width, plain_width, points};
-use crate::sheet::PictureRow;
+use crate::labels::{bold_width, plain_width, points};
+use crate::pictures::Scene;
+use crate::sheet::Sheet;
 use cp_legend::Legend;
 use cp_story::{Happening, Story};
-use std::alloc::{AllocError, Global};
+use std::alloc::AllocError;
 
 /// How wide a picture is at most, where its lanes can be made narrow enough.
 const SCREEN: f64 = 1600.0;
@@ -40,8 +41,6 @@ pub struct Widths {
     pub changes: f64,
     /// The text of the lines of the source.
     pub source: f64,
-    /// Whether there is no source, not even the numbers of its lines.
-    pub is_plain: bool,
 }
 
 /// The columns of a picture.
@@ -70,21 +69,6 @@ impl Plan {
     pub fn dot(&self, process: u8) -> f64 {
         self.lane(process).left + 17.0
     }
-
-    // Places what stands on the right of the lanes and the bars.
-    fn place_right(&mut self, at: f64, widths: Widths) {
-        self.changes = Column {
-            left: at,
-            width: widths.changes,
-        };
-        self.numbers = at + widths.changes + if widths.is_plain { 0.0 } else { 44.0 };
-        self.source = Column {
-            left: self.numbers + 10.0,
-            width: widths.source,
-        };
-        let narrowest = if widths.is_plain { 420.0 } else { NARROWEST };
-        self.width = (self.source.left + self.source.width + 16.0).max(narrowest);
-    }
 }
 
 fn column_at(columns: &[Column], number: u8) -> Column {
@@ -102,40 +86,56 @@ struct NaturalWidths {
 }
 
 /// The plan of a story whose labels and right columns have these widths.
-pub fn plan_of(
-    alloc: Global,
-    legend: &Legend,
-    story: &Story,
-    rows: &[PictureRow],
-    labels: &[Option<PictureLabel>],
-    widths: Widths,
-) -> Result<Plan, AllocError> {
+pub fn plan_of(scene: Scene<'_>, sheet: &Sheet, widths: Widths) -> Result<Plan, AllocError> {
     let mut natural = NaturalWidths {
-        lanes: Vec::new(alloc),
-        bars: Vec::new(alloc),
+        lanes: Vec::new(scene.alloc),
+        bars: Vec::new(scene.alloc),
     };
-    natural.push_lanes(legend, story, rows, labels)?;
-    natural.push_bars(legend)?;
-    plan_within(alloc, left_edge(story), &natural, widths)
+    natural.push_lanes(scene, sheet)?;
+    natural.push_bars(scene.legend)?;
+    plan_within(scene, &natural, widths)
 }
 
 // The plan with right columns, and at last lanes, that are narrower where there is no room.
 fn plan_within(
-    alloc: Global,
-    left: f64,
+    scene: Scene<'_>,
     natural: &NaturalWidths,
     widths: Widths,
 ) -> Result<Plan, AllocError> {
-    let lanes = sum(&natural.lanes);
-    let fixed = left + sum(&natural.bars) + if widths.is_plain { 56.0 } else { 110.0 };
-    let widths = narrow_widths(widths, fixed, lanes);
-    let room = SCREEN - fixed - widths.changes - widths.source;
-    let most = fair_share(&natural.lanes, room);
-    let mut plan = new_plan(alloc);
-    let at = push_columns(&mut plan.lanes, &natural.lanes, left, most, 16.0)?;
-    let at = push_columns(&mut plan.bars, &natural.bars, at + 10.0, ANY_WIDTH, 6.0)?;
-    plan.place_right(at + 14.0, widths);
-    Ok(plan)
+    // The numbers of lines have a column where there is a source.
+    let (beside, numbers, narrowest) = if scene.is_plain {
+        (56.0, 0.0, 420.0)
+    } else {
+        (110.0, 44.0, NARROWEST)
+    };
+    let left = left_edge(scene.story);
+    let wanted = sum(&natural.lanes, ANY_WIDTH);
+    let fixed = left + sum(&natural.bars, ANY_WIDTH) + beside;
+    let widths = narrow_widths(widths, fixed, wanted);
+    let most = fair_share(
+        &natural.lanes,
+        SCREEN - fixed - widths.changes - widths.source,
+    );
+    let mut lanes = Vec::new(scene.alloc);
+    let at = push_columns(&mut lanes, &natural.lanes, left, most, 16.0)?;
+    let mut bars = Vec::new(scene.alloc);
+    let at = push_columns(&mut bars, &natural.bars, at + 10.0, ANY_WIDTH, 6.0)? + 14.0;
+    let numbers = at + widths.changes + numbers;
+    let source = Column {
+        left: numbers + 10.0,
+        width: widths.source,
+    };
+    Ok(Plan {
+        lanes,
+        bars,
+        changes: Column {
+            left: at,
+            width: widths.changes,
+        },
+        numbers,
+        source,
+        width: (source.left + source.width + 16.0).max(narrowest),
+    })
 }
 
 // The widths of the right columns that there is room for beside the lanes.
@@ -151,17 +151,6 @@ fn narrow_widths(natural: Widths, fixed: f64, lanes: f64) -> Widths {
         widths.changes = widths.changes.min(170.0);
     }
     widths
-}
-
-fn new_plan(alloc: Global) -> Plan {
-    Plan {
-        lanes: Vec::new(alloc),
-        bars: Vec::new(alloc),
-        changes: NO_COLUMN,
-        numbers: 0.0,
-        source: NO_COLUMN,
-        width: 0.0,
-    }
 }
 
 // Appends columns side by side, each with a space after it, and answers where the next one would begin.
@@ -184,30 +173,26 @@ fn push_columns(
     Ok(at)
 }
 
-fn sum(widths: &[f64]) -> f64 {
+// The sum of some widths, each cut at the most.
+fn sum(widths: &[f64], most: f64) -> f64 {
     let mut total = 0.0;
     for width in widths {
-        total += *width;
+        total += width.min(most);
     }
     total
 }
 
 // The width at which lanes are cut so that all together have no more than the room: narrow ones leave theirs to the others.
 fn fair_share(widths: &[f64], room: f64) -> f64 {
-    if sum(widths) <= room {
+    if sum(widths, ANY_WIDTH) <= room {
         return room.max(0.0) + 10000.0;
     }
     let mut share = 100.0;
     for _ in 0..192u8 {
-        let wider = share + 4.0;
-        let mut total = 0.0;
-        for width in widths {
-            total += width.min(wider);
-        }
-        if total > room {
+        if sum(widths, share + 4.0) > room {
             break;
         }
-        share = wider;
+        share += 4.0;
     }
     share
 }
@@ -227,16 +212,11 @@ fn left_edge(story: &Story) -> f64 {
 }
 
 impl NaturalWidths {
-    fn push_lanes(
-        &mut self,
-        legend: &Legend,
-        story: &Story,
-        rows: &[PictureRow],
-        labels: &[Option<PictureLabel>],
-    ) -> Result<(), AllocError> {
-        for process in 0..legend.processes() {
-            let head = head_width(legend, story, process);
-            let most = head.max(widest_label(story, rows, labels, process));
+    fn push_lanes(&mut self, scene: Scene<'_>, sheet: &Sheet) -> Result<(), AllocError> {
+        let story = scene.story;
+        for process in 0..scene.legend.processes() {
+            let head = head_width(scene.legend, story, process);
+            let most = head.max(widest_label(story, sheet, process));
             let most = most.max(stop_width(story, process));
             self.lanes.push(lane_width(story, process, most))?;
         }
@@ -266,15 +246,10 @@ fn head_width(legend: &Legend, story: &Story, process: u8) -> f64 {
 }
 
 // The width of the widest label in a lane; 0 where there is none.
-fn widest_label(
-    story: &Story,
-    rows: &[PictureRow],
-    labels: &[Option<PictureLabel>],
-    process: u8,
-) -> f64 {
+fn widest_label(story: &Story, sheet: &Sheet, process: u8) -> f64 {
     let mut most: f64 = 0.0;
-    for (row, label) in rows.iter().zip(labels) {
-        if let (Some(event), Some(label)) = (story.events.get(row.first), label) {
+    for row in &sheet.rows {
+        if let (Some(event), Some(label)) = (story.events.get(row.first), &row.label) {
             if event.plain.process == process {
                 most = most.max(31.0 + label.width() + 12.0);
             }

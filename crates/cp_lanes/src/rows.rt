@@ -1,77 +1,58 @@
 //! Rows: what happened, who could be chosen, what changed, and where it stands in the source.
 
-use crate::changes::{ChangeLine, changes_words};
-use crate::draw::draw_resumed;
-use crate::key::draw_lost;
-use crate::labels::{Face, PictureLabel, cut_fixed, pill_width, points};
-use crate::palette::{GREY, INK, PALE, RED, hue_of};
-use crate::pictures::{Scene, Texts, source_line};
-use crate::plan::{Plan, ROW};
-use crate::sheet::{Fold, LINE, PictureRow, Sheet};
+use crate::changes::changes_words;
+use crate::draw::{draw_resumed, write_process};
+use crate::key::{BROKEN, FULL, draw_lost, draw_square};
+use crate::labels::{FIXED, Face, PictureLabel, pill_width, points};
+use crate::palette::{FAINT, GREY, INK, PALE, RED, hue_of};
+use crate::pictures::{Layout, Scene, source_line};
+use crate::plan::{Column, Plan, ROW};
+use crate::sheet::{Fold, LINE, PictureRow};
 use crate::spans::Spans;
-use crate::svg::{Block, Style, Svg};
-use crate::wrapping::label_lines;
+use crate::svg::{AT_END, BOLD_MIDDLE, BOLD_TYPE, Block, MIDDLE, Style, Svg};
+use crate::wrapping::{LineRoom, label_lines};
 use cp_story::{AbruptEnd, Choice, Happening, StoryEvent, happening_words};
-use std::alloc::{AllocError, Global};
+use std::alloc::AllocError;
 
 /// The free space between two lanes, into which a label may reach.
 const GAP: f64 = 12.0;
 
 /// Draws the rows.
-pub fn draw_rows(
-    alloc: Global,
-    svg: &mut Svg,
-    scene: Scene<'_>,
-    plan: &Plan,
-    sheet: &Sheet,
-    spans: &Spans,
-    texts: Texts<'_>,
-) {
-    for stay in &spans.stays {
-        draw_resumed(alloc, svg, scene, plan, sheet, stay);
+pub fn draw_rows(svg: &mut Svg, scene: Scene<'_>, layout: Layout<'_>) {
+    for stay in &layout.spans.stays {
+        draw_resumed(svg, scene, layout, stay);
     }
-    let beside = texts.labels.iter().zip(texts.changes);
-    for (row, (label, changes)) in sheet.rows.iter().zip(beside) {
-        draw_row(alloc, svg, scene, plan, spans, *row, label, changes);
+    for row in &layout.sheet.rows {
+        draw_row(svg, scene, layout, row);
     }
 }
 
-fn draw_row(
-    alloc: Global,
-    svg: &mut Svg,
-    scene: Scene<'_>,
-    plan: &Plan,
-    spans: &Spans,
-    row: PictureRow,
-    label: &Option<PictureLabel>,
-    changes: &[ChangeLine],
-) {
-    if let (Some(first), Some(label)) = (row.events(scene.story).first(), label) {
-        open_row(alloc, svg, scene, row);
-        draw_number(alloc, svg, row);
-        draw_event(alloc, svg, scene, plan, spans, row, first, label);
-        draw_changes(svg, plan, changes, row.middle());
-        draw_source(alloc, svg, scene, plan, first.line, row.middle());
+fn draw_row(svg: &mut Svg, scene: Scene<'_>, layout: Layout<'_>, row: &PictureRow) {
+    if let (Some(first), Some(label)) = (row.events(scene.story).first(), &row.label) {
+        open_row(svg, scene, row);
+        draw_number(svg, scene, row);
+        draw_event(svg, scene, layout, row, first, label);
+        draw_changes(svg, layout.plan, row);
+        draw_source(svg, scene, layout.plan, first.line, row.middle());
         svg.close();
         return;
     }
     match &scene.story.stop {
-        Some(stop) => draw_stop(alloc, svg, scene, plan, spans, row, stop),
+        Some(stop) => draw_stop(svg, scene, layout, row, stop),
         None => {}
     }
 }
 
 // What happened in a row, of which this is the first event.
 fn draw_event(
-    alloc: Global,
     svg: &mut Svg,
     scene: Scene<'_>,
-    plan: &Plan,
-    spans: &Spans,
-    row: PictureRow,
+    layout: Layout<'_>,
+    row: &PictureRow,
     event: &StoryEvent,
     label: &PictureLabel,
 ) {
+    let plan = layout.plan;
     let y = row.middle();
     match row.fold {
         Fold::None => {
@@ -80,25 +61,20 @@ fn draw_event(
             }
             draw_dot(svg, plan, event, y);
         }
-        Fold::Starts | Fold::Rounds(_) => draw_folded(svg, scene, plan, row, event, y),
+        Fold::Starts | Fold::Rounds(_) => draw_folded(svg, scene, plan, row, event),
     }
     for event in row.events(scene.story) {
         draw_arrows(svg, plan, event, label, y);
     }
-    let room = room_of_label(plan, spans, event, row.fold, y);
-    draw_label(alloc, svg, plan, event.plain.process, label, room, y);
+    let room = room_of_label(layout, event, row);
+    let lane = plan.lane(event.plain.process);
+    draw_label(svg, scene, lane, label, room, y);
 }
 
 // How often a process was chosen whose events are folded, and a dot that stands for several.
-fn draw_folded(
-    svg: &mut Svg,
-    scene: Scene<'_>,
-    plan: &Plan,
-    row: PictureRow,
-    event: &StoryEvent,
-    y: f64,
-) {
+fn draw_folded(svg: &mut Svg, scene: Scene<'_>, plan: &Plan, row: &PictureRow, event: &StoryEvent) {
     let process = event.plain.process;
+    let y = row.middle();
     let mut count = 0u32;
     for event in row.events(scene.story) {
         if event.choice.is_some() {
@@ -107,13 +83,8 @@ fn draw_folded(
     }
     if count > 0 {
         draw_option(svg, 54.0, y, process, true, false);
-        let style = Style {
-            size: 10.5,
-            fill: GREY,
-            more: "",
-        };
-        svg.words(68.0, y + 3.8, style, "×");
-        svg.number(77.0, y + 3.8, style, count);
+        svg.words(68.0, y + 3.8, FAINT, "×");
+        svg.number(77.0, y + 3.8, FAINT, count);
     }
     let x = plan.dot(process);
     svg.circle(x, y - 5.0, 2.2, INK, "");
@@ -122,11 +93,11 @@ fn draw_folded(
 }
 
 // How much room a label has, with that of the lanes beside it in which there is nothing but the line of a life.
-fn room_of_label(plan: &Plan, spans: &Spans, event: &StoryEvent, fold: Fold, y: f64) -> f64 {
+fn room_of_label(layout: Layout<'_>, event: &StoryEvent, row: &PictureRow) -> f64 {
     let process = event.plain.process;
-    match fold {
-        Fold::None if !points_right(event) => room_beside(plan, spans, process, y),
-        _ => plan.lane(process).width - 36.0,
+    match row.fold {
+        Fold::None if !points_right(event) => room_beside(layout, process, row.middle()),
+        _ => layout.plan.lane(process).width - 36.0,
     }
 }
 
@@ -150,11 +121,12 @@ fn is_below_one(process: u8, others: &[u8]) -> bool {
 }
 
 // The room in the lane of a process and in the free ones beside it.
-fn room_beside(plan: &Plan, spans: &Spans, process: u8, y: f64) -> f64 {
+fn room_beside(layout: Layout<'_>, process: u8, y: f64) -> f64 {
+    let plan = layout.plan;
     let mut room = plan.lane(process).width - 36.0 + GAP;
     for number in usize::from(process).saturating_add(1)..plan.lanes.len() {
         let other = u8::try_from(number).unwrap_or(0);
-        if is_busy(spans, other, y) {
+        if is_busy(layout.spans, other, y) {
             return room;
         }
         room += plan.lane(other).width + 16.0;
@@ -178,7 +150,7 @@ fn is_busy(spans: &Spans, process: u8, y: f64) -> bool {
 }
 
 // Begins a row with a title: what happened, and what changed.
-fn open_row(alloc: Global, svg: &mut Svg, scene: Scene<'_>, row: PictureRow) {
+fn open_row(svg: &mut Svg, scene: Scene<'_>, row: &PictureRow) {
     let events = row.events(scene.story);
     svg.begin_title();
     let mut is_first = true;
@@ -187,26 +159,23 @@ fn open_row(alloc: Global, svg: &mut Svg, scene: Scene<'_>, row: PictureRow) {
             svg.raw("; ");
         }
         is_first = false;
-        write_event(alloc, svg, scene, event);
+        write_event(svg, scene, event);
     }
-    match changes_words(alloc, scene.legend, events) {
+    match changes_words(scene, events) {
         Ok(changes) => write_changes(svg, changes.as_str()),
         Err(_) => svg.refuse(),
     }
     svg.end_title();
 }
 
-fn write_event(alloc: Global, svg: &mut Svg, scene: Scene<'_>, event: &StoryEvent) {
-    let process = event.plain.process;
-    svg.digits(u32::from(process));
-    svg.raw(" ");
-    svg.escape(scene.legend.process_name(process));
+fn write_event(svg: &mut Svg, scene: Scene<'_>, event: &StoryEvent) {
+    write_process(svg, scene, event.plain.process);
     if let Some(line) = event.line {
         svg.raw(", line ");
         svg.digits(line);
     }
     svg.raw(": ");
-    svg.escape_made(happening_words(alloc, scene.legend, event));
+    svg.escape_made(happening_words(scene.alloc, scene.legend, event));
 }
 
 fn write_changes(svg: &mut Svg, changes: &str) {
@@ -217,29 +186,20 @@ fn write_changes(svg: &mut Svg, changes: &str) {
 }
 
 // The number of a row, or the first and the last of those that are folded.
-fn draw_number(alloc: Global, svg: &mut Svg, row: PictureRow) {
-    let style = Style {
-        size: 9.5,
-        fill: PALE,
-        more: "text-anchor=\"end\"",
-    };
+fn draw_number(svg: &mut Svg, scene: Scene<'_>, row: &PictureRow) {
+    let alloc = scene.alloc;
+    let style = Style::new(9.5, PALE, AT_END);
     let y = row.middle() + 3.5;
     let first = row.first.saturating_add(1);
     let last = row.first.saturating_add(row.count);
-    if last < 100 {
-        let text = if first < last {
-            format!(in alloc; "{first}–{last}")
-        } else {
-            format!(in alloc; "{first}")
-        };
-        svg.words_made(36.0, y, style, text);
-        return;
-    }
-    if first < last {
+    if first >= last {
+        svg.words_made(36.0, y, style, format!(in alloc; "{last}"));
+    } else if last < 100 {
+        svg.words_made(36.0, y, style, format!(in alloc; "{first}–{last}"));
+    } else {
         svg.words_made(36.0, y - 5.0, style, format!(in alloc; "{first}–"));
+        svg.words_made(36.0, y + 5.0, style, format!(in alloc; "{last}"));
     }
-    let below = if first < last { 5.0 } else { 0.0 };
-    svg.words_made(36.0, y + below, style, format!(in alloc; "{last}"));
 }
 
 // Circles for those who could go on, squares for those who could be let in; the chosen one is filled.
@@ -253,29 +213,21 @@ fn draw_choice(svg: &mut Svg, choice: &Choice, y: f64) {
 
 fn draw_option(svg: &mut Svg, x: f64, y: f64, option: u8, is_chosen: bool, at_gate: bool) {
     if at_gate {
-        svg.block(Block {
-            left: x - 9.0,
-            top: y - 9.0,
-            width: 18.0,
-            height: 18.0,
-            radius: 2.5,
-            fill: if is_chosen { INK } else { "#fff" },
-            stroke: if is_chosen { INK } else { "#aab4be" },
-            stroke_width: 1.0,
-        });
+        let (fill, edge) = if is_chosen {
+            (INK, INK)
+        } else {
+            ("#fff", "#aab4be")
+        };
+        draw_square(svg, x - 9.0, y - 9.0, 18.0, fill, edge);
     } else if is_chosen {
         svg.circle(x, y, 9.0, INK, "");
     } else {
         svg.circle(x, y, 8.5, "#fff", "stroke=\"#aab4be\"");
     }
-    let style = Style {
-        size: 10.5,
-        fill: if is_chosen { "#fff" } else { "#7b8794" },
-        more: if is_chosen {
-            "text-anchor=\"middle\" font-weight=\"bold\""
-        } else {
-            "text-anchor=\"middle\""
-        },
+    let style = if is_chosen {
+        Style::new(10.5, "#fff", BOLD_MIDDLE)
+    } else {
+        Style::new(10.5, "#7b8794", MIDDLE)
     };
     svg.number(x, y + 3.8, style, u32::from(option));
 }
@@ -283,16 +235,7 @@ fn draw_option(svg: &mut Svg, x: f64, y: f64, option: u8, is_chosen: bool, at_ga
 fn draw_dot(svg: &mut Svg, plan: &Plan, event: &StoryEvent, y: f64) {
     let x = plan.dot(event.plain.process);
     match event.happening {
-        Happening::End => svg.block(Block {
-            left: x - 5.5,
-            top: y - 5.5,
-            width: 11.0,
-            height: 11.0,
-            radius: 0.0,
-            fill: INK,
-            stroke: "",
-            stroke_width: 0.0,
-        }),
+        Happening::End => svg.block(Block::plain(x - 5.5, y - 5.5, 11.0, 11.0, INK)),
         _ if event.wakes_nobody() => draw_lost(svg, x, y),
         _ => svg.circle(x, y, 4.6, INK, ""),
     }
@@ -300,54 +243,43 @@ fn draw_dot(svg: &mut Svg, plan: &Plan, event: &StoryEvent, y: f64) {
 
 // A label in one line, or in two; what has no room in two is cut at a word.
 fn draw_label(
-    alloc: Global,
     svg: &mut Svg,
-    plan: &Plan,
-    process: u8,
+    scene: Scene<'_>,
+    lane: Column,
     label: &PictureLabel,
     beside: f64,
     y: f64,
 ) {
-    let lane = plan.lane(process);
     let x = lane.left + 31.0;
     let pill_room = match &label.pill {
         Some(pill) => pill_width(pill.as_str()) + 10.0,
         None => 0.0,
     };
     let room = (lane.width - 36.0 - pill_room).max(20.0);
+    let has_room = label.words_width() <= room;
     let style = style_of(label.face);
-    if label.words_width() <= room {
+    if has_room {
         svg.words(x, y + 4.0, style, label.words.as_str());
     } else if label.pill.is_none() {
-        let small = Style {
-            size: 10.5,
-            more: halo_of(label.face),
-            ..style
-        };
-        let lines = label_lines(alloc, label, room, (beside - pill_room).max(room));
-        svg.lines_made(x, y, small, lines);
+        let small = Style::new(10.5, style.fill, halo_of(label.face));
+        let beside = (beside - pill_room).max(room);
+        svg.lines_made(x, y, small, label_lines(scene.alloc, label, room, beside));
     }
-    match &label.pill {
-        Some(pill) if label.words_width() > room => draw_pill(svg, x, y, pill.as_str()),
-        Some(pill) => draw_pill(
-            svg,
-            x + label.words_width().min(room) + 10.0,
-            y,
-            pill.as_str(),
-        ),
-        None => {}
+    if let Some(pill) = &label.pill {
+        let left = if has_room {
+            x + label.words_width() + 10.0
+        } else {
+            x
+        };
+        draw_pill(svg, left, y, pill.as_str());
     }
 }
 
 fn style_of(face: Face) -> Style<'static> {
-    Style {
-        size: 11.5,
-        fill: if face == Face::Faint { GREY } else { INK },
-        more: if face == Face::Bold {
-            "font-weight=\"bold\""
-        } else {
-            ""
-        },
+    match face {
+        Face::Plain => Style::new(11.5, INK, ""),
+        Face::Faint => Style::new(11.5, GREY, ""),
+        Face::Bold => Style::new(11.5, INK, BOLD_TYPE),
     }
 }
 
@@ -363,21 +295,11 @@ fn halo_of(face: Face) -> &'static str {
 fn draw_pill(svg: &mut Svg, x: f64, y: f64, value: &str) {
     let width = pill_width(value);
     svg.block(Block {
-        left: x,
-        top: y - 9.5,
-        width,
-        height: 19.0,
         radius: 9.5,
-        fill: INK,
-        stroke: "",
-        stroke_width: 0.0,
+        ..Block::plain(x, y - 9.5, width, 19.0, INK)
     });
-    let style = Style {
-        size: 11.5,
-        fill: "#fff",
-        more: "text-anchor=\"middle\" font-weight=\"bold\"",
-    };
-    svg.words(x + width / 2.0, y + 4.0, style, value);
+    let white = Style::new(11.5, "#fff", BOLD_MIDDLE);
+    svg.words(x + width / 2.0, y + 4.0, white, value);
 }
 
 // Arrows to whom the event moves: full to who is started or woken, broken to who is let in.
@@ -393,10 +315,6 @@ fn draw_arrows(svg: &mut Svg, plan: &Plan, event: &StoryEvent, label: &PictureLa
         draw_arrow(svg, plan, process, *other, label, y, y + 13.0, BROKEN);
     }
 }
-
-const FULL: &str = "stroke-width=\"1.5\" marker-end=\"url(#arrow)\"";
-
-const BROKEN: &str = "stroke-width=\"1.5\" stroke-dasharray=\"4 3\" marker-end=\"url(#arrow)\"";
 
 // An arrow from what a label says to the lane of another process.
 fn draw_arrow(
@@ -419,65 +337,46 @@ fn draw_arrow(
     }
 }
 
-fn draw_changes(svg: &mut Svg, plan: &Plan, lines: &[ChangeLine], y: f64) {
-    let mut at = y + 4.0 - points(lines.len().saturating_sub(1)) * LINE / 2.0;
-    for line in lines {
-        let style = Style {
-            size: 10.5,
-            fill: hue_of(line.monitor).strong,
-            more: "",
-        };
+fn draw_changes(svg: &mut Svg, plan: &Plan, row: &PictureRow) {
+    let above = points(row.changes.len().saturating_sub(1)) * LINE / 2.0;
+    let mut at = row.middle() + 4.0 - above;
+    for line in &row.changes {
+        let style = Style::new(10.5, hue_of(line.monitor).strong, "");
         svg.words(plan.changes.left, at, style, line.words.as_str());
         at += LINE;
     }
 }
 
-fn draw_source(
-    alloc: Global,
-    svg: &mut Svg,
-    scene: Scene<'_>,
-    plan: &Plan,
-    line: Option<u32>,
-    y: f64,
-) {
+fn draw_source(svg: &mut Svg, scene: Scene<'_>, plan: &Plan, line: Option<u32>, y: f64) {
     let Some(line) = line else {
         return;
     };
     if scene.is_plain {
         return;
     }
-    let number = Style {
-        size: 10.5,
-        fill: GREY,
-        more: "text-anchor=\"end\"",
-    };
-    svg.number(plan.numbers, y + 4.0, number, line);
+    svg.number(plan.numbers, y + 4.0, Style::new(10.5, GREY, AT_END), line);
     if plan.source.width <= 0.0 {
         return;
     }
     let text = source_line(scene.source, line);
-    let style = Style {
-        size: 10.5,
-        fill: "#3e4c59",
-        more: "font-family=\"DejaVu Sans Mono, Menlo, Consolas, monospace\"",
-    };
-    let text = cut_fixed(alloc, text, plan.source.width, 10.5);
+    let monospace = "font-family=\"DejaVu Sans Mono, Menlo, Consolas, monospace\"";
+    let style = Style::new(10.5, "#3e4c59", monospace);
+    let text = LineRoom::new(scene.alloc, plan.source.width, 10.5 * FIXED).cut(text);
     svg.words_made(plan.source.left, y + 4.0, style, text);
 }
 
 // The row of a run error or of a limit.
 fn draw_stop(
-    alloc: Global,
     svg: &mut Svg,
     scene: Scene<'_>,
-    plan: &Plan,
-    spans: &Spans,
-    row: PictureRow,
+    layout: Layout<'_>,
+    row: &PictureRow,
     stop: &AbruptEnd,
 ) {
+    let plan = layout.plan;
     let y = row.middle();
     svg.open(stop.words.as_str());
-    draw_number(alloc, svg, row);
+    draw_number(svg, scene, row);
     if let Some(choice) = &scene.story.last_choice {
         draw_choice(svg, choice, y);
     }
@@ -486,30 +385,19 @@ fn draw_stop(
     svg.line((x - 5.0, y - 5.0), (x + 5.0, y + 5.0), RED, red);
     svg.line((x - 5.0, y + 5.0), (x + 5.0, y - 5.0), RED, red);
     let lane = plan.lane(stop.process);
-    let room = lane.width - 36.0;
-    let style = Style {
-        size: 10.5,
-        fill: RED,
-        more: "font-weight=\"bold\"",
-    };
-    let beside = room_beside(plan, spans, stop.process, y);
-    let lines = stop_lines(alloc, stop, room, beside);
-    svg.lines_made(lane.left + 31.0, y, style, lines);
-    draw_source(alloc, svg, scene, plan, stop.line, y);
+    let beside = room_beside(layout, stop.process, y);
+    let lines = stop_lines(scene, stop, lane.width - 36.0, beside);
+    svg.lines_made(lane.left + 31.0, y, Style::new(10.5, RED, BOLD_TYPE), lines);
+    draw_source(svg, scene, plan, stop.line, y);
     svg.close();
 }
 
 fn stop_lines(
-    alloc: Global,
+    scene: Scene<'_>,
     stop: &AbruptEnd,
     room: f64,
     beside: f64,
 ) -> Result<Vec<String>, AllocError> {
-    let label = PictureLabel {
-        words: stop.words.clone()?,
-        brief: None,
-        face: Face::Bold,
-        pill: None,
-    };
-    label_lines(alloc, &label, room, beside)
+    let label = PictureLabel::new(stop.words.clone()?, Face::Bold);
+    label_lines(scene.alloc, &label, room, beside)
 }

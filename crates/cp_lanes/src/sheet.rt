@@ -1,10 +1,11 @@
 //! The rows of a picture: which events have one of their own, which are folded, and which are left out.
 
-use crate::changes::ChangeLine;
-use crate::labels::points;
+use crate::changes::{ChangeLine, changes_in_lines};
+use crate::labels::{PictureLabel, label_of, points};
+use crate::pictures::Scene;
 use crate::plan::{ROW, TOP};
 use cp_story::{Happening, OpenCall, Story, StoryEvent};
-use std::alloc::{AllocError, Global};
+use std::alloc::AllocError;
 
 /// How many starts, or rounds of one process alone, are folded at least.
 const FEWEST: usize = 3;
@@ -37,12 +38,16 @@ pub enum Fold {
 }
 
 /// A row: an event, the stop after the last one, or some events that are folded.
-#[derive(Clone, Copy, Drop)]
+#[derive(Drop)]
 pub struct PictureRow {
     /// The first of its events, counted from 0.
     pub first: usize,
     pub count: usize,
     pub fold: Fold,
+    /// None beside a stop.
+    pub label: Option<PictureLabel>,
+    /// What changed, in lines.
+    pub changes: Vec<ChangeLine>,
     pub top: f64,
     pub height: f64,
 }
@@ -60,12 +65,12 @@ pub struct Sheet {
 
 impl PictureRow {
     /// The middle.
-    pub fn middle(self) -> f64 {
+    pub fn middle(&self) -> f64 {
         self.top + self.height / 2.0
     }
 
     /// The events of a story that it stands for.
-    pub fn events(self, story: &Story) -> &[StoryEvent] {
+    pub fn events<'a>(&self, story: &'a Story) -> &'a [StoryEvent] {
         let end = self
             .first
             .saturating_add(self.count)
@@ -89,24 +94,34 @@ impl Sheet {
     }
 
     /// The row of an event, if it has one of its own.
-    pub fn row_of(&self, event: usize) -> Option<PictureRow> {
+    pub fn row_of(&self, event: usize) -> Option<&PictureRow> {
         for row in &self.rows {
             if row.first == event && row.count == 1 {
-                return Some(*row);
+                return Some(row);
             }
         }
         None
     }
 
-    /// Places the rows, one below the other, by the lines of what changed in each.
-    pub fn place(&mut self, changes: &[Vec<ChangeLine>]) {
+    /// Gives each row its label.
+    pub fn label(&mut self, scene: Scene<'_>) -> Result<(), AllocError> {
+        for row in &mut self.rows {
+            row.label = label_of(scene, row.first, row.count, row.fold)?;
+        }
+        Ok(())
+    }
+
+    /// Places the rows, one below the other, by the lines of what changed in each, which are this wide.
+    pub fn place(&mut self, scene: Scene<'_>, width: f64) -> Result<(), AllocError> {
         let mut top = if self.before > 0 { TOP + EDGE } else { TOP };
-        for (row, lines) in self.rows.iter_mut().zip(changes) {
+        for row in &mut self.rows {
+            row.changes = changes_in_lines(scene, row.events(scene.story), width)?;
             row.top = top;
-            row.height = height_of(lines.len());
+            row.height = (points(row.changes.len()) * LINE + 8.0).max(ROW);
             top += row.height;
         }
         self.end = top;
+        Ok(())
     }
 
     /// Where the rows and the edge below them end.
@@ -120,24 +135,23 @@ impl Sheet {
 }
 
 /// The rows of a story, not placed yet; a row after the events is for its stop. No fold goes beyond the event with which a round begins.
-pub fn sheet_of(
-    alloc: Global,
-    story: &Story,
-    extent: SheetExtent,
-    again: Option<usize>,
-) -> Result<Sheet, AllocError> {
-    let extra = if story.stop.is_some() { 1 } else { 0usize };
-    let total = story.events.len().saturating_add(extra);
-    let (first, last) = bounds(extent, total);
-    let mut rows = Vec::new(alloc);
+pub fn sheet_of(scene: Scene<'_>) -> Result<Sheet, AllocError> {
+    let extra = if scene.story.stop.is_some() {
+        1
+    } else {
+        0usize
+    };
+    let total = scene.story.events.len().saturating_add(extra);
+    let (first, last) = bounds(scene.extent, total);
+    let mut rows = Vec::new(scene.alloc);
     let mut at = first;
     for _ in first..last {
         if at < last {
-            let end = match again {
+            let end = match scene.again {
                 Some(row) if at < row && row < last => row,
                 _ => last,
             };
-            at = at.saturating_add(push_rows(&mut rows, story, at, end)?);
+            at = at.saturating_add(push_rows(scene, &mut rows, at, end)?);
         }
     }
     Ok(Sheet {
@@ -162,35 +176,37 @@ fn bounds(extent: SheetExtent, total: usize) -> (usize, usize) {
 
 // Appends the rows of the next events, and answers how many these are.
 fn push_rows(
+    scene: Scene<'_>,
     rows: &mut Vec<PictureRow>,
-    story: &Story,
     at: usize,
     end: usize,
 ) -> Result<usize, AllocError> {
-    let starts = starts_at(story, at, end);
+    let starts = starts_at(scene.story, at, end);
     if starts >= FEWEST {
-        rows.push(new_row(at, starts, Fold::Starts))?;
+        rows.push(new_row(scene, at, starts, Fold::Starts))?;
         return Ok(starts);
     }
-    let (length, rounds) = rounds_at(story, at, end);
+    let (length, rounds) = rounds_at(scene.story, at, end);
     if rounds < FEWEST {
-        rows.push(new_row(at, 1, Fold::None))?;
+        rows.push(new_row(scene, at, 1, Fold::None))?;
         return Ok(1);
     }
     for place in 0..length {
-        rows.push(new_row(at.saturating_add(place), 1, Fold::None))?;
+        rows.push(new_row(scene, at.saturating_add(place), 1, Fold::None))?;
     }
     let more = rounds.saturating_sub(1);
     let count = length.saturating_mul(more);
-    rows.push(new_row(at.saturating_add(length), count, Fold::Rounds(more)))?;
+    rows.push(new_row(scene, at.saturating_add(length), count, Fold::Rounds(more)))?;
     Ok(length.saturating_mul(rounds))
 }
 
-fn new_row(first: usize, count: usize, fold: Fold) -> PictureRow {
+fn new_row(scene: Scene<'_>, first: usize, count: usize, fold: Fold) -> PictureRow {
     PictureRow {
         first,
         count,
         fold,
+        label: None,
+        changes: Vec::new(scene.alloc),
         top: TOP,
         height: ROW,
     }
@@ -269,9 +285,4 @@ fn is_same_happening(one: &Happening, two: &Happening) -> bool {
 
 fn is_same_call(one: OpenCall, two: OpenCall) -> bool {
     one.monitor == two.monitor && one.routine == two.routine
-}
-
-// The height of a row with so many lines of what changed.
-fn height_of(lines: usize) -> f64 {
-    (points(lines) * LINE + 8.0).max(ROW)
 }

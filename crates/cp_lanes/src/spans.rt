@@ -1,8 +1,9 @@
 //! What lasts longer than an event: stays in monitors, waits, and who holds what.
 
+use crate::pictures::Scene;
 use crate::plan::TOP;
 use crate::sheet::Sheet;
-use cp_story::{Happening, OpenCall, Story, StoryEvent};
+use cp_story::{Happening, OpenCall, StoryEvent};
 use std::alloc::{AllocError, Global};
 
 /// A stay of a process inside a monitor.
@@ -23,6 +24,8 @@ pub struct Stay {
 pub struct Pause {
     pub process: u8,
     pub monitor: u8,
+    /// The call that it is in.
+    pub call: OpenCall,
     pub at_gate: bool,
     pub top: f64,
     pub bottom: f64,
@@ -61,8 +64,6 @@ pub struct Spans {
 struct Open {
     stays: Vec<Stay>,
     pause: Option<Pause>,
-    /// The call that the pause is in.
-    call: OpenCall,
     life: Option<f64>,
 }
 
@@ -82,28 +83,16 @@ struct SpanBuilder {
     holders: Vec<Option<Hold>>,
 }
 
-const NO_CALL: OpenCall = OpenCall {
-    monitor: 0,
-    routine: 0,
-    line: 0,
-};
-
-/// The spans of a story with this many processes and monitors, as far as its rows are drawn.
-pub fn spans_of(
-    alloc: Global,
-    story: &Story,
-    sheet: &Sheet,
-    processes: u8,
-    monitors: u8,
-) -> Result<Spans, AllocError> {
-    let mut builder = SpanBuilder::new(alloc, sheet);
-    for process in 0..processes {
-        builder.add_process(alloc, process);
+/// The spans of a story, as far as its rows are drawn.
+pub fn spans_of(scene: Scene<'_>, sheet: &Sheet) -> Result<Spans, AllocError> {
+    let mut builder = SpanBuilder::new(scene.alloc, sheet);
+    for process in 0..scene.legend.processes() {
+        builder.add_process(scene.alloc, process);
     }
-    for _ in 0..monitors {
+    for _ in 0..scene.legend.monitors() {
         builder.add_monitor();
     }
-    for (row, event) in story.events.iter().enumerate() {
+    for (row, event) in scene.story.events.iter().enumerate() {
         let y = sheet.middle(row);
         builder.event(row, event, y);
         builder.hold(event, y);
@@ -240,7 +229,6 @@ impl SpanBuilder {
         let open = Open {
             stays: Vec::new(alloc),
             pause: None,
-            call: NO_CALL,
             life: if process == 0 { Some(98.0) } else { None },
         };
         if self.open.push(open).is_err() {
@@ -329,10 +317,10 @@ impl SpanBuilder {
 
     fn pause(&mut self, process: u8, monitor: u8, at_gate: bool, call: OpenCall, y: f64) {
         if let Some(open) = self.open.get_mut(process as usize) {
-            open.call = call;
             open.pause = Some(Pause {
                 process,
                 monitor,
+                call,
                 at_gate,
                 top: y + 8.0,
                 bottom: y + 8.0,
@@ -343,21 +331,15 @@ impl SpanBuilder {
 
     // A process that waited goes into the monitor.
     fn go_on(&mut self, process: u8, top: f64, resumed: Option<usize>) {
-        let call = self.end_pause(process, top);
-        self.stay(process, call, top, resumed);
+        if let Some(pause) = self.end_pause(process, top) {
+            self.stay(process, pause.call, top, resumed);
+        }
     }
 
-    // Ends the pause of a process, and answers the call that it was in.
-    fn end_pause(&mut self, process: u8, bottom: f64) -> OpenCall {
-        match self.open.get_mut(process as usize) {
-            Some(open) => {
-                if let Some(pause) = open.pause.take() {
-                    self.seen.add_pause(Pause { bottom, ..pause });
-                }
-                open.call
-            }
-            None => NO_CALL,
-        }
+    fn end_pause(&mut self, process: u8, bottom: f64) -> Option<Pause> {
+        let pause = self.open.get_mut(process as usize)?.pause.take()?;
+        self.seen.add_pause(Pause { bottom, ..pause });
+        Some(pause)
     }
 
     // The holders after an event.

@@ -1,15 +1,16 @@
 //! Elements of SVG.
 
-ghost use Rattle.std.specs.Prelude.{◌≡◌, ◌++◌, IfOk, string_bytes};
 ghost use Rattle.cp_lanes.specs.Escaping as spec;
+ghost use Rattle.cp_prose.specs.Telling.{UnlessRefused, appended};
 
+use cp_prose::Prose;
 use std::alloc::{AllocError, Global};
 
-/// The elements so far, and whether memory was refused for one of them, which is told at the end.
+/// The elements so far. That memory was refused for one of them is told at the end.
 #[derive(Drop)]
 pub struct Svg {
-    text: String,
-    is_refused: bool,
+    alloc: Global,
+    text: Prose,
 }
 
 /// A rectangle with round corners.
@@ -34,56 +35,83 @@ pub struct Style<'a> {
     pub more: &'a str,
 }
 
+/// The attributes of bold type, of a text in the middle of a point, of both, and of a text that ends at a point.
+pub const BOLD_TYPE: &str = "font-weight=\"bold\"";
+
+pub const MIDDLE: &str = "text-anchor=\"middle\"";
+
+pub const BOLD_MIDDLE: &str = "text-anchor=\"middle\" font-weight=\"bold\"";
+
+pub const AT_END: &str = "text-anchor=\"end\"";
+
+impl<'a> Block<'a> {
+    /// A rectangle without an edge, whose corners are not round.
+    pub fn plain(left: f64, top: f64, width: f64, height: f64, fill: &'a str) -> Block<'a> {
+        Block {
+            left,
+            top,
+            width,
+            height,
+            radius: 0.0,
+            fill,
+            stroke: "",
+            stroke_width: 0.0,
+        }
+    }
+}
+
+impl<'a> Style<'a> {
+    pub fn new(size: f64, fill: &'a str, more: &'a str) -> Style<'a> {
+        Style { size, fill, more }
+    }
+}
+
 /// Appends a character of a text, so that it stands for itself between tags and in attributes.
-fn push_escaped_char(text: &mut String, character: char) -> Result<(), AllocError>
-    ensures { IfOk result (λ _. string_bytes text.new ≡ string_bytes text.old ++ spec.escaped_char character) }
+fn put_escaped_char(text: &mut Prose, character: char)
+    ensures { UnlessRefused text.new (appended text.old (spec.escaped_char character)) }
 {
     match character {
-        '&' => text.push_str("&amp;"),
-        '<' => text.push_str("&lt;"),
-        '>' => text.push_str("&gt;"),
-        '"' => text.push_str("&quot;"),
-        _ => text.push(character),
+        '&' => text.put("&amp;"),
+        '<' => text.put("&lt;"),
+        '>' => text.put("&gt;"),
+        '"' => text.put("&quot;"),
+        _ => text.put_char(character),
     }
 }
 
 impl Svg {
     /// Begins a picture of a width and a height, with some more above it, this much larger.
     pub fn new(alloc: Global, width: f64, above: f64, height: f64, scale: f64) -> Svg {
-        let mut svg = Svg {
-            text: String::new(alloc),
-            is_refused: false,
-        };
-        svg.begin(width, above, height, scale);
-        svg
-    }
-
-    fn begin(&mut self, width: f64, above: f64, height: f64, scale: f64) {
         let whole = height + above;
-        self.raw("<svg xmlns=\"http://www.w3.org/2000/svg\" version=\"1.1\" width=\"");
-        self.whole_number(width * scale);
-        self.raw("\" height=\"");
-        self.whole_number(whole * scale);
-        self.raw("\" viewBox=\"0 ");
-        self.whole_number(0.0 - above);
-        self.raw(" ");
-        self.whole_number(width);
-        self.raw(" ");
-        self.whole_number(whole);
-        self.raw("\" font-family=\"DejaVu Sans, Helvetica, Arial, sans-serif\"");
-        self.raw(" font-size=\"12\" fill=\"#1f2933\">\n");
+        let mut svg = Svg {
+            alloc,
+            text: Prose::new(alloc),
+        };
+        svg.raw("<svg xmlns=\"http://www.w3.org/2000/svg\" version=\"1.1\" width=\"");
+        svg.whole_number(width * scale);
+        svg.raw("\" height=\"");
+        svg.whole_number(whole * scale);
+        svg.raw("\" viewBox=\"0 ");
+        svg.whole_number(0.0 - above);
+        svg.raw(" ");
+        svg.whole_number(width);
+        svg.raw(" ");
+        svg.whole_number(whole);
+        svg.raw("\" font-family=\"DejaVu Sans, Helvetica, Arial, sans-serif\"");
+        svg.raw(" font-size=\"12\" fill=\"#1f2933\">\n");
+        svg
     }
 
     // Appends a whole number.
     fn whole_number(&mut self, value: f64) {
-        let written = write!(self.text, "{value:.0}");
-        self.keep(written);
+        let alloc = self.alloc;
+        self.text.put_made(format!(in alloc; "{value:.0}"));
     }
 
     // Appends a number.
     fn measure(&mut self, value: f64) {
-        let written = write!(self.text, "{value:.1}");
-        self.keep(written);
+        let alloc = self.alloc;
+        self.text.put_made(format!(in alloc; "{value:.1}"));
     }
 
     // Appends an attribute that is a number.
@@ -108,22 +136,12 @@ impl Svg {
     pub fn finish(self) -> Result<String, AllocError> {
         let mut svg = self;
         svg.raw("</svg>\n");
-        if svg.is_refused {
-            return Err(AllocError);
-        }
-        Ok(svg.text)
-    }
-
-    /// Keeps that memory was refused, if it was.
-    pub fn keep(&mut self, written: Result<(), AllocError>) {
-        if written.is_err() {
-            self.is_refused = true;
-        }
+        svg.text.finish()
     }
 
     /// Memory was refused for what was to be drawn.
     pub fn refuse(&mut self) {
-        self.is_refused = true;
+        self.text.refuse();
     }
 
     /// Appends a text that may have failed for want of memory.
@@ -136,8 +154,7 @@ impl Svg {
 
     /// Appends the digits of a number.
     pub fn digits(&mut self, number: u32) {
-        let written = write!(self.text, "{number}");
-        self.keep(written);
+        self.text.put_display(number);
     }
 
     /// Begins a group whose title is written piece by piece.
@@ -188,15 +205,13 @@ impl Svg {
 
     /// Appends what is SVG already.
     pub fn raw(&mut self, text: &str) {
-        let written = self.text.push_str(text);
-        self.keep(written);
+        self.text.put(text);
     }
 
     /// Appends a text of the program or of its source.
     pub fn escape(&mut self, text: &str) {
         for character in text.chars() {
-            let written = push_escaped_char(&mut self.text, character);
-            self.keep(written);
+            put_escaped_char(&mut self.text, character);
         }
     }
 
@@ -212,15 +227,9 @@ impl Svg {
 
     /// Begins a group with a title.
     pub fn open(&mut self, title: &str) {
-        self.raw("<g>");
-        self.title(title);
-    }
-
-    /// A title.
-    pub fn title(&mut self, title: &str) {
-        self.raw("<title>");
+        self.begin_title();
         self.escape(title);
-        self.raw("</title>\n");
+        self.end_title();
     }
 
     /// Ends a group.

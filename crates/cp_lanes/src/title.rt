@@ -8,11 +8,9 @@ const MOST_CHARACTERS: usize = 300;
 
 /// The first sentence of the comment with which a source begins, as the heading of its picture; empty where there is none.
 pub fn sentence(alloc: Global, source: &[String]) -> Result<String, AllocError> {
-    let Some(first) = source.first() else {
-        return Ok(String::new(alloc));
-    };
-    let Some(begun) = comment(first.as_str()) else {
-        return Ok(String::new(alloc));
+    let begun = match source.first() {
+        Some(line) => comment(line.as_str()).unwrap_or(""),
+        None => "",
     };
     first_sentence(alloc, begun.trim())
 }

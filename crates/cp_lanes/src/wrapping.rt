@@ -1,6 +1,6 @@
-//! Texts that break into lines at a word.
+//! Texts that break into lines at a word, and that are cut.
 
-use crate::labels::{PictureLabel, cut_to_fit, points};
+use crate::labels::{PictureLabel, points};
 use cp_prose::Prose;
 use std::alloc::{AllocError, Global};
 use std::mem;
@@ -8,116 +8,134 @@ use std::mem;
 /// The size of the letters of a label in more than one line.
 const LETTERS: f64 = 10.5;
 
-/// The words in lines for which there is room, where each character has a width. A word that is wider has a line of its own.
-pub fn wrap(alloc: Global, words: &str, room: f64, each: f64) -> Result<Vec<String>, AllocError> {
-    break_lines(alloc, words, ' ', room, each)
-}
-
-/// The same for what is joined by another separator, which stays at the ends of lines.
-pub fn break_lines(
+/// How much room a line has, and how wide each of its characters is.
+#[derive(Clone, Copy)]
+pub struct LineRoom {
     alloc: Global,
-    text: &str,
-    separator: char,
     room: f64,
     each: f64,
-) -> Result<Vec<String>, AllocError> {
-    let mut lines = LineBreaker::new(alloc);
-    let mut used = 0.0;
-    let mut is_first = true;
-    for word in text.split(separator) {
-        let width = points(word.chars().count()) * each;
-        if !is_first {
-            lines.put_char(separator);
-            used += each;
-        }
-        if !is_first && used + width > room {
-            lines.begin_line(alloc);
-            used = 0.0;
-        }
-        is_first = false;
-        lines.put(word);
-        used += width;
-    }
-    lines.finish(alloc)
 }
 
-// Lines that are written word by word, and whether memory was refused for some part of them, which is told at the end.
-#[derive(Drop)]
-struct LineBreaker {
-    lines: Vec<String>,
-    line: String,
-    is_refused: bool,
-}
+impl LineRoom {
+    pub fn new(alloc: Global, room: f64, each: f64) -> LineRoom {
+        LineRoom { alloc, room, each }
+    }
 
-impl LineBreaker {
-    fn new(alloc: Global) -> LineBreaker {
-        LineBreaker {
-            lines: Vec::new(alloc),
-            line: String::new(alloc),
-            is_refused: false,
+    fn has_room_for(self, words: &str) -> bool {
+        points(words.chars().count()) * self.each <= self.room
+    }
+
+    /// The words, or as many characters as there is room for with a mark that some are missing.
+    pub fn cut(self, words: &str) -> Result<String, AllocError> {
+        if self.has_room_for(words) {
+            return String::from_str(self.alloc, words);
         }
-    }
-
-    fn put(&mut self, word: &str) {
-        if self.line.push_str(word).is_err() {
-            self.is_refused = true;
+        let mut text = Prose::new(self.alloc);
+        let mut used = self.each;
+        for character in words.chars() {
+            used += self.each;
+            if used > self.room {
+                break;
+            }
+            text.put_char(character);
         }
+        text.put("…");
+        text.finish()
     }
 
-    fn put_char(&mut self, character: char) {
-        if self.line.push(character).is_err() {
-            self.is_refused = true;
+    /// The words in lines for which there is room. A word that is wider has a line of its own.
+    pub fn wrap(self, words: &str) -> Result<Vec<String>, AllocError> {
+        self.break_at(words, ' ')
+    }
+
+    /// The same for what is joined by another separator, which stays at the ends of lines.
+    pub fn break_at(self, text: &str, separator: char) -> Result<Vec<String>, AllocError> {
+        let mut lines = Vec::new(self.alloc);
+        let mut line = String::new(self.alloc);
+        let mut used = 0.0;
+        let mut is_first = true;
+        for word in text.split(separator) {
+            let width = points(word.chars().count()) * self.each;
+            if !is_first {
+                line.push(separator)?;
+                used += self.each;
+            }
+            if !is_first && used + width > self.room {
+                lines.push(mem::replace(&mut line, String::new(self.alloc)))?;
+                used = 0.0;
+            }
+            is_first = false;
+            line.push_str(word)?;
+            used += width;
         }
+        lines.push(line)?;
+        Ok(lines)
     }
 
-    fn begin_line(&mut self, alloc: Global) {
-        let line = mem::replace(&mut self.line, String::new(alloc));
-        if self.lines.push(line).is_err() {
-            self.is_refused = true;
+    /// The words in so many lines at most, of which the last is cut at a word, with a mark, where some are missing.
+    pub fn wrap_in_lines(self, words: &str, most: usize) -> Result<Vec<String>, AllocError> {
+        let mut lines = self.wrap(words)?;
+        if lines.len() > most {
+            lines.truncate(most);
+            if let Some(last) = lines.last_mut() {
+                *last = self.marked_line(last.as_str())?;
+            }
         }
+        Ok(lines)
     }
 
-    fn finish(self, alloc: Global) -> Result<Vec<String>, AllocError> {
-        let mut breaker = self;
-        breaker.begin_line(alloc);
-        if breaker.is_refused {
-            return Err(AllocError);
+    // As many words of a line as there is room for beside the mark that some are missing.
+    fn marked_line(self, line: &str) -> Result<String, AllocError> {
+        let narrower = LineRoom::new(self.alloc, self.room - self.each, self.each);
+        let parts = narrower.wrap(line.trim())?;
+        let mut text = Prose::new(self.alloc);
+        text.put(first_words(&parts));
+        text.put("…");
+        text.finish()
+    }
+
+    // The words in two lines at most, where nothing has to be cut for that, here or in the room of the free lanes beside.
+    fn whole_lines(self, words: &str, beside: LineRoom) -> Result<Option<Vec<String>>, AllocError> {
+        let narrow = self.wrap(words)?;
+        if self.are_within(&narrow) {
+            return Ok(Some(narrow));
         }
-        Ok(breaker.lines)
+        beside.lines_within(beside.wrap(words))
     }
-}
 
-/// The words in so many lines at most, of which the last is cut at a word, with a mark, where some are missing.
-pub fn wrap_in_lines(
-    alloc: Global,
-    words: &str,
-    room: f64,
-    each: f64,
-    most: usize,
-) -> Result<Vec<String>, AllocError> {
-    let mut lines = wrap(alloc, words, room, each)?;
-    if lines.len() > most {
-        lines.truncate(most);
-        mark_last(alloc, &mut lines, room, each)?;
+    // Lines without what is blank at their ends, if these are two at most, each with room.
+    fn lines_within(
+        self,
+        lines: Result<Vec<String>, AllocError>,
+    ) -> Result<Option<Vec<String>>, AllocError> {
+        let mut lines = lines?;
+        for line in &mut lines {
+            *line = String::from_str(self.alloc, line.as_str().trim())?;
+        }
+        if self.are_within(&lines) {
+            return Ok(Some(lines));
+        }
+        Ok(None)
     }
-    Ok(lines)
-}
 
-// Cuts the last line at a word, with the mark.
-fn mark_last(alloc: Global, lines: &mut [String], room: f64, each: f64) -> Result<(), AllocError> {
-    if let Some(last) = lines.last_mut() {
-        *last = marked_line(alloc, last.as_str(), room, each)?;
+    // The words in two lines at most, each of which is cut where it has no room.
+    fn lines_cut(self, words: &str) -> Result<Vec<String>, AllocError> {
+        let mut lines = self.wrap_in_lines(words, 2)?;
+        for line in &mut lines {
+            *line = self.cut(line.as_str().trim())?;
+        }
+        Ok(lines)
     }
-    Ok(())
-}
 
-// As many words of a line as there is room for beside the mark that some are missing.
-fn marked_line(alloc: Global, line: &str, room: f64, each: f64) -> Result<String, AllocError> {
-    let parts = wrap(alloc, line.trim(), room - each, each)?;
-    let mut text = Prose::new(alloc);
-    text.put(first_words(&parts));
-    text.put("…");
-    text.finish()
+    // Whether there are two lines at most, each with room.
+    fn are_within(self, lines: &[String]) -> bool {
+        for line in lines {
+            if !self.has_room_for(line.as_str().trim()) {
+                return false;
+            }
+        }
+        lines.len() <= 2
+    }
 }
 
 // The first of some lines that is not empty.
@@ -131,7 +149,8 @@ fn first_words(lines: &[String]) -> &str {
     ""
 }
 
-/// The lines of a label, two at most, in the room of its lane, or of the free lanes beside it where that is not enough.
+/// The lines of a label, two at most, in the room of its lane, or of the free lanes beside it where that is not enough. The label's whole words come
+/// first, then its brief ones, which break at a bracket at last, or are cut.
 pub fn label_lines(
     alloc: Global,
     label: &PictureLabel,
@@ -139,112 +158,21 @@ pub fn label_lines(
     beside: f64,
 ) -> Result<Vec<String>, AllocError> {
     let each = LETTERS * label.factor();
-    match whole_lines(alloc, label.words.as_str(), room, beside, each)? {
-        Some(lines) => Ok(lines),
-        None => brief_lines(alloc, label, room, beside),
+    let lane = LineRoom::new(alloc, room, each);
+    let beside = LineRoom::new(alloc, beside, each);
+    let words = label.words.as_str();
+    if let Some(lines) = lane.whole_lines(words, beside)? {
+        return Ok(lines);
     }
-}
-
-// The lines of the brief words.
-fn brief_lines(
-    alloc: Global,
-    label: &PictureLabel,
-    room: f64,
-    beside: f64,
-) -> Result<Vec<String>, AllocError> {
-    let factor = label.factor();
     let words = match &label.brief {
         Some(brief) => brief.as_str(),
-        None => label.words.as_str(),
+        None => words,
     };
-    match whole_lines(alloc, words, room, beside, LETTERS * factor)? {
-        Some(lines) => Ok(lines),
-        None => lines_at_bracket(alloc, words, beside, factor),
+    if let Some(lines) = lane.whole_lines(words, beside)? {
+        return Ok(lines);
     }
-}
-
-// The words in two lines at most, where nothing has to be cut for that.
-fn whole_lines(
-    alloc: Global,
-    words: &str,
-    room: f64,
-    beside: f64,
-    each: f64,
-) -> Result<Option<Vec<String>>, AllocError> {
-    let narrow = wrap(alloc, words, room, each)?;
-    if are_within(&narrow, room, each) {
-        return Ok(Some(narrow));
+    if let Some(lines) = beside.lines_within(beside.break_at(words, '('))? {
+        return Ok(lines);
     }
-    lines_within(alloc, wrap(alloc, words, beside, each), beside, each)
-}
-
-// Lines without what is blank at their ends, if these are two at most, each with room.
-fn lines_within(
-    alloc: Global,
-    lines: Result<Vec<String>, AllocError>,
-    room: f64,
-    each: f64,
-) -> Result<Option<Vec<String>>, AllocError> {
-    let mut lines = lines?;
-    trim_all(alloc, &mut lines)?;
-    if are_within(&lines, room, each) {
-        return Ok(Some(lines));
-    }
-    Ok(None)
-}
-
-fn trim_all(alloc: Global, lines: &mut [String]) -> Result<(), AllocError> {
-    for line in lines {
-        *line = String::from_str(alloc, line.as_str().trim())?;
-    }
-    Ok(())
-}
-
-// The words in two lines at most, which break at a bracket, or at a word and are cut.
-fn lines_at_bracket(
-    alloc: Global,
-    words: &str,
-    room: f64,
-    factor: f64,
-) -> Result<Vec<String>, AllocError> {
-    let each = LETTERS * factor;
-    let broken = break_lines(alloc, words, '(', room, each);
-    match lines_within(alloc, broken, room, each)? {
-        Some(lines) => Ok(lines),
-        None => lines_cut(alloc, words, room, factor),
-    }
-}
-
-fn lines_cut(
-    alloc: Global,
-    words: &str,
-    room: f64,
-    factor: f64,
-) -> Result<Vec<String>, AllocError> {
-    let mut lines = wrap_in_lines(alloc, words, room, LETTERS * factor, 2)?;
-    cut_lines(alloc, &mut lines, room, factor)?;
-    Ok(lines)
-}
-
-// Cuts each line that has no room.
-fn cut_lines(
-    alloc: Global,
-    lines: &mut [String],
-    room: f64,
-    factor: f64,
-) -> Result<(), AllocError> {
-    for line in lines {
-        *line = cut_to_fit(alloc, line.as_str().trim(), room, LETTERS, factor)?;
-    }
-    Ok(())
-}
-
-// Whether there are two lines at most, each with room.
-fn are_within(lines: &[String], room: f64, each: f64) -> bool {
-    for line in lines {
-        if points(line.as_str().trim().chars().count()) * each > room {
-            return false;
-        }
-    }
-    lines.len() <= 2
+    beside.lines_cut(words)
 }
