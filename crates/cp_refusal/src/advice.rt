@@ -1,244 +1,123 @@
 //! What may have been meant by a token that can't stand in its place.
 
-use crate::candidates::{Candidate, may_stand};
 use crate::draft::spelling;
 use crate::extent::{is_adding, is_multiplying, is_relation};
 use crate::foreign::is_start;
 use crate::place::has_comment_before;
-use crate::rules::{mark_at, mark_before, name_at};
-use cp_prose::Prose;
-use cp_text::{Mark, Tokens};
-use std::alloc::Global;
+use crate::rules::mark_before;
+use crate::teller::Teller;
+use cp_text::Mark;
 
-/// A token that the parser refuses.
-#[derive(Clone, Copy)]
-pub struct Refused<'a> {
-    pub alloc: Global,
-    pub source: &'a [u8],
-    pub tokens: &'a Tokens,
-    pub at: usize,
-}
-
-impl<'a> Refused<'a> {
-    /// Whether a program can go on with this kind of token in its place. It is asked for a text, which is refused where memory is refused for
-    /// the question.
-    pub fn takes(&self, text: &mut Prose, candidate: Candidate) -> bool {
-        match may_stand(self.alloc, self.tokens, self.at, candidate) {
-            Ok(takes) => takes,
-            Err(_) => {
-                text.refuse();
-                false
-            }
-        }
-    }
-
-    fn takes_mark(&self, text: &mut Prose, mark: Mark) -> bool {
-        self.takes(text, Candidate::Mark(mark))
-    }
-
-    fn takes_one_of(&self, text: &mut Prose, marks: &[Mark]) -> bool {
-        for mark in marks {
-            if self.takes_mark(text, *mark) {
-                return true;
-            }
-        }
-        false
-    }
-
-    fn mark(&self) -> Option<Mark> {
-        mark_at(self.tokens, self.at)
-    }
-
-    fn before(&self) -> Option<Mark> {
-        mark_before(self.tokens, self.at)
-    }
-
-    // The mark so many tokens before it.
-    fn back(&self, number: usize) -> Option<Mark> {
-        match self.at.checked_sub(number) {
-            Some(place) => mark_at(self.tokens, place),
-            None => None,
-        }
-    }
-
-    fn next(&self) -> Option<Mark> {
-        mark_at(self.tokens, self.at.saturating_add(1))
-    }
-
-    fn name_before(&self) -> &'a str {
-        match self.at.checked_sub(1) {
-            Some(place) => name_at(self.tokens, place),
-            None => "",
-        }
+// The mark so many tokens before the one that is refused.
+fn back(teller: &Teller, number: usize) -> Option<Mark> {
+    match teller.at.checked_sub(number) {
+        Some(place) => teller.mark_at(place),
+        None => None,
     }
 }
 
 /// What may have been meant; empty where nothing is known of it.
-pub fn advice(refused: Refused, text: &mut Prose) -> &'static str {
-    if is_after_string(refused, text) {
+pub fn advice(teller: &mut Teller) -> &'static str {
+    if is_after_string(teller) {
         return ": what stands between double quotes is a comment, and there are no strings";
     }
-    let said = sign_advice(refused);
+    let said = sign_advice(teller);
     if !said.is_empty() {
         return said;
     }
-    match refused.mark() {
-        Some(mark) => mark_advice(refused, text, mark),
-        None => word_advice(refused, text),
+    match teller.mark() {
+        Some(mark) => mark_advice(teller, mark),
+        None => word_advice(teller),
     }
 }
 
 // Whether a comment stands where a value is wanted.
-fn is_after_string(refused: Refused, text: &mut Prose) -> bool {
-    has_comment_before(refused.source, refused.at) && refused.takes_mark(text, Mark::Not)
+fn is_after_string(teller: &mut Teller) -> bool {
+    has_comment_before(teller.source, teller.at) && teller.takes("not")
 }
 
-/// A sign between others that other languages have. Where none is named before it or after it, any may stand there.
-struct SignAdvice {
-    before: Option<Mark>,
-    mark: Mark,
-    next: Option<Mark>,
-    said: &'static str,
-}
-
-impl SignAdvice {
-    fn fits(&self, refused: Refused) -> bool {
-        refused.mark() == Some(self.mark)
-            && (self.before.is_none() || self.before == refused.before())
-            && (self.next.is_none() || self.next == refused.next())
+// Of signs that other languages have.
+fn sign_advice(teller: &Teller) -> &'static str {
+    let mark = teller.mark();
+    match (
+        back(teller, 1),
+        mark,
+        teller.mark_at(teller.at.saturating_add(1)),
+    ) {
+        (_, Some(Mark::OpenParenthesis), Some(Mark::Times))
+        | (Some(Mark::OpenParenthesis), Some(Mark::Times), _) =>
+            ": comments stand between double quotes",
+        (Some(Mark::Equal), Some(Mark::Equal), _) => ": write =",
+        (Some(Mark::And), Some(Mark::And), _) => ": write and",
+        (_, Some(Mark::Plus), Some(Mark::Plus | Mark::Equal)) => ": write x := x + 1",
+        (_, Some(Mark::Minus), Some(Mark::Minus | Mark::Equal)) => ": write x := x - 1",
+        (Some(Mark::OpenParenthesis), Some(Mark::CloseParenthesis), _) =>
+            ": a call without arguments has no parentheses",
+        _ => "",
     }
 }
 
-static SIGN_ADVICE: [SignAdvice; 9] = [
-    SignAdvice {
-        before: None,
-        mark: Mark::OpenParenthesis,
-        next: Some(Mark::Times),
-        said: ": comments stand between double quotes",
-    },
-    SignAdvice {
-        before: Some(Mark::OpenParenthesis),
-        mark: Mark::Times,
-        next: None,
-        said: ": comments stand between double quotes",
-    },
-    SignAdvice {
-        before: Some(Mark::Equal),
-        mark: Mark::Equal,
-        next: None,
-        said: ": write =",
-    },
-    SignAdvice {
-        before: Some(Mark::And),
-        mark: Mark::And,
-        next: None,
-        said: ": write and",
-    },
-    SignAdvice {
-        before: None,
-        mark: Mark::Plus,
-        next: Some(Mark::Plus),
-        said: ": write x := x + 1",
-    },
-    SignAdvice {
-        before: None,
-        mark: Mark::Plus,
-        next: Some(Mark::Equal),
-        said: ": write x := x + 1",
-    },
-    SignAdvice {
-        before: None,
-        mark: Mark::Minus,
-        next: Some(Mark::Minus),
-        said: ": write x := x - 1",
-    },
-    SignAdvice {
-        before: None,
-        mark: Mark::Minus,
-        next: Some(Mark::Equal),
-        said: ": write x := x - 1",
-    },
-    SignAdvice {
-        before: Some(Mark::OpenParenthesis),
-        mark: Mark::CloseParenthesis,
-        next: None,
-        said: ": a call without arguments has no parentheses",
-    },
-];
-
-fn sign_advice(refused: Refused) -> &'static str {
-    for advice in &SIGN_ADVICE {
-        if advice.fits(refused) {
-            return advice.said;
-        }
-    }
-    ""
-}
-
-fn mark_advice(refused: Refused, text: &mut Prose, mark: Mark) -> &'static str {
-    if is_initial_value(refused, mark) {
+fn mark_advice(teller: &mut Teller, mark: Mark) -> &'static str {
+    if is_initial_value(teller, mark) {
         return ": a variable gets its value in the body";
     }
-    if is_constant_operator(refused, text, mark) {
+    if is_constant_operator(teller, mark) {
         return ": a constant is a number, a name or a character";
     }
     if is_relation(Some(mark)) {
-        return relation_advice(refused, text);
+        return relation_advice(teller);
     }
-    if mark == Mark::Comma && refused.takes_mark(text, Mark::CloseBracket) {
+    if mark == Mark::Comma && teller.takes("]") {
         return ": where two indices are meant, write a[1][2], and array [1..2] of array [1..2] of ..";
     }
-    place_advice(refused, mark)
+    place_advice(teller, mark)
 }
 
 // Of a mark that stands at a wrong place.
-fn place_advice(refused: Refused, mark: Mark) -> &'static str {
+fn place_advice(teller: &Teller, mark: Mark) -> &'static str {
     match mark {
-        Mark::Else if refused.before() == Some(Mark::Semicolon) => {
+        Mark::Else if back(teller, 1) == Some(Mark::Semicolon) => {
             ": no semicolon stands before else"
         }
-        Mark::Var if is_system_parameter(refused) => {
+        Mark::Var if is_system_parameter(teller) => {
             ": parameters of a class, a monitor or a process have no var"
         }
         Mark::Const | Mark::Type | Mark::Var => {
             ": constants, types and variables are declared before the routines, or an end is missing further up"
         }
-        Mark::Period if refused.before().is_none() => ": there are no real numbers",
+        Mark::Period if back(teller, 1).is_none() => ": there are no real numbers",
         _ => "",
     }
 }
 
 // Whether it is an operator after the value of a constant's declaration.
-fn is_constant_operator(refused: Refused, text: &mut Prose, mark: Mark) -> bool {
-    is_in_constant(refused) && refused.takes_mark(text, Mark::Semicolon) && is_operator(mark)
-}
-
-fn is_operator(mark: Mark) -> bool {
-    is_adding(Some(mark)) || is_multiplying(Some(mark))
+fn is_constant_operator(teller: &mut Teller, mark: Mark) -> bool {
+    let is_operator = is_adding(Some(mark)) || is_multiplying(Some(mark));
+    is_operator && is_in_constant(teller) && teller.takes(";")
 }
 
 // Whether the token before it is the value of a constant's declaration.
-fn is_in_constant(refused: Refused) -> bool {
-    let is_signed = is_adding(refused.back(2)) && refused.back(3) == Some(Mark::Equal);
-    is_signed || refused.back(2) == Some(Mark::Equal)
+fn is_in_constant(teller: &Teller) -> bool {
+    let is_signed = is_adding(back(teller, 2)) && back(teller, 3) == Some(Mark::Equal);
+    is_signed || back(teller, 2) == Some(Mark::Equal)
 }
 
 // Whether it stands after the type of a variable, as if to give it a value.
-fn is_initial_value(refused: Refused, mark: Mark) -> bool {
-    matches!(mark, Mark::Equal | Mark::Becomes) && refused.back(2) == Some(Mark::Colon)
+fn is_initial_value(teller: &Teller, mark: Mark) -> bool {
+    matches!(mark, Mark::Equal | Mark::Becomes) && back(teller, 2) == Some(Mark::Colon)
 }
 
 // Whether it stands among the parameters of a system type.
-fn is_system_parameter(refused: Refused) -> bool {
+fn is_system_parameter(teller: &Teller) -> bool {
     let mut depth: usize = 1;
-    for place in (0..refused.at).rev() {
-        match mark_at(refused.tokens, place) {
+    for place in (0..teller.at).rev() {
+        match teller.mark_at(place) {
             Some(Mark::CloseParenthesis) => depth = depth.saturating_add(1),
             Some(Mark::OpenParenthesis) => {
                 depth = depth.saturating_sub(1);
                 if depth == 0 {
                     return matches!(
-                        mark_before(refused.tokens, place),
+                        mark_before(teller.tokens, place),
                         Some(Mark::Class | Mark::Monitor | Mark::Process)
                     );
                 }
@@ -251,23 +130,26 @@ fn is_system_parameter(refused: Refused) -> bool {
 }
 
 // Of a sign that compares.
-fn relation_advice(refused: Refused, text: &mut Prose) -> &'static str {
-    if refused.takes_mark(text, Mark::Becomes) {
+fn relation_advice(teller: &mut Teller) -> &'static str {
+    if teller.takes(":=") {
         return ": an assignment is written with :=";
     }
-    if refused.takes_mark(text, Mark::Times) {
+    if teller.takes("*") {
         return ": comparisons that and or or joins stand in parentheses, as (a = b) and (c = d)";
     }
     ""
 }
 
 // Of a name, a number or a character, or at the end of the source.
-fn word_advice(refused: Refused, text: &mut Prose) -> &'static str {
-    if refused.at >= refused.tokens.count() {
-        return end_advice(refused, text);
+fn word_advice(teller: &mut Teller) -> &'static str {
+    if teller.at >= teller.tokens.count() {
+        return end_advice(teller);
     }
-    let name = name_at(refused.tokens, refused.at);
-    let before = refused.name_before();
+    let name = teller.name();
+    let before = match teller.at.checked_sub(1) {
+        Some(before) => teller.name_at(before),
+        None => "",
+    };
     if name == "elsif" {
         ": write else if"
     } else if before == "return" {
@@ -279,28 +161,25 @@ fn word_advice(refused: Refused, text: &mut Prose) -> &'static str {
     }
 }
 
-fn end_advice(refused: Refused, text: &mut Prose) -> &'static str {
-    if refused.takes_mark(text, Mark::Period) {
+fn end_advice(teller: &mut Teller) -> &'static str {
+    if teller.takes(".") {
         ": the final period is missing"
     } else {
         ": an end may be missing further up"
     }
 }
 
-/// What may stand where more than a name is wanted.
-const MORE_THAN_NAMES: [Mark; 3] = [Mark::Not, Mark::While, Mark::Begin];
-
-/// Whether a reserved word stands where a name is wanted.
-pub fn is_reserved_name(refused: Refused, text: &mut Prose) -> bool {
-    is_word(refused)
-        && !is_system_parameter(refused)
-        && refused.takes(text, Candidate::Name)
-        && !refused.takes_one_of(text, &MORE_THAN_NAMES)
+/// Whether a reserved word stands where a name is wanted, and no more than a name.
+pub fn is_reserved_name(teller: &mut Teller) -> bool {
+    is_word(teller)
+        && !is_system_parameter(teller)
+        && teller.takes("x")
+        && !teller.takes_one_of(&["not", "while", "begin"])
 }
 
 // Whether it is a reserved word.
-fn is_word(refused: Refused) -> bool {
-    match refused.mark() {
+fn is_word(teller: &Teller) -> bool {
+    match teller.mark() {
         Some(mark) => matches!(spelling(mark).as_bytes(), [b'a'..=b'z', ..]),
         None => false,
     }

@@ -1,13 +1,11 @@
 //! Why a target can't be assigned.
 
-use crate::declared::{Declared, Looked, find_meaning};
-use crate::extent::{Extent, after_designator, expression_at};
-use crate::page::push_tokens;
-use crate::rules::{mark_at, mark_before, name_at};
-use crate::sorts::{Asker, Sort};
-use cp_prose::Prose;
+use crate::declared::{Declarations, Declared};
+use crate::extent::{designator_at, expression_at};
+use crate::rules::mark_before;
+use crate::sorts::Sort;
+use crate::teller::Teller;
 use cp_text::Mark;
-use cp_tree::Program;
 
 fn reason(declared: Option<Declared>, sort: Option<Sort>) -> &'static str {
     match (declared, sort) {
@@ -30,39 +28,32 @@ fn reason(declared: Option<Declared>, sort: Option<Sort>) -> &'static str {
 }
 
 /// Says that an argument is no variable, where it is more than a name and its selectors.
-fn push_no_variable(asker: &Asker, text: &mut Prose, at: usize) -> bool {
-    let argument = expression_at(asker.tokens, at);
-    let is_name = !name_at(asker.tokens, at).is_empty()
-        && argument.to == after_designator(asker.tokens, at);
-    let before = mark_before(asker.tokens, at);
+fn put_no_variable(teller: &mut Teller) -> bool {
+    let (tokens, at) = (teller.tokens, teller.at);
+    let argument = expression_at(tokens, at);
+    let is_name = !teller.name().is_empty() && argument.to == designator_at(tokens, at).to;
+    let before = mark_before(tokens, at);
     if is_name || !matches!(before, Some(Mark::OpenParenthesis | Mark::Comma)) {
         return false;
     }
-    push_tokens(text, asker.source, argument);
-    text.put(" is an expression, and a var parameter takes a variable");
+    teller.put_tokens(argument);
+    teller.put(" is an expression, and a var parameter takes a variable");
     true
 }
 
-/// Says why the target, the variable of a `for` or the argument at a token can't be assigned. The answer tells whether something was said.
-pub fn push_unchangeable(asker: &Asker, text: &mut Prose, program: &Program, at: usize) -> bool {
-    if push_no_variable(asker, text, at) {
+/// Says why the target, the variable of a `for` or the argument at the token can't be assigned. The answer tells whether something was said.
+pub fn put_unchangeable(teller: &mut Teller, declarations: &Declarations) -> bool {
+    if put_no_variable(teller) {
         return true;
     }
-    let after = after_designator(asker.tokens, at);
-    if mark_at(asker.tokens, after) == Some(Mark::OpenParenthesis) {
+    let target = designator_at(teller.tokens, teller.at);
+    let name = teller.name();
+    if teller.mark_at(target.to) == Some(Mark::OpenParenthesis) || name.is_empty() {
         return false;
     }
-    let target = Extent {
-        from: at,
-        to: after,
-    };
-    let name = name_at(asker.tokens, at);
-    if name.is_empty() {
-        return false;
-    }
-    let declared = find_meaning(program, Looked { name, at });
-    let sort = asker.sort_of(text, target);
-    push_tokens(text, asker.source, target);
-    text.put(reason(declared, sort));
+    let declared = declarations.meaning(name, teller.at);
+    let sort = teller.sort_of(target);
+    teller.put_tokens(target);
+    teller.put(reason(declared, sort));
     true
 }

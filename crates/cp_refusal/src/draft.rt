@@ -70,68 +70,29 @@ pub fn spelling(mark: Mark) -> &'static str {
     SPELLINGS[mark as usize]
 }
 
-/// Tokens in a text, each with a space after it.
-#[derive(Drop)]
-pub struct Draft {
-    text: Prose,
-    count: usize,
+/// Appends a token of this kind, and a space.
+fn push_kind(draft: &mut Prose, kind: &Kind) {
+    match kind {
+        Kind::Number(value) => draft.put_display(*value),
+        Kind::Character(code) => draft.put_display(format_args!("'(:{code}:)'")),
+        Kind::Name(name) => draft.put(name.as_str()),
+        Kind::Mark(mark) => draft.put(spelling(*mark)),
+    }
+    draft.put(" ");
 }
 
-impl Draft {
-    pub fn new(alloc: Global) -> Draft {
-        Draft {
-            text: Prose::new(alloc),
-            count: 0,
-        }
+/// Appends tokens of a program once more.
+pub fn push_copies(draft: &mut Prose, tokens: &Tokens, extent: Extent) {
+    for place in extent.from..extent.to.min(tokens.count()) {
+        push_kind(draft, tokens.kind(place));
     }
+}
 
-    /// How many tokens there are.
-    pub fn count(&self) -> usize {
-        self.count
-    }
-
-    /// Appends a token that is written so.
-    pub fn push_text(&mut self, text: &str) {
-        self.text.put(text);
-        self.end_token();
-    }
-
-    fn end_token(&mut self) {
-        self.text.put(" ");
-        self.count = self.count.saturating_add(1);
-    }
-
-    /// Appends a token of this kind.
-    pub fn push_kind(&mut self, kind: &Kind) {
-        match kind {
-            Kind::Number(value) => self.text.put_display(*value),
-            Kind::Character(code) => {
-                self.text.put("'(:");
-                self.text.put_display(*code);
-                self.text.put(":)'");
-            }
-            Kind::Name(name) => self.text.put(name.as_str()),
-            Kind::Mark(mark) => self.text.put(spelling(*mark)),
-        }
-        self.end_token();
-    }
-
-    /// Appends tokens of a program once more.
-    pub fn push_copies(&mut self, tokens: &Tokens, extent: Extent) {
-        for place in extent.from..extent.to.min(tokens.count()) {
-            self.push_kind(tokens.kind(place));
-        }
-    }
-
-    /// The tokens of the text. There are none where it is longer than a source may be.
-    pub fn tokens(&self, alloc: Global) -> Result<Option<Tokens>, AllocError> {
-        let text = self.text.as_str()?;
-        match scan(alloc, text.as_bytes()) {
-            Ok(tokens) => Ok(Some(tokens)),
-            Err(fault) => match fault.cause {
-                ScanCause::Memory => Err(AllocError),
-                _ => Ok(None),
-            },
-        }
+/// The tokens of a draft. There are none where it is longer than a source may be.
+pub fn tokens_of(alloc: Global, draft: &Prose) -> Result<Option<Tokens>, AllocError> {
+    match scan(alloc, draft.as_str()?.as_bytes()) {
+        Ok(tokens) => Ok(Some(tokens)),
+        Err(fault) if fault.cause == ScanCause::Memory => Err(AllocError),
+        Err(_) => Ok(None),
     }
 }

@@ -7,22 +7,22 @@ ghost use Rattle.cp_text.specs.Reading.{HasFault, HasTokens};
 ghost use Rattle.cp_refusal.specs.Explaining as spec;
 ghost use Rattle.cp_refusal.specs.Lines.{last_line};
 
-use crate::advice::{Refused, advice, is_reserved_name};
-use crate::candidates::push_wanted;
+use crate::advice::{advice, is_reserved_name};
+use crate::candidates::put_wanted;
 use crate::draft::spelling;
 use crate::extent::single;
 use crate::foreign::sign_sentence;
 use crate::further_up::{Missing, what_is_missing};
 use crate::hints::hints;
-use crate::page::{line_number, line_start, push_tokens};
+use crate::page::{line_number, line_start};
 use crate::place::{ByteRange, Sought, find, is_coded};
 use crate::report::{ExplainedRefusal, Explanation};
-use crate::rules::{Broken, code, mark_at, sentence};
+use crate::rules::{Broken, code, sentence};
+use crate::teller::Teller;
 use cp_check::CheckFault;
 use cp_front::{Loaded, Refusal as LoadRefusal};
-use cp_prose::Prose;
 use cp_text::{ScanCause, ScanFault, Tokens};
-use cp_tree::{ParseFault, Program, Tree};
+use cp_tree::{ParseFault, Tree};
 use std::alloc::{AllocError, Global};
 
 /// What is said of a source that was loaded, or not: where and why it is refused, or that it is accepted.
@@ -34,14 +34,7 @@ pub fn refusal(
     ensures { IfOk result (λ said. MatchResult loaded.entry (λ _. spec.IsAccepted said) (λ r. spec.IsToldOf source.now r.now said)) }
 {
     match loaded {
-        Ok(loaded) => {
-            answer_accepted(
-                alloc,
-                source,
-                &loaded.tokens,
-                &loaded.checked.tree().program,
-            )
-        }
+        Ok(loaded) => Ok(Explanation::Accepted(hints(alloc, source, loaded)?)),
         Err(refusal) => explain(alloc, source, refusal),
     }
 }
@@ -82,17 +75,6 @@ fn check_refused(
         }
         CheckFault::Memory => Err(AllocError),
     }
-}
-
-fn answer_accepted(
-    alloc: Global,
-    source: &[u8],
-    tokens: &Tokens,
-    program: &Program,
-) -> Result<Explanation, AllocError>
-    ensures { IfOk result spec.IsAccepted }
-{
-    Ok(Explanation::Accepted(hints(alloc, source, tokens, program)?))
 }
 
 // What is said of a piece of the source that is no lexeme.
@@ -220,63 +202,57 @@ fn after(span: ByteRange) -> ByteRange
     }
 }
 
-// What is expected in the place of a token, what stands there, and what may have been meant.
-fn push_unexpected(refused: Refused, text: &mut Prose, missing: &Missing) {
-    let Refused {
-        alloc,
-        source,
-        tokens,
-        at,
-    } = refused;
-    if tokens.count() == 0 {
-        text.put("a program is missing");
+// What is expected in the place of the token, what stands there, and what may have been meant.
+fn put_unexpected(teller: &mut Teller, missing: &Missing) {
+    if teller.tokens.count() == 0 {
+        teller.put("a program is missing");
         return;
     }
-    text.put("expected ");
-    push_wanted(alloc, text, tokens, at);
-    if at < tokens.count() {
-        text.put(", found \"");
-        push_tokens(text, source, single(at));
-        text.put("\"");
+    teller.put("expected ");
+    put_wanted(teller);
+    if teller.at < teller.tokens.count() {
+        teller.put(", found \"");
+        teller.put_tokens(single(teller.at));
+        teller.put("\"");
     } else {
-        text.put(", found the end of the source");
+        teller.put(", found the end of the source");
     }
-    push_advice(refused, text, missing);
-}
-
-fn push_advice(refused: Refused, text: &mut Prose, missing: &Missing) {
-    let (source, tokens) = (refused.source, refused.tokens);
     match missing {
         Missing::Semicolon(before) => {
-            text.put(": a semicolon may be missing at the end of line ");
-            text.put_display(line_number(source, span_of(source, *before, tokens).from));
+            teller.put(": a semicolon may be missing at the end of line ");
+            put_line(teller, *before);
         }
         Missing::End(open) => {
-            text.put(": the ");
-            push_tokens(text, source, single(*open));
-            text.put(" of line ");
-            text.put_display(line_number(source, span_of(source, *open, tokens).from));
-            text.put(" has no end");
+            teller.put(": the ");
+            teller.put_tokens(single(*open));
+            teller.put(" of line ");
+            put_line(teller, *open);
+            teller.put(" has no end");
         }
-        Missing::Nothing => {
-            push_meant(refused, text);
-        }
+        Missing::Nothing => put_meant(teller),
     }
+}
+
+// The number of the line of a token.
+fn put_line(teller: &mut Teller, at: usize) {
+    let from = span_of(teller.source, at, teller.tokens).from;
+    let line = line_number(teller.source, from);
+    teller.text.put_display(line);
 }
 
 // What may have been meant, where nothing is missing further up.
-fn push_meant(refused: Refused, text: &mut Prose) {
-    if !is_reserved_name(refused, text) {
-        let said = advice(refused, text);
-        text.put(said);
-        return;
+fn put_meant(teller: &mut Teller) {
+    match teller.mark() {
+        Some(mark) if is_reserved_name(teller) => {
+            teller.put(": ");
+            teller.put(spelling(mark));
+            teller.put(" is a reserved word");
+        }
+        _ => {
+            let said = advice(teller);
+            teller.put(said);
+        }
     }
-    text.put(": ");
-    text.put(match mark_at(refused.tokens, refused.at) {
-        Some(mark) => spelling(mark),
-        None => "",
-    });
-    text.put(" is a reserved word");
 }
 
 // The place further up that the excerpt shows too.
@@ -297,42 +273,32 @@ fn parse_refused(
     ensures { IfOk result (λ said. MatchOption (parse_reason fault.now) ⊥ (λ reason. spec.IsRefusedAt (codes "parse") source.now tokens.now reason.0 said)) }
 {
     match fault {
-        ParseFault::Unexpected(at) => {
-            explain_unexpected(Refused {
-                alloc,
-                source,
-                tokens,
-                at: *at,
-            })
+        ParseFault::Unexpected(at) => { explain_unexpected(alloc, source, tokens, *at) }
+        ParseFault::OutsideProfile(at) => {
+            let sentence = left_out(alloc, source, tokens, *at);
+            not_parsed(source, tokens, *at, sentence, None)
         }
-        ParseFault::OutsideProfile(at) => outside_profile(alloc, source, tokens, *at),
-        ParseFault::TooDeep(at) => too_deep(alloc, source, tokens, *at),
+        ParseFault::TooDeep(at) => {
+            let sentence = String::from_str(alloc, "this is nested more than 50 levels deep");
+            not_parsed(source, tokens, *at, sentence, None)
+        }
         ParseFault::Memory => Err(AllocError),
     }
 }
 
-fn explain_unexpected(refused: Refused) -> Result<Explanation, AllocError>
-    ensures { IfOk result (spec.IsRefusedAt (codes "parse") refused.entry.source.now refused.entry.tokens.now refused.entry.at) }
-{
-    let mut text = Prose::new(refused.alloc);
-    let missing = what_is_missing(refused, &mut text);
-    push_unexpected(refused, &mut text, &missing);
-    let Refused {
-        source,
-        tokens,
-        at,
-        ..
-    } = refused;
-    not_parsed(
-        source,
-        tokens,
-        at,
-        text.finish(),
-        earlier(source, tokens, &missing),
-    )
+fn left_out(
+    alloc: Global,
+    source: &[u8],
+    tokens: &Tokens,
+    at: usize,
+) -> Result<String, AllocError> {
+    let mut teller = Teller::new(alloc, source, tokens, at);
+    teller.put_tokens(single(at));
+    teller.put(" is a reserved word for what is left out of this language");
+    teller.text.finish()
 }
 
-fn outside_profile(
+fn explain_unexpected(
     alloc: Global,
     source: &[u8],
     tokens: &Tokens,
@@ -340,22 +306,11 @@ fn outside_profile(
 ) -> Result<Explanation, AllocError>
     ensures { IfOk result (spec.IsRefusedAt (codes "parse") source.now tokens.now at) }
 {
-    let mut text = Prose::new(alloc);
-    push_tokens(&mut text, source, single(at));
-    text.put(" is a reserved word for what is left out of this language");
-    not_parsed(source, tokens, at, text.finish(), None)
-}
-
-fn too_deep(
-    alloc: Global,
-    source: &[u8],
-    tokens: &Tokens,
-    at: usize,
-) -> Result<Explanation, AllocError>
-    ensures { IfOk result (spec.IsRefusedAt (codes "parse") source.now tokens.now at) }
-{
-    let sentence = String::from_str(alloc, "this is nested more than 50 levels deep");
-    not_parsed(source, tokens, at, sentence, None)
+    let mut teller = Teller::new(alloc, source, tokens, at);
+    let missing = what_is_missing(&mut teller);
+    put_unexpected(&mut teller, &missing);
+    let earlier = earlier(source, tokens, &missing);
+    not_parsed(source, tokens, at, teller.text.finish(), earlier)
 }
 
 // What is said of a token that the parser refuses, and the place further up that belongs to it.

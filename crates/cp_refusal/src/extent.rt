@@ -1,7 +1,8 @@
 //! Where constructs begin and end among the tokens of a program.
 
-use crate::rules::mark_at;
+use crate::rules::{is_mark_of, mark_at};
 use cp_text::{Kind, Mark, Tokens};
+use cp_tree::Body;
 
 /// The tokens from one number to before another.
 #[derive(Clone, Copy)]
@@ -10,30 +11,50 @@ pub struct Extent {
     pub to: usize,
 }
 
+/// The tokens from one number to before another.
+pub fn between(from: usize, to: usize) -> Extent {
+    Extent { from, to }
+}
+
 /// One token.
 pub fn single(at: usize) -> Extent {
-    Extent {
-        from: at,
-        to: at.saturating_add(1),
+    between(at, at.saturating_add(1))
+}
+
+/// The number of the token that closes what is the first to be opened from this number on; that of all tokens where none does.
+pub fn closing(tokens: &Tokens, at: usize, opening: &[Mark], closing: &[Mark]) -> usize {
+    let mut depth: usize = 0;
+    for place in at..tokens.count() {
+        if is_mark_of(tokens, place, opening) {
+            depth = depth.saturating_add(1);
+        } else if is_mark_of(tokens, place, closing) {
+            depth = depth.saturating_sub(1);
+            if depth == 0 {
+                return place;
+            }
+        }
     }
+    tokens.count()
 }
 
 /// The number of the token after the bracket that closes the one at this number.
 pub fn after_bracket(tokens: &Tokens, at: usize) -> usize {
-    let mut depth: usize = 0;
-    for place in at..tokens.count() {
-        match mark_at(tokens, place) {
-            Some(Mark::OpenParenthesis | Mark::OpenBracket) => depth = depth.saturating_add(1),
-            Some(Mark::CloseParenthesis | Mark::CloseBracket) => {
-                depth = depth.saturating_sub(1);
-                if depth == 0 {
-                    return place.saturating_add(1);
-                }
-            }
-            _ => {}
-        }
-    }
-    tokens.count()
+    let opening = [Mark::OpenParenthesis, Mark::OpenBracket];
+    let closed = closing(
+        tokens,
+        at,
+        &opening,
+        &[Mark::CloseParenthesis, Mark::CloseBracket],
+    );
+    closed.saturating_add(1).min(tokens.count())
+}
+
+/// The tokens within the brackets that open at this number.
+pub fn inside(tokens: &Tokens, at: usize) -> Extent {
+    between(
+        at.saturating_add(1),
+        after_bracket(tokens, at).saturating_sub(1),
+    )
 }
 
 /// The number of the token after the index or field that begins at this number; the number itself where none does.
@@ -59,6 +80,20 @@ pub fn after_designator(tokens: &Tokens, at: usize) -> usize {
         after = next;
     }
     after
+}
+
+/// The name at this number and its selectors.
+pub fn designator_at(tokens: &Tokens, at: usize) -> Extent {
+    between(at, after_designator(tokens, at))
+}
+
+/// The number of the token after the name at this number and an index, where it has one.
+pub fn after_index(tokens: &Tokens, at: usize) -> usize {
+    let next = at.saturating_add(1);
+    match mark_at(tokens, next) {
+        Some(Mark::OpenBracket) => after_bracket(tokens, next),
+        _ => next,
+    }
 }
 
 /// The number of the first token from this one on that is no `not`.
@@ -156,7 +191,7 @@ pub fn expression_at(tokens: &Tokens, at: usize) -> Extent {
     } else {
         after
     };
-    Extent { from: at, to }
+    between(at, to)
 }
 
 /// The number of the first token of the innermost statement with the token of this number.
@@ -185,18 +220,11 @@ pub fn statement_start(tokens: &Tokens, at: usize) -> usize {
 
 /// The number of the `until` of the `repeat` at this number.
 pub fn until_of(tokens: &Tokens, at: usize) -> usize {
-    let mut depth: usize = 0;
-    for place in at..tokens.count() {
-        match mark_at(tokens, place) {
-            Some(Mark::Repeat) => depth = depth.saturating_add(1),
-            Some(Mark::Until) => {
-                depth = depth.saturating_sub(1);
-                if depth == 0 {
-                    return place;
-                }
-            }
-            _ => {}
-        }
-    }
-    tokens.count()
+    closing(tokens, at, &[Mark::Repeat], &[Mark::Until])
+}
+
+/// The tokens of a body to its `end`.
+pub fn body_extent(tokens: &Tokens, body: &Body) -> Extent {
+    let opening = [Mark::Begin, Mark::Case, Mark::Cycle];
+    between(body.at, closing(tokens, body.at, &opening, &[Mark::End]))
 }

@@ -1,85 +1,46 @@
 //! What is legal, but rarely meant.
 
-use crate::called::is_standard;
-use crate::page::push_tokens;
+use crate::declared::Declarations;
+use crate::extent::closing;
 use crate::place::{Sought, find};
 use crate::report::{Hint, Hints};
-use crate::rules::{mark_at, name_at};
-use crate::starts::{Care, remarks};
-use crate::waits::{InnerCall, inner_waits};
-use cp_prose::Prose;
+use crate::rules::{mark_at, mark_before, name_at};
+use cp_front::Loaded;
 use cp_text::{Mark, Tokens};
-use cp_tree::Program;
 use std::alloc::{AllocError, Global};
-
-/// Whether a token begins a statement of a sequence, and no branch.
-fn is_in_sequence(tokens: &Tokens, at: usize) -> bool {
-    match at.checked_sub(1) {
-        Some(before) => matches!(mark_at(tokens, before), Some(Mark::Begin | Mark::Semicolon)),
-        None => false,
-    }
-}
-
-/// The number of the token after the closing parenthesis that belongs to the next opening one.
-fn after_call(tokens: &Tokens, at: usize) -> usize {
-    let mut depth: usize = 0;
-    for place in at.saturating_add(1)..tokens.count() {
-        match mark_at(tokens, place) {
-            Some(Mark::OpenParenthesis) => depth = depth.saturating_add(1),
-            Some(Mark::CloseParenthesis) => {
-                depth = depth.saturating_sub(1);
-                if depth == 0 {
-                    return place.saturating_add(1);
-                }
-            }
-            _ => {}
-        }
-    }
-    tokens.count()
-}
-
-/// The statement after a `continue` that every run of it skips, where there is one.
-fn first_skipped(tokens: &Tokens, program: &Program, at: usize) -> Option<usize> {
-    if !is_in_sequence(tokens, at) || !is_standard(program, tokens, at, "continue") {
-        return None;
-    }
-    let after = after_call(tokens, at);
-    if mark_at(tokens, after) != Some(Mark::Semicolon) {
-        return None;
-    }
-    let next = after.saturating_add(1);
-    match mark_at(tokens, next) {
-        Some(Mark::End | Mark::Semicolon | Mark::Until) => None,
-        _ => Some(next),
-    }
-}
 
 /// The most hints that are told.
 const MOST_HINTS: usize = 100;
 
 /// A program whose hints are gathered.
 #[derive(Drop)]
-struct Gathering<'a> {
-    alloc: Global,
-    source: &'a [u8],
-    tokens: &'a Tokens,
-    program: &'a Program,
+pub struct Gathering<'a, 'b> {
+    pub alloc: Global,
+    pub source: &'a [u8],
+    pub tokens: &'a Tokens,
+    pub declarations: &'b Declarations<'a>,
     hints: Hints,
-    /// Whether memory was refused for a hint.
-    is_refused: bool,
 }
 
-impl<'a> Gathering<'a> {
-    /// Adds a hint at a token.
-    fn add(&mut self, at: usize, sentence: Result<String, AllocError>) {
-        match sentence {
-            Ok(sentence) => self.push_hint(at, sentence),
-            Err(_) => self.is_refused = true,
+/// How many words are open after a token that an `end` or `until` closes, where so many are open before it.
+pub fn level_after(tokens: &Tokens, at: usize, level: usize) -> usize {
+    match mark_at(tokens, at) {
+        Some(Mark::Begin | Mark::Case | Mark::Cycle | Mark::Record | Mark::Repeat) => {
+            level.saturating_add(1)
         }
+        Some(Mark::End | Mark::Until) => level.saturating_sub(1),
+        _ => level,
     }
+}
 
+/// Whether a token begins a statement of a sequence, and no branch.
+pub fn is_in_sequence(tokens: &Tokens, at: usize) -> bool {
+    matches!(mark_before(tokens, at), Some(Mark::Begin | Mark::Semicolon))
+}
+
+impl<'a, 'b> Gathering<'a, 'b> {
     /// Whether one hint more is only counted.
-    fn is_full(&mut self) -> bool {
+    pub fn is_full(&mut self) -> bool {
         if self.hints.all.len() < MOST_HINTS {
             return false;
         }
@@ -87,163 +48,99 @@ impl<'a> Gathering<'a> {
         true
     }
 
-    fn push_hint(&mut self, at: usize, sentence: String) {
+    /// Adds a hint at a token.
+    pub fn push(&mut self, at: usize, sentence: String) -> Result<(), AllocError> {
         if let Some(span) = find(self.source, Sought::Token(at)) {
-            if self.hints.all.push(Hint { sentence, span }).is_err() {
-                self.is_refused = true;
-            }
+            self.hints.all.push(Hint { sentence, span })?;
         }
+        Ok(())
     }
 
-    fn add_words(&mut self, at: usize, words: &str) {
+    /// Adds a hint at a token, or counts it.
+    pub fn add(&mut self, at: usize, words: &str) -> Result<(), AllocError> {
         if self.is_full() {
-            return;
+            return Ok(());
         }
-        self.add(at, String::from_str(self.alloc, words));
+        let sentence = String::from_str(self.alloc, words)?;
+        self.push(at, sentence)
     }
 
-    fn add_skipped(&mut self) {
+    /// The statement after a `continue` that every run of it skips, where there is one.
+    fn first_skipped(&self, at: usize) -> Option<usize> {
+        if !is_in_sequence(self.tokens, at) || !self.declarations.is_standard(at, "continue") {
+            return None;
+        }
+        let close = closing(
+            self.tokens,
+            at.saturating_add(1),
+            &[Mark::OpenParenthesis],
+            &[Mark::CloseParenthesis],
+        );
+        if mark_at(self.tokens, close.saturating_add(1)) != Some(Mark::Semicolon) {
+            return None;
+        }
+        let next = close.saturating_add(2);
+        match mark_at(self.tokens, next) {
+            Some(Mark::End | Mark::Semicolon | Mark::Until) => None,
+            _ => Some(next),
+        }
+    }
+
+    fn add_skipped(&mut self) -> Result<(), AllocError> {
         for at in 0..self.tokens.count() {
-            if let Some(next) = first_skipped(self.tokens, self.program, at) {
-                self.add_words(
+            if let Some(next) = self.first_skipped(at) {
+                self.add(
                     next,
                     "this never runs, since continue ends the call of the entry procedure",
-                );
+                )?;
             }
         }
+        Ok(())
     }
 
-    fn add_inner(&mut self, inner: InnerCall) {
-        if self.is_full() {
-            return;
-        }
-        self.add(inner.call.from, sentence_on(self.alloc, self.source, inner));
+    /// Whether a wait in a single queue stands at a token, and in no branch.
+    fn is_plain_delay(&self, at: usize) -> bool {
+        is_in_sequence(self.tokens, at)
+            && mark_at(self.tokens, at.saturating_add(3)) == Some(Mark::CloseParenthesis)
+            && self.declarations.is_standard(at, "delay")
     }
 
-    fn add_inner_waits(&mut self) {
-        match inner_waits(self.alloc, self.tokens, self.program) {
-            Ok(all) => {
-                for inner in &all {
-                    self.add_inner(*inner);
-                }
-            }
-            Err(_) => self.is_refused = true,
-        }
-    }
-
-    fn add_plain_delays(&mut self) {
-        let mut body = OUTSIDE;
+    fn add_plain_delays(&mut self) -> Result<(), AllocError> {
+        let mut level: usize = 0;
+        // Whether a call may have been left before, by a `continue`.
+        let mut may_have_left = false;
         for at in 0..self.tokens.count() {
-            body = body.after(self.tokens, at);
-            if body.comes_to_each(self.tokens, at)
-                && is_standard(self.program, self.tokens, at, "delay")
-            {
-                self.add_words(
+            let is_continue = name_at(self.tokens, at) == "continue";
+            may_have_left = is_continue || may_have_left && level > 0;
+            level = level_after(self.tokens, at, level);
+            if level == 1 && !may_have_left && self.is_plain_delay(at) {
+                self.add(
                     at,
                     "every process that comes here waits; one queue holds one process, and a second one is the run error queue-in-use",
-                );
+                )?;
             }
         }
-    }
-
-    fn add_remarks(&mut self) {
-        match remarks(self.alloc, self.tokens, self.program) {
-            Ok(all) => {
-                for remark in &all {
-                    self.add_words(remark.at, sentence_of(remark.care));
-                }
-            }
-            Err(_) => self.is_refused = true,
-        }
-    }
-}
-
-/// Where a walk over the tokens of a body is.
-#[derive(Clone, Copy)]
-struct BodyWalk {
-    /// How many words are open that an `end` or `until` closes.
-    depth: usize,
-    /// Whether a call may have been left before, by a `continue`.
-    may_have_left: bool,
-}
-
-const OUTSIDE: BodyWalk = BodyWalk {
-    depth: 0,
-    may_have_left: false,
-};
-
-impl BodyWalk {
-    /// After one more token.
-    fn after(self, tokens: &Tokens, at: usize) -> BodyWalk {
-        match mark_at(tokens, at) {
-            Some(Mark::Begin | Mark::Case | Mark::Cycle | Mark::Record | Mark::Repeat) => BodyWalk {
-                depth: self.depth.saturating_add(1),
-                may_have_left: self.depth > 0 && self.may_have_left,
-            },
-            Some(Mark::End | Mark::Until) => BodyWalk {
-                depth: self.depth.saturating_sub(1),
-                ..self
-            },
-            _ => BodyWalk {
-                may_have_left: self.may_have_left || name_at(tokens, at) == "continue",
-                ..self
-            },
-        }
-    }
-
-    /// Whether each call comes to the wait in a single queue that may stand at a token.
-    fn comes_to_each(self, tokens: &Tokens, at: usize) -> bool {
-        self.depth == 1
-            && !self.may_have_left
-            && is_in_sequence(tokens, at)
-            && mark_at(tokens, at.saturating_add(3)) == Some(Mark::CloseParenthesis)
-    }
-}
-
-fn sentence_on(alloc: Global, source: &[u8], inner: InnerCall) -> Result<String, AllocError> {
-    let mut sentence = Prose::new(alloc);
-    sentence.put("whoever waits in ");
-    push_tokens(&mut sentence, source, inner.call);
-    sentence.put(" is still inside ");
-    sentence.put(inner.outer);
-    sentence.put(", so that nobody else can come in there, not even to wake it");
-    sentence.finish()
-}
-
-fn sentence_of(care: Care) -> &'static str {
-    match care {
-        Care::NotStarted => "this process is never started: without init it does nothing",
-        Care::NotInitialised => {
-            "this is never initialised: a call of it before its init is the run error not-init"
-        }
-        Care::Again => "this is initialised again, and a second init is the run error init-twice",
+        Ok(())
     }
 }
 
 /// A hint for each thing that is legal, but rarely meant.
-pub fn hints(
-    alloc: Global,
-    source: &[u8],
-    tokens: &Tokens,
-    program: &Program,
-) -> Result<Hints, AllocError> {
+pub fn hints(alloc: Global, source: &[u8], loaded: &Loaded) -> Result<Hints, AllocError> {
+    let tokens = &loaded.tokens;
+    let declarations = Declarations::of(alloc, tokens, &loaded.checked.tree().program)?;
     let mut gathering = Gathering {
         alloc,
         source,
         tokens,
-        program,
+        declarations: &declarations,
         hints: Hints {
             all: Vec::new(alloc),
             more: 0,
         },
-        is_refused: false,
     };
-    gathering.add_skipped();
-    gathering.add_inner_waits();
-    gathering.add_plain_delays();
-    gathering.add_remarks();
-    if gathering.is_refused {
-        return Err(AllocError);
-    }
+    gathering.add_skipped()?;
+    gathering.add_inner_waits()?;
+    gathering.add_plain_delays()?;
+    gathering.add_starts()?;
     Ok(gathering.hints)
 }

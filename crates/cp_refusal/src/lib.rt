@@ -2,11 +2,9 @@
 #![tactic(auto)]
 
 mod advice;
-mod called;
 mod candidates;
 mod changes;
 mod characters;
-mod components;
 mod counts;
 mod declared;
 mod disagree;
@@ -18,12 +16,12 @@ mod further_up;
 mod hints;
 mod page;
 mod place;
-mod probe;
 mod report;
 mod rules;
 mod sorts;
 mod spelling;
 mod starts;
+mod teller;
 mod waits;
 mod wanted;
 

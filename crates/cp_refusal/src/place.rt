@@ -6,7 +6,7 @@ use cp_text::ScanCause;
 
 /// What a piece of a source is.
 #[derive(Clone, Copy, PartialEq, Eq)]
-pub enum PieceKind {
+enum PieceKind {
     Blank,
     Comment,
     Number,
@@ -20,9 +20,9 @@ pub enum PieceKind {
 
 /// A piece at the front of a text, and its length in bytes.
 #[derive(Clone, Copy)]
-pub struct SourcePiece {
-    pub shape: PieceKind,
-    pub len: usize,
+struct SourcePiece {
+    shape: PieceKind,
+    len: usize,
 }
 
 /// The bytes of a source from one place to another.
@@ -41,11 +41,15 @@ pub enum Sought {
     Fault(ScanCause),
 }
 
+fn piece(shape: PieceKind, len: usize) -> SourcePiece {
+    SourcePiece { shape, len }
+}
+
 fn is_word_byte(byte: u8) -> bool {
     byte.is_ascii_alphanumeric() || byte == b'_'
 }
 
-/// How many bytes at the front pass a test.
+/// How many digits stand at the front.
 fn digits_len(text: &[u8]) -> usize {
     for (at, byte) in text.iter().enumerate() {
         if !byte.is_ascii_digit() {
@@ -68,99 +72,48 @@ fn word_len(text: &[u8]) -> usize {
 fn quoted_piece(text: &[u8], quote: u8, end: Option<u8>, shape: PieceKind) -> SourcePiece {
     for (at, byte) in text.iter().enumerate() {
         if at > 0 && *byte == quote {
-            return SourcePiece {
-                shape,
-                len: at.saturating_add(1),
-            };
+            return piece(shape, at.saturating_add(1));
         }
         if Some(*byte) == end {
-            return SourcePiece {
-                shape: PieceKind::Open,
-                len: at,
-            };
+            return piece(PieceKind::Open, at);
         }
     }
-    SourcePiece {
-        shape: PieceKind::Open,
-        len: text.len(),
-    }
+    piece(PieceKind::Open, text.len())
 }
 
-fn is_double_sign(first: u8, second: u8) -> bool {
-    matches!(
-        (first, second),
-        (b'<', b'>')
-            | (b'<', b'=')
-            | (b'>', b'=')
-            | (b':', b'=')
-            | (b'.', b'.')
-            | (b'(', b'.')
-            | (b'.', b')')
-    )
-}
+/// The signs of one byte.
+const SINGLE_SIGNS: &[u8; 15] = b"+-*=<>()[],;:.&";
 
-fn is_single_sign(byte: u8) -> bool {
-    matches!(
-        byte,
-        b'+' | b'-'
-            | b'*'
-            | b'='
-            | b'<'
-            | b'>'
-            | b'('
-            | b')'
-            | b'['
-            | b']'
-            | b','
-            | b';'
-            | b':'
-            | b'.'
-            | b'&'
-    )
-}
+/// The signs of two bytes.
+const DOUBLE_SIGNS: [(u8, u8); 7] = [
+    (b'<', b'>'),
+    (b'<', b'='),
+    (b'>', b'='),
+    (b':', b'='),
+    (b'.', b'.'),
+    (b'(', b'.'),
+    (b'.', b')'),
+];
 
 fn sign(first: u8, second: Option<u8>) -> SourcePiece {
-    if let Some(second) = second {
-        if is_double_sign(first, second) {
-            return SourcePiece {
-                shape: PieceKind::Sign,
-                len: 2,
-            };
-        }
-    }
-    SourcePiece {
-        shape: if is_single_sign(first) {
-            PieceKind::Sign
-        } else {
-            PieceKind::Unknown
-        },
-        len: 1,
+    match second {
+        Some(second) if DOUBLE_SIGNS.contains(&(first, second)) => piece(PieceKind::Sign, 2),
+        _ if SINGLE_SIGNS.contains(&first) => piece(PieceKind::Sign, 1),
+        _ => piece(PieceKind::Unknown, 1),
     }
 }
 
 /// The piece at the front of a text; an empty one has none.
-pub fn first_piece(text: &[u8]) -> SourcePiece {
+fn first_piece(text: &[u8]) -> SourcePiece {
     let Some(first) = text.first().copied() else {
-        return SourcePiece {
-            shape: PieceKind::Blank,
-            len: 0,
-        };
+        return piece(PieceKind::Blank, 0);
     };
     match first {
-        b' ' | b'\t' | b'\r' | b'\n' => SourcePiece {
-            shape: PieceKind::Blank,
-            len: 1,
-        },
+        b' ' | b'\t' | b'\r' | b'\n' => piece(PieceKind::Blank, 1),
         b'"' => quoted_piece(text, b'"', None, PieceKind::Comment),
         b'\'' => quoted_piece(text, b'\'', Some(b'\n'), PieceKind::Character),
-        _ if first.is_ascii_digit() => SourcePiece {
-            shape: PieceKind::Number,
-            len: digits_len(text),
-        },
-        _ if first.is_ascii_alphabetic() => SourcePiece {
-            shape: PieceKind::Name,
-            len: word_len(text),
-        },
+        _ if first.is_ascii_digit() => piece(PieceKind::Number, digits_len(text)),
+        _ if first.is_ascii_alphabetic() => piece(PieceKind::Name, word_len(text)),
         _ => sign(first, text.get(1).copied()),
     }
 }
@@ -248,22 +201,13 @@ pub fn has_comment_before(source: &[u8], at: usize) -> bool {
     let Some(before) = at.checked_sub(1) else {
         return false;
     };
-    match find(source, Sought::Token(before)) {
-        Some(span) => {
-            let end = span.from.saturating_add(span.len).min(source.len());
-            begins_with_comment(&source[end..])
-        }
-        None => false,
-    }
-}
-
-/// Whether the first piece that is no separator is a comment.
-fn begins_with_comment(text: &[u8]) -> bool {
-    for from in 0..text.len() {
-        match first_piece(&text[from..]).shape {
-            PieceKind::Blank => {}
-            PieceKind::Comment => return true,
-            _ => return false,
+    let Some(span) = find(source, Sought::Token(before)) else {
+        return false;
+    };
+    let end = span.from.saturating_add(span.len).min(source.len());
+    for byte in &source[end..] {
+        if !matches!(byte, b' ' | b'\t' | b'\r' | b'\n') {
+            return *byte == b'"';
         }
     }
     false

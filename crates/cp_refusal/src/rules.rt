@@ -3,18 +3,18 @@
 ghost use Rattle.std.specs.Prelude.{◌≡◌};
 ghost use Rattle.cp_refusal.specs.Explaining.{rule_code};
 
-use crate::called::find_called;
-use crate::changes::push_unchangeable;
-use crate::counts::push_counts;
-use crate::declared::{Declared, is_declared_somewhere};
-use crate::disagree::push_disagreement;
-use crate::extent::{after_designator, expression_at, single, statement_start};
+use crate::changes::put_unchangeable;
+use crate::counts::put_counts;
+use crate::declared::{Declarations, Declared};
+use crate::disagree::put_disagreement;
+use crate::extent::{designator_at, expression_at, is_adding, is_multiplying, is_relation, single};
 use crate::foreign::{instead_of, is_start};
-use crate::page::{line_number, push_tokens};
+use crate::page::line_number;
 use crate::place::{Sought, find};
-use crate::sorts::{Asker, Sort};
+use crate::sorts::Sort;
 use crate::spelling::similar_declaration;
-use cp_prose::Prose;
+use crate::teller::Teller;
+use crate::wanted::QUEUE_ROUTINES;
 use cp_scope::Rule;
 use cp_text::{Kind, Mark, Tokens};
 use cp_tree::Program;
@@ -52,127 +52,38 @@ pub fn is_mark_of(tokens: &Tokens, at: usize, marks: &[Mark]) -> bool {
     }
 }
 
-/// What is said where one of some words and signs stands.
-struct MarkSentence {
-    marks: &'static [Mark],
-    said: &'static str,
-}
-
-/// What is said of the word or sign at this number; empty where nothing is.
-fn sentence_at(tokens: &Tokens, at: usize, sentences: &'static [MarkSentence]) -> &'static str {
-    for sentence in sentences {
-        if is_mark_of(tokens, at, sentence.marks) {
-            return sentence.said;
-        }
-    }
-    ""
-}
-
-/// What does not agree, by what stands after a name, a number or a character.
-static DISAGREEMENTS_AFTER: [MarkSentence; 5] = [
-    MarkSentence {
-        marks: &[Mark::Becomes],
-        said: ": the two sides of this assignment are of different types",
-    },
-    MarkSentence {
-        marks: &[
-            Mark::Equal,
-            Mark::NotEqual,
-            Mark::Less,
-            Mark::Greater,
-            Mark::AtMost,
-            Mark::AtLeast,
-            Mark::In,
-        ],
-        said: ": the two sides of this comparison are of different types",
-    },
-    MarkSentence {
-        marks: &[
-            Mark::Plus,
-            Mark::Minus,
-            Mark::Times,
-            Mark::Div,
-            Mark::Mod,
-            Mark::And,
-            Mark::Or,
-        ],
-        said: ": an operand of this operation is of the wrong type",
-    },
-    MarkSentence {
-        marks: &[Mark::DoublePeriod],
-        said: ": the bounds of a subrange have to be ordinal and of one type",
-    },
-    MarkSentence {
-        marks: &[Mark::Semicolon, Mark::End, Mark::Else, Mark::Until],
-        said: ": only a procedure can be called so",
-    },
-];
-
-/// The language's own routines that take a queue.
-const QUEUE_ROUTINES: [&str; 3] = ["delay", "continue", "empty"];
-
-/// What does not agree in a construct that begins with a name, a number or a character.
-fn disagreement_after(tokens: &Tokens, at: usize) -> &'static str {
-    let after = after_designator(tokens, at);
-    let said = sentence_at(tokens, after, &DISAGREEMENTS_AFTER);
-    if !said.is_empty() {
-        return said;
-    }
-    if mark_at(tokens, after) != Some(Mark::OpenParenthesis) {
-        " is used as what it is not: its type does not agree"
-    } else if QUEUE_ROUTINES.contains(&name_at(tokens, at)) {
-        " takes one queue variable"
-    } else {
-        ": it can't be called so, or an argument is of another type than its parameter"
-    }
-}
-
 /// What does not agree in a construct, by the word or sign that begins it.
-static DISAGREEMENTS: [MarkSentence; 9] = [
-    MarkSentence {
-        marks: &[Mark::If, Mark::While],
-        said: ": its condition is not boolean",
-    },
-    MarkSentence {
-        marks: &[Mark::Repeat],
-        said: ": the condition after its until is not boolean",
-    },
-    MarkSentence {
-        marks: &[Mark::For],
-        said: ": its variable is not ordinal, or a bound is of another type",
-    },
-    MarkSentence {
-        marks: &[Mark::Case],
-        said: ": its selector is not ordinal, or a label is of another type",
-    },
-    MarkSentence {
-        marks: &[Mark::Function],
-        said: ": its result may not be an array, a record or a set",
-    },
-    MarkSentence {
-        marks: &[Mark::Array],
-        said: ": its index type is not ordinal",
-    },
-    MarkSentence {
-        marks: &[Mark::Not],
-        said: " takes a boolean",
-    },
-    MarkSentence {
-        marks: &[Mark::OpenBracket],
-        said: ": the elements of a set have to be ordinal and of one type",
-    },
-    MarkSentence {
-        marks: &[Mark::Plus, Mark::Minus],
-        said: ": a sign takes an integer",
-    },
-];
-
 fn disagreement(tokens: &Tokens, at: usize) -> &'static str {
-    let said = sentence_at(tokens, at, &DISAGREEMENTS);
-    if said.is_empty() {
-        disagreement_after(tokens, at)
-    } else {
-        said
+    match mark_at(tokens, at) {
+        Some(Mark::If | Mark::While) => ": its condition is not boolean",
+        Some(Mark::Repeat) => ": the condition after its until is not boolean",
+        Some(Mark::For) => ": its variable is not ordinal, or a bound is of another type",
+        Some(Mark::Case) => ": its selector is not ordinal, or a label is of another type",
+        Some(Mark::Function) => ": its result may not be an array, a record or a set",
+        Some(Mark::Array) => ": its index type is not ordinal",
+        Some(Mark::Not) => " takes a boolean",
+        Some(Mark::OpenBracket) => ": the elements of a set have to be ordinal and of one type",
+        Some(Mark::Plus | Mark::Minus) => ": a sign takes an integer",
+        _ => disagreement_after(tokens, at),
+    }
+}
+
+/// What does not agree in a construct, by what stands after the name, the number or the character that begins it.
+fn disagreement_after(tokens: &Tokens, at: usize) -> &'static str {
+    let after = mark_at(tokens, designator_at(tokens, at).to);
+    match after {
+        Some(Mark::Becomes) => ": the two sides of this assignment are of different types",
+        Some(Mark::DoublePeriod) => ": the bounds of a subrange have to be ordinal and of one type",
+        Some(Mark::Semicolon | Mark::End | Mark::Else | Mark::Until) =>
+            ": only a procedure can be called so",
+        Some(Mark::OpenParenthesis) if QUEUE_ROUTINES.contains(&name_at(tokens, at)) =>
+            " takes one queue variable",
+        Some(Mark::OpenParenthesis) =>
+            ": it can't be called so, or an argument is of another type than its parameter",
+        _ if is_relation(after) => ": the two sides of this comparison are of different types",
+        _ if is_adding(after) || is_multiplying(after) =>
+            ": an operand of this operation is of the wrong type",
+        _ => " is used as what it is not: its type does not agree",
     }
 }
 
@@ -269,59 +180,52 @@ pub fn sentence(
     tokens: &Tokens,
     broken: Broken,
 ) -> Result<String, AllocError> {
-    let asker = Asker {
-        alloc,
-        source,
-        tokens,
-        place: statement_start(tokens, broken.at),
-    };
-    let mut text = Prose::new(alloc);
-    if !push_particular(&asker, &mut text, broken) {
-        push_general(&asker, &mut text, broken);
+    let declarations = Declarations::of(alloc, tokens, broken.program)?;
+    let mut teller = Teller::new(alloc, source, tokens, broken.at);
+    if !put_particular(&mut teller, &declarations, broken.rule) {
+        teller.put_tokens(single(broken.at));
+        teller.put(complaint(tokens, broken.at, broken.rule));
     }
-    text.put(" (rule ");
-    text.put(code(broken.rule));
-    text.put(")");
-    text.finish()
+    teller
+        .text
+        .put_display(format_args!(" (rule {})", code(broken.rule)));
+    teller.text.finish()
 }
 
 /// Says what is there and what is wanted, where that can be told.
-fn push_particular(asker: &Asker, text: &mut Prose, broken: Broken) -> bool {
-    match broken.rule {
-        Rule::C1 => push_undeclared(asker, text, broken),
-        Rule::C5 => {
-            push_misused(asker, text, broken) || push_disagreement(asker, text, broken.at)
-        }
-        Rule::C6 => push_unchangeable(asker, text, broken.program, broken.at),
-        Rule::C7 => push_counts(asker, text, broken.at),
-        Rule::C8 => push_no_start(asker, text, broken.at),
-        Rule::C17 => push_array(asker, text, broken.at),
-        Rule::C21 => push_undisplayed(asker, text, broken.at),
+fn put_particular(teller: &mut Teller, declarations: &Declarations, rule: Rule) -> bool {
+    match rule {
+        Rule::C1 => put_undeclared(teller, declarations),
+        Rule::C5 => put_misused(teller, declarations) || put_disagreement(teller),
+        Rule::C6 => put_unchangeable(teller, declarations),
+        Rule::C7 => put_counts(teller, declarations),
+        Rule::C8 => put_no_start(teller),
+        Rule::C17 => put_array(teller),
+        Rule::C21 => put_undisplayed(teller),
         _ => false,
     }
 }
 
 /// Says of a name that is not visible where it is declared, what is meant by it elsewhere, or which name may have been meant.
-fn push_undeclared(asker: &Asker, text: &mut Prose, broken: Broken) -> bool {
-    push_tokens(text, asker.source, single(broken.at));
-    if mark_before(asker.tokens, broken.at) == Some(Mark::Period) {
-        text.put(" is no field of this record");
+fn put_undeclared(teller: &mut Teller, declarations: &Declarations) -> bool {
+    teller.put_tokens(single(teller.at));
+    if mark_before(teller.tokens, teller.at) == Some(Mark::Period) {
+        teller.put(" is no field of this record");
         return true;
     }
-    text.put(" is not declared here");
-    let name = name_at(asker.tokens, broken.at);
-    let known = what_is_known(broken.program, name);
+    teller.put(" is not declared here");
+    let known = what_is_known(declarations, teller.name());
     if !known.is_empty() {
-        text.put(known);
-    } else if let Some(other) = similar_declaration(broken.program, asker.tokens, broken.at) {
-        push_declared(asker, text, other);
+        teller.put(known);
+    } else if let Some(other) = similar_declaration(teller, declarations) {
+        put_declared(teller, other);
     }
     true
 }
 
 /// What is known of a name that is not declared where it stands; empty where nothing is.
-fn what_is_known(program: &Program, name: &str) -> &'static str {
-    if is_declared_somewhere(program, name) {
+fn what_is_known(declarations: &Declarations, name: &str) -> &'static str {
+    if declarations.has(name) {
         ELSEWHERE
     } else {
         instead_of(name)
@@ -332,52 +236,38 @@ const ELSEWHERE: &str =
     ": it is declared elsewhere, and a block sees only what is declared before it and around it; a system type sees no variable and no routine of the program";
 
 /// Says in which line the name at a token is declared.
-fn push_declared(asker: &Asker, text: &mut Prose, at: usize) {
-    text.put(": ");
-    push_tokens(text, asker.source, single(at));
-    let from = match find(asker.source, Sought::Token(at)) {
+fn put_declared(teller: &mut Teller, at: usize) {
+    teller.put(": ");
+    teller.put_tokens(single(at));
+    teller.put(" is declared in line ");
+    let from = match find(teller.source, Sought::Token(at)) {
         Some(span) => span.from,
         None => 0,
     };
-    text.put(" is declared in line ");
-    text.put_display(line_number(asker.source, from));
+    let line = line_number(teller.source, from);
+    teller.text.put_display(line);
 }
 
-/// How a name is used.
-#[derive(Clone, Copy)]
-enum RuleUse {
-    /// As a statement that calls it.
-    Statement,
-    /// As what is assigned.
-    Target,
-    /// With arguments, in an expression.
-    Call,
-    /// Without arguments, in an expression.
-    Value,
-}
-
-fn use_of(asker: &Asker, at: usize) -> RuleUse {
-    let after = mark_at(asker.tokens, after_designator(asker.tokens, at));
-    match after {
-        Some(Mark::Becomes) if at == asker.place => RuleUse::Target,
-        _ if at == asker.place => RuleUse::Statement,
-        Some(Mark::OpenParenthesis) => RuleUse::Call,
-        _ => RuleUse::Value,
-    }
-}
-
-fn misuse(what: Declared, used: RuleUse, has_arguments: bool) -> &'static str {
-    match (what, used) {
-        (Declared::Function, RuleUse::Statement) => {
+/// Why a name can't be used so: first in a statement or in an expression, before this sign, with arguments or without them; empty where it can.
+fn misuse(
+    what: Declared,
+    is_first: bool,
+    after: Option<Mark>,
+    has_arguments: bool,
+) -> &'static str {
+    let is_assigned = is_first && after == Some(Mark::Becomes);
+    match what {
+        Declared::Function if is_first && !is_assigned => {
             " is a function: a statement calls a procedure, and a function's value has to be used"
         }
-        (Declared::Procedure, RuleUse::Call | RuleUse::Value) =>
-            " is a procedure, and has no value",
-        (Declared::Procedure, RuleUse::Target) => " is a procedure, and can't be assigned",
-        (Declared::Type, RuleUse::Value) => " is a type, and has no value",
-        (Declared::Type, _) => " is a type, and can't be called",
-        (Declared::Constant, _) if has_arguments => " is a constant, and can't be called",
-        (Declared::Variable | Declared::Parameter | Declared::VarParameter, _) if has_arguments => {
+        Declared::Procedure if is_assigned => " is a procedure, and can't be assigned",
+        Declared::Procedure if !is_first => " is a procedure, and has no value",
+        Declared::Type if !is_first && after != Some(Mark::OpenParenthesis) => {
+            " is a type, and has no value"
+        }
+        Declared::Type => " is a type, and can't be called",
+        Declared::Constant if has_arguments => " is a constant, and can't be called",
+        Declared::Variable | Declared::Parameter | Declared::VarParameter if has_arguments => {
             " is a variable, and can't be called"
         }
         _ => "",
@@ -385,59 +275,60 @@ fn misuse(what: Declared, used: RuleUse, has_arguments: bool) -> &'static str {
 }
 
 /// Says that what a name stands for is used as what it is not.
-fn push_misused(asker: &Asker, text: &mut Prose, broken: Broken) -> bool {
-    let tokens = asker.tokens;
-    if name_at(tokens, broken.at).is_empty() {
+fn put_misused(teller: &mut Teller, declarations: &Declarations) -> bool {
+    if teller.name().is_empty() {
         return false;
     }
-    let Some(called) = find_called(broken.program, tokens, broken.at) else {
+    let Some(called) = declarations.find_called(teller.at) else {
         return false;
     };
-    let has_arguments = mark_at(tokens, called.tokens.to) == Some(Mark::OpenParenthesis);
-    let said = misuse(called.what, use_of(asker, broken.at), has_arguments);
+    let is_first = teller.at == teller.place();
+    let used = designator_at(teller.tokens, teller.at);
+    let after = teller.mark_at(used.to);
+    let has_arguments = teller.mark_at(called.tokens.to) == Some(Mark::OpenParenthesis);
+    let said = misuse(called.what, is_first, after, has_arguments);
     if said.is_empty() {
         return false;
     }
-    push_tokens(text, asker.source, called.tokens);
-    text.put(said);
+    teller.put_tokens(called.tokens);
+    teller.put(said);
     true
 }
 
 /// Says how processes are started, where a component is told to start.
-fn push_no_start(asker: &Asker, text: &mut Prose, at: usize) -> bool {
-    if !is_start(name_at(asker.tokens, at)) {
+fn put_no_start(teller: &mut Teller) -> bool {
+    if !is_start(teller.name()) {
         return false;
     }
-    push_tokens(text, asker.source, single(at));
-    text.put(" is no routine of this component: processes are started by init");
+    teller.put_tokens(single(teller.at));
+    teller.put(" is no routine of this component: processes are started by init");
     true
 }
 
 /// Says how the components of an array are initialised.
-fn push_array(asker: &Asker, text: &mut Prose, at: usize) -> bool {
-    let array = single(at);
-    if asker.sort_of(text, array) != Some(Sort::Array) {
+fn put_array(teller: &mut Teller) -> bool {
+    let array = single(teller.at);
+    if teller.sort_of(array) != Some(Sort::Array) {
         return false;
     }
-    push_tokens(text, asker.source, array);
     for words in [
         " is an array, and init takes its elements: init ",
         "[1](..), ",
+        "[2](..)",
     ] {
-        text.put(words);
-        push_tokens(text, asker.source, array);
+        teller.put_tokens(array);
+        teller.put(words);
     }
-    text.put("[2](..)");
     true
 }
 
-fn push_undisplayed(asker: &Asker, text: &mut Prose, at: usize) -> bool {
-    let value = expression_at(asker.tokens, at);
-    text.put("display takes a value, but ");
-    push_tokens(text, asker.source, value);
-    text.put(" is ");
-    let sort = asker.sort_of(text, value);
-    text.put(phrase_of(sort));
+fn put_undisplayed(teller: &mut Teller) -> bool {
+    let value = expression_at(teller.tokens, teller.at);
+    teller.put("display takes a value, but ");
+    teller.put_tokens(value);
+    teller.put(" is ");
+    let sort = teller.sort_of(value);
+    teller.put(phrase_of(sort));
     true
 }
 
@@ -448,9 +339,4 @@ fn phrase_of(sort: Option<Sort>) -> &'static str {
             sort.phrase(),
         _ => "an array, a record or a set",
     }
-}
-
-fn push_general(asker: &Asker, text: &mut Prose, broken: Broken) {
-    push_tokens(text, asker.source, single(broken.at));
-    text.put(complaint(asker.tokens, broken.at, broken.rule));
 }

@@ -1,11 +1,8 @@
 //! Of what sort a value is, as the checker sees it.
 
 use crate::extent::Extent;
-use crate::probe::{Insertion, Reply, ask};
+use crate::teller::{Insertion, Reply, Teller};
 use cp_check::Rule;
-use cp_prose::Prose;
-use cp_text::Tokens;
-use std::alloc::{AllocError, Global};
 
 /// What sort of value an expression has.
 #[derive(Clone, Copy, PartialEq, Eq)]
@@ -20,6 +17,14 @@ pub enum Sort {
     Array,
     Component,
 }
+
+/// The sorts whose values are ordered.
+pub const ORDINALS: [Sort; 4] = [
+    Sort::Integer,
+    Sort::Boolean,
+    Sort::Character,
+    Sort::Enumeration,
+];
 
 impl Sort {
     /// The sort with its article.
@@ -36,183 +41,77 @@ impl Sort {
             Sort::Component => "a component",
         }
     }
-
-    /// Whether values of the sort are ordered.
-    pub fn is_ordinal(self) -> bool {
-        matches!(
-            self,
-            Sort::Integer | Sort::Boolean | Sort::Character | Sort::Enumeration
-        )
-    }
 }
 
-/// A program, and the place of a statement in it.
-#[derive(Clone, Copy)]
-pub struct Asker<'a> {
-    pub alloc: Global,
-    pub source: &'a [u8],
-    pub tokens: &'a Tokens,
-    pub place: usize,
-}
-
-/// Words around a value, at which the checker tells of what sort it is.
-struct Question {
-    before: &'static [&'static str],
-    after: &'static [&'static str],
-}
-
-/// The sorts of which one question tells whether a value has them, in the order of these questions.
-static PLAIN_SORTS: [(Sort, Question); 6] = [
-    (
-        Sort::Integer,
-        Question {
-            before: &["if", "("],
-            after: &[")", "=", "1", "then"],
-        },
-    ),
-    (
-        Sort::Boolean,
-        Question {
-            before: &["if", "not", "("],
-            after: &[")", "then"],
-        },
-    ),
-    (
-        Sort::Character,
-        Question {
-            before: &["if", "("],
-            after: &[")", "=", "'(:65:)'", "then"],
-        },
-    ),
-    (
-        Sort::Set,
-        Question {
-            before: &["if", "("],
-            after: &[")", "=", "[", "]", "then"],
-        },
-    ),
-    (
-        Sort::Enumeration,
-        Question {
-            before: &["if", "["],
-            after: &["]", "=", "[", "]", "then"],
-        },
-    ),
-    (
-        Sort::Queue,
-        Question {
-            before: &["if", "empty", "("],
-            after: &[")", "then"],
-        },
-    ),
+/// The sorts of which one question tells whether a value has them, in the order of these questions: the words before the value, and those after it.
+static PLAIN_SORTS: [(Sort, &str, &str); 6] = [
+    (Sort::Integer, "if (", ") = 1 then"),
+    (Sort::Boolean, "if not (", ") then"),
+    (Sort::Character, "if (", ") = '(:65:)' then"),
+    (Sort::Set, "if (", ") = [ ] then"),
+    (Sort::Enumeration, "if [", "] = [ ] then"),
+    (Sort::Queue, "if empty (", ") then"),
 ];
 
 /// A field with a name of the greatest length, that no program is likely to have.
-static NEW_FIELD: Question = Question {
-    before: &["if"],
-    after: &[".", "q012345678901234567890123456789012345678", "then"],
-};
+const NEW_FIELD: &str = ". q012345678901234567890123456789012345678 then";
 
 /// An index of each sort that is tried.
-static INDICES: [Question; 2] = [
-    Question {
-        before: &["if"],
-        after: &["[", "1", "]", "then"],
-    },
-    Question {
-        before: &["if"],
-        after: &["[", "'(:65:)'", "]", "then"],
-    },
-];
+const INDICES: [&str; 2] = ["[ 1 ] then", "[ '(:65:)' ] then"];
 
-impl<'a> Asker<'a> {
-    /// What is said of a value between the words of a question.
-    fn reply_to(&self, value: Extent, question: &Question) -> Result<Reply, AllocError> {
-        let pieces = [
-            Insertion::Words(question.before),
+impl<'a> Teller<'a> {
+    /// What the checker says of a value between words.
+    fn ask_between(&mut self, before: &'static str, value: Extent, after: &'static str) -> Reply {
+        self.ask(&[
+            Insertion::Words(before),
             Insertion::Copied(value),
-            Insertion::Words(question.after),
-        ];
-        ask(self.alloc, self.tokens, self.place, &pieces)
+            Insertion::Words(after),
+        ])
     }
 
     /// Whether a set may have both of two expressions as elements.
-    fn are_elements(&self, one: Extent, other: Extent) -> Result<bool, AllocError> {
-        let pieces = [
-            Insertion::Words(&["if", "["]),
+    pub fn may_share_set(&mut self, one: Extent, other: Extent) -> bool {
+        let reply = self.ask(&[
+            Insertion::Words("if ["),
             Insertion::Copied(one),
-            Insertion::Words(&[","]),
+            Insertion::Words(","),
             Insertion::Copied(other),
-            Insertion::Words(&["]", "=", "[", "]", "then"]),
-        ];
-        let reply = ask(self.alloc, self.tokens, self.place, &pieces)?;
-        Ok(matches!(reply, Reply::Fine))
+            Insertion::Words("] = [ ] then"),
+        ]);
+        matches!(reply, Reply::Fine)
     }
 
     /// Whether the fault with an index is another than that there is none.
-    fn takes_index(&self, value: Extent, question: &Question) -> Result<bool, AllocError> {
-        Ok(match self.reply_to(value, question)? {
+    fn takes_index(&mut self, value: Extent, index: &'static str) -> bool {
+        match self.ask_between("if", value, index) {
             Reply::Fine => true,
-            Reply::Broken { rule: Rule::C5, at } => at == 0,
-            _ => false,
-        })
-    }
-
-    fn plain_sort(&self, value: Extent) -> Result<Option<Sort>, AllocError> {
-        for (sort, question) in &PLAIN_SORTS {
-            if matches!(self.reply_to(value, question)?, Reply::Fine) {
-                return Ok(Some(*sort));
-            }
+            Reply::Broken { rule, at } => rule == Rule::C5 && at == 0,
+            Reply::Unknown => false,
         }
-        Ok(None)
-    }
-
-    fn is_array(&self, value: Extent) -> Result<bool, AllocError> {
-        for question in &INDICES {
-            if self.takes_index(value, question)? {
-                return Ok(true);
-            }
-        }
-        Ok(false)
     }
 
     /// The sort of what has fields or indices.
-    fn compound_sort(&self, value: Extent) -> Result<Option<Sort>, AllocError> {
-        match self.reply_to(value, &NEW_FIELD)? {
-            Reply::Broken { rule: Rule::C1, at } if at > 1 => Ok(Some(Sort::Record)),
-            Reply::Broken { rule: Rule::C8, .. } => Ok(Some(Sort::Component)),
-            _ if self.is_array(value)? => Ok(Some(Sort::Array)),
-            _ => Ok(None),
+    fn compound_sort(&mut self, value: Extent) -> Option<Sort> {
+        match self.ask_between("if", value, NEW_FIELD) {
+            Reply::Broken { rule: Rule::C1, at } if at > 1 => return Some(Sort::Record),
+            Reply::Broken { rule: Rule::C8, .. } => return Some(Sort::Component),
+            _ => {}
         }
-    }
-
-    fn find_sort(&self, value: Extent) -> Result<Option<Sort>, AllocError> {
-        match self.plain_sort(value)? {
-            None => self.compound_sort(value),
-            sort => Ok(sort),
-        }
-    }
-
-    /// The sort of an expression's value; none where it can't be told, or where the expression has none. It is asked for a text, which is refused
-    /// where memory is refused for the question.
-    pub fn sort_of(&self, text: &mut Prose, value: Extent) -> Option<Sort> {
-        match self.find_sort(value) {
-            Ok(sort) => sort,
-            Err(_) => {
-                text.refuse();
-                None
+        for index in INDICES {
+            if self.takes_index(value, index) {
+                return Some(Sort::Array);
             }
         }
+        None
     }
 
-    /// Whether two values may be elements of one set. It is asked for a text, as `sort_of` is.
-    pub fn may_share_set(&self, text: &mut Prose, one: Extent, other: Extent) -> bool {
-        match self.are_elements(one, other) {
-            Ok(is_fine) => is_fine,
-            Err(_) => {
-                text.refuse();
-                true
+    /// The sort of an expression's value; none where it can't be told, or where the expression has none.
+    pub fn sort_of(&mut self, value: Extent) -> Option<Sort> {
+        for (sort, before, after) in &PLAIN_SORTS {
+            if matches!(self.ask_between(before, value, after), Reply::Fine) {
+                return Some(*sort);
             }
         }
+        self.compound_sort(value)
     }
 }

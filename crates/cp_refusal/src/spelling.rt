@@ -1,9 +1,7 @@
 //! Names that are written nearly alike.
 
-use crate::declared::{Looked, find_declared};
-use crate::rules::name_at;
-use cp_text::Tokens;
-use cp_tree::Program;
+use crate::declared::Declarations;
+use crate::teller::Teller;
 
 // What is left of two names where they first differ.
 fn after_prefix<'a>(one: &'a [u8], other: &'a [u8]) -> (&'a [u8], &'a [u8]) {
@@ -42,16 +40,16 @@ fn is_alike(one: &str, other: &str, letters: usize) -> bool {
     }
 }
 
-/// The place where a visible name is declared that differs by one or two letters from the name at a token.
-pub fn similar_declaration(program: &Program, tokens: &Tokens, at: usize) -> Option<usize> {
-    let name = name_at(tokens, at);
+/// The place where a visible name is declared that differs by one or two letters from the name at the token.
+pub fn similar_declaration(teller: &Teller, declarations: &Declarations) -> Option<usize> {
+    let name = teller.name();
     for letters in [1, 2] {
-        for place in (0..at).rev() {
-            let other = name_at(tokens, place);
+        for place in (0..teller.at).rev() {
+            let other = teller.name_at(place);
             if other.is_empty() || other == name || !is_alike(name, other, letters) {
                 continue;
             }
-            if let Some(found) = find_declared(program, Looked { name: other, at }) {
+            if let Some(found) = declarations.find(other, teller.at) {
                 return Some(found.at);
             }
         }

@@ -1,71 +1,65 @@
 //! What a construct takes.
 
-use crate::sorts::Sort;
+use crate::sorts::{ORDINALS, Sort};
 use cp_text::Mark;
 
-/// Of which sorts a single value has to be.
+/// The language's own routines that take a queue.
+pub const QUEUE_ROUTINES: [&str; 3] = ["delay", "continue", "empty"];
+
+/// Of which sorts a value has to be, or two operands, both of one; and how that is said.
 #[derive(Clone, Copy)]
-pub enum Sorts {
-    Boolean,
-    Integer,
-    Ordinal,
-    Queue,
-    Set,
+pub struct Wanted {
+    sorts: &'static [Sort],
+    pub phrase: &'static str,
 }
 
-impl Sorts {
-    pub fn admits(self, sort: Sort) -> bool {
-        match self {
-            Sorts::Boolean => sort == Sort::Boolean,
-            Sorts::Integer => sort == Sort::Integer,
-            Sorts::Ordinal => sort.is_ordinal(),
-            Sorts::Queue => sort == Sort::Queue,
-            Sorts::Set => sort == Sort::Set,
-        }
+impl Wanted {
+    fn new(sorts: &'static [Sort], phrase: &'static str) -> Wanted {
+        Wanted { sorts, phrase }
     }
 
-    pub fn phrase(self) -> &'static str {
-        match self {
-            Sorts::Boolean => "a boolean",
-            Sorts::Integer => "an integer",
-            Sorts::Ordinal => "an integer, a character, a boolean or a value of an enumeration",
-            Sorts::Queue => "a queue variable",
-            Sorts::Set => "a set",
-        }
+    pub fn boolean() -> Wanted {
+        Wanted::new(&[Sort::Boolean], "a boolean")
     }
-}
 
-/// Of which sorts the operands of an operation may be, both of one.
-#[derive(Clone, Copy)]
-pub enum Operands {
-    Integers,
-    IntegersOrSets,
-    BooleansOrSets,
-}
+    pub fn integer() -> Wanted {
+        Wanted::new(&[Sort::Integer], "an integer")
+    }
 
-impl Operands {
+    pub fn ordinal() -> Wanted {
+        Wanted::new(
+            &ORDINALS,
+            "an integer, a character, a boolean or a value of an enumeration",
+        )
+    }
+
     /// The operands of an operator between terms or factors.
-    pub fn of(operator: Option<Mark>) -> Operands {
+    pub fn operands(operator: Option<Mark>) -> Wanted {
         match operator {
-            Some(Mark::And | Mark::Or) => Operands::BooleansOrSets,
-            Some(Mark::Minus) => Operands::IntegersOrSets,
-            _ => Operands::Integers,
+            Some(Mark::And | Mark::Or) => {
+                Wanted::new(&[Sort::Boolean, Sort::Set], "two booleans or two sets")
+            }
+            Some(Mark::Minus) => {
+                Wanted::new(&[Sort::Integer, Sort::Set], "two integers or two sets")
+            }
+            _ => Wanted::new(&[Sort::Integer], "two integers"),
         }
     }
 
-    pub fn admit(self, sort: Sort) -> bool {
-        match self {
-            Operands::Integers => sort == Sort::Integer,
-            Operands::IntegersOrSets => matches!(sort, Sort::Integer | Sort::Set),
-            Operands::BooleansOrSets => matches!(sort, Sort::Boolean | Sort::Set),
+    /// The argument of a routine of the language itself.
+    pub fn argument(routine: &str) -> Option<Wanted> {
+        if QUEUE_ROUTINES.contains(&routine) {
+            Some(Wanted::new(&[Sort::Queue], "a queue variable"))
+        } else if ["abs", "chr"].contains(&routine) {
+            Some(Wanted::integer())
+        } else if ["succ", "pred", "ord"].contains(&routine) {
+            Some(Wanted::ordinal())
+        } else {
+            None
         }
     }
 
-    pub fn phrase(self) -> &'static str {
-        match self {
-            Operands::Integers => "two integers",
-            Operands::IntegersOrSets => "two integers or two sets",
-            Operands::BooleansOrSets => "two booleans or two sets",
-        }
+    pub fn admits(self, sort: Sort) -> bool {
+        self.sorts.contains(&sort)
     }
 }

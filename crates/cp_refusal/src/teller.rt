@@ -1,0 +1,200 @@
+//! Who tells of a source that is refused at a token.
+
+use crate::draft::{push_copies, tokens_of};
+use crate::extent::{Extent, between, statement_start};
+use crate::page::push_tokens;
+use crate::rules::{mark_at, name_at};
+use cp_check::{CheckFault, Rule, check};
+use cp_drops::{drop_checked, drop_tree};
+use cp_prose::Prose;
+use cp_text::{Mark, Tokens};
+use cp_tree::{ParseFault, Tree, parse};
+use std::alloc::{AllocError, Global};
+
+/// A source that is refused at a token, and what has been told of it. It is asked whether other tokens would be accepted; where memory is refused
+/// for that, the text is refused.
+#[derive(Drop)]
+pub struct Teller<'a> {
+    pub alloc: Global,
+    pub source: &'a [u8],
+    pub tokens: &'a Tokens,
+    pub at: usize,
+    pub text: Prose,
+}
+
+/// Tokens that are put in.
+#[derive(Clone, Copy)]
+pub enum Insertion {
+    /// These, with spaces between.
+    Words(&'static str),
+    /// Tokens of the program once more.
+    Copied(Extent),
+}
+
+/// What the checker says of tokens that were put in.
+#[derive(Clone, Copy)]
+pub enum Reply {
+    /// No rule is broken in them.
+    Fine,
+    /// This rule is broken first, at the token with this number among them.
+    Broken { rule: Rule, at: usize },
+    /// They make no program, or a fault stands before them.
+    Unknown,
+}
+
+fn push_piece(draft: &mut Prose, tokens: &Tokens, piece: Insertion) {
+    match piece {
+        Insertion::Words(words) => {
+            draft.put(words);
+            draft.put(" ");
+        }
+        Insertion::Copied(extent) => push_copies(draft, tokens, extent),
+    }
+}
+
+/// What the checker says of a program in which some tokens were put in.
+fn check_reply(alloc: Global, tree: Tree, pieces: Extent) -> Result<Reply, AllocError> {
+    match check(alloc, tree) {
+        Ok(checked) => {
+            drop_checked(checked);
+            Ok(Reply::Fine)
+        }
+        Err((fault, tree)) => {
+            drop_tree(tree);
+            reply_to(&fault, pieces)
+        }
+    }
+}
+
+/// What a fault says of some tokens of a program.
+fn reply_to(fault: &CheckFault, pieces: Extent) -> Result<Reply, AllocError> {
+    match fault {
+        CheckFault::Memory => Err(AllocError),
+        CheckFault::Rule { at, .. } if *at >= pieces.to => Ok(Reply::Fine),
+        CheckFault::Rule { at, rule } => Ok(match at.checked_sub(pieces.from) {
+            Some(at) => Reply::Broken { rule: *rule, at },
+            None => Reply::Unknown,
+        }),
+    }
+}
+
+impl<'a> Teller<'a> {
+    pub fn new(alloc: Global, source: &'a [u8], tokens: &'a Tokens, at: usize) -> Teller<'a> {
+        Teller {
+            alloc,
+            source,
+            tokens,
+            at,
+            text: Prose::new(alloc),
+        }
+    }
+
+    /// The token where it is a reserved word or a sign.
+    pub fn mark(&self) -> Option<Mark> {
+        self.mark_at(self.at)
+    }
+
+    /// The token where it is a name, else an empty text.
+    pub fn name(&self) -> &'a str {
+        self.name_at(self.at)
+    }
+
+    /// The reserved word or sign at this number, where there is one.
+    pub fn mark_at(&self, at: usize) -> Option<Mark> {
+        mark_at(self.tokens, at)
+    }
+
+    /// The name at this number; an empty text where there is none.
+    pub fn name_at(&self, at: usize) -> &'a str {
+        name_at(self.tokens, at)
+    }
+
+    /// The number of the first token of the innermost statement with the token.
+    pub fn place(&self) -> usize {
+        statement_start(self.tokens, self.at)
+    }
+
+    /// Appends words.
+    pub fn put(&mut self, words: &str) {
+        self.text.put(words);
+    }
+
+    /// Appends some tokens as they are written.
+    pub fn put_tokens(&mut self, extent: Extent) {
+        push_tokens(&mut self.text, self.source, extent);
+    }
+
+    /// Whether a program can go on with this token in the place of the one that is refused.
+    pub fn takes(&mut self, word: &'static str) -> bool {
+        match self.may_stand(word) {
+            Ok(may_stand) => may_stand,
+            Err(_) => {
+                self.text.refuse();
+                false
+            }
+        }
+    }
+
+    /// Whether a program can go on with one of these tokens in its place.
+    pub fn takes_one_of(&mut self, words: &[&'static str]) -> bool {
+        for word in words {
+            if self.takes(word) {
+                return true;
+            }
+        }
+        false
+    }
+
+    /// Whether the parser refuses none of the tokens up to this one in the place of the one that is refused.
+    fn may_stand(&self, word: &'static str) -> Result<bool, AllocError> {
+        let mut draft = Prose::new(self.alloc);
+        push_copies(&mut draft, self.tokens, between(0, self.at));
+        push_piece(&mut draft, self.tokens, Insertion::Words(word));
+        let Some(tokens) = tokens_of(self.alloc, &draft)? else {
+            return Ok(false);
+        };
+        match parse(self.alloc, &tokens) {
+            Ok(tree) => {
+                drop_tree(tree);
+                Ok(true)
+            }
+            Err(ParseFault::Memory) => Err(AllocError),
+            Err(
+                ParseFault::Unexpected(place)
+                | ParseFault::OutsideProfile(place)
+                | ParseFault::TooDeep(place),
+            ) => Ok(place > self.at),
+        }
+    }
+
+    /// What the checker says of some pieces that are put in before the statement.
+    pub fn ask(&mut self, pieces: &[Insertion]) -> Reply {
+        match self.reply(pieces) {
+            Ok(reply) => reply,
+            Err(_) => {
+                self.text.refuse();
+                Reply::Unknown
+            }
+        }
+    }
+
+    fn reply(&self, pieces: &[Insertion]) -> Result<Reply, AllocError> {
+        let place = self.place();
+        let rest = between(place, self.tokens.count());
+        let mut draft = Prose::new(self.alloc);
+        push_copies(&mut draft, self.tokens, between(0, place));
+        for piece in pieces {
+            push_piece(&mut draft, self.tokens, *piece);
+        }
+        push_copies(&mut draft, self.tokens, rest);
+        let Some(tokens) = tokens_of(self.alloc, &draft)? else {
+            return Ok(Reply::Unknown);
+        };
+        let to = tokens.count().saturating_sub(rest.to.saturating_sub(place));
+        match parse(self.alloc, &tokens) {
+            Ok(tree) => check_reply(self.alloc, tree, between(place, to)),
+            Err(ParseFault::Memory) => Err(AllocError),
+            Err(_) => Ok(Reply::Unknown),
+        }
+    }
+}
