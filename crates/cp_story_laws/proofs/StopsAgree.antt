@@ -1,15 +1,14 @@
 -- How a run stops where no event tells of it is the same on names and on slots.
-use Rattle.std.proofs.Common.{ℤ, ◌≡◌, ◌∙◌, ℕ, ◌<◌, ◌==◌, Bool, true, false, if◌then◌else◌, List, [], ◌∷◌, ◌++◌, Option, Some, None, ap, ap₂, sym, refl, subst, arith, length, eq-eqb}
+use Rattle.std.proofs.Common.{ℤ, ◌≡◌, ◌∙◌, ℕ, ◌<◌, Bool, true, false, if◌then◌else◌, List, [], ◌∷◌, ◌++◌, Option, Some, None, ap, ap₂, sym, refl, arith, length, eq-eqb}
 use Rattle.std.proofs.lemmas.Bool.{eqb-true}
-use Rattle.std.specs.Prelude.{map, option_map, find, codes, decimal, unwrap_or}
+use Rattle.std.specs.Prelude.{map, option_map, find, codes, decimal}
 use Rattle.cp_tree.specs.Read.{IsRead}
 use Rattle.cp_tree.specs.Syntax.{Tree}
 use Rattle.cp_layout.specs.Laid.{plain, laid}
-use Rattle.cp_slots.specs.declared.tables.ComponentKind.TheVariants as slot_kind
 use Rattle.cp_slots.specs.Tables as slot_tables
 use Rattle.cp_slots.specs.Tables.{Tables}
 use Rattle.cp_lawful.specs.Accepted.{IsAccepted}
-use Rattle.cp_legend.specs.Names.{Legend, RoutineNames, monitor_in, path_in, process_in}
+use Rattle.cp_legend.specs.Names.{Legend, RoutineNames, monitor_in, path_in}
 use Rattle.cp_legend_laws.specs.Called.{called_in_legend, tabled}
 use Rattle.cp_legend_laws.specs.Paths.{called_in_language, path_text}
 use Rattle.cp_legend_laws.specs.Statements.{PlacesAreNamed, routine_text}
@@ -21,7 +20,7 @@ use Rattle.cp_machine.specs.Machine as machine
 use Rattle.cp_machine.specs.Machine.{Machine, thread_at}
 use Rattle.cp_meaning.specs.Components.{components_of}
 use Rattle.cp_meaning.specs.Places.{View, value_at}
-use Rattle.cp_meaning.specs.State.{Component, Gates, Place, State, component_at, process_at}
+use Rattle.cp_meaning.specs.State.{Component, Gates, Place, State, process_at}
 use Rattle.cp_meaning.specs.Steps.{view_of}
 use Rattle.cp_meaning.specs.Values.{Value, queue_value, waiting_in}
 use Rattle.cp_run.specs.declared.outcome.OutcomeKind.{OutcomeKind}
@@ -42,7 +41,7 @@ use Rattle.cp_refine.proofs.control.Moving.{delayed_process}
 use Rattle.cp_refine.proofs.steps.Executed.{variables_of_components}
 use Rattle.cp_store.specs.declared.error.ErrorName.{ErrorName}
 use Rattle.cp_store.specs.declared.error.ErrorName.TheVariants.{QueueInUse}
-use Rattle.cp_story.specs.Halted.{Halted, error_text, first_in_cell, halted_after, halted_as, halted_at, halted_by, how_halted, in_use_text, is_in_cell, process_of, waiting_at_error, waiting_in_cell}
+use Rattle.cp_story.specs.Halted.{Halted, error_text, first_in_cell, halted_after, halted_as, halted_at, halted_by, in_use_text, is_in_cell, process_of, waiting_at_error, waiting_in_cell}
 use Rattle.cp_story.specs.Sentences.{cell_queue_text, process_text}
 use Rattle.cp_story.specs.Story.{queue_at, telling}
 use Rattle.cp_story.specs.Waiting.{Waiting, waiting_at, waits_at, waits_in}
@@ -50,7 +49,6 @@ use Rattle.cp_story.specs.declared.event.OpenCall.{OpenCall}
 use Rattle.cp_story.specs.declared.observer.Last.{Last}
 use Rattle.cp_story_laws.specs.Aims.{component_of}
 use Rattle.cp_story_laws.specs.Events.{LastStep, names_telling}
-use Rattle.cp_story_laws.specs.Places.{place_text}
 use Rattle.cp_story_laws.specs.Standings.{path_of}
 use Rattle.cp_story_laws.specs.Statements.{TellsStop}
 use Rattle.cp_story_laws.specs.Stops.{in_use_words, process_words, queue_words, stopped_after, stopped_as, stopped_at, stopped_by, waiter_at, waiter_by}

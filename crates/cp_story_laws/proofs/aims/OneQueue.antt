@@ -1,6 +1,6 @@
 -- Who is delayed in the cell of a queue waits by the meaning in that queue: no other queue has the cell. For if nobody waited in the queue, its cell would hold that.
-use Rattle.std.proofs.Common.{◌≡◌, ◌∙◌, ℕ, ◌+◌, ◌<◌, ◌⊎◌, inl, inr, true, false, List, [], Option, Some, None, ap, sym, refl, subst, arith, length}
-use Rattle.std.specs.Prelude.{pos, slice_index_or, slice_set}
+use Rattle.std.proofs.Common.{◌≡◌, ◌∙◌, ℕ, ◌+◌, ◌<◌, ◌⊎◌, inl, inr, true, false, List, [], Some, None, ap, sym, refl, subst, arith, length}
+use Rattle.std.specs.Prelude.{pos, slice_index_or}
 use Rattle.cp_tree.specs.Syntax.{Program}
 use Rattle.cp_slots.specs.Tables.{component_at}
 use Rattle.cp_store.specs.declared.memory.Address.{Address}
