@@ -1,6 +1,6 @@
 -- Along the run of a word, the events that a story tells are those on the program's own names.
-use Rattle.std.proofs.Common.{◌≡◌, ◌∙◌, ℕ, ◌<◌, ℤ, Bool, true, false, List, [], ◌∷◌, ◌++◌, Option, Some, None, ap, sym, refl, subst, arith, if◌then◌else◌, length}
-use Rattle.std.specs.Option.{option_to_list}
+use Rattle.std.proofs.Common.{◌≡◌, ◌∙◌, ℕ, ◌<◌, ◌==◌, ℤ, Bool, true, false, List, [], ◌∷◌, ◌++◌, Option, Some, None, ap, ap₂, sym, refl, subst, arith, if◌then◌else◌, length}
+use Rattle.std.specs.Option.{option_or, option_to_list}
 use Rattle.std.specs.Prelude.{map, pos, replicate, slice_get}
 use Rattle.std.proofs.lemmas.List.{map-append}
 use Rattle.cp_tree.specs.Read.{IsRead}
@@ -44,18 +44,20 @@ use Rattle.cp_story.specs.Aimed.{aim_in, no_aim}
 use Rattle.cp_story.specs.Changes.{changes_in}
 use Rattle.cp_story.specs.Passed.{Given, arguments, given_back}
 use Rattle.cp_story.specs.Story as story
-use Rattle.cp_story.specs.Story.{Decision, NamedQueue, Telling, Past, queue_told, calls_of, innermost_call, what_happened, line_told, told_event, told_more, told_step, expecting, choice_taken, decision_in, teller, statuses_in, resumed_processes, started_processes}
+use Rattle.cp_story.specs.Story.{Decision, NamedQueue, Telling, Past, last_with, line_before, queue_told, calls_of, innermost_call, what_happened, line_told, told_event, told_more, told_step, expecting, choice_taken, decision_in, teller, statuses_in, resumed_processes, started_processes}
 use Rattle.cp_story.specs.declared.aim.Aim.{Aim}
-use Rattle.cp_story_laws.specs.Aims.{ends_now, no_queue, queue_aimed}
+use Rattle.cp_story.specs.declared.observer.Last.{Last}
+use Rattle.cp_story_laws.specs.Aims.{ends_now, no_queue, queue_aimed, queue_place}
 use Rattle.cp_story_laws.specs.Changes.{changes_told}
 use Rattle.cp_story_laws.specs.Events as names
-use Rattle.cp_story_laws.specs.Events.{EntryCall, NamedEvent, NamedTelling, names_teller, stack_of}
+use Rattle.cp_story_laws.specs.Events.{EntryCall, LastStep, NamedEvent, NamedTelling, names_teller, stack_of, step_seen}
 use Rattle.cp_story_laws.specs.Lines.{next_line}
 use Rattle.cp_story_laws.specs.Passed as passed
 use Rattle.cp_story_laws.specs.Passed.{arguments_told}
 use Rattle.cp_story_laws.specs.Standings as stands
 use Rattle.cp_story_laws.specs.Standings.{Standing, standings, resumed}
 use Rattle.cp_story_laws.specs.Statements.{arguments_in, call_told, call_in, queue_in, event_on_names, event_told, displayed_told, begins_told, waits_told, standing_told, TellsEvents}
+use Rattle.cp_story_laws.proofs.aims.QueueCells.{SameQueue}
 use Rattle.cp_story_laws.proofs.CalledInProgram.{calls_routine}
 use Rattle.cp_story_laws.proofs.Entered.{call_same, scope_same}
 use Rattle.cp_story_laws.proofs.Entering.{step_enters, enters_seen}
@@ -70,8 +72,14 @@ use Rattle.cp_story_laws.proofs.StandingsAgree.{standings_same}
 use Rattle.cp_story_laws.proofs.Waited.{resumed_same, started_same, gated_same, gate_kept, queue_kept}
 use Rattle.cp_story_laws.proofs.WokenAgree.{is_told, woken_same}
 
+-- the last step on names and on slots
+pub record LastAgrees (t : Tree) (r : Tables) (x : LastStep) (y : Last) : Type 0 where
+  pub process : y.process ≡ x.process
+  pub line : y.line ≡ x.line
+  pub queue : SameQueue t r x.queue y.queue
+
 -- what is told on names, and what a story tells
-pub record EventsAgree (Held : List meaning.Component → List ℤ → Type 0) (l : Legend) (x : NamedTelling) (y : Telling) : Type 0 where
+pub record EventsAgree (t : Tree) (r : Tables) (Held : List meaning.Component → List ℤ → Type 0) (l : Legend) (x : NamedTelling) (y : Telling) : Type 0 where
   pub events : map (event_on_names l) y.events ≡ x.events
   pub choice : y.past.choice ≡ x.past.choice
   pub calls : map (map (call_told l)) y.past.calls ≡ x.past.calls
@@ -80,6 +88,7 @@ pub record EventsAgree (Held : List meaning.Component → List ℤ → Type 0) (
   -- the components and the cells of the last event
   pub held : Held x.past.components y.past.cells
   pub legend : y.past.legend ≡ l
+  pub last : LastAgrees t r x.past.last y.past.last
 
 kernel_of : (c : calls.Kernel) → Kernel c ≡ Kernel Enter → step.Kernel c ≡ step.Kernel Enter
 kernel_of c e = cc
@@ -105,7 +114,7 @@ module _ (t : Tree) (r : Tables) (g : slot_gates.Gates) (l : Legend) (Held : Lis
   on_slots = slots r g
 
   abbrev Agree : NamedTelling → Telling → Type 0
-  Agree x y = EventsAgree Held l x y
+  Agree x y = EventsAgree t r Held l x y
 
   -- ---- an event
 
@@ -274,6 +283,7 @@ module _ (t : Tree) (r : Tables) (g : slot_gates.Gates) (l : Legend) (Held : Lis
           returned = refl;
           held = held;
           legend = agree.legend;
+          last = agree.last;
         }
 
   -- ---- what is expected of a step is no event
@@ -282,11 +292,16 @@ module _ (t : Tree) (r : Tables) (g : slot_gates.Gates) (l : Legend) (Held : Lis
   either_past true a b of e = e
   either_past false a b of e = refl
 
-  module _ (aim : Aim) (s : State) (m : Machine) (p : ℕ) (ends : aim.ends_call ≡ ends_now t s p) (given : ends_now t s p ≡ true → given_back l m.permanents (slice_get m.threads p) ≡ passed.given_back (view_of t.program s p)) where
+  module _ (aim : Aim) (s : State) (m : Machine) (p : ℕ) (ends : aim.ends_call ≡ ends_now t s p) (line : next_line t s p ≡ aim.line) (meets : SameQueue t r (queue_place t s p) aim.queue) (given : ends_now t s p ≡ true → given_back l m.permanents (slice_get m.threads p) ≡ passed.given_back (view_of t.program s p)) where
     given_now : (c : Bool) → ends_now t s p ≡ c → (past : Past) (before : List Given) → past.legend ≡ l → past.returned ≡ before →
         (if c then record past { returned = given_back past.legend m.permanents (slice_get m.threads p) } else past).returned ≡ (if c then passed.given_back (view_of t.program s p) else before)
     given_now true e past before same kept = ap (λ (k : Legend). given_back k m.permanents (slice_get m.threads p)) same ∙ given e
     given_now false e past before same kept = kept
+
+    last_seen : (x : LastStep) (y : Last) → LastAgrees t r x y → LastAgrees t r (step_seen t s p x) (last_with aim p y)
+    last_seen x y agree =
+        let before : line_before y p ≡ names.line_before x p = ap₂ (λ (n : ℕ) (o : Option ℕ). if n == p then o else None) agree.process agree.line in
+        record { process = refl; line = ap₂ option_or (sym line) before; queue = meets }
 
     expecting_agrees : (x : NamedTelling) (y : Telling) → Agree x y → Agree (names.expecting t s p x) (expecting aim m p y)
     expecting_agrees x y agree =
@@ -299,6 +314,7 @@ module _ (t : Tree) (r : Tables) (g : slot_gates.Gates) (l : Legend) (Held : Lis
           returned = ap (λ (c : Bool). (if c then ended else y.past).returned) ends ∙ given_now (ends_now t s p) refl y.past x.past.returned agree.legend agree.returned;
           held = subst (λ (cells : List ℤ). Held x.past.components cells) (sym (either_past aim.ends_call ended y.past (λ (q : Past). q.cells) refl)) agree.held;
           legend = either_past aim.ends_call ended y.past (λ (q : Past). q.legend) refl ∙ agree.legend;
+          last = last_seen x.past.last y.past.last agree.last;
         }
 
   -- ---- the choice that is due
@@ -321,6 +337,7 @@ module _ (t : Tree) (r : Tables) (g : slot_gates.Gates) (l : Legend) (Held : Lis
       pub held : (s : State) (m : Machine) → Related s m → Held s.components m.permanents
       pub changes : (cs ds : List meaning.Component) (before now : List ℤ) → Held cs before → Held ds now → changes_in l before now ≡ changes_told t.program h cs ds
       pub queues : (s : State) (m : Machine) (p : ℕ) → Related s m → CanGo on_names s p → names_queue (on_slots.event m p) ≡ true → queue_told l (aim_in r m p).queue ≡ queue_aimed t h s p
+      pub meets : (s : State) (m : Machine) (p : ℕ) → Related s m → CanGo on_names s p → SameQueue t r (queue_place t s p) (aim_in r m p).queue
       pub ending : (s : State) (m : Machine) (p : ℕ) → Related s m → CanGo on_names s p → (aim_in r m p).ends_call ≡ ends_now t s p
       pub given : (s : State) (m : Machine) (p : ℕ) → Related s m → CanGo on_names s p → AreNamed (openings_of t.program) m → ends_now t s p ≡ true → given_back l m.permanents (slice_get m.threads p) ≡ passed.given_back (view_of t.program s p)
       pub begun : (s : State) (m : Machine) (p : ℕ) → Related s m → CanGo on_names s p → on_slots.event m p ≡ step.Kernel Enter → arguments l (slice_get (on_slots.step m p).threads p) ≡ arguments_told (view_of t.program (on_names.step s p) p)
@@ -391,7 +408,7 @@ module _ (t : Tree) (r : Tables) (g : slot_gates.Gates) (l : Legend) (Held : Lis
         held_now = steps.held s2 m2 sim2
 
         expected : Agree (names.expecting t s p x) (expecting aim m p y)
-        expected = expecting_agrees aim s m p (steps.ending s m p sim can) (steps.given s m p sim can named_now) x y agree
+        expected = expecting_agrees aim s m p (steps.ending s m p sim can) line_now (steps.meets s m p sim can) (steps.given s m p sim can named_now) x y agree
 
         told_by : (e : Event) → on_slots.event m p ≡ e → Agree (names.with_step t h p aim.line queue back e s2 (names.expecting t s p x)) (told_step r g p aim e m2 (expecting aim m p y))
         told_by (step.Kernel call) e =
@@ -433,6 +450,7 @@ module _ (t : Tree) (r : Tables) (g : slot_gates.Gates) (l : Legend) (Held : Lis
             returned = agree.returned;
             held = agree.held;
             legend = agree.legend;
+            last = agree.last;
           }
 
       keeps : KeepRelated on_names on_slots Related (names_teller t h) (teller r g) AgreeNow
@@ -453,6 +471,7 @@ module _ (t : Tree) (r : Tables) (g : slot_gates.Gates) (l : Legend) (Held : Lis
             returned = refl;
             held = steps.held on_names.start on_slots.start go.start;
             legend = refl;
+            last = record { process = refl; line = refl; queue = tt };
           }
 
       pub ends : (choices limit : ℕ) (word : List ℕ) → EndRelated on_names on_slots Related (names_teller t h) (teller r g) AgreeNow choices limit word (names.nothing_told t h) (story.nothing_told l (machine.opening r g))

@@ -16,6 +16,7 @@ pub mod OpenNow
 pub mod Paths
 pub mod RoutinesExecuted
 pub mod StandingsAgree
+pub mod StopsAgree
 pub mod StopsTogether
 pub mod StoriesOfTrees
 pub mod Together

@@ -1,4 +1,4 @@
--- A legend beside the tables of a tree has each monitor, and what owns a permanent cell, under the path that the language gives it.
+-- A legend beside the tables of a tree has each monitor, each process, and what owns a permanent cell, under the path that the language gives it.
 use Rattle.std.proofs.Common.{◌⊎◌, inl, inr, ◌≡◌, ◌∙◌, ℕ, zero, suc, ◌+◌, ◌<◌, ◌≤◌, Bool, true, false, List, [], ◌∷◌, Option, Some, None, ap, sym, refl, arith, length, eq-eqb, if◌then◌else◌}
 use Rattle.std.proofs.lemmas.Bool.{eqb-true, le-leb}
 use Rattle.std.proofs.lemmas.Bool.Decides.{leb_tells}
@@ -9,18 +9,18 @@ use Rattle.cp_slots.specs.declared.tables.Component.{Component}
 use Rattle.cp_slots.specs.declared.tables.ComponentKind.{ComponentKind}
 use Rattle.cp_slots.specs.declared.tables.ComponentKind.TheVariants as kind
 use Rattle.cp_slots.specs.Systems.{IsTyped, own_of}
-use Rattle.cp_slots.specs.Tables.{Tables, no_component, component_at}
+use Rattle.cp_slots.specs.Tables.{Tables, no_component, component_at, process_at}
 use Rattle.cp_meaning.specs.Components.{Listed, components_of}
 use Rattle.cp_meaning.specs.State as named
 use Rattle.cp_meaning.specs.Steps.{first_component, first_components}
-use Rattle.cp_legend.specs.Names.{Named, is_monitor, monitor_in, path_in}
+use Rattle.cp_legend.specs.Names.{Named, is_monitor, is_process, monitor_in, path_in, process_in}
 use Rattle.cp_legend.specs.Places.{later, owner_from, owner}
 use Rattle.cp_legend_laws.specs.Called.{Called, called_in_legend, tabled}
 use Rattle.cp_legend_laws.specs.Paths.{called_in_language, path_text}
 use Rattle.cp_resolved.specs.Layouts.{Layouts}
 use Rattle.cp_resolved.specs.Resolved.{Stands}
 use Rattle.cp_refine.specs.Law.{ground_of}
-use Rattle.cp_refine.proofs.ReachedKinds.{monitor_there, own_numbers}
+use Rattle.cp_refine.proofs.ReachedKinds.{kind_within, monitor_there, own_numbers, process_component}
 use Rattle.cp_story_laws.proofs.Lists.{find_only}
 
 abbrev no_name : Named
@@ -62,6 +62,11 @@ is_its_number (kind.Monitor m) j e = ap kind.Monitor (eqb-true m j e)
 is_its_number kind.Class j e = absurd (cc)
 is_its_number (kind.Process m) j e = absurd (cc)
 
+is_its_process : (k : ComponentKind) (j : ℕ) → is_process k j ≡ true → k ≡ kind.Process j
+is_its_process (kind.Process m) j e = ap kind.Process (eqb-true m j e)
+is_its_process kind.Class j e = absurd (cc)
+is_its_process (kind.Monitor m) j e = absurd (cc)
+
 module _ (t : Tree) (r : Tables) (l : Layouts) (stands : Stands (ground_of t r) t l) (typed : IsTyped r) (ns : List Named) (tables : map tabled ns ≡ r.components) (paths : map called_in_legend ns ≡ map (called_in_language t.program) (components_of t.program)) where
   abbrev p : Program
   p = t.program
@@ -99,6 +104,28 @@ module _ (t : Tree) (r : Tables) (l : Layouts) (stands : Stands (ground_of t r) 
 
       only : (i : ℕ) → i < length ns → is_monitor (name_at ns i).kind j ≡ true → i ≡ n
       only i lt h = own_numbers t r l stands i n j (kind_at i lt ∙ is_its_number (name_at ns i).kind j h) e
+
+  -- the component of a process
+  pub process_path : (q : ℕ) → q < length r.processes → path_in (process_in ns q) ≡ path_text p (named.component_at (first_components p) (process_at r q).component).path
+  process_path q known = ap path_in (find_only (λ (c : Named). is_process c.kind q) ns n no_name less is only) ∙ path_at n less
+    where
+      n : ℕ
+      n = (process_at r q).component
+
+      own : (component_at r n).kind ≡ kind.Process q
+      own = (typed.processes q known).kind
+
+      less : n < length ns
+      less = let a = count in let b = kind_within r.components n (λ f. (let bad : kind.Process q ≡ kind.Class = sym own ∙ f in cc)) in omega (arith, a, b)
+
+      kind_of : (i : ℕ) → i < length ns → (component_at r i).kind ≡ (name_at ns i).kind
+      kind_of i lt = ap (λ (c : Component). c.kind) (tabled_at i lt)
+
+      is : is_process (name_at ns n).kind q ≡ true
+      is = ap (λ (k : ComponentKind). is_process k q) (sym (kind_of n less) ∙ own) ∙ eq-eqb q q refl
+
+      only : (i : ℕ) → i < length ns → is_process (name_at ns i).kind q ≡ true → i ≡ n
+      only i lt h = (let there : i < length r.components = (let a = count in omega (arith, a, lt)) in sym (process_component t r l stands typed i q there (kind_of i lt ∙ is_its_process (name_at ns i).kind q h)))
 
   -- the component in which a cell is
   module _ (n cell : ℕ) (there : n < length r.components) where

@@ -1,5 +1,5 @@
 -- Of a tree that was read and is accepted, a story tells what happens on its own names, and who waits where a run stops.
-use Rattle.std.proofs.Common.{◌≡◌, ℤ, List}
+use Rattle.std.proofs.Common.{◌≡◌, ℕ, ℤ, List, Option}
 use Rattle.std.specs.Prelude.{map}
 use Rattle.cp_tree.specs.Read.{IsRead}
 use Rattle.cp_tree.specs.Syntax.{Tree}
@@ -21,16 +21,25 @@ use Rattle.cp_legend_laws.proofs.PermanentsNamed.{permanents_law}
 use Rattle.cp_legend_laws.proofs.PlacesNamed.{places_law}
 use Rattle.cp_legend_laws.proofs.ValuesOfTree.{values_law}
 use Rattle.cp_machine.specs.declared.gates.Gates.{Gates}
+use Rattle.cp_machine.specs.Machine.{Machine}
 use Rattle.cp_meaning.specs.Components.{components_of}
-use Rattle.cp_meaning.specs.State.{Component}
+use Rattle.cp_meaning.specs.State.{Component, Place, State}
+use Rattle.cp_meaning.specs.Steps.{view_of}
+use Rattle.cp_refine.specs.Named.{named_gates}
+use Rattle.cp_story.specs.Aimed.{aim_in}
+use Rattle.cp_story.specs.Story.{queue_told}
+use Rattle.cp_story_laws.specs.Aims.{queue_named, queue_place}
 use Rattle.cp_resolved.specs.Openings.{openings_of}
-use Rattle.cp_story_laws.specs.Statements.{EventsLaw, WaitsLaw}
+use Rattle.cp_story_laws.specs.Statements.{EventsLaw, StopLaw, WaitsLaw}
 use Rattle.cp_story_laws.proofs.changes.CellsHeld.{Held, held}
 use Rattle.cp_story_laws.proofs.changes.ChangesAgree.{held_same, legend_monitors}
 use Rattle.cp_story_laws.proofs.aims.EndsAgree.{ends_same}
 use Rattle.cp_story_laws.proofs.EventsAgree.{StepsAgree, tells_events}
 use Rattle.cp_story_laws.proofs.passed.PassedNow.{arguments_now, given_now, named_admission, named_start, named_step}
-use Rattle.cp_story_laws.proofs.aims.QueuesAimed.{queue_same}
+use Rattle.cp_story_laws.proofs.aims.QueueCells.{SameQueue, told_same}
+use Rattle.cp_story_laws.proofs.aims.QueuesAimed.{queues_meet}
+use Rattle.cp_story_laws.proofs.StopsAgree.{tells_stop}
+use Rattle.cp_story_laws.proofs.Together.{Related, prepared}
 use Rattle.cp_story_laws.proofs.WaitsAgree.{tells_waits}
 
 module _ (t : Tree) (y : Symbols) (r : Tables) (k : code_legend.Legend) (g : Gates) (read : IsRead t.program) (ok : IsAccepted t) (symbols : AreSymbolsOf y (whole t)) (same : plain r ≡ laid t) (legend : IsLegendOf k (source_seen y) r.components) where
@@ -61,12 +70,16 @@ module _ (t : Tree) (y : Symbols) (r : Tables) (k : code_legend.Legend) (g : Gat
   abbrev Holds : List Component → List ℤ → Type 0
   Holds = Held t r
 
+  queue_told_there : (s : State) (m : Machine) → Related t r g read ok same s m → (p : ℕ) (o : Option Place) (u : Option ℕ) → SameQueue t r o u → queue_told l u ≡ queue_named t (named_gates g) (view_of t.program s p) o
+  queue_told_there = told_same t r (named_gates g) ok (prepared t r g read ok same) l tables paths (own_monitors k (source_seen y) r.components legend) places
+
   steps_agree : StepsAgree t r g l Holds names read ok same tables paths
   steps_agree =
       record {
         held = held t r g read ok same;
         changes = held_same t r g l read ok same tables paths permanents values (legend_monitors t y r k g read ok symbols same legend);
-        queues = λ s m p sim can e. queue_same t r g l read ok same tables paths (own_monitors k (source_seen y) r.components legend) places s m p sim can;
+        queues = λ s m p sim can e. queue_told_there s m sim p (queue_place t s p) (aim_in r m p).queue (queues_meet t r g read ok same s m p sim can);
+        meets = queues_meet t r g read ok same;
         ending = ends_same t r g read ok same;
         given = given_now t r g l read ok same tables paths names places locals values;
         begun = arguments_now t r g l read ok same tables paths names places locals values;
@@ -82,3 +95,8 @@ events_law t y r l g read ok symbols same legend choices steps word =
 pub waits_law : WaitsLaw
 waits_law t y r l g read ok symbols same legend choices steps word =
     tells_waits t r g (legend_seen l) (names t y r l g read ok symbols same legend) read ok same (tables t y r l g read ok symbols same legend) (paths t y r l g read ok symbols same legend) (Held t r) (steps_agree t y r l g read ok symbols same legend) choices steps word
+
+pub stop_law : StopLaw
+stop_law t y r l g read ok symbols same legend choices steps word =
+    tells_stop t r g (legend_seen l) (names t y r l g read ok symbols same legend) read ok same (tables t y r l g read ok symbols same legend) (paths t y r l g read ok symbols same legend) (Held t r) (steps_agree t y r l g read ok symbols same legend)
+    (own_monitors l (source_seen y) r.components legend) (places t y r l g read ok symbols same legend) choices steps word

@@ -51,8 +51,11 @@ queue_named t g v None = no_queue
 queue_named t g v (Some q) = record { monitor = monitor_of t.program g (component_of q.holder); name = place_text v q }
 
 -- that in which process p is about to be delayed, or which it continues
+abbrev pub queue_place : Tree → State → ℕ → Option Place
+queue_place t s p = first_queue (view_of t.program s p) (process_at s.processes p).items
+
 abbrev pub queue_aimed : Tree → Gates → State → ℕ → NamedQueue
-queue_aimed t g s p = let v = view_of t.program s p in queue_named t g v (first_queue v (process_at s.processes p).items)
+queue_aimed t g s p = queue_named t g (view_of t.program s p) (queue_place t s p)
 
 -- ---- the end of a call
 

@@ -1,6 +1,7 @@
 -- What is told of a run of a program on its own names: each kernel call, process end and admission, with its process, the entry call and the line, what it displays, the choice
 -- before it, who goes on by it, how the processes stand then, and who is inside each monitor.
-use Rattle.std.specs.Prelude.{ℕ, ◌-◌, Bool, false, if◌then◌else◌, List, [], ◌∷◌, ◌++◌, length, replicate, take, Option, Some, None, pos, slice_get, slice_index_or, slice_set, unwrap_or}
+use Rattle.std.specs.Option.{option_or}
+use Rattle.std.specs.Prelude.{ℕ, ◌-◌, ◌==◌, Bool, false, if◌then◌else◌, List, [], ◌∷◌, ◌++◌, length, replicate, take, Option, Some, None, pos, slice_get, slice_index_or, slice_set, unwrap_or}
 use Rattle.cp_tree.specs.Syntax.{Program, Tree}
 use Rattle.cp_machine.specs.declared.event.Event.{Event}
 use Rattle.cp_machine.specs.declared.event.Event.TheVariants as step
@@ -13,7 +14,7 @@ use Rattle.cp_run.specs.Run.{may, those_below}
 use Rattle.cp_run.specs.Trace.{holders_in}
 use Rattle.cp_meaning.specs.Names.{Name}
 use Rattle.cp_meaning.specs.Places.{View}
-use Rattle.cp_meaning.specs.State.{Call, Component, current, process_at, Gates, State}
+use Rattle.cp_meaning.specs.State.{Call, Component, current, process_at, Gates, Place, State}
 use Rattle.cp_meaning.specs.Steps.{opening, view_of}
 use Rattle.cp_legend.specs.Values.{Value}
 use Rattle.cp_refine.specs.Named.{named, is_some}
@@ -22,7 +23,7 @@ use Rattle.cp_run.specs.Fold.{Fold, fold_run}
 use Rattle.cp_story.specs.Changes.{Changed}
 use Rattle.cp_story.specs.Passed.{Given}
 use Rattle.cp_story.specs.Story.{Decision, NamedQueue}
-use Rattle.cp_story_laws.specs.Aims.{ends_now, no_queue, queue_aimed}
+use Rattle.cp_story_laws.specs.Aims.{ends_now, no_queue, queue_aimed, queue_place}
 use Rattle.cp_story_laws.specs.Changes.{changes_told}
 use Rattle.cp_story_laws.specs.Lines.{next_line}
 use Rattle.cp_story_laws.specs.MonitorNumbers.{monitor_of}
@@ -63,14 +64,21 @@ pub record NamedEvent : Type 0 where
   -- the variables of monitors that changed since the event before
   pub changes : List Changed
 
+-- a step: whose it is, its line, and the queue to which it comes
+pub record LastStep : Type 0 where
+  pub process : ℕ
+  pub line : Option ℕ
+  pub queue : Option Place
+
 -- What is remembered from one event to the next: the choice that was taken, the open entry calls of monitors of each process, the innermost last, how the processes stood, and
--- the components; and what comes back from the call that ends with the step to come, if one does.
+-- the components; what comes back from the call that ends with the step to come, if one does; and the last step.
 pub record Remembered : Type 0 where
   pub choice : Option Decision
   pub calls : List (List EntryCall)
   pub standings : List Standing
   pub components : List Component
   pub returned : List Given
+  pub last : LastStep
 
 pub record NamedTelling : Type 0 where
   pub events : List NamedEvent
@@ -174,7 +182,7 @@ event_of t g event p line queue woken s past =
     }
 
 abbrev pub remembered_after : Tree → Gates → TraceEvent → ℕ → (line : Option ℕ) → State → Remembered → Remembered
-remembered_after t g event p line s past = record { choice = None; calls = calls_after t g event p line s past.calls; standings = standings t.program s; components = s.components; returned = [] }
+remembered_after t g event p line s past = record { choice = None; calls = calls_after t g event p line s past.calls; standings = standings t.program s; components = s.components; returned = []; last = past.last }
 
 abbrev pub with_event : Tree → Gates → TraceEvent → ℕ → (line : Option ℕ) → (queue : NamedQueue) → (woken : List ℕ) → State → NamedTelling → NamedTelling
 with_event t g event p line queue woken s x = record { events = x.events ++ event_of t g event p line queue woken s x.past ∷ []; past = remembered_after t g event p line s x.past }
@@ -185,8 +193,16 @@ with_event t g event p line queue woken s x = record { events = x.events ++ even
 abbrev pub returned_then : Tree → State → ℕ → Remembered → List Given
 returned_then t s p past = if ends_now t s p then given_back (view_of t.program s p) else past.returned
 
+-- where a step has no line, it is on that of the step before, if the same process made it
+abbrev pub line_before : LastStep → ℕ → Option ℕ
+line_before last p = if last.process == p then last.line else None
+
+-- the step of process p, seen before it, after a last one
+abbrev pub step_seen : Tree → State → ℕ → LastStep → LastStep
+step_seen t s p last = record { process = p; line = option_or (next_line t s p) (line_before last p); queue = queue_place t s p }
+
 abbrev pub expecting : Tree → State → ℕ → NamedTelling → NamedTelling
-expecting t s p x = record { events = x.events; past = record x.past { returned = returned_then t s p x.past } }
+expecting t s p x = record { events = x.events; past = record x.past { returned = returned_then t s p x.past; last = step_seen t s p x.past.last } }
 
 -- a local step, a run error and a full output are no events
 abbrev pub with_step : Tree → Gates → ℕ → (line : Option ℕ) → (queue : NamedQueue) → (woken : List ℕ) → Event → State → NamedTelling → NamedTelling
@@ -209,10 +225,13 @@ names_teller t g =
       on_choice = λ s number x. with_choice (decision_of t g s number) x;
     }
 
+abbrev pub no_step : LastStep
+no_step = record { process = 0; line = None; queue = None }
+
 abbrev pub nothing_told : Tree → Gates → NamedTelling
 nothing_told t g =
     let first = opening t.program g in
-    record { events = []; past = record { choice = None; calls = replicate (length first.processes) []; standings = standings t.program first; components = first.components; returned = [] } }
+    record { events = []; past = record { choice = None; calls = replicate (length first.processes) []; standings = standings t.program first; components = first.components; returned = []; last = no_step } }
 
 -- what is told of the run of a word
 abbrev pub names_telling : Tree → Gates → (choices steps : ℕ) → List ℕ → NamedTelling

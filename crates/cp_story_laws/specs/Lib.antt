@@ -11,5 +11,6 @@ pub mod Routines
 pub mod SameValues
 pub mod Standings
 pub mod Statements
+pub mod Stops
 pub mod Variables
 pub mod Waits

@@ -26,6 +26,7 @@ use Rattle.cp_refine.specs.Named.{monitor_number, named, named_gates}
 use Rattle.cp_resolved.specs.TreeLayouts.{layouts_of}
 use Rattle.cp_run.specs.Slots.{slots}
 use Rattle.cp_run.specs.Stop.{last_state}
+use Rattle.cp_story.specs.Halted.{how_halted}
 use Rattle.cp_story.specs.Story.{Happened, Enters, Leaves, Delays, Continues, Starts, Displays, Ends, IsAdmitted, NamedQueue, Told, story_of, telling}
 use Rattle.cp_story.specs.Waiting.{Waiting, who_waits}
 use Rattle.cp_story.specs.declared.event.OpenCall.{OpenCall}
@@ -34,6 +35,7 @@ use Rattle.cp_story_laws.specs.MonitorNumbers.{monitor_of}
 use Rattle.cp_story_laws.specs.OpenCalls.{Entered, monitors_entered}
 use Rattle.cp_story_laws.specs.Queues.{WaitsIn}
 use Rattle.cp_story_laws.specs.Standings.{Standing, not_begun, may_go_on, at_gate_of, in_queue_of, has_ended, path_of}
+use Rattle.cp_story_laws.specs.Stops.{stop_on_names}
 use Rattle.cp_story_laws.specs.Variables.{HaveValues}
 use Rattle.cp_story_laws.specs.Waits.{NamedWait, who_waits_on_names}
 
@@ -135,6 +137,17 @@ abbrev pub WaitsLaw : Type 0
 WaitsLaw =
     (t : Tree) (y : Symbols) (r : Tables) (l : code_legend.Legend) (g : Gates) → IsRead t.program → IsAccepted t → AreSymbolsOf y (whole t) → plain r ≡ laid t → IsLegendOf l (source_seen y) r.components →
     (choices steps : ℕ) (word : List ℕ) → TellsWaits t r (legend_seen l) g choices steps word
+
+-- ---- how a run stops
+
+-- Where no event tells of it, the run of a word stops as it does on the program's own names.
+abbrev pub TellsStop : Tree → Tables → Legend → Gates → (choices steps : ℕ) → List ℕ → Type 0
+TellsStop t r l g choices steps word = how_halted l r g choices steps word ≡ stop_on_names t (named_gates g) choices steps word
+
+abbrev pub StopLaw : Type 0
+StopLaw =
+    (t : Tree) (y : Symbols) (r : Tables) (l : code_legend.Legend) (g : Gates) → IsRead t.program → IsAccepted t → AreSymbolsOf y (whole t) → plain r ≡ laid t → IsLegendOf l (source_seen y) r.components →
+    (choices steps : ℕ) (word : List ℕ) → TellsStop t r (legend_seen l) g choices steps word
 
 -- ---- open calls
 

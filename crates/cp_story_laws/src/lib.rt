@@ -3,4 +3,6 @@
 
 pub mod laws;
 
-pub use laws::{law_events, law_monitors, law_open_calls, law_queues, law_values, law_waits};
+pub use laws::{
+    law_events, law_monitors, law_open_calls, law_queues, law_stop, law_values, law_waits,
+};

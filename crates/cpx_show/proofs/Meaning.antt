@@ -1,4 +1,4 @@
--- What is told of the slot machine is told of the meaning: both have the same runs, table and traces, and by the laws of stories the same events and who waits.
+-- What is told of the slot machine is told of the meaning: both have the same runs, table and traces, and by the laws of stories the same events, who waits and how it stops.
 use Rattle.std.proofs.Common.{◌≡◌, ℕ, List, ◌∙◌, ap, map, subst, sym}
 use Rattle.std.proofs.Math.Logic.{∥∥₁_map}
 use Rattle.cp_tree.specs.Read.{IsRead}
@@ -15,8 +15,8 @@ use Rattle.cp_run.specs.Table.{table}
 use Rattle.cp_refine.specs.Law.{SameRuns}
 use Rattle.cp_refine.specs.Named.{named, named_gates}
 use Rattle.cp_refine.proofs.Meaning.{runs_as_meant}
-use Rattle.cp_story_laws.specs.Statements.{TellsEvents, TellsWaits, event_on_names, wait_on_names}
-use Rattle.cp_story_laws.proofs.StoriesOfTrees.{events_law, waits_law}
+use Rattle.cp_story_laws.specs.Statements.{TellsEvents, TellsStop, TellsWaits, event_on_names, wait_on_names}
+use Rattle.cp_story_laws.proofs.StoriesOfTrees.{events_law, stop_law, waits_law}
 use Rattle.cp_outcomes.specs.Meant.{IsFoundIn}
 use Rattle.cp_outcomes.specs.declared.subject.Format.{Format}
 use Rattle.cp_show_mark.specs.declared.answer.ShowVerdict.{ShowVerdict}
@@ -38,6 +38,9 @@ module _ (t : Tree) (r : Tables) (read : ∥ IsRead t.program ∥₁) (ok : IsAc
     waits_agree : (word : List ℕ) → ∥ TellsWaits t r (legend_seen l) o.gates o.choices o.steps word ∥₁
     waits_agree word = ∥∥₁_map read (λ it. waits_law t is.symbols r l o.gates it ok is.noted tables is.legend o.choices o.steps word)
 
+    stop_agrees : (word : List ℕ) → ∥ TellsStop t r (legend_seen l) o.gates o.choices o.steps word ∥₁
+    stop_agrees word = ∥∥₁_map read (λ it. stop_law t is.symbols r l o.gates it ok is.noted tables is.legend o.choices o.steps word)
+
     in_names : (f : ScheduleForm) (source : List (List ℕ)) (word text : List ℕ) → IsStoryText f o r (legend_seen l) source word text → IsTraceInNames f o t r l source word text
     in_names f source word text h =
         record {
@@ -46,6 +49,7 @@ module _ (t : Tree) (r : Tables) (read : ∥ IsRead t.program ∥₁) (ok : IsAc
           events = ∥∥₁_map (events_agree word) (λ agree. ap (map (event_on_names (legend_seen l))) h.so.told ∙ agree.events);
           last_choice = ∥∥₁_map (events_agree word) (λ agree. h.so.choice ∙ agree.last_choice);
           waits = ∥∥₁_map (waits_agree word) (λ agree. ap (map (wait_on_names (legend_seen l))) h.so.waits ∙ agree);
+          stop = ∥∥₁_map (stop_agrees word) (λ agree. h.so.stop ∙ agree);
           end = h.so.end ∙ sym (same.runs word);
           constants = read_names t r read ok tables;
         }

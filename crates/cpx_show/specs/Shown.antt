@@ -16,10 +16,12 @@ use Rattle.cp_run.specs.Table.{table}
 use Rattle.cp_run.specs.Trace.{trace}
 use Rattle.cp_refine.specs.Named.{named, named_gates}
 use Rattle.cp_tool.specs.declared.options.Options.{Options}
+use Rattle.cp_story.specs.Halted.{halted_seen}
 use Rattle.cp_story.specs.Told.{lines_of}
 use Rattle.cp_story.specs.Views.{decision_of, told_of, wait_of}
 use Rattle.cp_story_laws.specs.Events.{events_on_names, names_telling}
 use Rattle.cp_story_laws.specs.Statements.{event_on_names, wait_on_names}
+use Rattle.cp_story_laws.specs.Stops.{stop_on_names}
 use Rattle.cp_story_laws.specs.Waits.{who_waits_on_names}
 use Rattle.cp_outcomes.specs.Meant.{IsFoundIn}
 use Rattle.cp_outcomes.specs.declared.subject.Format.{Format}
@@ -50,13 +52,14 @@ pub record AreNamed (t : Tree) (r : Tables) (l : code_legend.Legend) : Type 0 wh
 -- ---- one schedule
 
 -- The story of a word in names is told of the meaning of the program: its events have the lines of the trace, and each is the one that happens there on the program's own
--- names; so is the last choice, and who waits where the run stops; and it ends as the run does.
+-- names; so is the last choice, who waits where the run stops, and how it stops where no event tells of it; and it ends as the run does.
 pub record IsTraceInNames (f : ScheduleForm) (o : Options) (t : Tree) (r : Tables) (l : code_legend.Legend) (source : List (List ℕ)) (word : List ℕ) (text : List ℕ) : Type 0 where
   pub told : IsStoryText f o r (legend_seen l) source word text
   pub lines : lines_of told.story.events.items ≡ trace (named t (named_gates o.gates)) o.choices o.steps word
   pub events : ∥ map (event_on_names (legend_seen l)) (map told_of told.story.events.items) ≡ events_on_names t (named_gates o.gates) o.choices o.steps word ∥₁
   pub last_choice : ∥ option_map decision_of told.story.last_choice ≡ (names_telling t (named_gates o.gates) o.choices o.steps word).past.choice ∥₁
   pub waits : ∥ map (wait_on_names (legend_seen l)) (map wait_of told.story.waits.items) ≡ who_waits_on_names t (named_gates o.gates) o.choices o.steps word ∥₁
+  pub stop : ∥ option_map halted_seen told.story.stop ≡ stop_on_names t (named_gates o.gates) o.choices o.steps word ∥₁
   pub end : answer_of told.story.end ≡ run (named t (named_gates o.gates)) o.choices o.steps word
   pub constants : r.names ≡ constant_names t.program
 

@@ -1,6 +1,5 @@
--- The queue to which a process is about to come is the same on names and on slots.
-use Rattle.std.proofs.Common.{◌≡◌, ◌∙◌, ℕ, ◌+◌, ◌<◌, List, [], ◌∷◌, ◌++◌, length, Option, Some, None, Result, Ok, Err, ap, ap₂, sym, refl, subst}
-use Rattle.std.specs.Prelude.{map}
+-- The queue to which a process is about to come on slots is the cell of the one on names.
+use Rattle.std.proofs.Common.{◌≡◌, ◌∙◌, ℕ, ◌+◌, ◌<◌, List, [], ◌∷◌, ◌++◌, length, Option, Some, None, Result, Ok, Err, ap, sym, refl, subst}
 use Rattle.cp_tree.specs.declared.declaration.SystemKind.{SystemKind}
 use Rattle.cp_tree.specs.declared.declaration.SystemKind.TheVariants as system_kind
 use Rattle.cp_tree.specs.Read.{IsRead}
@@ -22,7 +21,6 @@ use Rattle.cp_machine.specs.declared.process.Entry.{Entry}
 use Rattle.cp_machine.specs.declared.process.Entry.TheVariants.{Rest, Successor, Return, InitEnd}
 use Rattle.cp_machine.specs.Machine.{Machine, thread_at}
 use Rattle.cp_machine.specs.Memory.{memory_at}
-use Rattle.cp_meaning.specs.Components.{components_of}
 use Rattle.cp_meaning.specs.Expressions.{name_of, target_value, variable_in}
 use Rattle.cp_meaning.specs.Lifting.{designator_calls, expression_calls, expressions_calls}
 use Rattle.cp_meaning.specs.LocalRules.{argument_of}
@@ -34,14 +32,8 @@ use Rattle.cp_meaning.specs.State.{Gates, Holder, in_component, Item, statement_
 use Rattle.cp_meaning.specs.Steps.{view_of}
 use Rattle.cp_meaning.specs.Systems.{system_of}
 use Rattle.cp_meaning.specs.Types.{queue_type}
-use Rattle.cp_legend.specs.Names.{Legend}
-use Rattle.cp_legend_laws.specs.Called.{called_in_legend, tabled}
-use Rattle.cp_legend_laws.specs.Paths.{called_in_language}
-use Rattle.cp_legend_laws.specs.Statements.{PlacesAreNamed}
-use Rattle.cp_legend_laws.proofs.OwnMonitors.{HasOwnNumber}
 use Rattle.cp_resolved.specs.Compiled.{as_place, expression_form}
 use Rattle.cp_resolved.specs.Layouts.{Here, Layouts, here}
-use Rattle.cp_resolved.specs.Small.{Each}
 use Rattle.cp_resolved.specs.Stands.{Ground, InvokedBy, Performed, first_of}
 use Rattle.cp_resolved.specs.TreeLayouts.{layouts_of}
 use Rattle.cp_refine.specs.Agrees.{TargetAgrees}
@@ -67,13 +59,9 @@ use Rattle.cp_refine.proofs.reached.SystemKinds.{kind_is}
 use Rattle.cp_refine.proofs.steps.Executed.{executes}
 use Rattle.cp_refine.proofs.steps.Going.{Going, takes_one}
 use Rattle.cp_story.specs.Aimed.{aim_in, aim_of_top, permanent_cell, queue_of}
-use Rattle.cp_story.specs.Story.{NamedQueue, queue_told}
-use Rattle.cp_story_laws.specs.Aims as aims
-use Rattle.cp_story_laws.specs.Aims.{component_of, first_queue, place_found, queue_aimed, queue_meant, queue_of_item}
-use Rattle.cp_story_laws.specs.MonitorNumbers.{monitor_of}
-use Rattle.cp_story_laws.specs.Places.{place_text}
+use Rattle.cp_story_laws.specs.Aims.{designated, first_queue, place_found, queue_meant, queue_of_item, queue_place}
 use Rattle.cp_story_laws.proofs.aims.PlainItems.{call_plain, comes_to_none, item_plain, plain_at}
-use Rattle.cp_story_laws.proofs.aims.QueuePlaces.{monitor_told, name_told}
+use Rattle.cp_story_laws.proofs.aims.QueueCells.{SameQueue}
 use Rattle.cp_story_laws.proofs.Together as together
 
 -- ---- the queue of an action, by its view
@@ -98,8 +86,7 @@ monitor_number system_kind.Process (kind.Process j) h e = absurd (cc)
 monitor_number system_kind.Class kind.Class h e = absurd (cc)
 monitor_number a c h e = absurd h
 
-module _ (t : Tree) (r : Tables) (g : slot_gates.Gates) (l : Legend) (read : IsRead t.program) (ok : IsAccepted t) (same : plain r ≡ laid t) (tables : map tabled l.components ≡ r.components) (paths : map called_in_legend l.components ≡ map (called_in_language t.program) (components_of t.program)) (own : Each HasOwnNumber l.components) (places : PlacesAreNamed t l)
-    (s : State) (m : Machine) (p : ℕ) (sim : together.Related t r g read ok same s m) (can : CanGo (named t (named_gates g)) s p) where
+module _ (t : Tree) (r : Tables) (g : slot_gates.Gates) (read : IsRead t.program) (ok : IsAccepted t) (same : plain r ≡ laid t) (s : State) (m : Machine) (p : ℕ) (sim : together.Related t r g read ok same s m) (can : CanGo (named t (named_gates g)) s p) where
   abbrev ground : Ground
   ground = ground_of t r
 
@@ -137,12 +124,12 @@ module _ (t : Tree) (r : Tables) (g : slot_gates.Gates) (l : Legend) (read : IsR
   ready : ReadyInReached ground t.program s m
   ready = ready_in_reached t r layouts gates s m ok prepared.stands prepared.sound.typed sim
 
-  -- what is told of it on slots and on names
-  abbrev told_on_slots : Option ℕ → NamedQueue
-  told_on_slots o = queue_told l o
+  -- a cell on slots, and a queue on names
+  abbrev Meets : Option ℕ → Option Place → Type 0
+  Meets u o = SameQueue t r o u
 
-  abbrev told_on_names : Option Place → NamedQueue
-  told_on_names o = aims.queue_named t gates view o
+  moved : (u w : Option ℕ) (o q : Option Place) → u ≡ w → q ≡ o → Meets w q → Meets u o
+  moved u w o q e f k = subst (λ (a : Option ℕ). Meets a o) (sym e) (subst (λ (b : Option Place). Meets w b) f k)
 
   -- ---- a queue of a monitor
 
@@ -160,15 +147,9 @@ module _ (t : Tree) (r : Tables) (g : slot_gates.Gates) (l : Legend) (read : IsR
         ∙ (ap (λ (c : ℕ). (system_of t.program (component_at r c).system).kind) this_is
         ∙ (ap (λ (k : ℕ). (system_of t.program k).kind) (executed_system t r layouts prepared s holds m ready sim.fits sim.reach p goes) ∙ monitor)))
 
-    abbrev made : ℕ → List ℕ → NamedQueue
-    made k x = record { monitor = k; name = x }
-
     module _ (fs : List Frame) where
-      queue_there : (x : Place) (a : Address) → x.holder ≡ in_component n → PlaceAt r layouts fs x queue_type a → told_on_slots (permanent_cell (Ok a)) ≡ told_on_names (Some x)
-      queue_there x a holder place =
-          ap (λ (b : Address). told_on_slots (permanent_cell (Ok b))) address_is
-          ∙ (ap₂ made (monitor_told t r gates ok prepared l tables paths s m sim n cell x holder alone own number.0 number.1) (name_told t r gates ok prepared l tables paths s m sim n cell x holder alone places p)
-          ∙ ap (λ (k : ℕ). made (monitor_of t.program gates k) (place_text view x)) (sym (ap component_of holder)))
+      queue_there : (x : Place) (a : Address) → x.holder ≡ in_component n → PlaceAt r layouts fs x queue_type a → Meets (permanent_cell (Ok a)) (Some x)
+      queue_there x a holder place = subst (λ (b : Address). Meets (permanent_cell (Ok b)) (Some x)) (sym address_is) (record { component = n; holder = holder; place = alone; number = number.0; monitor = number.1 })
         where
           inside : InComponent r layouts n x.name place.whole place.first
           inside = subst (λ (h : Holder). BeginsAt r layouts fs h x.name place.whole place.first) holder place.begins
@@ -191,9 +172,9 @@ module _ (t : Tree) (r : Tables) (g : slot_gates.Gates) (l : Legend) (read : IsR
                 address = sym address_is ∙ place.address;
               }
 
-      by_target : (o : Outcome Target) → ((x : Target) → o ≡ Ok x → x.place.holder ≡ in_component n) → (b : Result Address ErrorName) → TargetAgrees r layouts fs o queue_type b → told_on_slots (permanent_cell b) ≡ told_on_names (place_found o)
+      by_target : (o : Outcome Target) → ((x : Target) → o ≡ Ok x → x.place.holder ≡ in_component n) → (b : Result Address ErrorName) → TargetAgrees r layouts fs o queue_type b → Meets (permanent_cell b) (place_found o)
       by_target (Ok x) inside (Ok a) k = queue_there x.place a (inside x refl) k.1
-      by_target (Err e) inside (Err d) k = refl
+      by_target (Err e) inside (Err d) k = tt
       by_target (Ok x) inside (Err d) k = absurd k
       by_target (Err e) inside (Ok a) k = absurd k
 
@@ -203,11 +184,11 @@ module _ (t : Tree) (r : Tables) (g : slot_gates.Gates) (l : Legend) (read : IsR
     abbrev Takes : Item → Type 0
     Takes i = Taken ground t.program layouts s m p at i mid es xs ys
 
-    abbrev on_slots : NamedQueue
-    on_slots = told_on_slots (queue_of m p (item_at r at).action)
+    abbrev on_slots : Option ℕ
+    on_slots = queue_of m p (item_at r at).action
 
-    nothing : queue_of m p (item_at r at).action ≡ None → on_slots ≡ told_on_names None
-    nothing e = ap told_on_slots e
+    nothing : on_slots ≡ None → Meets on_slots None
+    nothing e = subst (λ (u : Option ℕ). Meets u None) (sym e) tt
 
     module _ (token : ℕ) (d : Designator) where
       queue_named_here : (e : Expression) (more : Expressions) (spot : code.Place) → Takes (statement_item (invoke token d (more_expressions e more))) → QueueKnown this e → expression_form this e ≡ Some (record { ty = queue_type; form = as_place spot }) → QueueNamed ground t.program layouts s m p es e spot
@@ -216,43 +197,43 @@ module _ (t : Tree) (r : Tables) (g : slot_gates.Gates) (l : Legend) (read : IsR
           (kept_left this (expression_calls this.scope e) (expressions_calls this.scope more) (kept_right this (designator_calls this.scope d) (expression_calls this.scope e ++ expressions_calls this.scope more) k.kept)) formed
           rules.designator rules.ty rules.is (ap (find (name_of rules.designator)) (scope_is ground t.program layouts s m p at (statement_item (invoke token d (more_expressions e more))) mid es xs ys k) ∙ rules.permanent)
 
-      at_queue : (e : Expression) (more : Expressions) (spot : code.Place) → Takes (statement_item (invoke token d (more_expressions e more))) → QueueKnown this e → expression_form this e ≡ Some (record { ty = queue_type; form = as_place spot }) → place_of (code.action_seen (item_at r at).action) ≡ Some spot → on_slots ≡ told_on_names (aims.designated view (variable_in e))
+      at_queue : (e : Expression) (more : Expressions) (spot : code.Place) → Takes (statement_item (invoke token d (more_expressions e more))) → QueueKnown this e → expression_form this e ≡ Some (record { ty = queue_type; form = as_place spot }) → place_of (code.action_seen (item_at r at).action) ≡ Some spot → Meets on_slots (designated view (variable_in e))
       at_queue e more spot k rules formed is =
           let queue = queue_named_here e more spot k rules formed in
-          ap told_on_slots (seen m p (item_at r at).action ∙ ap (cell_of m p) is)
-          ∙ (by_target rules.monitor (frames_of frame es) (target_value view queue.designator) queue.own (plain_address (memory_at m p) frame spot) queue.agrees
-          ∙ ap (λ (o : Option Designator). told_on_names (aims.designated view o)) (sym queue.is))
+          moved on_slots (permanent_cell (plain_address (memory_at m p) frame spot)) (designated view (variable_in e)) (place_found (target_value view queue.designator)) (seen m p (item_at r at).action ∙ ap (cell_of m p) is) (ap (designated view) (sym queue.is))
+          (by_target rules.monitor (frames_of frame es) (target_value view queue.designator) queue.own (plain_address (memory_at m p) frame spot) queue.agrees)
 
-      by_procedure : (f : Standard) (args : Expressions) → Takes (statement_item (invoke token d args)) → InvokeKnown ground this (Some (standard_meaning f)) d args → Performed ground this at token f (first_of args) mid → on_slots ≡ told_on_names (queue_meant view (Some (standard_meaning f)) (argument_of args))
+      by_procedure : (f : Standard) (args : Expressions) → Takes (statement_item (invoke token d args)) → InvokeKnown ground this (Some (standard_meaning f)) d args → Performed ground this at token f (first_of args) mid → Meets on_slots (queue_meant view (Some (standard_meaning f)) (argument_of args))
       by_procedure display_procedure (more_expressions e more) k rules item = nothing (comes_to_none m p (item_at r at).action (plain_at ground this at mid token mid _ item.item tt))
       by_procedure delay_procedure (more_expressions e more) k rules item = at_queue e more item.place k rules item.formed (ap place_of item.item.action)
       by_procedure continue_procedure (more_expressions e more) k rules item = at_queue e more item.place k rules.0 item.formed (ap place_of item.item.action)
       by_procedure f args k rules item = absurd item
 
-      by_meaning : (w : Option Meaning) (args : Expressions) → Takes (statement_item (invoke token d args)) → InvokeKnown ground this w d args → InvokedBy ground this at token w d args mid → on_slots ≡ told_on_names (queue_meant view w (argument_of args))
+      by_meaning : (w : Option Meaning) (args : Expressions) → Takes (statement_item (invoke token d args)) → InvokeKnown ground this w d args → InvokedBy ground this at token w d args mid → Meets on_slots (queue_meant view w (argument_of args))
       by_meaning (Some (standard_meaning f)) args k rules item = by_procedure f args k rules item
       by_meaning w args k rules item = nothing (comes_to_none m p (item_at r at).action (call_plain ground this at mid token d args None item))
 
-    by_item : (i : Item) → Takes i → ItemKnown ground this i → on_slots ≡ told_on_names (queue_of_item view i)
+    by_item : (i : Item) → Takes i → ItemKnown ground this i → Meets on_slots (queue_of_item view i)
     by_item (statement_item (invoke token d args)) k rules =
-        by_meaning token d (find (name_of d) this.scope) args k rules k.own
-        ∙ ap (λ (sc : Scope). told_on_names (queue_meant view (find (name_of d) sc) (argument_of args))) (sym (scope_is ground t.program layouts s m p at (statement_item (invoke token d args)) mid es xs ys k))
+        subst (λ (sc : Scope). Meets on_slots (queue_meant view (find (name_of d) sc) (argument_of args))) (sym (scope_is ground t.program layouts s m p at (statement_item (invoke token d args)) mid es xs ys k))
+        (by_meaning token d (find (name_of d) this.scope) args k rules k.own)
     by_item i k rules = nothing (comes_to_none m p (item_at r at).action (item_plain ground this at mid i tt k.own))
 
   -- ---- the topmost entry
 
-  abbrev first : List Item → NamedQueue
-  first items = told_on_names (first_queue view items)
+  -- of an item on slots and the first of the items on names
+  at_first : (u : Option ℕ) (i : Item) (items : List Item) → (names.process_at s.processes p).items ≡ i ∷ items → Meets u (queue_of_item view i) → Meets u (queue_place t s p)
+  at_first u i items e k = subst (λ (all : List Item). Meets u (first_queue view all)) (sym e) k
 
-  by_stack : (es : List Entry) → (thread_at m.threads p).stack ≡ es → StackIs ground t.program layouts frame (names.process_at s.processes p).calls (names.process_at s.processes p).items es → told_on_slots (aim_of_top r m p es).queue ≡ queue_aimed t gates s p
-  by_stack [] e is = sym (ap first is.2)
+  by_stack : (es : List Entry) → (thread_at m.threads p).stack ≡ es → StackIs ground t.program layouts frame (names.process_at s.processes p).calls (names.process_at s.processes p).items es → Meets (aim_of_top r m p es).queue (queue_place t s p)
+  by_stack [] e is = at_first None _ _ is.2 tt
   by_stack (Rest at ∷ es) e is =
       let one = takes_one ground t.program layouts s m p goes at es e in
-      by_item at one.mid es one.xs one.ys one.item one.taken ((all_known.states s m sim).next p one.item (one.xs ++ one.ys) goes.there goes.was one.taken.items) ∙ sym (ap first one.taken.items)
-  by_stack (Successor at z last ∷ es) e is = sym (ap first is.3 ∙ ap (λ (i : Item). told_on_names (queue_of_item view i)) is.4.same)
-  by_stack (Return caller slot None ∷ es) e is = sym (ap first is.5)
-  by_stack (Return caller slot (Some monitor) ∷ es) e is = sym (ap first is.5)
-  by_stack (InitEnd caller k ∷ es) e is = sym (ap first is.4)
+      at_first (queue_of m p (item_at r at).action) one.item (one.xs ++ one.ys) one.taken.items (by_item at one.mid es one.xs one.ys one.item one.taken ((all_known.states s m sim).next p one.item (one.xs ++ one.ys) goes.there goes.was one.taken.items))
+  by_stack (Successor at z last ∷ es) e is = at_first None is.0 _ is.3 (subst (λ (i : Item). Meets None (queue_of_item view i)) (sym is.4.same) tt)
+  by_stack (Return caller slot None ∷ es) e is = at_first None _ _ is.5 tt
+  by_stack (Return caller slot (Some monitor) ∷ es) e is = at_first None _ _ is.5 tt
+  by_stack (InitEnd caller k ∷ es) e is = at_first None _ _ is.4 tt
 
-  pub queue_same : queue_told l (aim_in r m p).queue ≡ queue_aimed t gates s p
-  queue_same = by_stack (thread_at m.threads p).stack refl goes.stack
+  pub queues_meet : SameQueue t r (queue_place t s p) (aim_in r m p).queue
+  queues_meet = by_stack (thread_at m.threads p).stack refl goes.stack
