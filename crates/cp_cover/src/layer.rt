@@ -4,9 +4,9 @@ ghost use Rattle.std.specs.Prelude.{◌≡◌, [], true, IfOk, Some, length, sli
 ghost use Rattle.cp_slots.specs.Tables.{Tables};
 ghost use Rattle.cp_machine.specs.System.{machine_of, IsStateOf};
 ghost use Rattle.cp_cover.specs.Layers.{AddsState, AreOwn, IsKeyOf};
-ghost use Rattle.cp_cover.specs.declared.keys.CoverStateKey.{CoverStateKey};
+ghost use Rattle.cp_ends.specs.declared.state_key.ReachedKey.{ReachedKey};
 
-use crate::keys::{CoverStateKey, key_of_state};
+use cp_ends::state_key::ReachedKey;
 use cp_key::{Parts, thaw};
 use cp_machine::{Moved, State};
 use indexmap::IndexSet;
@@ -15,7 +15,7 @@ use std::alloc::{AllocError, Global};
 /// States in which a choice is due, each once.
 #[derive(Drop)]
 pub struct Layer {
-    pub known: IndexSet<CoverStateKey>,
+    pub known: IndexSet<ReachedKey>,
 }
 
 impl Layer {
@@ -32,7 +32,10 @@ impl Layer {
     pub fn add(&mut self, alloc: Global, state: &State) -> Result<(), AllocError>
         ensures { IfOk result (λ _. AddsState self.old.known.keys (machine_of state.now) self.new.known.keys) }
     {
-        let key = key_of_state(alloc, state)?;
+        let mut key = ReachedKey {
+            bytes: Vec::new(alloc),
+        };
+        key.take_from(state)?;
         self.known.insert(key)?;
         Ok(())
     }
@@ -48,7 +51,7 @@ impl Layer {
     pub fn thaw_at(&self, number: usize, state: &mut State) -> bool
         requires { (r : Tables) × IsStateOf r state.old × AreOwn r self.now.known.keys }
         ensures own { (r : Tables) → IsStateOf r state.old → AreOwn r self.now.known.keys → IsStateOf r state.new }
-        ensures key { result ≡ true → (key : CoverStateKey) × (slice_get self.now.known.keys number ≡ Some key) × IsKeyOf key (machine_of state.new) }
+        ensures key { result ≡ true → (key : ReachedKey) × (slice_get self.now.known.keys number ≡ Some key) × IsKeyOf key (machine_of state.new) }
     {
         let Some(key) = self.known.get_index(number) else {
             return false;

@@ -13,53 +13,24 @@ pub struct UnreachedLine {
     pub is_part: bool,
 }
 
-// A line with statements.
-#[derive(Clone, Copy)]
-struct Line {
-    line: u32,
-    has_reached: bool,
-    has_unreached: bool,
-}
-
 /// The lines of the statements that are not among the marks, in rising order.
 pub fn unreached_lines(
     alloc: Global,
     statements: &[CoverStatement],
     marks: &Marks,
 ) -> Result<Vec<UnreachedLine>, AllocError> {
-    let mut unreached = Vec::new(alloc);
-    for line in &lines_of(alloc, statements, marks)? {
-        if line.has_unreached {
-            unreached.push(UnreachedLine {
-                line: line.line,
-                is_part: line.has_reached,
-            })?;
-        }
-    }
-    Ok(unreached)
-}
-
-// The lines with statements, in rising order.
-fn lines_of(
-    alloc: Global,
-    statements: &[CoverStatement],
-    marks: &Marks,
-) -> Result<Vec<Line>, AllocError> {
+    let is_reached = |statement: &CoverStatement| marks.has(CoverMark::Statement(statement.item));
     let mut sorted = Vec::from_slice(alloc, statements)?;
-    sorted.sort_unstable_by_key(|statement| statement.line);
-    let mut lines: Vec<Line> = Vec::new(alloc);
+    // On each line those that are reached come last.
+    sorted.sort_unstable_by_key(|statement| (statement.line, is_reached(statement)));
+    let mut lines: Vec<UnreachedLine> = Vec::new(alloc);
     for statement in &sorted {
-        let is_reached = marks.has(CoverMark::Statement(statement.item));
+        let line = statement.line;
+        let is_part = is_reached(statement);
         match lines.last_mut() {
-            Some(last) if last.line == statement.line => {
-                last.has_reached = last.has_reached || is_reached;
-                last.has_unreached = last.has_unreached || !is_reached;
-            }
-            _ => lines.push(Line {
-                line: statement.line,
-                has_reached: is_reached,
-                has_unreached: !is_reached,
-            })?,
+            Some(last) if last.line == line => last.is_part = is_part,
+            _ if !is_part => lines.push(UnreachedLine { line, is_part })?,
+            _ => {}
         }
     }
     Ok(lines)

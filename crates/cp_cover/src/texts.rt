@@ -9,8 +9,9 @@ pub fn cover_text(alloc: Global, gaps: &Gaps) -> Result<String, AllocError> {
     let mut text = String::new(alloc);
     push_heading(&mut text, gaps)?;
     push_lines(&mut text, gaps)?;
-    push_queues(&mut text, gaps)?;
-    push_gates(&mut text, gaps)?;
+    push_unused(&mut text, gaps.has_queues, &gaps.queues, "in", "queue")?;
+    let gates = &gaps.gates;
+    push_unused(&mut text, gaps.has_gates, gates, "at the gate of", "entry")?;
     Ok(text)
 }
 
@@ -42,22 +43,19 @@ fn push_lines(text: &mut String, gaps: &Gaps) -> Result<(), AllocError> {
     text.push('\n')
 }
 
-fn push_queues(text: &mut String, gaps: &Gaps) -> Result<(), AllocError> {
-    for queue in &gaps.queues {
-        write!(text, "  nobody ever waits in {queue}\n")?;
+// The names of those where nobody ever waits; that there is none such, if there are any at all.
+fn push_unused(
+    text: &mut String,
+    has_any: bool,
+    unused: &[String],
+    place: &str,
+    one: &str,
+) -> Result<(), AllocError> {
+    for name in unused {
+        write!(text, "  nobody ever waits {place} {name}\n")?;
     }
-    if gaps.has_queues && gaps.queues.is_empty() {
-        text.push_str("  somebody waits in every queue\n")?;
-    }
-    Ok(())
-}
-
-fn push_gates(text: &mut String, gaps: &Gaps) -> Result<(), AllocError> {
-    for entry in &gaps.gates {
-        write!(text, "  nobody ever waits at the gate of {entry}\n")?;
-    }
-    if gaps.has_gates && gaps.gates.is_empty() {
-        text.push_str("  somebody waits at the gate of every entry\n")?;
+    if has_any && unused.is_empty() {
+        write!(text, "  somebody waits {place} every {one}\n")?;
     }
     Ok(())
 }

@@ -2,10 +2,9 @@
 #![tactic(auto)]
 
 mod finding;
-mod members;
 mod objects;
-pub mod placing;
-pub mod subject;
+mod placing;
+mod subject;
 mod telling;
 mod texts;
 

@@ -1,49 +1,44 @@
 //! Where processes are at the end of a word.
 
-use crate::subject::EndsSubject;
+ghost use Rattle.std.specs.Prelude.{◌≡◌, ◌≤◌, length};
+
+use crate::subject::Telling;
 use cp_machine::Ticks;
 use cp_run::{OutcomeKind, RunEnd};
 use cp_story::{Happening, MOST_NUMBERS, OpenCall, Story, Wait, tell};
-use std::alloc::{AllocError, Global};
-use std::sync::ledger::Ledger;
+use std::alloc::AllocError;
+use std::marker::Brand;
+use std::sync::ledger::{Blank, Ledger};
 
 /// The story of a word that is told to its end; none where the word has too many numbers, or the run was stopped by how much it displayed.
-pub fn whole_story<L: Ledger>(
-    alloc: Global,
-    subject: EndsSubject<'_>,
-    word: &[u8],
-    ticks: &mut Ticks<L>,
-) -> Result<Option<Story>, AllocError> {
-    let Some(story) = story_of(alloc, subject, word, ticks)? else {
-        return Ok(None);
-    };
-    if is_full(&story) {
-        return Ok(None);
-    }
-    Ok(Some(story))
-}
-
-/// The story of a word; none where it has too many numbers.
-pub fn story_of<L: Ledger>(
-    alloc: Global,
-    subject: EndsSubject<'_>,
-    word: &[u8],
-    ticks: &mut Ticks<L>,
-) -> Result<Option<Story>, AllocError> {
-    let EndsSubject {
-        program,
-        legend,
-        limits,
-        ..
-    } = subject;
+pub fn whole_story(telling: Telling<'_>, word: &[u8]) -> Result<Option<Story>, AllocError> {
     if word.len() > MOST_NUMBERS {
         return Ok(None);
     }
-    Ok(Some(tell(alloc, program, legend, limits, word, ticks)?))
+    let story = story_of::<Brand>(telling, word, Blank::new(1))?;
+    Ok(if is_full(&story) { None } else { Some(story) })
 }
 
-/// Whether a run was stopped by how much it displayed: then its story ends too early.
-pub fn is_full(story: &Story) -> bool {
+fn story_of<L: Ledger>(telling: Telling<'_>, word: &[u8], blank: Blank) -> Result<Story, AllocError>
+    requires short { length word.now ≤ 100 }
+    requires name { blank.name ≡ L.name }
+    requires parts { blank.parts ≡ L.parts }
+    requires one { L.parts ≡ 1 }
+{
+    let mut ticks: Ticks<L> = Ticks::new(blank);
+    let Telling { alloc, subject, .. } = telling;
+    tell(
+        alloc,
+        subject.program,
+        subject.legend,
+        subject.limits,
+        word,
+        &mut ticks,
+    )
+}
+
+// Whether a run was stopped by how much it displayed: then its story ends too early.
+fn is_full(story: &Story) -> bool {
     match &story.end {
         RunEnd::Ended { outcome, .. } => outcome.kind == OutcomeKind::OutputLimit,
         _ => false,
@@ -52,12 +47,7 @@ pub fn is_full(story: &Story) -> bool {
 
 /// Where a process waits at the end of a story.
 pub fn wait_of(story: &Story, process: u8) -> Option<&Wait> {
-    for wait in &story.waits {
-        if wait.process == process {
-            return Some(wait);
-        }
-    }
-    None
+    story.waits.iter().find(|wait| wait.process == process)
 }
 
 /// The outermost call of a monitor that a process has not returned from, at the end of a story.

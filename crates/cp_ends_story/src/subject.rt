@@ -3,9 +3,10 @@
 use cp_ends::End;
 use cp_legend::Legend;
 use cp_machine::Shown;
-use cp_run::Limits;
+use cp_run::{Limits, OutcomeKind};
 use cp_slots::Resolved;
 use cp_waits::Waits;
+use std::alloc::{AllocError, Global};
 
 /// How the ends are written.
 #[derive(Clone, Copy, PartialEq, Eq)]
@@ -72,7 +73,65 @@ pub struct Findings {
     /// One value more than is told, where there are so many.
     pub values: Vec<ToldValue>,
     pub reach: Reach,
-    /// Whether kernel calls at once were tried because there are too many states without.
-    pub is_second: bool,
     pub waits: Option<Waits>,
+}
+
+impl Findings {
+    /// Nothing yet, by a search that looked so far.
+    pub fn new(alloc: Global, reach: Reach) -> Findings {
+        Findings {
+            ends: Vec::new(alloc),
+            values: Vec::new(alloc),
+            reach,
+            waits: None,
+        }
+    }
+
+    /// Adds an end, unless its word is longer than those that were looked at.
+    pub fn add_end(&mut self, end: End, word: Vec<u8>) -> Result<(), AllocError> {
+        if self.reaches(&word) {
+            self.ends.push(ToldEnd { end, word })?;
+        }
+        Ok(())
+    }
+
+    /// Adds a value, unless its word is longer than those that were looked at.
+    pub fn add_value(&mut self, value: Shown, word: Vec<u8>) -> Result<(), AllocError> {
+        if self.reaches(&word) {
+            self.values.push(ToldValue { value, word })?;
+        }
+        Ok(())
+    }
+
+    fn reaches(&self, word: &[u8]) -> bool {
+        match self.reach {
+            Reach::Choices(most) => word.len() <= most,
+            _ => true,
+        }
+    }
+
+    /// Whether kernel calls were made at once.
+    pub fn is_at_once(&self) -> bool {
+        matches!(self.reach, Reach::StatesAtOnce(_) | Reach::SomeAtOnce)
+    }
+
+    /// What a word is called: some other one may be shorter where kernel calls are made at once.
+    pub fn word_name(&self) -> &'static str {
+        if self.is_at_once() { "by" } else { "first" }
+    }
+
+    /// Whether a stretch was cut, so that it is not known what follows.
+    pub fn is_cut(&self) -> bool {
+        self.ends
+            .iter()
+            .any(|told| told.end == End::Over(OutcomeKind::StepLimit))
+    }
+}
+
+/// What is told: of a program, what was found.
+#[derive(Clone, Copy)]
+pub struct Telling<'a> {
+    pub alloc: Global,
+    pub subject: EndsSubject<'a>,
+    pub findings: &'a Findings,
 }

@@ -1,7 +1,6 @@
--- Which process a word names.
-use Rattle.std.proofs.Common.{◌≡◌, ◌∙◌, ◌<◌, ◌≤◌, ◌+◌, ℕ, zero, suc, Bool, true, false, ◌&&◌, List, length, Option, Some, None, Result, Ok, Err, if◌then◌else◌, refl, sym, ap, subst, arith}
-use Rattle.std.specs.Prelude.{find, nat_lt}
-use Rattle.std.specs.List.{range_with_len}
+-- Which process the number in a word names.
+use Rattle.std.proofs.Common.{◌≡◌, ◌∙◌, ◌<◌, ◌≤◌, ℕ, Bool, true, false, ◌&&◌, List, length, Some, None, Result, Ok, Err, if◌then◌else◌, refl, sym, ap, subst, arith}
+use Rattle.std.specs.Prelude.{nat_lt}
 use Rattle.std.specs.Str.{all_ascii_digits}
 use Rattle.std.specs.Str.Parse.{ParsesUnsigned, digits_value, without_leading_plus}
 use Rattle.std.proofs.lemmas.Bool.{ltb-true}
@@ -33,17 +32,3 @@ no_number {E} count w x r le is h = split ((nat_lt 0 (length ds) && all_ascii_di
         let p = parts (nat_lt 0 (length ds) && all_ascii_digits ds) (nat_lt (digits_value 10 ds) count) e in
         let q = parts (nat_lt 0 (length ds)) (all_ascii_digits ds) p.0 in
         absurd (fails ((ltb-true 0 (length ds) q.0, own.to ds q.1), omega (arith, ltb-true (digits_value 10 ds) count p.1)))
-
--- ---- the first of them
-
-pub rest_of_range : (f : ℕ → Bool) (k m n : ℕ) (o : Option ℕ) → k < n → k + m ≡ n → f k ≡ false → find f (range_with_len k m) ≡ o → (l : ℕ) × (k + 1 + l ≡ n) × (find f (range_with_len (k + 1) l) ≡ o)
-rest_of_range f k zero n o less is unlike h = absurd (omega (arith, is))
-rest_of_range f k (suc m) n o less is unlike h = (m, omega (arith, is), ap (λ b. if b then Some k else find f (range_with_len (k + 1) m)) (sym unlike) ∙ h)
-
-pub first_in_range : (f : ℕ → Bool) (k m n : ℕ) (o : Option ℕ) → k < n → k + m ≡ n → f k ≡ true → find f (range_with_len k m) ≡ o → Some k ≡ o
-first_in_range f k zero n o less is so h = absurd (omega (arith, is))
-first_in_range f k (suc m) n o less is so h = ap (λ b. if b then Some k else find f (range_with_len (k + 1) m)) (sym so) ∙ h
-
-pub none_in_range : (f : ℕ → Bool) (k m n : ℕ) (o : Option ℕ) → n ≤ k → k + m ≡ n → find f (range_with_len k m) ≡ o → None ≡ o
-none_in_range f k zero n o le is h = h
-none_in_range f k (suc m) n o le is h = absurd (omega (arith, is))

@@ -1,5 +1,5 @@
 -- The names that many proofs of this crate use, from one place.
-pub use Rattle.std.proofs.Common.{Bool, List, ap, drop, inl, inr, map, nat_eq, not, subst, sym, take, true, ℕ, ◌∙◌, ◌≡◌}
+pub use Rattle.std.proofs.Common.{Bool, List, ap, inl, inr, map, nat_eq, subst, sym, take, true, ℕ, ◌∙◌, ◌≡◌}
 pub use Rattle.std.proofs.lemmas.List.{length-map, take_all, take_more}
 pub use Rattle.std.specs.Borrow.{Bor}
 pub use Rattle.std.specs.List.{list_all}

@@ -2,16 +2,14 @@
 
 ghost use Rattle.std.specs.Prelude.{◌≡◌, ◌≤◌, ◌⊎◌, IfOk, false, true};
 ghost use Rattle.cp_ends_verdict.specs.AtOnce as spec;
-ghost use Rattle.cp_ends_verdict.specs.Marked.{can_be_asked, mark_of as spec_mark_of};
+ghost use Rattle.cp_ends_verdict.specs.Marked.{can_be_asked};
 ghost use Rattle.cp_ends_verdict.specs.declared.verdict.EndsMark.TheVariants.{Misread};
 
 use crate::expectation::EndsExpectation;
-use crate::judging::is_whole;
 use crate::knowing_at_once::knowledge_at_once;
-use crate::known::KnownEnds;
-use crate::marking::{MarkSubject, ask_waits, is_any, mark_list};
-use crate::saying::{MarkedEnds, open_words, sayings_of};
-use crate::verdict::{EndsMark, EndsVerdict, mark_of, verdict_on};
+use crate::marking::{MarkSubject, ask_waits, is_any, mark_list, tell};
+use crate::saying::MarkedEnds;
+use crate::verdict::{EndsMark, verdict_on};
 use cp_at_once::search_at_once_with;
 use cp_machine::Gates;
 use cp_progress::ObserveProgress;
@@ -103,55 +101,5 @@ pub fn mark_at_once<O: ObserveProgress>(
     let found = search_at_once_with(alloc, program, limits, most, observer)?;
     let known = knowledge_at_once(alloc, program, &found)?;
     let verdict = verdict_on(&known, list);
-    tell(alloc, subject, &known, list, verdict)
-}
-
-// The mark of a verdict, and what is said with it.
-fn tell(
-    alloc: Global,
-    subject: MarkSubject<'_>,
-    known: &KnownEnds,
-    list: &[EndsExpectation],
-    verdict: EndsVerdict<'_>,
-) -> Result<MarkedEnds, AllocError>
-    ensures { IfOk result (λ m. m.mark ≡ spec_mark_of verdict.entry known.now.looked) }
-{
-    let mark = mark_of(verdict, known);
-    let mut note = String::new(alloc);
-    if mark == EndsMark::Holds {
-        note.push_str(held_words(known))?;
-    }
-    if mark == EndsMark::TooMany {
-        let most = subject.most;
-        write!(
-            note,
-            "too many states with kernel calls at once: there may be {most}\n"
-        )?;
-    }
-    let open = match known.looked {
-        Some(_) => "no schedule that was found settles it (try greater --states)",
-        None => open_words(known),
-    };
-    let each = sayings_of(
-        alloc,
-        subject.legend,
-        known,
-        list,
-        "a schedule against it: ",
-        open,
-    )?;
-    Ok(MarkedEnds {
-        mark,
-        note,
-        each,
-        last: String::new(alloc),
-    })
-}
-
-fn held_words(known: &KnownEnds) -> &'static str {
-    if is_whole(known) {
-        "for schedules of any length, by those in which kernel calls are made at once\n"
-    } else {
-        "shown by a schedule\n"
-    }
+    tell(alloc, subject, &known, list, verdict, true)
 }

@@ -35,75 +35,48 @@ pub enum EndsJudgement<'a> {
 fn first_named<'a>(ends: &'a [KnownEnd], patterns: &[EndPattern]) -> Option<&'a KnownEnd>
     ensures { option_map (λ e. e.now) result ≡ find (λ e. is_named patterns.now e.end) ends.entry.now }
 {
-    for end in ends {
-        if is_named(patterns, end.end) {
-            return Some(end);
-        }
-    }
-    None
+    ends.iter().find(|end| is_named(patterns, end.end))
 }
 
 /// The first end of none of these kinds.
 fn first_other<'a>(ends: &'a [KnownEnd], patterns: &[EndPattern]) -> Option<&'a KnownEnd>
     ensures { option_map (λ e. e.now) result ≡ find (λ e. is_other patterns.now e.end) ends.entry.now }
 {
-    for end in ends {
-        if !is_named(patterns, end.end) && !is_cut(end.end) {
-            return Some(end);
-        }
-    }
-    None
+    ends.iter()
+        .find(|end| !is_named(patterns, end.end) && !is_cut(end.end))
 }
 
 /// The first value that is printed so.
 fn first_shown<'a>(values: &'a [KnownValue], wanted: &str) -> Option<&'a KnownValue>
     ensures { option_map (λ v. v.now) result ≡ find (λ v. pointwise nat_eq (string_bytes v.text) wanted.now) values.entry.now }
 {
-    for value in values {
-        if value.text.as_str() == wanted {
-            return Some(value);
-        }
-    }
-    None
+    values.iter().find(|value| value.text.as_str() == wanted)
 }
 
 /// The first of those who may wait for ever who is meant.
 fn first_waiting<'a>(list: &'a [Waiting], process: Option<u8>) -> Option<&'a Waiting>
     ensures { option_map (λ w. w.now) result ≡ find (λ w. is_meant process w.process) list.entry.now }
 {
-    for waiting in list {
-        if is_meant(process, waiting.process) {
-            return Some(waiting);
-        }
-    }
-    None
+    list.iter()
+        .find(|waiting| is_meant(process, waiting.process))
 }
 
 fn end_witness<'a>(end: Option<&'a KnownEnd>) -> Option<Witness<'a>>
     ensures { option_map known_spec.finding_of result ≡ option_map (λ e. known_spec.ended (known_spec.end_pair e.now)) end.entry }
 {
-    match end {
-        Some(end) => Some(Witness::End(end)),
-        None => None,
-    }
+    Some(Witness::End(end?))
 }
 
 fn value_witness<'a>(value: Option<&'a KnownValue>) -> Option<Witness<'a>>
     ensures { option_map known_spec.finding_of result ≡ option_map (λ v. known_spec.shown (known_spec.value_pair v.now)) value.entry }
 {
-    match value {
-        Some(value) => Some(Witness::Value(value)),
-        None => None,
-    }
+    Some(Witness::Value(value?))
 }
 
 fn waiting_witness<'a>(waiting: Option<&'a Waiting>) -> Option<Witness<'a>>
     ensures { option_map known_spec.finding_of result ≡ option_map (λ w. known_spec.waiting_for_ever w.now) waiting.entry }
 {
-    match waiting {
-        Some(waiting) => Some(Witness::Waiting(waiting)),
-        None => None,
-    }
+    Some(Witness::Waiting(waiting?))
 }
 
 /// The first that a topic speaks of.
@@ -135,12 +108,7 @@ fn first_settling<'a>(known: &'a KnownEnds, expectation: &EndsExpectation) -> Op
 fn has_no_cut(ends: &[KnownEnd]) -> bool
     ensures { result ≡ list_all (λ e. not (match_spec.is_cut e.end)) ends.now }
 {
-    for end in ends {
-        if is_cut(end.end) {
-            return false;
-        }
-    }
-    true
+    ends.iter().all(|end| !is_cut(end.end))
 }
 
 /// Whether all schedules were looked at, and no stretch was cut.

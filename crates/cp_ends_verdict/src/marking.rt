@@ -8,11 +8,10 @@ ghost use Rattle.cp_ends_verdict.specs.Marked as spec;
 ghost use Rattle.cp_ends_verdict.specs.declared.verdict.EndsMark.TheVariants.{Misread};
 
 use crate::expectation::{EndsExpectation, Topic};
-use crate::judging::is_whole;
 use crate::knowing::knowledge_of;
 use crate::known::KnownEnds;
-use crate::saying::{MarkedEnds, open_words, sayings_of};
-use crate::verdict::{EndsMark, EndsVerdict, mark_of, verdict_on};
+use crate::saying::{MarkedEnds, note_on, open_words, sayings_of};
+use crate::verdict::{EndsVerdict, mark_of, verdict_on};
 use cp_ends::{Found, search_ends_with};
 use cp_legend::Legend;
 use cp_machine::Gates;
@@ -48,26 +47,20 @@ pub fn mark_list<O: ObserveProgress>(
     }
     let known = knowledge(alloc, subject, asks, observer)?;
     let verdict = verdict_on(&known, list);
-    tell(alloc, subject, &known, list, verdict)
+    tell(alloc, subject, &known, list, verdict, false)
 }
 
 /// Whether anybody in line may go into a monitor that becomes free.
 pub fn is_any(gates: Gates) -> bool
     ensures { result ≡ spec.is_any gates }
 {
-    match gates {
-        Gates::First => false,
-        Gates::Any => true,
-    }
+    matches!(gates, Gates::Any)
 }
 
 fn is_of_waiting(topic: &Topic) -> bool
     ensures { result ≡ spec.is_of_waiting topic.now }
 {
-    match topic {
-        Topic::Waiting(_) => true,
-        _ => false,
-    }
+    matches!(topic, Topic::Waiting(_))
 }
 
 fn asks_waits(expectation: &EndsExpectation) -> bool
@@ -84,12 +77,7 @@ fn asks_waits(expectation: &EndsExpectation) -> bool
 pub fn ask_waits(list: &[EndsExpectation]) -> bool
     ensures { result ≡ spec.ask_waits list.now }
 {
-    for expectation in list {
-        if asks_waits(expectation) {
-            return true;
-        }
-    }
-    false
+    list.iter().any(asks_waits)
 }
 
 // What is known of the schedules of a program, and of who may wait for ever where that is asked.
@@ -133,53 +121,30 @@ fn waits_of<O: ObserveProgress>(
     }
 }
 
-// The mark of a verdict, and what is said with it.
-fn tell(
+/// The mark of a verdict, and what is said with it, where kernel calls were made at once or not.
+pub fn tell(
     alloc: Global,
     subject: MarkSubject<'_>,
     known: &KnownEnds,
     list: &[EndsExpectation],
     verdict: EndsVerdict<'_>,
+    at_once: bool,
 ) -> Result<MarkedEnds, AllocError>
     ensures { IfOk result (λ m. m.mark ≡ spec.mark_of verdict.entry known.now.looked) }
 {
     let mark = mark_of(verdict, known);
-    let mut note = String::new(alloc);
-    let mut open = String::new(alloc);
-    if mark == EndsMark::Holds {
-        note.push_str(held_words(known))?;
-    }
-    match known.looked {
-        Some(choices) => write!(
-            open,
-            "no schedule of at most {choices} choices settles it (try greater --states)"
-        )?,
-        None => open.push_str(open_words(known))?,
-    }
-    if mark == EndsMark::TooMany {
-        let most = subject.most;
-        write!(note, "too many states: there may be {most}\n")?;
-    }
-    let each = sayings_of(
-        alloc,
-        subject.legend,
-        known,
-        list,
-        "first against it: ",
-        open.as_str(),
-    )?;
+    let note = note_on(alloc, subject.most, known, mark, at_once)?;
+    let before = if at_once {
+        "a schedule against it: "
+    } else {
+        "first against it: "
+    };
+    let open = open_words(alloc, known, at_once)?;
+    let each = sayings_of(alloc, subject.legend, known, list, before, open.as_str())?;
     Ok(MarkedEnds {
         mark,
         note,
         each,
         last: String::new(alloc),
     })
-}
-
-fn held_words(known: &KnownEnds) -> &'static str {
-    if is_whole(known) {
-        "for schedules of any length\n"
-    } else {
-        "shown by a schedule\n"
-    }
 }

@@ -11,16 +11,7 @@ use cp_run::OutcomeKind;
 fn is_same_error(wanted: ErrorName, name: ErrorName) -> bool
     ensures { result ≡ spec.is_same_error wanted name }
 {
-    match (wanted, name) {
-        (ErrorName::Overflow, ErrorName::Overflow) => true,
-        (ErrorName::ZeroDivisor, ErrorName::ZeroDivisor) => true,
-        (ErrorName::Range, ErrorName::Range) => true,
-        (ErrorName::NoCase, ErrorName::NoCase) => true,
-        (ErrorName::QueueInUse, ErrorName::QueueInUse) => true,
-        (ErrorName::NotInit, ErrorName::NotInit) => true,
-        (ErrorName::InitTwice, ErrorName::InitTwice) => true,
-        _ => false,
-    }
+    wanted == name
 }
 
 fn is_of(pattern: EndPattern, end: End) -> bool
@@ -43,22 +34,14 @@ fn is_of(pattern: EndPattern, end: End) -> bool
 pub fn is_named(patterns: &[EndPattern], end: End) -> bool
     ensures { result ≡ spec.is_named patterns.now end }
 {
-    for pattern in patterns {
-        if is_of(*pattern, end) {
-            return true;
-        }
-    }
-    false
+    patterns.iter().any(|pattern| is_of(*pattern, end))
 }
 
 /// Whether a stretch was cut by the limit of steps: this is no end.
 pub fn is_cut(end: End) -> bool
     ensures { result ≡ spec.is_cut end }
 {
-    match end {
-        End::Over(OutcomeKind::StepLimit) => true,
-        _ => false,
-    }
+    matches!(end, End::Over(OutcomeKind::StepLimit))
 }
 
 /// Whether a process is meant.

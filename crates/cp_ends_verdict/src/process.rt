@@ -10,10 +10,7 @@ use cp_legend::Legend;
 pub fn process_of(legend: &Legend, word: &str) -> Option<u8>
     ensures { result ≡ spec.process_of (map component_seen legend.now.components.items) word.now }
 {
-    match numbered(legend.processes(), word) {
-        Some(process) => Some(process),
-        None => called(legend, word),
-    }
+    numbered(legend.processes(), word).or_else(|| called(legend, word))
 }
 
 fn numbered(count: u8, word: &str) -> Option<u8>
@@ -28,10 +25,5 @@ fn numbered(count: u8, word: &str) -> Option<u8>
 fn called(legend: &Legend, word: &str) -> Option<u8>
     ensures { result ≡ spec.called (map component_seen legend.now.components.items) word.now }
 {
-    for process in 0..legend.processes() {
-        if legend.process_name(process) == word {
-            return Some(process);
-        }
-    }
-    None
+    (0..legend.processes()).find(|process| legend.process_name(*process) == word)
 }

@@ -3,7 +3,6 @@
 ghost use Rattle.std.specs.Prelude.{◌≡◌, [], map, option_map, IfOk, string_bytes};
 ghost use Rattle.cp_legend.specs.Names.{component_seen};
 ghost use Rattle.cp_verdict.specs.Steps.{claims, meant_by, or_else, value_in};
-ghost use Rattle.cp_verdict.specs.declared.expectation.Claim.TheVariants.{Never, Sometimes};
 ghost use Rattle.cp_ends_verdict.specs.Plain.{expected_of};
 ghost use Rattle.cp_ends_verdict.specs.Reading.{Leads, place_of, state_of};
 ghost use Rattle.cp_ends_verdict.specs.Spelling.{process_of as spec_process_of};
@@ -54,33 +53,21 @@ fn end_of(word: &str) -> Option<EndPattern>
     }
 }
 
-fn never_topic(word: &str) -> Option<ReadPart>
-    ensures { option_map place_of result ≡ meant_by (steps.topics Never) word.now }
-{
-    match word {
-        "waiting" => Some(ReadPart::Whole(EndsExpectation::Never(Topic::Waiting(None)))),
-        "shown" => Some(ReadPart::Shown(Claim::Never)),
-        _ => None,
-    }
-}
-
-fn some_topic(word: &str) -> Option<ReadPart>
-    ensures { option_map place_of result ≡ meant_by (steps.topics Sometimes) word.now }
-{
-    match word {
-        "waiting" => Some(ReadPart::Waiting),
-        "shown" => Some(ReadPart::Shown(Claim::Sometimes)),
-        _ => None,
-    }
-}
-
 // What is asked beside ends.
 fn topic(claim: Claim, word: &str) -> Option<ReadPart>
     ensures { option_map place_of result ≡ meant_by (steps.topics claim) word.now }
 {
     match claim {
-        Claim::Never => never_topic(word),
-        Claim::Sometimes => some_topic(word),
+        Claim::Never => match word {
+            "waiting" => Some(ReadPart::Whole(EndsExpectation::Never(Topic::Waiting(None)))),
+            "shown" => Some(ReadPart::Shown(Claim::Never)),
+            _ => None,
+        },
+        Claim::Sometimes => match word {
+            "waiting" => Some(ReadPart::Waiting),
+            "shown" => Some(ReadPart::Shown(Claim::Sometimes)),
+            _ => None,
+        },
         Claim::Only => None,
     }
 }
@@ -89,10 +76,8 @@ fn topic(claim: Claim, word: &str) -> Option<ReadPart>
 fn next_end(claim: Claim, ends: Vec<EndPattern>, word: &str) -> Option<ReadPart>
     ensures { option_map place_of result ≡ steps.next_end claim ends.items word.now }
 {
-    match end_of(word) {
-        Some(end) => Some(ReadPart::Ended(claim, ends, end)),
-        None => None,
-    }
+    let end = end_of(word)?;
+    Some(ReadPart::Ended(claim, ends, end))
 }
 
 fn after_claim(alloc: Global, claim: Claim, word: &str) -> Option<ReadPart>
@@ -156,21 +141,14 @@ fn of_value(claim: Claim, value: String) -> EndsExpectation
 fn after_waiting(legend: &Legend, word: &str) -> Option<ReadPart>
     ensures { option_map place_of result ≡ steps.next (spec_process_of (map component_seen legend.now.components.items)) steps.AtProcess word.now }
 {
-    match process_of(legend, word) {
-        Some(process) => Some(ReadPart::Whole(EndsExpectation::Sometimes(Topic::Waiting(Some(
-            process,
-        ))))),
-        None => None,
-    }
+    let topic = Topic::Waiting(Some(process_of(legend, word)?));
+    Some(ReadPart::Whole(EndsExpectation::Sometimes(topic)))
 }
 
 fn before_claim(word: &str) -> Option<ReadPart>
     ensures { option_map place_of result ≡ option_map (λ c. steps.AtTopic c) (meant_by claims word.now) }
 {
-    match claim_of(word) {
-        Some(claim) => Some(ReadPart::Claimed(claim)),
-        None => None,
-    }
+    Some(ReadPart::Claimed(claim_of(word)?))
 }
 
 // What a word makes of a part; none where it does not fit.

@@ -54,17 +54,11 @@ impl MarkedEnds {
     }
 
     /// Adds a line on how the mark was found.
-    pub fn with_line(self, line: &str) -> Result<MarkedEnds, AllocError>
+    pub fn with_line(mut self, line: &str) -> Result<MarkedEnds, AllocError>
         ensures { IfOk result (λ m. m.mark ≡ self.mark) }
     {
-        let mut last = self.last;
-        last.push_str(line)?;
-        Ok(MarkedEnds {
-            mark: self.mark,
-            note: self.note,
-            each: self.each,
-            last,
-        })
+        self.last.push_str(line)?;
+        Ok(self)
     }
 
     /// The lines: first those that fail, then those that are not settled.
@@ -149,11 +143,49 @@ fn saying_of(
     })
 }
 
-/// What is said of an expectation that is not settled, where there are not too many states.
-pub fn open_words(known: &KnownEnds) -> &'static str {
-    if is_whole(known) {
-        "it is not known to hold, and no schedule is known to be against it"
-    } else {
-        "some schedules ended at step-limit, and none so far settles it (try greater --steps)"
+/// What is said of all expectations: by what they hold, or that there are too many states.
+pub fn note_on(
+    alloc: Global,
+    most: u32,
+    known: &KnownEnds,
+    mark: EndsMark,
+    at_once: bool,
+) -> Result<String, AllocError> {
+    match mark {
+        EndsMark::Holds => String::from_str(alloc, held_words(known, at_once)),
+        EndsMark::TooMany if at_once => format!(in alloc;
+            "too many states with kernel calls at once: there may be {most}\n"
+        ),
+        EndsMark::TooMany => format!(in alloc; "too many states: there may be {most}\n"),
+        _ => Ok(String::new(alloc)),
     }
+}
+
+fn held_words(known: &KnownEnds, at_once: bool) -> &'static str {
+    match (is_whole(known), at_once) {
+        (false, _) => "shown by a schedule\n",
+        (true, false) => "for schedules of any length\n",
+        (true, true) => {
+            "for schedules of any length, by those in which kernel calls are made at once\n"
+        }
+    }
+}
+
+/// What is said of an expectation that is not settled.
+pub fn open_words(alloc: Global, known: &KnownEnds, at_once: bool) -> Result<String, AllocError> {
+    let words = match known.looked {
+        Some(choices) if !at_once => {
+            return format!(in alloc;
+                "no schedule of at most {choices} choices settles it (try greater --states)"
+            );
+        }
+        Some(_) => "no schedule that was found settles it (try greater --states)",
+        None if is_whole(known) => {
+            "it is not known to hold, and no schedule is known to be against it"
+        }
+        None => {
+            "some schedules ended at step-limit, and none so far settles it (try greater --steps)"
+        }
+    };
+    String::from_str(alloc, words)
 }

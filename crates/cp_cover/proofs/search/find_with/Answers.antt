@@ -1,9 +1,9 @@
-use Rattle.cp_cover.proofs.Words.{◌≡◌, ◌+◌, ℕ, suc, List, true, sym, subst, arith, slots, CoverStateKey, CoverMark, AreReached, IsLayer}
+use Rattle.cp_cover.proofs.Words.{◌≡◌, ◌+◌, ℕ, suc, List, true, sym, subst, arith, slots, ReachedKey, CoverMark, AreReached, IsLayer}
 use Rattle.cp_cover.proofs.FromLayer.{same_marks}
 use Rattle.cp_cover.proofs.search.find_with.Goals as goal
 
 pub next_layer-requires-clause-layer : goal.next_layer-requires-clause-layer
-next_layer-requires-clause-layer g c = subst (λ (l : List CoverStateKey). IsLayer c.args.program.now (slots c.args.program.now c.args.limits.gates) c.args.limits.steps c.loop-depth.depth l) (sym c.take_layer-layer.ensures.taken) c.loop-depth.invariant.layer
+next_layer-requires-clause-layer g c = subst (λ (l : List ReachedKey). IsLayer c.args.program.now (slots c.args.program.now c.args.limits.gates) c.args.limits.steps c.loop-depth.depth l) (sym c.take_layer-layer.ensures.taken) c.loop-depth.invariant.layer
 
 pub next_layer-requires-clause-marks : goal.next_layer-requires-clause-marks
 next_layer-requires-clause-marks g c = subst (λ (l : List CoverMark). AreReached (slots c.args.program.now c.args.limits.gates) c.args.limits.steps c.loop-depth.depth l) (sym c.take_layer-layer.ensures.marks) c.loop-depth.invariant.marks

@@ -5,4 +5,4 @@ use Rattle.cp_cover.proofs.FromState.{adds_state}
 use Rattle.cp_cover.proofs.layer.Layer.add.Goals as goal
 
 pub returns : goal.returns
-returns c = subst (AddsState c.args.self.now.known.keys (machine_of c.args.state.now)) (sym c.in_ok-insert.ensures.keys) (adds_state c.args.self.now.known.keys c.in_ok-key.key (machine_of c.args.state.now) c.in_ok-key.ensures)
+returns c = subst (AddsState c.args.self.now.known.keys (machine_of c.args.state.now)) (sym c.in_ok-insert.ensures.keys) (adds_state c.args.self.now.known.keys c.take_from.new.self (machine_of c.args.state.now) c.in_ok-take_from.ensures)

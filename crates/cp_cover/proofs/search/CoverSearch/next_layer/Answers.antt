@@ -1,4 +1,4 @@
-use Rattle.cp_cover.proofs.Words.{◌≡◌, ◌≤◌, List, true, length, refl, sym, subst, arith, machine_of, may, those_below, slots, CoverStateKey, FromLayer}
+use Rattle.cp_cover.proofs.Words.{◌≡◌, ◌≤◌, List, true, length, refl, sym, subst, arith, machine_of, may, those_below, slots, ReachedKey, FromLayer}
 use Rattle.cp_cover.specs.Reached.{IsDue}
 use Rattle.cp_cover.proofs.FromLayer.{from_all, from_more, from_none, key_machine, no_room, own_keys}
 use Rattle.cp_cover.proofs.search.CoverSearch.next_layer.Goals as goal
@@ -10,7 +10,7 @@ loop-number-init g c =
     record {
       own = c.requires.own;
       next = c.requires.next;
-      from = subst (λ (l : List CoverStateKey). FromLayer r sys c.args.limits.steps c.args.depth c.args.layer.now.known.keys 0 c.args.self.now.marks.known.keys c.args.self.now.marks.known.keys l) (sym c.requires.empty) (from_none r sys c.args.limits.steps c.args.depth c.args.layer.now.known.keys c.args.self.now.marks.known.keys c.requires.marks);
+      from = subst (λ (l : List ReachedKey). FromLayer r sys c.args.limits.steps c.args.depth c.args.layer.now.known.keys 0 c.args.self.now.marks.known.keys c.args.self.now.marks.known.keys l) (sym c.requires.empty) (from_none r sys c.args.limits.steps c.args.depth c.args.layer.now.known.keys c.args.self.now.marks.known.keys c.requires.marks);
     }
 
 pub thaw_at-requires : goal.thaw_at-requires
