@@ -161,18 +161,9 @@ fn push_simple(
     ensures { IfOk result (λ _. string_bytes text.new ≡ string_bytes text.old ++ spec.simple_text first.now (option_copied simple.entry)) }
 {
     match simple {
-        Some(simple) => push_other(text, first, simple),
-        None => Ok(()),
+        Some(simple) if simple.word.as_slice() != first => push_simplest(text, simple),
+        _ => Ok(()),
     }
-}
-
-fn push_other(text: &mut String, first: &[u8], simple: &SimplestSchedule) -> Result<(), AllocError>
-    ensures { IfOk result (λ _. string_bytes text.new ≡ string_bytes text.old ++ spec.other_text first.now simple.now) }
-{
-    if simple.word.as_slice() == first {
-        return Ok(());
-    }
-    push_simplest(text, simple)
 }
 
 fn push_simplest(text: &mut String, simple: &SimplestSchedule) -> Result<(), AllocError>

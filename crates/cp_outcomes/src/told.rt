@@ -69,11 +69,7 @@ fn push_told<'a>(
 pub fn is_among(stopped: bool, tally: &Tally) -> bool
     ensures { result ≡ is_of stopped (tally_of tally.now) }
 {
-    if stopped {
-        is_stopped(tally.outcome.kind)
-    } else {
-        !is_stopped(tally.outcome.kind)
-    }
+    is_stopped(tally.outcome.kind) == stopped
 }
 
 // The outcome at a place.
