@@ -18,7 +18,6 @@ use crate::stopped::{Limit, schedules_in, schedules_stopped_at};
 use crate::subject::{Excess, Subject};
 use crate::told::{ToldOutcome, line_of, tell_outcomes, waits_of};
 use cp_legend::Legend;
-use cp_machine::Ticks;
 use cp_merged::{Tallies, Tally};
 use cp_natural::{Natural, push_natural};
 use cp_run::OutcomeKind;
@@ -28,30 +27,27 @@ use cp_story::output_words;
 use cp_walk::text::push_count;
 use serde_json::Value;
 use std::alloc::{AllocError, Global};
-use std::sync::ledger::Ledger;
 
 /// The outcomes as one JSON object: processes, monitors, the number of schedules, the outcomes, and how many schedules ended at which limit.
-pub fn json<L: Ledger>(
+pub fn json(
     alloc: Global,
     subject: Subject<'_>,
     tallies: &Tallies,
     simples: &Simples,
-    ticks: &mut Ticks<L>,
 ) -> Result<String, AllocError>
     ensures { IfOk result (λ t. IsJsonOf (setting_of subject.entry subject.entry.limits.choices) (map tally_of tallies.now) (string_bytes t)) }
 {
     let all = tallies.as_slice();
-    let told = tell_outcomes(alloc, subject, all, simples, ticks)?;
-    outcomes_json(alloc, subject, all, &told, ticks)
+    let told = tell_outcomes(alloc, subject, all, simples)?;
+    outcomes_json(alloc, subject, all, &told)
 }
 
 // These outcomes, told so.
-fn outcomes_json<L: Ledger>(
+fn outcomes_json(
     alloc: Global,
     subject: Subject<'_>,
     tallies: &[Tally],
     told: &[ToldOutcome<'_>],
-    ticks: &mut Ticks<L>,
 ) -> Result<String, AllocError>
     requires { rows_in (map tally_of tallies.now) < 10 ^ 126 }
     ensures { IfOk result (λ t. string_bytes t ≡ compact_text (spec.outcomes_data (setting_of subject.entry subject.entry.limits.choices) (map tally_of tallies.now) (map told_of told.now))) }
@@ -61,10 +57,7 @@ fn outcomes_json<L: Ledger>(
     object.put("processes", processes(alloc, subject.legend)?)?;
     object.put("monitors", monitors(alloc, subject.legend)?)?;
     object.put("schedules", count_value(alloc, &whole)?)?;
-    object.put(
-        "outcomes",
-        told_values(alloc, subject, &whole, told, ticks)?,
-    )?;
+    object.put("outcomes", told_values(alloc, subject, &whole, told)?)?;
     put_limits(alloc, &mut object, tallies)?;
     object.into_value().to_string(alloc)
 }
@@ -93,31 +86,29 @@ fn count_value(alloc: Global, count: &Natural) -> Result<Value, AllocError>
 }
 
 // The outcomes, with their numbers.
-fn told_values<L: Ledger>(
+fn told_values(
     alloc: Global,
     subject: Subject<'_>,
     whole: &Natural,
     told: &[ToldOutcome<'_>],
-    ticks: &mut Ticks<L>,
 ) -> Result<Value, AllocError>
     requires { whole.now < 10 ^ 126 }
     ensures { IfOk result (λ v. view v ≡ array_of (spec.numbered_data (setting_of subject.entry subject.entry.limits.choices) whole.now 1 (map told_of told.now))) }
 {
     let mut items = Vec::new(alloc);
     for (index, outcome) in told.iter().enumerate() {
-        items.push(told_value(alloc, subject, whole, index + 1, outcome, ticks)?)?;
+        items.push(told_value(alloc, subject, whole, index + 1, outcome)?)?;
     }
     Ok(Value::Array(items))
 }
 
 // An outcome: its number, its share, its schedules, and its end.
-fn told_value<L: Ledger>(
+fn told_value(
     alloc: Global,
     subject: Subject<'_>,
     whole: &Natural,
     number: usize,
     told: &ToldOutcome<'_>,
-    ticks: &mut Ticks<L>,
 ) -> Result<Value, AllocError>
     requires { whole.now < 10 ^ 126 }
     ensures { IfOk result (λ v. view v ≡ spec.told_data (setting_of subject.entry subject.entry.limits.choices) whole.now number (told_of told.now)) }
@@ -128,7 +119,7 @@ fn told_value<L: Ledger>(
     put_count(alloc, &mut object, &tally.count, whole)?;
     put_outcome(alloc, subject.legend, &mut object, tally)?;
     put_simple(alloc, &mut object, told.simple)?;
-    put_end(alloc, subject, &mut object, tally, ticks)?;
+    put_end(alloc, subject, &mut object, tally)?;
     Ok(object.into_value())
 }
 
@@ -179,18 +170,17 @@ fn put_simple(
 }
 
 // Who waits where at the end, or the line of a run error.
-fn put_end<L: Ledger>(
+fn put_end(
     alloc: Global,
     subject: Subject<'_>,
     object: &mut Object,
     tally: &Tally,
-    ticks: &mut Ticks<L>,
 ) -> Result<(), AllocError>
     ensures { OnOk result (members_in object.new ≡ with_members (members_in object.old) (spec.end_members (setting_of subject.entry subject.entry.limits.choices) tally.now.first.items tally.now.outcome.kind)) }
 {
     match tally.outcome.kind {
         OutcomeKind::AllWaiting => {
-            let waiting = waits_of(alloc, subject, tally.first.as_slice(), ticks)?;
+            let waiting = waits_of(alloc, subject, tally.first.as_slice())?;
             object.put("final", waits(alloc, subject.legend, &waiting)?)
         }
         OutcomeKind::RunError { line, .. } => object.text("text", line_of(subject.source, line)),

@@ -1,16 +1,18 @@
 //! The simplest schedules, beside the first ones.
 
-ghost use Rattle.std.specs.Prelude.{IfOk, IfSome};
+ghost use Rattle.std.specs.Prelude.{◌≡◌, ◌≤◌, IfOk, IfSome, length, true};
 ghost use Rattle.cp_run.specs.Slots.{slots};
 ghost use Rattle.cp_simplest.specs.Simple.{IsScheduleOf};
 
 use cp_machine::Ticks;
 use cp_merged::{Tallies, Tally};
 use cp_progress::ObserveProgress;
+use cp_run::Outcome;
 use cp_simplest::{Searched, SimplestSchedule, is_schedule_of, simplest};
 use cp_walk::Job;
 use std::alloc::{AllocError, Global};
-use std::sync::ledger::Ledger;
+use std::marker::Brand;
+use std::sync::ledger::{Blank, Ledger};
 
 /// The simplest schedule of each outcome, or none of any where there are too many states to search through.
 #[derive(Drop)]
@@ -43,22 +45,20 @@ impl Simples {
     }
 
     /// That of the outcome at a place: its word, if the run of it is a row of the table with this outcome.
-    pub fn at<L: Ledger>(
+    pub fn at(
         &self,
         alloc: Global,
         job: Job,
         place: usize,
         tally: &Tally,
-        ticks: &mut Ticks<L>,
     ) -> Result<Option<&SimplestSchedule>, AllocError>
         ensures { IfOk result (λ found. IfSome found (λ s. IsScheduleOf (slots job.entry.program.now job.entry.limits.gates) job.entry.limits.choices job.entry.limits.steps s.now.word.items tally.now.outcome)) }
     {
         let Some(simple) = self.simplest_at(place) else {
             return Ok(None);
         };
-        let Job { program, limits } = job;
         let word = simple.word.as_slice();
-        if is_schedule_of(alloc, program, limits, word, &tally.outcome, ticks)? {
+        if is_row::<Brand>(alloc, job, word, &tally.outcome, Blank::new(1))? {
             Ok(Some(simple))
         } else {
             Ok(None)
@@ -66,12 +66,24 @@ impl Simples {
     }
 
     fn simplest_at(&self, place: usize) -> Option<&SimplestSchedule> {
-        match &self.words {
-            Some(words) => match words.get(place) {
-                Some(Some(simple)) => Some(simple),
-                _ => None,
-            },
-            None => None,
-        }
+        self.words.as_ref()?.get(place)?.as_ref()
     }
+}
+
+// Whether the run of a word is a row of the table with this outcome.
+fn is_row<L: Ledger>(
+    alloc: Global,
+    job: Job,
+    word: &[u8],
+    outcome: &Outcome,
+    blank: Blank,
+) -> Result<bool, AllocError>
+    requires name { blank.name ≡ L.name }
+    requires parts { blank.parts ≡ L.parts }
+    requires one { L.parts ≡ 1 }
+    requires word { length word.now ≤ 100 }
+    ensures { IfOk result (λ is. is ≡ true → IsScheduleOf (slots job.entry.program.now job.entry.limits.gates) job.entry.limits.choices job.entry.limits.steps word.now outcome.now) }
+{
+    let mut ticks: Ticks<L> = Ticks::new(blank);
+    is_schedule_of(alloc, job.program, job.limits, word, outcome, &mut ticks)
 }

@@ -17,15 +17,12 @@ use crate::simples::Simples;
 use crate::subject::{Excess, Format, Subject, Summary};
 use crate::texts::{excess_and_known, excess_text, text};
 use crate::told::is_among;
-use cp_machine::Ticks;
 use cp_merged::word::{Word, word_of};
 use cp_merged::{MergeFault, Tallies, Tally, explore_merged_with};
 use cp_progress::ObserveProgress;
 use cp_run::Limits;
 use cp_walk::Job;
 use std::alloc::{AllocError, Global};
-use std::marker::Brand;
-use std::sync::ledger::{Blank, Ledger};
 
 /// What all schedules come to.
 #[derive(Drop)]
@@ -50,14 +47,7 @@ pub fn outcomes<O: ObserveProgress>(
             is_whole: true,
             text: end_line(
                 form,
-                write_findings::<O, Brand>(
-                    alloc,
-                    subject,
-                    form,
-                    &tallies,
-                    observer,
-                    Blank::new(1),
-                )?,
+                write_findings(alloc, subject, form, &tallies, observer)?,
             )?,
         }),
         Finding::TooMany(excess, known) => Ok(Summary {
@@ -107,14 +97,7 @@ fn excess_written<O: ObserveProgress>(
         unreachable!()
     };
     let fewer = Subject { limits, ..subject };
-    let told = write_findings::<O, Brand>(
-        alloc,
-        fewer,
-        form,
-        &known.tallies,
-        observer,
-        Blank::new(1),
-    )?;
+    let told = write_findings(alloc, fewer, form, &known.tallies, observer)?;
     match form {
         Format::Text => excess_and_known(alloc, excess, known.choices, told.as_str()),
         Format::Json => excess_and_known_json(alloc, excess, known.choices, told.as_str()),
@@ -207,68 +190,50 @@ pub fn simplest_of_outcome<O: ObserveProgress>(
 {
     let finding = findings_by_states(alloc, job, states, observer)?;
     match &finding {
-        Finding::Whole(tallies) => simplest_among::<O, Brand>(
-            alloc,
-            job,
-            states,
-            tallies,
-            number,
-            observer,
-            Blank::new(1),
-        ),
+        Finding::Whole(tallies) => simplest_among(alloc, job, states, tallies, number, observer),
         Finding::TooMany(..) => Ok(First::NotSearched),
     }
 }
 
-fn simplest_among<O: ObserveProgress, L: Ledger>(
+fn simplest_among<O: ObserveProgress>(
     alloc: Global,
     job: Job,
     states: u32,
     tallies: &Tallies,
     number: usize,
     observer: &mut O,
-    blank: Blank,
 ) -> Result<First, AllocError>
-    requires name { blank.name ≡ L.name }
-    requires parts { blank.parts ≡ L.parts }
-    requires one { L.parts ≡ 1 }
     ensures { IfOk result (IsSchedule job.entry (length (in_order (map tally_of tallies.now))) (with_number (in_order (map tally_of tallies.now)) number)) }
 {
     let Some(place) = place_of(tallies.as_slice(), number) else {
         return Ok(First::None(tallies.as_slice().len()));
     };
-    let mut ticks: Ticks<L> = Ticks::new(blank);
     let simples = Simples::of(alloc, job, states, tallies, observer)?;
     let tally = &tallies.as_slice()[place];
-    match simples.at(alloc, job, place, tally, &mut ticks)? {
+    match simples.at(alloc, job, place, tally)? {
         Some(simple) => Ok(First::Word(word_of(simple.word.as_slice()))),
         None => Ok(First::NotSearched),
     }
 }
 
-fn write_findings<O: ObserveProgress, L: Ledger>(
+fn write_findings<O: ObserveProgress>(
     alloc: Global,
     subject: Subject<'_>,
     form: Format,
     tallies: &Tallies,
     observer: &mut O,
-    blank: Blank,
 ) -> Result<String, AllocError>
-    requires name { blank.name ≡ L.name }
-    requires parts { blank.parts ≡ L.parts }
-    requires one { L.parts ≡ 1 }
     ensures text { IfOk result (λ t. form ≡ Format.Text → IsTextOf (setting_of subject.entry subject.entry.limits.choices) (map tally_of tallies.now) (string_bytes t)) }
     ensures json { IfOk result (λ t. form ≡ Format.Json → IsJsonOf (setting_of subject.entry subject.entry.limits.choices) (map tally_of tallies.now) (string_bytes t)) }
 {
-    let mut ticks: Ticks<L> = Ticks::new(blank);
     let job = Job {
         program: subject.program,
         limits: subject.limits,
     };
     let simples = Simples::of(alloc, job, subject.states, tallies, observer)?;
     match form {
-        Format::Text => text(alloc, subject, tallies, &simples, &mut ticks),
-        Format::Json => json(alloc, subject, tallies, &simples, &mut ticks),
+        Format::Text => text(alloc, subject, tallies, &simples),
+        Format::Json => json(alloc, subject, tallies, &simples),
     }
 }
 

@@ -18,14 +18,12 @@ use crate::simples::Simples;
 use crate::stopped::{Limit, schedules_in, schedules_stopped_at};
 use crate::subject::{Excess, Subject};
 use crate::told::{ToldOutcome, end_lines, tell_outcomes};
-use cp_machine::Ticks;
 use cp_merged::{Tallies, Tally};
 use cp_natural::Natural;
 use cp_run::{Limits, MOST_CHOICES, MOST_STEPS};
 use cp_simplest::SimplestSchedule;
 use cp_walk::text::{push_count, push_outcome, push_word};
 use std::alloc::{AllocError, Global};
-use std::sync::ledger::Ledger;
 
 /// How wide a share is at most: `> 99.9 %`.
 const SHARE_WIDTH: usize = 8;
@@ -35,28 +33,26 @@ const MARGIN: usize = 11;
 
 /// The outcomes: first those of runs that ended, each with its share, then those of runs that a limit stopped. The last line says
 /// whether these are all.
-pub fn text<L: Ledger>(
+pub fn text(
     alloc: Global,
     subject: Subject<'_>,
     tallies: &Tallies,
     simples: &Simples,
-    ticks: &mut Ticks<L>,
 ) -> Result<String, AllocError>
     ensures { IfOk result (λ t. IsTextOf (setting_of subject.entry subject.entry.limits.choices) (map tally_of tallies.now) (string_bytes t)) }
 {
     let all = tallies.as_slice();
-    let told = tell_outcomes(alloc, subject, all, simples, ticks)?;
-    outcomes_text(alloc, subject, all, &told, simples.is_searched(), ticks)
+    let told = tell_outcomes(alloc, subject, all, simples)?;
+    outcomes_text(alloc, subject, all, &told, simples.is_searched())
 }
 
 // The text of these outcomes, told so.
-fn outcomes_text<L: Ledger>(
+fn outcomes_text(
     alloc: Global,
     subject: Subject<'_>,
     tallies: &[Tally],
     told: &[ToldOutcome<'_>],
     is_searched: bool,
-    ticks: &mut Ticks<L>,
 ) -> Result<String, AllocError>
     requires { rows_in (map tally_of tallies.now) < 10 ^ 126 }
     ensures { IfOk result (λ t. string_bytes t ≡ spec.outcomes_text (setting_of subject.entry subject.entry.limits.choices) is_searched (map tally_of tallies.now) (map told_of told.now)) }
@@ -64,7 +60,7 @@ fn outcomes_text<L: Ledger>(
     let whole = schedules_in(tallies);
     let mut text = String::new(alloc);
     push_heading(&mut text, &whole, tallies.len())?;
-    push_outcomes(alloc, &mut text, subject, &whole, told, ticks)?;
+    push_outcomes(alloc, &mut text, subject, &whole, told)?;
     push_searched(&mut text, subject.states, is_searched)?;
     push_closing(&mut text, subject.limits, tallies)?;
     Ok(text)
@@ -80,13 +76,12 @@ fn push_heading(text: &mut String, schedules: &Natural, outcomes: usize) -> Resu
 }
 
 // The outcomes, with their numbers.
-fn push_outcomes<L: Ledger>(
+fn push_outcomes(
     alloc: Global,
     text: &mut String,
     subject: Subject<'_>,
     whole: &Natural,
     told: &[ToldOutcome<'_>],
-    ticks: &mut Ticks<L>,
 ) -> Result<(), AllocError>
     requires { whole.now < 10 ^ 126 }
     ensures { IfOk result (λ _. string_bytes text.new ≡ string_bytes text.old ++ spec.numbered_text (setting_of subject.entry subject.entry.limits.choices) (length (number_text (length told.now))) whole.now 1 (map told_of told.now)) }
@@ -95,23 +90,14 @@ fn push_outcomes<L: Ledger>(
     push_count(&mut last, told.len())?;
     let width = last.len();
     for (index, outcome) in told.iter().enumerate() {
-        push_outcome_told(
-            alloc,
-            text,
-            subject,
-            width,
-            whole,
-            index + 1,
-            outcome,
-            ticks,
-        )?;
+        push_outcome_told(alloc, text, subject, width, whole, index + 1, outcome)?;
     }
     Ok(())
 }
 
 // An outcome: its number, its share, its schedules, and its end.
 #[tactic(auto, unfolding(crate::specs::Text::told_text, crate::specs::Text::line_text))]
-fn push_outcome_told<L: Ledger>(
+fn push_outcome_told(
     alloc: Global,
     text: &mut String,
     subject: Subject<'_>,
@@ -119,7 +105,6 @@ fn push_outcome_told<L: Ledger>(
     whole: &Natural,
     number: usize,
     told: &ToldOutcome<'_>,
-    ticks: &mut Ticks<L>,
 ) -> Result<(), AllocError>
     requires { whole.now < 10 ^ 126 }
     ensures { IfOk result (λ _. string_bytes text.new ≡ string_bytes text.old ++ spec.told_text (setting_of subject.entry subject.entry.limits.choices) width whole.now number (told_of told.now)) }
@@ -132,7 +117,7 @@ fn push_outcome_told<L: Ledger>(
     push_first(text, tally)?;
     push_simple(text, tally.first.as_slice(), told.simple)?;
     text.push_str("\n")?;
-    let ends = end_lines(alloc, subject, tally, ticks)?;
+    let ends = end_lines(alloc, subject, tally)?;
     push_lines(text, width, &ends)
 }
 
@@ -176,18 +161,9 @@ fn push_simple(
     ensures { IfOk result (λ _. string_bytes text.new ≡ string_bytes text.old ++ spec.simple_text first.now (option_copied simple.entry)) }
 {
     match simple {
-        Some(simple) => push_other(text, first, simple),
-        None => Ok(()),
+        Some(simple) if simple.word.as_slice() != first => push_simplest(text, simple),
+        _ => Ok(()),
     }
-}
-
-fn push_other(text: &mut String, first: &[u8], simple: &SimplestSchedule) -> Result<(), AllocError>
-    ensures { IfOk result (λ _. string_bytes text.new ≡ string_bytes text.old ++ spec.other_text first.now simple.now) }
-{
-    if simple.word.as_slice() == first {
-        return Ok(());
-    }
-    push_simplest(text, simple)
 }
 
 fn push_simplest(text: &mut String, simple: &SimplestSchedule) -> Result<(), AllocError>

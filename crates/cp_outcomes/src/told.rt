@@ -20,7 +20,8 @@ use cp_simplest::SimplestSchedule;
 use cp_story::{Wait, tell, wait_words};
 use cp_walk::Job;
 use std::alloc::{AllocError, Global};
-use std::sync::ledger::Ledger;
+use std::marker::Brand;
+use std::sync::ledger::{Blank, Ledger};
 
 /// An outcome as it is told: with its simplest schedule, if one is told.
 #[derive(Drop)]
@@ -30,37 +31,35 @@ pub struct ToldOutcome<'a> {
 }
 
 /// The outcomes in the order in which they are told: first those of runs that ended, then those of runs that a limit stopped.
-pub fn tell_outcomes<'a, L: Ledger>(
+pub fn tell_outcomes<'a>(
     alloc: Global,
     subject: Subject<'_>,
     tallies: &'a [Tally],
     simples: &'a Simples,
-    ticks: &mut Ticks<L>,
 ) -> Result<Vec<ToldOutcome<'a>>, AllocError>
     ensures { IfOk result (λ v. AreTold (setting_of subject.entry subject.entry.limits.choices) (map tally_of tallies.now) (map told_of v.items)) }
 {
     let mut told = Vec::new(alloc);
-    push_told(alloc, subject, &mut told, tallies, simples, false, ticks)?;
-    push_told(alloc, subject, &mut told, tallies, simples, true, ticks)?;
+    push_told(alloc, subject, &mut told, tallies, simples, false)?;
+    push_told(alloc, subject, &mut told, tallies, simples, true)?;
     Ok(told)
 }
 
 // Those that a limit stopped, or those that none did.
-fn push_told<'a, L: Ledger>(
+fn push_told<'a>(
     alloc: Global,
     subject: Subject<'_>,
     told: &mut Vec<ToldOutcome<'a>>,
     tallies: &'a [Tally],
     simples: &'a Simples,
     stopped: bool,
-    ticks: &mut Ticks<L>,
 ) -> Result<(), AllocError>
     ensures order { IfOk result (λ _. map (λ o. tally_of o.tally.now) told.new.items ≡ map (λ o. tally_of o.tally.now) told.old.items ++ filter (is_of stopped) (map tally_of tallies.now)) }
     ensures each { IfOk result (λ _. AllByRecursion (λ o. IsTold (setting_of subject.entry subject.entry.limits.choices) (told_of o)) told.old.items → AllByRecursion (λ o. IsTold (setting_of subject.entry subject.entry.limits.choices) (told_of o)) told.new.items) }
 {
     for (place, tally) in tallies.iter().enumerate() {
         if is_among(stopped, tally) {
-            told.push(tell_outcome(alloc, subject, simples, place, tally, ticks)?)?;
+            told.push(tell_outcome(alloc, subject, simples, place, tally)?)?;
         }
     }
     Ok(())
@@ -70,21 +69,16 @@ fn push_told<'a, L: Ledger>(
 pub fn is_among(stopped: bool, tally: &Tally) -> bool
     ensures { result ≡ is_of stopped (tally_of tally.now) }
 {
-    if stopped {
-        is_stopped(tally.outcome.kind)
-    } else {
-        !is_stopped(tally.outcome.kind)
-    }
+    is_stopped(tally.outcome.kind) == stopped
 }
 
 // The outcome at a place.
-fn tell_outcome<'a, L: Ledger>(
+fn tell_outcome<'a>(
     alloc: Global,
     subject: Subject<'_>,
     simples: &'a Simples,
     place: usize,
     tally: &'a Tally,
-    ticks: &mut Ticks<L>,
 ) -> Result<ToldOutcome<'a>, AllocError>
     ensures tally { IfOk result (λ o. o.tally ≡ tally.entry) }
     ensures so { IfOk result (λ o. IsTold (setting_of subject.entry subject.entry.limits.choices) (told_of o)) }
@@ -93,22 +87,21 @@ fn tell_outcome<'a, L: Ledger>(
         program: subject.program,
         limits: subject.limits,
     };
-    let simple = simples.at(alloc, job, place, tally, ticks)?;
+    let simple = simples.at(alloc, job, place, tally)?;
     Ok(ToldOutcome { tally, simple })
 }
 
 /// Who waits where at the end of an outcome's first schedule, or the line of a run error.
-pub fn end_lines<L: Ledger>(
+pub fn end_lines(
     alloc: Global,
     subject: Subject<'_>,
     tally: &Tally,
-    ticks: &mut Ticks<L>,
 ) -> Result<Vec<String>, AllocError>
     ensures { IfOk result (λ lines. map string_bytes lines.items ≡ spec.end_lines (setting_of subject.entry subject.entry.limits.choices) (tally_of tally.now)) }
 {
     match tally.outcome.kind {
         OutcomeKind::AllWaiting => {
-            let waits = waits_of(alloc, subject, tally.first.as_slice(), ticks)?;
+            let waits = waits_of(alloc, subject, tally.first.as_slice())?;
             wait_lines(alloc, subject.legend, &waits)
         }
         OutcomeKind::RunError { process, line, .. } => {
@@ -131,13 +124,23 @@ fn wait_lines(alloc: Global, legend: &Legend, waits: &[Wait]) -> Result<Vec<Stri
 }
 
 /// Who waits at the end of a schedule, and where.
-pub fn waits_of<L: Ledger>(
+pub fn waits_of(alloc: Global, subject: Subject<'_>, word: &[u8]) -> Result<Vec<Wait>, AllocError>
+    requires { length word.now ≤ 100 }
+    ensures { IfOk result (λ waits. map wait_of waits.items ≡ spec.waits_after (setting_of subject.entry subject.entry.limits.choices) word.now) }
+{
+    waits_by::<Brand>(alloc, subject, word, Blank::new(1))
+}
+
+fn waits_by<L: Ledger>(
     alloc: Global,
     subject: Subject<'_>,
     word: &[u8],
-    ticks: &mut Ticks<L>,
+    blank: Blank,
 ) -> Result<Vec<Wait>, AllocError>
-    requires { length word.now ≤ 100 }
+    requires name { blank.name ≡ L.name }
+    requires parts { blank.parts ≡ L.parts }
+    requires one { L.parts ≡ 1 }
+    requires word { length word.now ≤ 100 }
     ensures { IfOk result (λ waits. map wait_of waits.items ≡ spec.waits_after (setting_of subject.entry subject.entry.limits.choices) word.now) }
 {
     let Subject {
@@ -146,7 +149,8 @@ pub fn waits_of<L: Ledger>(
         limits,
         ..
     } = subject;
-    Ok(tell(alloc, program, legend, limits, word, ticks)?.waits)
+    let mut ticks: Ticks<L> = Ticks::new(blank);
+    Ok(tell(alloc, program, legend, limits, word, &mut ticks)?.waits)
 }
 
 // The process that was in error, and the text of the line at which it was.

@@ -1,5 +1,5 @@
 -- What is told of a program within the limits that the options give.
-use Rattle.std.proofs.Common.{◌≡◌, ◌∙◌, ℕ, List, Option, Some, Result, Ok, Err, IfOk, ap, inr, map, subst}
+use Rattle.std.proofs.Common.{◌≡◌, ◌∙◌, ℕ, Bool, true, false, List, Option, Some, Result, Ok, Err, IfOk, ap, inr, map, refl, subst, sym}
 use Rattle.cp_slots.specs.Tables.{Tables}
 use Rattle.cp_machine.specs.declared.gates.Gates.{Gates}
 use Rattle.cp_tree.specs.Syntax.{Tree}
@@ -9,7 +9,11 @@ use Rattle.cp_run.specs.Table.{table}
 use Rattle.cp_run.specs.declared.limits.Limits.{Limits}
 use Rattle.cp_tool.specs.declared.options.Options.{Options}
 use Rattle.cp_verdict.specs.declared.expectation.Expectation.{Expectation}
+use Rattle.cp_ends_verdict.specs.AtOnce.{IsMarkAtOnce, IsMarkInTurn, can_be_at_once}
+use Rattle.cp_ends_verdict.specs.Marked.{can_be_asked}
 use Rattle.cp_ends_verdict.specs.declared.expectation.EndsExpectation as ends_expectation
+use Rattle.cp_ends_verdict.specs.declared.verdict.EndsMark as ends_mark
+use Rattle.cp_ends_verdict.specs.declared.verdict.EndsMark.TheVariants as of_ends
 use Rattle.cp_legend.specs.Names.{Legend}
 use Rattle.cp_merged.specs.Code.{tally_of}
 use Rattle.cp_outcomes.specs.Findings.{IsKnownOf}
@@ -20,7 +24,9 @@ use Rattle.cp_verdict.specs.Meant.{IsMeantMark}
 use Rattle.cp_verdict.specs.declared.program.Marked.{Marked}
 use Rattle.cp_walk.specs.Text.{Spellings}
 use Rattle.cp_show_mark.specs.MarkText.{setting_of}
-use Rattle.cp_show_mark.specs.Showing.{ShowVerdict, TellsMark, TellsEndsMark, TellsMarkAtOnce, verdict_of}
+use Rattle.cp_show_mark.specs.Given.{TellsEnds, TellsEndsBy, TellsIf, can_be_judged}
+use Rattle.cp_show_mark.specs.Showing.{ShowVerdict, TellsMark, TellsEndsMark, TellsMarkAtOnce, ends_verdict_of, verdict_of}
+use Rattle.cp_show_mark.specs.declared.answer.ShowVerdict.TheVariants.{Misread}
 use Rattle.cp_show_mark.specs.Told.{IsExcessTold, IsMarkTold, SaysOfTallies, excess_saying, saying}
 use Rattle.cp_show_mark.specs.declared.examinee.Examinee.{Examinee}
 use Rattle.cp_show_mark.specs.declared.excess.MarkExcess.{MarkExcess}
@@ -34,13 +40,26 @@ told_within o l r es verdict same h =
     let b = subst (λ (n : ℕ). TellsWithin o.choices n l.gates r es verdict) same.1 a in
     subst (λ (g : Gates). TellsWithin o.choices o.steps g r es verdict) same.2 b
 
-pub told_ends : (o : Options) (l : Limits) (r : Tables) (es : List ends_expectation.EndsExpectation) (verdict : ShowVerdict) {choices : ℕ} → (l.choices ≡ choices) × (l.steps ≡ o.steps) × (l.gates ≡ o.gates) → TellsEndsMark r l.gates l.steps o.states es verdict → TellsEndsMark r o.gates o.steps o.states es verdict
+told_ends : (o : Options) (l : Limits) (r : Tables) (es : List ends_expectation.EndsExpectation) (verdict : ShowVerdict) {choices : ℕ} → (l.choices ≡ choices) × (l.steps ≡ o.steps) × (l.gates ≡ o.gates) → TellsEndsMark r l.gates l.steps o.states es verdict → TellsEndsMark r o.gates o.steps o.states es verdict
 told_ends o l r es verdict same h =
     let a = subst (λ (n : ℕ). TellsEndsMark r l.gates n o.states es verdict) same.1 h in
     subst (λ (g : Gates). TellsEndsMark r g o.steps o.states es verdict) same.2 a
 
-pub told_at_once : (o : Options) (l : Limits) (r : Tables) (es : List ends_expectation.EndsExpectation) (verdict : ShowVerdict) {choices : ℕ} → (l.choices ≡ choices) × (l.steps ≡ o.steps) × (l.gates ≡ o.gates) → TellsMarkAtOnce r l.steps es verdict → TellsMarkAtOnce r o.steps es verdict
+told_at_once : (o : Options) (l : Limits) (r : Tables) (es : List ends_expectation.EndsExpectation) (verdict : ShowVerdict) {choices : ℕ} → (l.choices ≡ choices) × (l.steps ≡ o.steps) × (l.gates ≡ o.gates) → TellsMarkAtOnce r l.steps es verdict → TellsMarkAtOnce r o.steps es verdict
 told_at_once o l r es verdict same h = subst (λ (n : ℕ). TellsMarkAtOnce r n es verdict) same.1 h
+
+tells_if : (can : Bool) (told : Type 0) (verdict : ShowVerdict) → (can ≡ true → told) → (can ≡ false → verdict ≡ Misread) → TellsIf can told verdict
+tells_if true told verdict asked refused = asked refl
+tells_if false told verdict asked refused = refused refl
+
+-- a mark with calls at once, or without, as the options ask
+pub judged_at_once : (o : Options) (l : Limits) (r : Tables) (es : List ends_expectation.EndsExpectation) (m : ends_mark.EndsMark) (verdict : ShowVerdict) {choices : ℕ} → (l.choices ≡ choices) × (l.steps ≡ o.steps) × (l.gates ≡ o.gates) → o.at_once ≡ true → verdict ≡ ends_verdict_of m → (can_be_at_once l.gates es ≡ true → IsMarkAtOnce r l.steps es m) → (can_be_at_once l.gates es ≡ false → m ≡ of_ends.Misread) → TellsEnds r o es verdict
+judged_at_once o l r es m verdict same asked is mark refused =
+    subst (λ (b : Bool). TellsIf (can_be_judged b o.gates es) (TellsEndsBy b r o es verdict) verdict) (sym asked) (tells_if (can_be_at_once o.gates es) (TellsMarkAtOnce r o.steps es verdict) verdict (λ can. told_at_once o l r es verdict same (m, is, mark (subst (λ (g : Gates). can_be_at_once g es ≡ true) (sym same.2) can))) (λ can. is ∙ ap ends_verdict_of (refused (subst (λ (g : Gates). can_be_at_once g es ≡ false) (sym same.2) can))))
+
+pub judged_in_turn : (o : Options) (l : Limits) (r : Tables) (es : List ends_expectation.EndsExpectation) (m : ends_mark.EndsMark) (verdict : ShowVerdict) {choices : ℕ} → (l.choices ≡ choices) × (l.steps ≡ o.steps) × (l.gates ≡ o.gates) → o.at_once ≡ false → verdict ≡ ends_verdict_of m → (can_be_asked l.gates es ≡ true → IsMarkInTurn r l.gates l.steps o.states es m) → (can_be_asked l.gates es ≡ false → m ≡ of_ends.Misread) → TellsEnds r o es verdict
+judged_in_turn o l r es m verdict same asked is mark refused =
+    subst (λ (b : Bool). TellsIf (can_be_judged b o.gates es) (TellsEndsBy b r o es verdict) verdict) (sym asked) (tells_if (can_be_asked o.gates es) (TellsEndsMark r o.gates o.steps o.states es verdict) verdict (λ can. told_ends o l r es verdict same (m, is, mark (subst (λ (g : Gates). can_be_asked g es ≡ true) (sym same.2) can))) (λ can. is ∙ ap ends_verdict_of (refused (subst (λ (g : Gates). can_be_asked g es ≡ false) (sym same.2) can))))
 
 -- the same on the program's own names
 abbrev pub MeansWithin : ℕ → ℕ → Gates → Tree → Spellings → List Expectation → ShowVerdict → Type 0

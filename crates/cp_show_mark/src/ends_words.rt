@@ -24,46 +24,35 @@ pub fn ends_told(
 
 fn ends_json(alloc: Global, marked: &MarkedEnds) -> Result<String, AllocError> {
     let mut object = Object::new(alloc);
-    put_ends(alloc, &mut object, marked)?;
+    object.text("verdict", ends_verdict_words(marked.mark))?;
+    object.put("expectations", said_objects(alloc, &marked.each)?)?;
+    object.put("notes", notes(alloc, marked)?)?;
     object.into_line()
 }
 
-fn put_ends(alloc: Global, object: &mut Object, marked: &MarkedEnds) -> Result<(), AllocError> {
-    object.text("verdict", ends_verdict_words(marked.mark))?;
-    let items = said_objects(alloc, &marked.each)?;
-    object.put("expectations", Value::Array(items))?;
-    object.put("notes", Value::Array(notes(alloc, marked)?))
-}
-
-fn said_objects(alloc: Global, each: &[Said]) -> Result<Vec<Value>, AllocError> {
+fn said_objects(alloc: Global, each: &[Said]) -> Result<Value, AllocError> {
     let mut items = Vec::new(alloc);
     for said in each {
         items.push(said_object(alloc, said)?)?;
     }
-    Ok(items)
+    Ok(Value::Array(items))
 }
 
 fn said_object(alloc: Global, said: &Said) -> Result<Value, AllocError> {
     let mut item = Object::new(alloc);
-    put_said(&mut item, said)?;
+    item.text("expectation", said.expectation.as_str())?;
+    item.text("verdict", standing_words(said.standing))?;
+    if !said.reason.is_empty() {
+        item.text("said", said.reason.as_str())?;
+    }
     Ok(item.into_value())
 }
 
-fn put_said(item: &mut Object, said: &Said) -> Result<(), AllocError> {
-    item.text("expectation", said.expectation.as_str())?;
-    item.text("verdict", standing_words(said.standing))?;
-    if said.reason.is_empty() {
-        Ok(())
-    } else {
-        item.text("said", said.reason.as_str())
-    }
-}
-
-fn notes(alloc: Global, marked: &MarkedEnds) -> Result<Vec<Value>, AllocError> {
+fn notes(alloc: Global, marked: &MarkedEnds) -> Result<Value, AllocError> {
     let mut notes = Vec::new(alloc);
     push_lines(alloc, &mut notes, marked.note.as_str())?;
     push_lines(alloc, &mut notes, marked.last.as_str())?;
-    Ok(notes)
+    Ok(Value::Array(notes))
 }
 
 fn push_lines(alloc: Global, notes: &mut Vec<Value>, text: &str) -> Result<(), AllocError> {

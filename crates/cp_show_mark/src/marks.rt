@@ -1,8 +1,6 @@
 //! The mark of a program, as an answer.
 
-ghost use Rattle.std.specs.Prelude.{◌≡◌, IfOk, List, Some, ℕ, false, map, option_map, string_bytes, true};
-ghost use Rattle.cp_ends_verdict.specs.AtOnce.{can_be_at_once};
-ghost use Rattle.cp_ends_verdict.specs.Marked.{can_be_asked};
+ghost use Rattle.std.specs.Prelude.{◌≡◌, IfOk, List, Some, ℕ, false, map, option_map, string_bytes};
 ghost use Rattle.cp_lawful.specs.Accepted.{IsAccepted};
 ghost use Rattle.cp_legend.specs.Names.{component_seen};
 ghost use Rattle.cp_merged.specs.Code.{tally_of};
@@ -173,63 +171,26 @@ fn judge_ends<O: ObserveProgress>(
 ) -> Result<ShowAnswer, AllocError>
     ensures { IfOk result (λ a. given.TellsEnds examinee.entry.program.now examinee.entry.options.now list.now a.verdict) }
 {
-    if examinee.options.at_once {
-        judge_at_once(alloc, examinee, observer, list)
+    let Examinee {
+        options,
+        program,
+        legend,
+        ..
+    } = examinee;
+    let subject = MarkSubject {
+        program,
+        legend,
+        limits: longest_limits_of(options),
+        most: options.states,
+    };
+    // Without calls at once they are made all the same where there are too many states.
+    if options.at_once {
+        let marked = mark_at_once(alloc, subject, list, observer)?;
+        ends_answer(alloc, examinee, &marked)
     } else {
-        judge_in_turn(alloc, examinee, observer, list)
+        let marked = mark_in_turn(alloc, subject, list, observer)?;
+        ends_answer(alloc, examinee, &marked)
     }
-}
-
-// The same without calls at once, but where there are too many states.
-fn judge_in_turn<O: ObserveProgress>(
-    alloc: Global,
-    examinee: Examinee<'_>,
-    observer: &mut O,
-    list: &[EndsExpectation],
-) -> Result<ShowAnswer, AllocError>
-    ensures mark { can_be_asked examinee.entry.options.now.gates list.now ≡ true → IfOk result (λ a. spec.TellsEndsMark examinee.entry.program.now examinee.entry.options.now.gates examinee.entry.options.now.steps examinee.entry.options.now.states list.now a.verdict) }
-    ensures refused { can_be_asked examinee.entry.options.now.gates list.now ≡ false → IfOk result (λ a. a.verdict ≡ ShowVerdict.Misread) }
-{
-    let Examinee {
-        options,
-        program,
-        legend,
-        ..
-    } = examinee;
-    let subject = MarkSubject {
-        program,
-        legend,
-        limits: longest_limits_of(options),
-        most: options.states,
-    };
-    let marked = mark_in_turn(alloc, subject, list, observer)?;
-    ends_answer(alloc, examinee, &marked)
-}
-
-// The same with calls at once.
-fn judge_at_once<O: ObserveProgress>(
-    alloc: Global,
-    examinee: Examinee<'_>,
-    observer: &mut O,
-    list: &[EndsExpectation],
-) -> Result<ShowAnswer, AllocError>
-    ensures mark { can_be_at_once examinee.entry.options.now.gates list.now ≡ true → IfOk result (λ a. spec.TellsMarkAtOnce examinee.entry.program.now examinee.entry.options.now.steps list.now a.verdict) }
-    ensures refused { can_be_at_once examinee.entry.options.now.gates list.now ≡ false → IfOk result (λ a. a.verdict ≡ ShowVerdict.Misread) }
-{
-    let Examinee {
-        options,
-        program,
-        legend,
-        ..
-    } = examinee;
-    let subject = MarkSubject {
-        program,
-        legend,
-        limits: longest_limits_of(options),
-        most: options.states,
-    };
-    let marked = mark_at_once(alloc, subject, list, observer)?;
-    ends_answer(alloc, examinee, &marked)
 }
 
 fn ends_answer(

@@ -21,6 +21,19 @@ enum OptionWords {
     Valued(&'static str, &'static str, &'static str),
     // Its name, and what it does.
     Switch(&'static str, &'static str),
+    // The states of a page. They have a name of their own: of the other parts the option limits the states that are counted.
+    PageStates,
+    // Words that stand behind the options.
+    Expectations,
+}
+
+// A part: its name, what it does, how it is called, its options, and what help says after them.
+struct PartWords {
+    name: &'static str,
+    about: &'static str,
+    usage: &'static str,
+    options: &'static [&'static [OptionWords]],
+    notes: &'static str,
 }
 
 const JSON: OptionWords = OptionWords::Switch("json", "Write one JSON object");
@@ -37,7 +50,7 @@ const SIMPLEST: OptionWords = OptionWords::Switch(
 );
 
 // Which schedule is shown, where one is.
-static ONE_SCHEDULE: [OptionWords; 5] = [
+const ONE_SCHEDULE: &[OptionWords] = &[
     OptionWords::Valued(
         "schedule",
         "WORD",
@@ -77,7 +90,7 @@ const GATES: OptionWords = OptionWords::Valued(
 );
 
 // How far all schedules are looked at.
-static LIMITS: [OptionWords; 5] = [
+const LIMITS: &[OptionWords] = &[
     CHOICES,
     STEPS,
     GATES,
@@ -92,94 +105,8 @@ static LIMITS: [OptionWords; 5] = [
     ),
 ];
 
-/// The command with all its parts; `clap` adds `--help` and `-h` to each.
-pub fn command<'a>(alloc: Global) -> Result<Command<'a>, AllocError> {
-    let command = with_part(Ok(top_command(alloc)), trace(alloc));
-    let command = with_part(command, lanes(alloc));
-    let command = with_part(command, page(alloc));
-    let command = with_part(command, outcomes(alloc));
-    let command = with_part(command, ends(alloc));
-    let command = with_part(command, refusal(alloc));
-    with_part(command, mark(alloc))
-}
-
-fn with_part<'a>(
-    command: Result<Command<'a>, AllocError>,
-    part: Result<Command<'a>, AllocError>,
-) -> Result<Command<'a>, AllocError> {
-    command?.subcommand(part?)
-}
-
-fn top_command<'a>(alloc: Global) -> Command<'a> {
-    Command::new(alloc, "cpx_show")
-        .about(ABOUT)
-        .override_usage(USAGE)
-        .after_help(NOTES)
-        .subcommand_required(true)
-        .disable_help_subcommand(true)
-}
-
-// A part that has no options yet.
-fn part<'a>(
-    alloc: Global,
-    name: &'static str,
-    about: &'static str,
-    usage: &'static str,
-) -> Command<'a> {
-    Command::new(alloc, name).about(about).override_usage(usage)
-}
-
-fn with_options<'a>(
-    alloc: Global,
-    command: Result<Command<'a>, AllocError>,
-    options: &[OptionWords],
-) -> Result<Command<'a>, AllocError> {
-    let mut command = command?;
-    for words in options {
-        command = command.arg(option(alloc, *words))?;
-    }
-    Ok(command)
-}
-
-fn option<'a>(alloc: Global, words: OptionWords) -> Arg<'a> {
-    match words {
-        OptionWords::Valued(name, value, help) => Arg::new(alloc, name)
-            .long(name)
-            .value_name(value)
-            .help(help),
-        OptionWords::Switch(name, help) => Arg::new(alloc, name)
-            .long(name)
-            .action(ArgAction::SetTrue)
-            .help(help),
-    }
-}
-
-fn trace<'a>(alloc: Global) -> Result<Command<'a>, AllocError> {
-    let command = part(
-        alloc,
-        "trace",
-        "Tells one schedule in names: a line for each kernel call",
-        "cpx_show trace --schedule WORD|--outcome N [OPTIONS] < PROGRAM",
-    );
-    let command = with_options(alloc, Ok(command), &ONE_SCHEDULE);
-    let command = with_options(alloc, command, &LIMITS);
-    with_options(alloc, command, &[JSON])
-}
-
-fn lanes<'a>(alloc: Global) -> Result<Command<'a>, AllocError> {
-    let command = part(
-        alloc,
-        "lanes",
-        "Draws one schedule as a picture: SVG with a lane for each process",
-        "cpx_show lanes --schedule WORD|--outcome N [OPTIONS] < PROGRAM > PICTURE.svg",
-    );
-    let command = with_options(alloc, Ok(command), &DRAWING);
-    let command = with_options(alloc, command, &ONE_SCHEDULE);
-    with_options(alloc, command, &LIMITS)
-}
-
 // What of a picture is drawn.
-static DRAWING: [OptionWords; 3] = [
+const DRAWING: &[OptionWords] = &[
     OptionWords::Valued("rows", "A-B", "Draw these rows alone, counted from 1"),
     OptionWords::Valued("last", "N", "Draw the last N rows alone"),
     OptionWords::Switch(
@@ -188,17 +115,7 @@ static DRAWING: [OptionWords; 3] = [
     ),
 ];
 
-fn page<'a>(alloc: Global) -> Result<Command<'a>, AllocError> {
-    let command = part(
-        alloc,
-        "page",
-        "Writes a page on which you play the scheduler: one file of HTML, which needs no network",
-        "cpx_show page [OPTIONS] < PROGRAM > PAGE.html",
-    );
-    Ok(with_options(alloc, Ok(command), &PLAYING)?.arg(page_states(alloc))?)
-}
-
-static PLAYING: [OptionWords; 8] = [
+const PLAYING: &[OptionWords] = &[
     OptionWords::Valued(
         "schedule",
         "WORD",
@@ -218,43 +135,15 @@ static PLAYING: [OptionWords; 8] = [
     CHOICES,
     STEPS,
     GATES,
+    OptionWords::PageStates,
 ];
-
-// It has a name of its own: of the other parts it limits the states that are counted.
-fn page_states<'a>(alloc: Global) -> Arg<'a> {
-    Arg::new(alloc, "page-states")
-        .long("states")
-        .value_name("N")
-        .help("States that the page goes on from, 1 to 100000 [default: 2000]")
-}
-
-fn outcomes<'a>(alloc: Global) -> Result<Command<'a>, AllocError> {
-    let command = part(
-        alloc,
-        "outcomes",
-        "Tells the outcomes of all schedules in words: shares, first schedules, and whether these are all",
-        "cpx_show outcomes [OPTIONS] < PROGRAM",
-    );
-    let command = with_options(alloc, Ok(command), &LIMITS);
-    with_options(alloc, command, &[JSON, COVER])
-}
 
 const COVER: OptionWords = OptionWords::Switch(
     "cover",
     "Tell as well which statements no schedule reaches, and in which queues and at which gates nobody ever waits",
 );
 
-fn ends<'a>(alloc: Global) -> Result<Command<'a>, AllocError> {
-    let command = part(
-        alloc,
-        "ends",
-        "Tells in words which ends are possible in schedules of any length, and who may wait for ever",
-        "cpx_show ends [OPTIONS] < PROGRAM",
-    );
-    with_options(alloc, Ok(command), &ENDING)
-}
-
-static ENDING: [OptionWords; 6] = [
+const ENDING: &[OptionWords] = &[
     OptionWords::Switch(
         "waits",
         "Tell as well who may wait for ever while others go on",
@@ -273,44 +162,14 @@ static ENDING: [OptionWords; 6] = [
     JSON,
 ];
 
-fn refusal<'a>(alloc: Global) -> Result<Command<'a>, AllocError> {
-    let command = part(
-        alloc,
-        "refusal",
-        "Says why a source is refused, in a sentence; or that it is accepted, with hints",
-        "cpx_show refusal [OPTIONS] < PROGRAM",
-    )
-    .after_help("The options of a run change nothing here.");
-    let command = with_options(alloc, Ok(command), &[JSON, WHERE]);
-    with_options(alloc, command, &LIMITS)
-}
-
 const WHERE: OptionWords = OptionWords::Valued(
     "where",
     "NAME",
     "Begin places with NAME:LINE:COLUMN, as editors read them",
 );
 
-fn mark<'a>(alloc: Global) -> Result<Command<'a>, AllocError> {
-    let command = part(
-        alloc,
-        "mark",
-        "Says whether what is expected of all schedules holds: never OUTCOME, some OUTCOME, only OUTCOME..",
-        "cpx_show mark [OPTIONS] [EXPECTATION..] < PROGRAM",
-    )
-    .after_help(EXPECTATIONS);
-    let command = with_options(alloc, command.arg(expectation(alloc)), &MARKING);
-    with_options(alloc, command, &LIMITS)
-}
-
-fn expectation<'a>(alloc: Global) -> Arg<'a> {
-    Arg::new(alloc, "expectation")
-        .value_name("EXPECTATION")
-        .num_args(0..)
-        .help("What is expected, as never all-waiting")
-}
-
-static MARKING: [OptionWords; 4] = [
+const MARKING: &[OptionWords] = &[
+    OptionWords::Expectations,
     ENDS,
     OptionWords::Switch(
         "at-once",
@@ -322,3 +181,105 @@ static MARKING: [OptionWords; 4] = [
     ),
     JSON,
 ];
+
+static PARTS: [PartWords; 7] = [
+    PartWords {
+        name: "trace",
+        about: "Tells one schedule in names: a line for each kernel call",
+        usage: "cpx_show trace --schedule WORD|--outcome N [OPTIONS] < PROGRAM",
+        options: &[ONE_SCHEDULE, LIMITS, &[JSON]],
+        notes: "",
+    },
+    PartWords {
+        name: "lanes",
+        about: "Draws one schedule as a picture: SVG with a lane for each process",
+        usage: "cpx_show lanes --schedule WORD|--outcome N [OPTIONS] < PROGRAM > PICTURE.svg",
+        options: &[DRAWING, ONE_SCHEDULE, LIMITS],
+        notes: "",
+    },
+    PartWords {
+        name: "page",
+        about: "Writes a page on which you play the scheduler: one file of HTML, which needs no network",
+        usage: "cpx_show page [OPTIONS] < PROGRAM > PAGE.html",
+        options: &[PLAYING],
+        notes: "",
+    },
+    PartWords {
+        name: "outcomes",
+        about: "Tells the outcomes of all schedules in words: shares, first schedules, and whether these are all",
+        usage: "cpx_show outcomes [OPTIONS] < PROGRAM",
+        options: &[LIMITS, &[JSON, COVER]],
+        notes: "",
+    },
+    PartWords {
+        name: "ends",
+        about: "Tells in words which ends are possible in schedules of any length, and who may wait for ever",
+        usage: "cpx_show ends [OPTIONS] < PROGRAM",
+        options: &[ENDING],
+        notes: "",
+    },
+    PartWords {
+        name: "refusal",
+        about: "Says why a source is refused, in a sentence; or that it is accepted, with hints",
+        usage: "cpx_show refusal [OPTIONS] < PROGRAM",
+        options: &[&[JSON, WHERE], LIMITS],
+        notes: "The options of a run change nothing here.",
+    },
+    PartWords {
+        name: "mark",
+        about: "Says whether what is expected of all schedules holds: never OUTCOME, some OUTCOME, only OUTCOME..",
+        usage: "cpx_show mark [OPTIONS] [EXPECTATION..] < PROGRAM",
+        options: &[MARKING, LIMITS],
+        notes: EXPECTATIONS,
+    },
+];
+
+/// The command with all its parts; `clap` adds `--help` and `-h` to each.
+pub fn command<'a>(alloc: Global) -> Result<Command<'a>, AllocError> {
+    let mut command = Command::new(alloc, "cpx_show")
+        .about(ABOUT)
+        .override_usage(USAGE)
+        .after_help(NOTES)
+        .subcommand_required(true)
+        .disable_help_subcommand(true);
+    for words in &PARTS {
+        command = command.subcommand(part(alloc, words)?)?;
+    }
+    Ok(command)
+}
+
+fn part<'a>(alloc: Global, words: &'static PartWords) -> Result<Command<'a>, AllocError> {
+    let mut command = Command::new(alloc, words.name)
+        .about(words.about)
+        .override_usage(words.usage);
+    if !words.notes.is_empty() {
+        command = command.after_help(words.notes);
+    }
+    for options in words.options {
+        for words in *options {
+            command = command.arg(option(alloc, *words))?;
+        }
+    }
+    Ok(command)
+}
+
+fn option<'a>(alloc: Global, words: OptionWords) -> Arg<'a> {
+    match words {
+        OptionWords::Valued(name, value, help) => Arg::new(alloc, name)
+            .long(name)
+            .value_name(value)
+            .help(help),
+        OptionWords::Switch(name, help) => Arg::new(alloc, name)
+            .long(name)
+            .action(ArgAction::SetTrue)
+            .help(help),
+        OptionWords::PageStates => Arg::new(alloc, "page-states")
+            .long("states")
+            .value_name("N")
+            .help("States that the page goes on from, 1 to 100000 [default: 2000]"),
+        OptionWords::Expectations => Arg::new(alloc, "expectation")
+            .value_name("EXPECTATION")
+            .num_args(0..)
+            .help("What is expected, as never all-waiting"),
+    }
+}

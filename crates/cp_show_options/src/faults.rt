@@ -14,9 +14,8 @@ pub fn page_states(matches: &ArgMatches<'_>) -> Option<u32> {
         return Some(USUAL_STATES);
     };
     match states.parse::<u32>() {
-        Ok(0) | Err(_) => None,
-        Ok(states) if states > MOST_STATES => None,
-        Ok(states) => Some(states),
+        Ok(states) if states > 0 && states <= MOST_STATES => Some(states),
+        _ => None,
     }
 }
 
@@ -50,11 +49,6 @@ pub fn outcome_of(matches: &ArgMatches<'_>) -> Option<usize> {
     number_of(matches.get_str("outcome")?)
 }
 
-/// Whether the simplest schedule of an outcome is to be shown.
-pub fn is_simplest(name: &str, matches: &ArgMatches<'_>) -> bool {
-    matches!(name, "trace" | "lanes" | "page") && matches.get_flag("simplest")
-}
-
 /// What is wrong with how one schedule is named, if it is to be shown.
 pub fn choice_fault(name: &str, matches: &ArgMatches<'_>) -> &'static str {
     if name == "page" {
@@ -67,7 +61,7 @@ pub fn choice_fault(name: &str, matches: &ArgMatches<'_>) -> &'static str {
         return "--rows A-B or --last N is wanted, with numbers from 1 on";
     }
     let is_given = matches.get_str("outcome").is_some();
-    if !is_given && is_simplest(name, matches) {
+    if !is_given && matches.get_flag("simplest") {
         return "--simplest: only beside --outcome";
     }
     match matches.get_str("schedule") {

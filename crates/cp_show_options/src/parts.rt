@@ -1,7 +1,7 @@
 //! What the words of a call ask for.
 
 use crate::command::command;
-use crate::faults::{USUAL_STATES, choice_fault, extent_of, is_simplest, outcome_of, page_states};
+use crate::faults::{USUAL_STATES, choice_fault, extent_of, outcome_of, page_states};
 use crate::words::{numbers_of, shared_words, texts_of, words_given};
 use clap::ArgMatches;
 use clap::error::ErrorKind;
@@ -98,29 +98,26 @@ fn read_matches(alloc: Global, matches: &ArgMatches<'_>) -> Result<Asked, Option
         part: part_of(alloc, name, inner)?,
         options,
         outcome: outcome_of(inner),
-        simplest: is_simplest(name, inner),
+        simplest: inner.get_flag("simplest"),
         round: numbers_of(inner.get_str("again")),
     })
 }
 
 fn part_of(alloc: Global, name: &str, matches: &ArgMatches<'_>) -> Result<ShowPart, OptionFault> {
+    let json = matches.get_flag("json");
     Ok(match name {
-        "trace" => ShowPart::Trace {
-            json: matches.get_flag("json"),
-        },
+        "trace" => ShowPart::Trace { json },
         "lanes" => ShowPart::Lanes(view_of(matches)),
         "page" => ShowPart::Page {
             states: page_states(matches).unwrap_or(USUAL_STATES),
         },
         "outcomes" => ShowPart::Outcomes {
-            json: matches.get_flag("json"),
+            json,
             cover: matches.get_flag("cover"),
         },
-        "ends" => ShowPart::Ends {
-            json: matches.get_flag("json"),
-        },
+        "ends" => ShowPart::Ends { json },
         "refusal" => ShowPart::Refusal {
-            json: matches.get_flag("json"),
+            json,
             file: file_of(alloc, matches)?,
         },
         "mark" => return mark_part(alloc, matches),
@@ -166,10 +163,8 @@ fn expectations_by(
 
 // The name of the file that the source is read from, if it is given.
 fn file_of(alloc: Global, matches: &ArgMatches<'_>) -> Result<Option<String>, AllocError> {
-    match matches.get_str("where") {
-        Some(name) => Ok(Some(String::from_str(alloc, name)?)),
-        None => Ok(None),
-    }
+    let name = matches.get_str("where");
+    name.map(|name| String::from_str(alloc, name)).transpose()
 }
 
 /// The first word of these that `read_parts` refuses, and why.

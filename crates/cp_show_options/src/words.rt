@@ -43,71 +43,32 @@ pub fn texts_of<'a>(alloc: Global, words: &'a [String]) -> Result<Vec<&'a str>, 
     Ok(texts)
 }
 
-// Words that are written one by one, and that tell at the end whether memory was refused.
-#[derive(Drop)]
-struct WordList {
-    words: Vec<String>,
-    is_refused: bool,
-}
-
-impl WordList {
-    fn new(alloc: Global) -> WordList {
-        WordList {
-            words: Vec::new(alloc),
-            is_refused: false,
-        }
-    }
-
-    fn add(&mut self, word: Result<String, AllocError>) {
-        match word {
-            Ok(word) => {
-                if self.words.push(word).is_err() {
-                    self.is_refused = true;
-                }
-            }
-            Err(_) => self.is_refused = true,
-        }
-    }
-
-    fn finish(self) -> Result<Vec<String>, AllocError> {
-        if self.is_refused {
-            return Err(AllocError);
-        }
-        Ok(self.words)
-    }
-}
-
 /// The options of `cpx` as its own words.
 pub fn shared_words(
     alloc: Global,
     matches: &ArgMatches<'_>,
     with_ends: bool,
 ) -> Result<Vec<String>, AllocError> {
-    let mut words = WordList::new(alloc);
-    words.add(String::from_str(alloc, "cpx"));
+    let mut words = Vec::new(alloc);
+    words.push(String::from_str(alloc, "cpx")?)?;
     let choices = matches.get_str("choices").unwrap_or(USUAL_CHOICES);
-    words.add(format!(in alloc; "--choices={choices}"));
+    words.push(format!(in alloc; "--choices={choices}")?)?;
     for name in &SHARED {
         if let Some(value) = matches.get_str(name) {
-            words.add(format!(in alloc; "--{name}={value}"));
+            words.push(format!(in alloc; "--{name}={value}")?)?;
         }
     }
     if let Some(schedule) = matches.get_str("schedule") {
-        words.add(schedule_word(alloc, schedule, matches.get_str("again")));
+        words.push(schedule_word(alloc, schedule, matches.get_str("again"))?)?;
     }
-    add_switches(alloc, matches, with_ends, &mut words);
-    words.finish()
-}
-
-fn add_switches(alloc: Global, matches: &ArgMatches<'_>, with_ends: bool, words: &mut WordList) {
     let has_ends = with_ends || matches.get_flag("ends") || matches.get_str("again").is_some();
-    let length = if has_ends { "--ends" } else { "--merge" };
-    words.add(String::from_str(alloc, length));
+    words.push(String::from_str(alloc, if has_ends { "--ends" } else { "--merge" })?)?;
     for name in &SWITCHES {
         if matches.get_flag(name) {
-            words.add(format!(in alloc; "--{name}"));
+            words.push(format!(in alloc; "--{name}")?)?;
         }
     }
+    Ok(words)
 }
 
 // The option of a schedule, with a round after it if there is one.

@@ -4,9 +4,7 @@ ghost use Rattle.std.specs.Prelude.{◌≡◌, IfOk, string_bytes};
 ghost use Rattle.cp_show_mark.specs.declared.answer.ShowAnswer as answers;
 ghost use Rattle.cpx_show.specs.Summaries.{IsBefore};
 
-use cp_cover::{
-    Coverage, Entries, Gaps, cover_json, cover_text, entries_of, find_coverage, gaps_of,
-};
+use cp_cover::{Gaps, cover_json, cover_text, entries_of, find_coverage, gaps_of};
 use cp_front::Loaded;
 use cp_legend::Legend;
 use cp_progress::ObserveProgress;
@@ -56,7 +54,7 @@ fn text_with_gaps<O: ObserveProgress>(
 {
     let gaps = gaps_within(alloc, options, observer, loaded, legend)?;
     if as_json {
-        let cover = json_of(alloc, &gaps)?;
+        let cover = cover_json(alloc, &gaps)?.to_string(alloc)?;
         with_member(alloc, told, cover.as_str())
     } else {
         let cover = cover_text(alloc, &gaps)?;
@@ -72,28 +70,11 @@ fn gaps_within<O: ObserveProgress>(
     loaded: &Loaded,
     legend: &Legend,
 ) -> Result<Gaps, AllocError> {
-    let coverage = find_coverage(
-        alloc,
-        &loaded.program,
-        limits_of(options),
-        options.states,
-        observer,
-    )?;
-    gaps_beside(alloc, loaded, legend, &coverage)
-}
-
-fn gaps_beside(
-    alloc: Global,
-    loaded: &Loaded,
-    legend: &Legend,
-    coverage: &Coverage,
-) -> Result<Gaps, AllocError> {
-    let entries: Entries = entries_of(alloc, loaded.checked.tree())?;
-    gaps_of(alloc, &loaded.program, legend, &entries, coverage)
-}
-
-fn json_of(alloc: Global, gaps: &Gaps) -> Result<String, AllocError> {
-    cover_json(alloc, gaps)?.to_string(alloc)
+    let program = &loaded.program;
+    let limits = limits_of(options);
+    let coverage = find_coverage(alloc, program, limits, options.states, observer)?;
+    let entries = entries_of(alloc, loaded.checked.tree())?;
+    gaps_of(alloc, program, legend, &entries, &coverage)
 }
 
 // An object on a line of its own, with one member more.

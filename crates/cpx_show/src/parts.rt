@@ -17,12 +17,10 @@ use crate::refusals::explanation_text;
 use crate::schedules::{ScheduleForm, one_schedule, trace_form};
 use crate::summaries::{ends_answer, outcomes_answer, page_answer};
 use cp_front::Loaded;
-use cp_lanes::PictureView;
 use cp_legend::Legend;
 use cp_progress::ObserveProgress;
 use cp_show_mark::{Examinee, ShowAnswer, ShowVerdict, mark_answer, mark_of};
 use cp_show_options::{Asked, ShowPart};
-use cp_slots::Resolved;
 use cp_tool::Options;
 use cp_verdict::Reading;
 use std::alloc::{AllocError, Global};
@@ -47,7 +45,10 @@ pub fn show_part<O: ObserveProgress>(
         ShowPart::Trace { json } => show_trace(
             alloc, asked, observer, loaded, legend, lines, *json,
         ),
-        ShowPart::Lanes(view) => show_lanes(alloc, asked, observer, program, legend, lines, *view),
+        ShowPart::Lanes(view) => {
+            let form = ScheduleForm::Picture(*view);
+            one_schedule(alloc, asked, observer, program, legend, lines, form)
+        }
         ShowPart::Page { states } => page_answer(
             alloc, asked, observer, program, legend, *states, source,
         ),
@@ -100,22 +101,6 @@ fn show_trace<O: ObserveProgress>(
 {
     let form = trace_form(as_json);
     one_schedule(alloc, asked, observer, &loaded.program, legend, lines, form)
-}
-
-// One schedule as a picture.
-fn show_lanes<O: ObserveProgress>(
-    alloc: Global,
-    asked: &Asked,
-    observer: &mut O,
-    program: &Resolved,
-    legend: &Legend,
-    lines: &[String],
-    view: PictureView,
-) -> Result<ShowAnswer, AllocError>
-    ensures { IfOk result (λ a. asked.now.outcome ≡ None → a.verdict ≡ Reported) }
-{
-    let form = ScheduleForm::Picture(view);
-    one_schedule(alloc, asked, observer, program, legend, lines, form)
 }
 
 // All outcomes, and what no schedule comes to where that is asked for.

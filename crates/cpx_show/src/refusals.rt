@@ -41,22 +41,11 @@ fn name_of(file: &Option<String>) -> Option<&str>
 // The same as one JSON object.
 fn json(alloc: Global, source: &[u8], said: &Said) -> Result<String, AllocError> {
     let mut object = Object::new(alloc);
-    put_said(alloc, &mut object, source, said)?;
-    let mut text = object.into_value().to_string(alloc)?;
-    text.push('\n')?;
-    Ok(text)
-}
-
-fn put_said(
-    alloc: Global,
-    object: &mut Object,
-    source: &[u8],
-    said: &Said,
-) -> Result<(), AllocError> {
     match said {
-        Said::Accepted(hints) => put_hints(alloc, object, source, hints),
-        Said::Refused(refusal) => put_refusal(object, source, refusal),
+        Said::Accepted(hints) => put_hints(alloc, &mut object, source, hints)?,
+        Said::Refused(refusal) => put_refusal(&mut object, source, refusal)?,
     }
+    object.into_line()
 }
 
 fn put_position(object: &mut Object, source: &[u8], span: ByteRange) -> Result<(), AllocError> {
@@ -88,28 +77,21 @@ fn put_hints(
     hints: &Hints,
 ) -> Result<(), AllocError> {
     object.put("accepted", Value::Bool(true))?;
-    object.put(
-        "hints",
-        Value::Array(hint_objects(alloc, source, &hints.all)?),
-    )?;
+    object.put("hints", hint_objects(alloc, source, &hints.all)?)?;
     object.number("more", hints.more as u64)
 }
 
-fn hint_objects(alloc: Global, source: &[u8], hints: &[Hint]) -> Result<Vec<Value>, AllocError> {
+fn hint_objects(alloc: Global, source: &[u8], hints: &[Hint]) -> Result<Value, AllocError> {
     let mut all = Vec::new(alloc);
     for hint in hints {
         all.push(hint_object(alloc, source, hint)?)?;
     }
-    Ok(all)
+    Ok(Value::Array(all))
 }
 
 fn hint_object(alloc: Global, source: &[u8], hint: &Hint) -> Result<Value, AllocError> {
     let mut one = Object::new(alloc);
-    put_hint(&mut one, source, hint)?;
+    put_position(&mut one, source, hint.span)?;
+    one.text("sentence", hint.sentence.as_str())?;
     Ok(one.into_value())
-}
-
-fn put_hint(object: &mut Object, source: &[u8], hint: &Hint) -> Result<(), AllocError> {
-    put_position(object, source, hint.span)?;
-    object.text("sentence", hint.sentence.as_str())
 }

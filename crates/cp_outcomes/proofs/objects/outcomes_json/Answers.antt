@@ -11,7 +11,7 @@ use Rattle.cp_outcomes.proofs.Jsons.{four_puts, object_text, outcomes_free}
 use Rattle.cp_outcomes.proofs.objects.outcomes_json.Goals as goal
 
 pub returns : goal.returns
-returns g c =
+returns c =
     let s = setting_of c.args.subject c.args.subject.limits.choices in
     let ts = map tally_of c.args.tallies.now in
     let told = map told_of c.args.told.now in

@@ -9,7 +9,7 @@ use Rattle.cp_outcomes.proofs.objects.told_value.Goals as goal
 
 pub returns : goal.returns
 unfolding told_data
-returns g c =
+returns c =
     let s = setting_of c.args.subject c.args.subject.limits.choices in
     let t = c.args.told.now.tally.now in
     c.into_value.ensures ∙ ap object (told_parts no_members (members_in c.number.new.self) (members_in c.put_count.new.object) (members_in c.put_outcome.new.object) (members_in c.put_simple.new.object) (members_in c.put_end.new.object) (codes "number", number_data c.args.number) (count_members t.count c.args.whole.now) (outcome_members s.legend (tally_of t).first) (simple_members (option_copied c.args.told.now.simple)) (end_members s t.first.items t.outcome.kind) (c.in_ok-number.ensures ∙ ap (λ m. with_member m (codes "number") (number_data c.args.number)) c.new-object.ensures) c.in_ok-put_count.ensures c.in_ok-put_outcome.ensures c.in_ok-put_simple.ensures c.in_ok-put_end.ensures)

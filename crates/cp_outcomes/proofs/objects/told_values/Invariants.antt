@@ -5,4 +5,4 @@ use Rattle.cp_outcomes.specs.Told.{setting_of, told_of}
 use Rattle.cp_outcomes.proofs.objects.told_values.Given as goal
 
 abbrev pub invariant-loop-index : goal.invariant-loop-index
-invariant-loop-index g l = map view l.items.items ≡ numbered_data (setting_of l.subject l.subject.limits.choices) l.whole 1 (map told_of (take l.index l.told))
+invariant-loop-index l = map view l.items.items ≡ numbered_data (setting_of l.subject l.subject.limits.choices) l.whole 1 (map told_of (take l.index l.told))

@@ -11,7 +11,7 @@ use Rattle.cp_outcomes.proofs.texts.push_outcome_told.Goals as goal
 
 pub returns : goal.returns
 unfolding told_text line_text
-returns g c =
+returns c =
     let t = c.args.told.now.tally.now in
     let w = c.args.width in
     let s = setting_of c.args.subject c.args.subject.limits.choices in

@@ -5,7 +5,7 @@ use Rattle.cp_outcomes.proofs.Numbering.{numbered_more}
 use Rattle.cp_outcomes.proofs.texts.push_outcomes.Goals as goal
 
 pub loop-index-preserved : goal.loop-index-preserved
-loop-index-preserved g c =
+loop-index-preserved c =
     let k = c.loop-index.index in
     let xs = c.args.told.now in
     let lt : k < length xs = omega arith in

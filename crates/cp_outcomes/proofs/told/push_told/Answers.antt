@@ -7,7 +7,7 @@ use Rattle.cp_outcomes.proofs.told.push_told.Goals.{then-is_among+in_ok-tell_out
 use Rattle.cp_outcomes.proofs.told.push_told.Goals as goal
 
 pub loop-place-preserved : goal.loop-place-preserved
-loop-place-preserved g c =
+loop-place-preserved c =
     let xs = c.args.tallies.now in
     let k = c.loop-place.place in
     let d = c.index-tallies-place.result in
