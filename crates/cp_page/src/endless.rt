@@ -7,7 +7,6 @@ ghost use Rattle.cp_waits.specs.Named.{TellOfAll};
 use crate::ends::put_plain_end;
 use crate::json::Json;
 use crate::subject::PageSubject;
-use crate::words::PageWords;
 use cp_ends::{Found, search_ends_with};
 use cp_legend::Legend;
 use cp_progress::ObserveProgress;
@@ -49,15 +48,15 @@ pub fn endless_of<O: ObserveProgress>(
 
 impl Endless {
     /// The words along which the page goes on to their ends: the first ones of the ends, and the rounds.
-    pub fn words(&self, alloc: Global) -> PageWords {
-        let mut words = PageWords::new(alloc);
+    pub fn words(&self, alloc: Global) -> Result<Vec<Vec<u8>>, AllocError> {
+        let mut words = Vec::new(alloc);
         for end in &self.found.ends {
-            words.add(self.found.states.word(alloc, end.origin));
+            words.push(self.found.states.word(alloc, end.origin)?)?;
         }
         for waiting in self.known_waits() {
-            words.add(whole_word(alloc, waiting));
+            words.push(whole_word(alloc, waiting)?)?;
         }
-        words
+        Ok(words)
     }
 
     fn known_waits(&self) -> &[Waiting] {
@@ -68,49 +67,44 @@ impl Endless {
     }
 
     /// The ends, how far was looked, and who may wait for ever.
-    pub fn put(&self, alloc: Global, json: &mut Json, legend: &Legend) {
-        json.put_name("isWhole");
-        json.put_truth(self.found.stopped.is_none());
-        json.put_name("found");
-        json.put_place(self.found.states.len());
+    pub fn put(&self, alloc: Global, json: &mut Json, legend: &Legend) -> Result<(), AllocError> {
+        json.put_member("isWhole", self.found.stopped.is_none());
+        json.put_member("found", self.found.states.len());
         if let Some(stopped) = self.found.stopped {
-            self.put_reach(alloc, json, stopped);
+            self.put_reach(alloc, json, stopped)?;
         }
-        json.put_name("more");
-        json.put_number(0);
+        json.put_member("more", 0u8);
         json.put_name("outcomes");
-        self.put_ends(alloc, json);
+        self.put_ends(alloc, json)?;
         json.put_name("waits");
         match &self.waits {
             Some(Waits::Known(list)) => put_waits(json, legend, list),
-            _ => json.put_null(),
+            _ => json.put_plain("null"),
         }
+        Ok(())
     }
 
     // Of how many choices all schedules were looked at, where there are too many states to look at all.
-    fn put_reach(&self, alloc: Global, json: &mut Json, stopped: u32) {
+    fn put_reach(&self, alloc: Global, json: &mut Json, stopped: u32) -> Result<(), AllocError> {
         let states = &self.found.states;
-        match states.word(alloc, states.origin(stopped)) {
-            Ok(word) => {
-                json.put_name("within");
-                json.put_place(word.len());
-            }
-            Err(_) => json.refuse(),
-        }
+        let word = states.word(alloc, states.origin(stopped))?;
+        json.put_member("within", word.len());
+        Ok(())
     }
 
     // The ends as outcomes without output and count: `[end, "", "", [number, ..]]`.
-    fn put_ends(&self, alloc: Global, json: &mut Json) {
+    fn put_ends(&self, alloc: Global, json: &mut Json) -> Result<(), AllocError> {
         json.open();
         for end in &self.found.ends {
             json.open();
             put_plain_end(json, end.end);
             json.put_quoted("");
             json.put_quoted("");
-            json.put_made_processes(self.found.states.word(alloc, end.origin));
+            json.put_processes(&self.found.states.word(alloc, end.origin)?);
             json.close();
         }
         json.close();
+        Ok(())
     }
 }
 
@@ -132,13 +126,13 @@ fn put_waits(json: &mut Json, legend: &Legend, list: &[Waiting]) {
 
 fn put_waiting(json: &mut Json, legend: &Legend, waiting: &Waiting) {
     json.open();
-    json.put_number(i64::from(waiting.process));
+    json.put_plain(waiting.process);
     json.put_quoted(how_words(waiting.how));
     json.open();
     let others = waiting.step.without(waiting.process);
     for process in 0..legend.processes() {
         if others.has(process) {
-            json.put_number(i64::from(process));
+            json.put_plain(process);
         }
     }
     json.close();

@@ -58,7 +58,7 @@ fn put_end(json: &mut Json, kind: &str, error: &str, process: u8, line: u32) {
     json.open();
     json.put_quoted(kind);
     json.put_quoted(error);
-    json.put_number(i64::from(process));
-    json.put_number(i64::from(line));
+    json.put_plain(process);
+    json.put_plain(line);
     json.close();
 }

@@ -4,6 +4,7 @@ ghost use Rattle.std.specs.Prelude.{◌≡◌, true, IfOk, string_bytes};
 ghost use Rattle.cp_page.specs.Escaping as spec;
 
 use std::alloc::{AllocError, Global};
+use std::fmt::Display;
 
 /// A text of JSON in printable ASCII, without the characters that begin a tag, end one or name a character: in a page it ends nothing and begins
 /// nothing. Where memory is refused it takes nothing more, and says so at the end.
@@ -11,8 +12,6 @@ use std::alloc::{AllocError, Global};
 pub struct Json {
     alloc: Global,
     text: String,
-    // Whether a value stands before in the same list or object.
-    is_behind_value: bool,
     is_refused: bool,
     pub ghost inert: { spec.all_inert (string_bytes text) ≡ true },
 }
@@ -46,15 +45,8 @@ impl Json {
         Json {
             alloc,
             text: String::new(alloc),
-            is_behind_value: false,
             is_refused: false,
         }
-    }
-
-    /// Becomes an empty text again; that memory was refused stays.
-    pub fn clear(&mut self) {
-        self.text.clear();
-        self.is_behind_value = false;
     }
 
     /// The text, if no memory was refused.
@@ -65,16 +57,6 @@ impl Json {
             return Err(AllocError);
         }
         Ok(self.text.as_str())
-    }
-
-    /// Whether nothing was written, and no memory was refused.
-    pub fn is_empty(&self) -> bool {
-        self.text.is_empty() && !self.is_refused
-    }
-
-    /// Whether memory was refused for something.
-    pub fn is_refused(&self) -> bool {
-        self.is_refused
     }
 
     /// Memory was refused for what was to be told.
@@ -104,50 +86,40 @@ impl Json {
         }
     }
 
-    // A comma, where something stands before in the same list.
-    fn begin_value(&mut self) {
-        if self.is_behind_value {
-            self.put_signs(",");
-        }
-        self.is_behind_value = true;
+    // Whether a value stands before: no list, object or member begins here, and no number.
+    fn is_behind_value(&self) -> bool {
+        !matches!(
+            self.text.as_str().as_bytes().last().copied(),
+            None | Some(b'[' | b'{' | b':' | b'-')
+        )
     }
 
-    // A value that is these signs.
+    // A value that begins with these signs, behind a comma where one stands before.
     fn put_literal(&mut self, signs: &str) {
-        self.begin_value();
+        if self.is_behind_value() {
+            self.put_sign(',');
+        }
         self.put_signs(signs);
-    }
-
-    // What stands within these signs comes next.
-    fn begin_within(&mut self, signs: &str) {
-        self.put_literal(signs);
-        self.is_behind_value = false;
-    }
-
-    // Ends what stands within other signs.
-    fn end_within(&mut self, signs: &str) {
-        self.put_signs(signs);
-        self.is_behind_value = true;
     }
 
     /// Begins a list.
     pub fn open(&mut self) {
-        self.begin_within("[");
+        self.put_literal("[");
     }
 
     /// Ends a list.
     pub fn close(&mut self) {
-        self.end_within("]");
+        self.put_sign(']');
     }
 
     /// Begins an object.
     pub fn begin(&mut self) {
-        self.begin_within("{");
+        self.put_literal("{");
     }
 
     /// Ends an object.
     pub fn end(&mut self) {
-        self.end_within("}");
+        self.put_sign('}');
     }
 
     /// Begins a text, of which the letters come next.
@@ -157,43 +129,31 @@ impl Json {
 
     /// Ends a text.
     pub fn end_text(&mut self) {
-        self.put_signs("\"");
+        self.put_sign('"');
     }
 
     /// The name of a member, whose value comes next.
     pub fn put_name(&mut self, name: &str) {
         self.put_quoted(name);
-        self.put_signs(":");
-        self.is_behind_value = false;
+        self.put_sign(':');
     }
 
-    /// A number.
-    pub fn put_number(&mut self, number: i64) {
-        self.begin_value();
-        self.put_made_signs(format!(in self.alloc; "{number}"));
+    /// A value as it is displayed: a number, `true`, `false` or `null`.
+    pub fn put_plain<D: Display + Drop>(&mut self, value: D) {
+        self.put_literal("");
+        self.put_made_signs(format!(in self.alloc; "{value}"));
     }
 
-    /// A place in a list.
-    pub fn put_place(&mut self, place: usize) {
-        self.begin_value();
-        self.put_made_signs(format!(in self.alloc; "{place}"));
+    /// A member of this name with a value as it is displayed.
+    pub fn put_member<D: Display + Drop>(&mut self, name: &str, value: D) {
+        self.put_name(name);
+        self.put_plain(value);
     }
 
     /// -1 less a place: below all places.
     pub fn put_below(&mut self, place: usize) {
         self.put_literal("-");
-        self.is_behind_value = false;
-        self.put_place(place.saturating_add(1));
-    }
-
-    /// `true` or `false`.
-    pub fn put_truth(&mut self, truth: bool) {
-        self.put_literal(if truth { "true" } else { "false" });
-    }
-
-    /// `null`.
-    pub fn put_null(&mut self) {
-        self.put_literal("null");
+        self.put_plain(place.saturating_add(1));
     }
 
     /// Another text, as one value.
@@ -208,46 +168,18 @@ impl Json {
     pub fn put_processes(&mut self, processes: &[u8]) {
         self.open();
         for process in processes {
-            self.put_number(i64::from(*process));
+            self.put_plain(*process);
         }
         self.close();
-    }
-
-    /// A list of numbers of processes that may have failed for want of memory.
-    pub fn put_made_processes(&mut self, made: Result<Vec<u8>, AllocError>) {
-        match made {
-            Ok(processes) => self.put_processes(&processes),
-            Err(_) => self.refuse(),
-        }
     }
 
     /// A text in quotes.
     pub fn put_quoted(&mut self, text: &str) {
         self.begin_text();
-        self.put_letters(text);
-        self.end_text();
-    }
-
-    /// A text in quotes that may have failed for want of memory.
-    pub fn put_made_quoted(&mut self, made: Result<String, AllocError>) {
-        self.begin_text();
-        self.put_made_letters(made);
-        self.end_text();
-    }
-
-    /// Letters of a text in quotes.
-    pub fn put_letters(&mut self, letters: &str) {
-        for letter in letters.chars() {
+        for letter in text.chars() {
             self.put_letter(letter);
         }
-    }
-
-    /// Letters of a text in quotes that may have failed for want of memory.
-    pub fn put_made_letters(&mut self, made: Result<String, AllocError>) {
-        match made {
-            Ok(letters) => self.put_letters(letters.as_str()),
-            Err(_) => self.refuse(),
-        }
+        self.end_text();
     }
 
     /// A letter of a text in quotes: as it is, or by its number.

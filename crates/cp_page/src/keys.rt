@@ -1,8 +1,8 @@
 //! Which states are one in a page.
 
+use cp_ends::state_key::ReachedKey;
 use cp_key::freeze_core;
-use cp_machine::{Shown, State};
-use cp_merged::state_key::StateKey;
+use cp_machine::State;
 use std::alloc::{AllocError, Global};
 
 /// Which states are merged.
@@ -15,30 +15,13 @@ pub enum Merging {
 }
 
 /// The key of a state.
-pub fn key_of(alloc: Global, state: &State, merging: Merging) -> Result<StateKey, AllocError> {
-    let mut bytes = Vec::new(alloc);
-    freeze_core(state, &mut bytes)?;
-    if merging == Merging::WithOutput {
-        for value in state.output() {
-            let spelling = spelling_of(*value);
-            bytes.extend_from_slice(&spelling)?;
-        }
+pub fn key_of(alloc: Global, state: &State, merging: Merging) -> Result<ReachedKey, AllocError> {
+    let mut key = ReachedKey {
+        bytes: Vec::new(alloc),
+    };
+    match merging {
+        Merging::WithoutOutput => freeze_core(state, &mut key.bytes)?,
+        Merging::WithOutput => key.take_from(state)?,
     }
-    Ok(StateKey { bytes })
-}
-
-// A displayed value as bytes.
-fn spelling_of(value: Shown) -> [u8; 3] {
-    match value {
-        Shown::Integer(number) => {
-            let [low, high] = number.to_le_bytes();
-            [0, low, high]
-        }
-        Shown::Char(code) => [1, code, 0],
-        Shown::Truth(truth) => [2, u8::from(truth), 0],
-        Shown::Constant(number) => {
-            let [low, high] = number.to_le_bytes();
-            [3, low, high]
-        }
-    }
+    Ok(key)
 }

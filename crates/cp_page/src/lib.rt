@@ -2,6 +2,7 @@
 #![tactic(auto)]
 
 mod data;
+mod due;
 mod endless;
 mod ends;
 mod events;
@@ -26,7 +27,6 @@ mod table;
 mod teller;
 mod variables;
 mod views;
-mod words;
 mod writing;
 
 pub use subject::{Length, PageSubject};

@@ -8,16 +8,14 @@ ghost use Rattle.cp_merged.specs.Code.{tally_of};
 ghost use Rattle.cp_merged.specs.Tallies.{tally};
 
 use crate::ends::put_plain_end;
-use crate::events::shown_text;
 use crate::json::Json;
-use crate::words::PageWords;
 use cp_ends::End;
 use cp_legend::Legend;
 use cp_machine::Shown;
 use cp_merged::{MergeFault, Tallies, Tally, explore_merged_with};
 use cp_natural::{Natural, push_natural};
 use cp_progress::ObserveProgress;
-use cp_run::OutcomeKind;
+use cp_story::output_words;
 use cp_walk::Job;
 use std::alloc::{AllocError, Global};
 
@@ -40,42 +38,32 @@ pub fn survey<O: ObserveProgress>(
     }
 }
 
-/// Whether a schedule ends because it displays too much.
-pub fn has_output_limit(tallies: &[Tally]) -> bool {
-    for tally in tallies {
-        if tally.outcome.kind == OutcomeKind::OutputLimit {
-            return true;
-        }
-    }
-    false
-}
-
 /// Appends the outcomes: `[end, output, count, [number, ..]]`, the numbers those of the first schedule.
-pub fn put_outcomes(alloc: Global, json: &mut Json, legend: &Legend, tallies: &[Tally]) {
+pub fn put_outcomes(
+    alloc: Global,
+    json: &mut Json,
+    legend: &Legend,
+    tallies: &[Tally],
+) -> Result<(), AllocError> {
     json.open();
     for tally in tallies.get(0..MOST_LISTED).unwrap_or(tallies) {
         json.open();
         put_plain_end(json, End::Over(tally.outcome.kind));
-        json.begin_text();
-        put_output(alloc, json, legend, tally.outcome.output.as_slice());
-        json.end_text();
-        json.put_made_quoted(digits_of(alloc, &tally.count));
+        json.put_quoted(output_text(alloc, legend, tally.outcome.output.as_slice())?.as_str());
+        json.put_quoted(digits_of(alloc, &tally.count)?.as_str());
         json.put_processes(tally.first.as_slice());
         json.close();
     }
     json.close();
+    Ok(())
 }
 
 // The displayed values with a space between them.
-fn put_output(alloc: Global, json: &mut Json, legend: &Legend, values: &[Shown]) {
-    let mut is_behind = false;
-    for value in values {
-        if is_behind {
-            json.put_letters(" ");
-        }
-        json.put_made_letters(shown_text(alloc, legend, *value));
-        is_behind = true;
+fn output_text(alloc: Global, legend: &Legend, values: &[Shown]) -> Result<String, AllocError> {
+    if values.is_empty() {
+        return Ok(String::new(alloc));
     }
+    output_words(alloc, legend, values)
 }
 
 fn digits_of(alloc: Global, number: &Natural) -> Result<String, AllocError> {
@@ -85,10 +73,14 @@ fn digits_of(alloc: Global, number: &Natural) -> Result<String, AllocError> {
 }
 
 /// The first schedules of the first outcomes, up to so many.
-pub fn first_words(alloc: Global, tallies: &[Tally], most: usize) -> PageWords {
-    let mut words = PageWords::new(alloc);
+pub fn first_words(
+    alloc: Global,
+    tallies: &[Tally],
+    most: usize,
+) -> Result<Vec<Vec<u8>>, AllocError> {
+    let mut words = Vec::new(alloc);
     for tally in tallies.get(0..most).unwrap_or(tallies) {
-        words.add(Vec::from_slice(alloc, tally.first.as_slice()));
+        words.push(Vec::from_slice(alloc, tally.first.as_slice())?)?;
     }
-    words
+    Ok(words)
 }

@@ -33,16 +33,6 @@ impl<'a> Register<'a> {
         }
     }
 
-    /// Whether memory was refused for a row.
-    pub fn is_refused(&self) -> bool {
-        self.strings.is_refused()
-            || self.frames.is_refused()
-            || self.views.is_refused()
-            || self.events.is_refused()
-            || self.edges.is_refused()
-            || self.ends.is_refused()
-    }
-
     /// Appends the tables.
     pub fn put(&self, json: &mut Json) {
         self.edges.put(json, "edges");

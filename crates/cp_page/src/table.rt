@@ -1,7 +1,7 @@
 //! Tables of different rows.
 
 use crate::json::Json;
-use indexmap::IndexMap;
+use indexmap::IndexSet;
 use std::alloc::{AllocError, Global};
 
 /// Different rows in the order in which they came, each named by its place.
@@ -9,7 +9,7 @@ use std::alloc::{AllocError, Global};
 pub struct PageRows {
     alloc: Global,
     rows: Json,
-    places: IndexMap<String, usize>,
+    places: IndexSet<String>,
 }
 
 impl PageRows {
@@ -20,69 +20,27 @@ impl PageRows {
         PageRows {
             alloc,
             rows,
-            places: IndexMap::new(alloc),
+            places: IndexSet::new(alloc),
         }
     }
 
-    /// The place of a row, which is added where it is new. Any place where memory is refused, which the list of rows remembers.
-    pub fn place(&mut self, row: &Json) -> usize {
-        match row.text() {
-            Ok(text) => self.find_or_add(row, text),
-            Err(_) => self.refuse(),
+    /// The place of a row, which is added where it is new.
+    pub fn place(&mut self, row: &Json) -> Result<usize, AllocError> {
+        let text = row.text()?;
+        if let Some(place) = self.places.get_index_of(text) {
+            return Ok(place);
         }
-    }
-
-    /// Memory was refused for a row. The answer is any place.
-    fn refuse(&mut self) -> usize {
-        self.rows.refuse();
-        0
-    }
-
-    /// Whether memory was refused for a row.
-    pub fn is_refused(&self) -> bool {
-        self.rows.is_refused()
-    }
-
-    // The place of a row with this text.
-    fn find_or_add(&mut self, row: &Json, text: &str) -> usize {
-        match self.places.get(text) {
-            Some(place) => *place,
-            None => self.add(row, text),
-        }
-    }
-
-    // The place of a row that is new.
-    fn add(&mut self, row: &Json, text: &str) -> usize {
-        let place = self.places.len();
         self.rows.put_value(row);
-        if add_key(&mut self.places, String::from_str(self.alloc, text), place).is_err() {
-            return self.refuse();
-        }
-        place
+        let (place, _) = self
+            .places
+            .insert_full(String::from_str(self.alloc, text)?)?;
+        Ok(place)
     }
 
     /// The place of a text.
-    pub fn place_text(&mut self, text: &str) -> usize {
+    pub fn place_text(&mut self, text: &str) -> Result<usize, AllocError> {
         let mut row = Json::new(self.alloc);
         row.put_quoted(text);
-        self.place(&row)
-    }
-
-    /// The place of a text in three parts.
-    pub fn place_texts(&mut self, first: &str, second: &str, third: &str) -> usize {
-        let mut row = Json::new(self.alloc);
-        row.begin_text();
-        row.put_letters(first);
-        row.put_letters(second);
-        row.put_letters(third);
-        row.end_text();
-        self.place(&row)
-    }
-
-    /// The place of a text that may have failed for want of memory.
-    pub fn place_made(&mut self, made: Result<String, AllocError>) -> usize {
-        let mut row = Json::new(self.alloc);
-        row.put_made_quoted(made);
         self.place(&row)
     }
 
@@ -92,13 +50,4 @@ impl PageRows {
         json.put_value(&self.rows);
         json.close();
     }
-}
-
-fn add_key(
-    places: &mut IndexMap<String, usize>,
-    made: Result<String, AllocError>,
-    place: usize,
-) -> Result<(), AllocError> {
-    places.insert(made?, place)?;
-    Ok(())
 }

@@ -32,20 +32,15 @@ pub fn kept_variables<'a>(
     legend: &'a Legend,
 ) -> Result<Vec<KeptVariable<'a>>, AllocError> {
     let mut kept = Vec::new(alloc);
-    push_all(legend, &mut kept)?;
-    Ok(kept)
-}
-
-fn push_all<'a>(legend: &'a Legend, kept: &mut Vec<KeptVariable<'a>>) -> Result<(), AllocError> {
     let mut process = 0;
     for component in &legend.components {
         let owner = owner_of(legend, component, process);
         if let Owner::Process(number) = owner {
             process = number;
         }
-        push_kept(legend, component, owner, kept)?;
+        push_kept(legend, component, owner, &mut kept)?;
     }
-    Ok(())
+    Ok(kept)
 }
 
 // Whose the variables of a component are, where this process is the last one before it: components follow what contains them, and the
@@ -55,14 +50,14 @@ fn owner_of(legend: &Legend, component: &LegendComponent, process: u8) -> Owner 
         (_, Some(monitor)) => Owner::Monitor(monitor),
         (ComponentKind::Process(number), None) => Owner::Process(number),
         (_, None) => {
-            let within = inner_path(legend.process_name(process), component.path.as_str());
+            let within = path_inside(legend.process_name(process), component.path.as_str());
             Owner::Process(if within.is_some() { process } else { 0 })
         }
     }
 }
 
-// What of a path comes after that of what contains it.
-fn inner_path<'a>(outer: &str, path: &'a str) -> Option<&'a str> {
+/// What of a path comes after that of what contains it.
+pub fn path_inside<'a>(outer: &str, path: &'a str) -> Option<&'a str> {
     path.strip_prefix(outer)?.strip_prefix(".")
 }
 
@@ -100,7 +95,7 @@ fn class_of<'a>(legend: &Legend, component: &'a LegendComponent, owner: Owner) -
     if path == outer {
         ""
     } else {
-        inner_path(outer, path).unwrap_or(path)
+        path_inside(outer, path).unwrap_or(path)
     }
 }
 
@@ -118,60 +113,71 @@ pub fn value_text(
 
 impl<'a> Register<'a> {
     /// The place of the text of a value, whose cells begin at a place.
-    pub fn place_value(&mut self, shape: CellType, cells: &[i16], at: usize) -> usize {
-        let made = value_text(self.alloc, self.legend, shape, cells, at);
-        self.strings.place_made(made)
+    pub fn place_value(
+        &mut self,
+        shape: CellType,
+        cells: &[i16],
+        at: usize,
+    ) -> Result<usize, AllocError> {
+        let text = value_text(self.alloc, self.legend, shape, cells, at)?;
+        self.strings.place_text(text.as_str())
     }
 
     /// Appends the variables that stay, with their values: `[0, monitor, name, value]` or `[1, process, name, value]`; of queues the value is -1.
-    pub fn put_variables(&mut self, json: &mut Json, kept: &[KeptVariable<'_>], cells: &[i16]) {
+    pub fn put_variables(
+        &mut self,
+        json: &mut Json,
+        kept: &[KeptVariable<'_>],
+        cells: &[i16],
+    ) -> Result<(), AllocError> {
         json.open();
         for variable in kept {
-            self.put_variable(json, *variable, cells);
+            let (kind, owner) = match variable.owner {
+                Owner::Monitor(monitor) => (0u8, monitor),
+                Owner::Process(process) => (1, process),
+            };
+            json.open();
+            json.put_plain(kind);
+            json.put_plain(owner);
+            json.put_plain(self.place_variable_name(*variable)?);
+            if self.legend.shapes.is_queues(variable.shape) {
+                json.put_plain(-1i64);
+            } else {
+                json.put_plain(self.place_value(variable.shape, cells, variable.at)?);
+            }
+            json.close();
         }
         json.close();
-    }
-
-    fn put_variable(&mut self, json: &mut Json, variable: KeptVariable<'_>, cells: &[i16]) {
-        let (kind, owner) = match variable.owner {
-            Owner::Monitor(monitor) => (0, monitor),
-            Owner::Process(process) => (1, process),
-        };
-        json.open();
-        json.put_number(kind);
-        json.put_number(i64::from(owner));
-        json.put_place(self.place_variable_name(variable));
-        if self.legend.shapes.is_queues(variable.shape) {
-            json.put_number(-1);
-        } else {
-            json.put_place(self.place_value(variable.shape, cells, variable.at));
-        }
-        json.close();
+        Ok(())
     }
 
     // The place of the name of a variable in what it belongs to: that of a class comes before it.
-    fn place_variable_name(&mut self, variable: KeptVariable<'_>) -> usize {
-        let between = if variable.class.is_empty() { "" } else { "." };
-        self.strings
-            .place_texts(variable.class, between, variable.name)
+    fn place_variable_name(&mut self, variable: KeptVariable<'_>) -> Result<usize, AllocError> {
+        let KeptVariable { class, name, .. } = variable;
+        if class.is_empty() {
+            return self.strings.place_text(name);
+        }
+        let whole = format!(in self.alloc; "{class}.{name}")?;
+        self.strings.place_text(whole.as_str())
     }
 
     /// The variables that stay and have other values than before, each with its value now.
-    pub fn changes(&mut self, kept: &[KeptVariable<'_>], before: &[i16], now: &[i16]) -> Json {
+    pub fn changes(
+        &mut self,
+        kept: &[KeptVariable<'_>],
+        before: &[i16],
+        now: &[i16],
+    ) -> Result<Json, AllocError> {
         let mut changes = Json::new(self.alloc);
         changes.open();
         for (place, variable) in kept.iter().enumerate() {
-            if self.has_changed(*variable, before, now) {
-                changes.put_place(place);
-                changes.put_place(self.place_value(variable.shape, now, variable.at));
+            let KeptVariable { shape, at, end, .. } = *variable;
+            if before.get(at..end) != now.get(at..end) && !self.legend.shapes.is_queues(shape) {
+                changes.put_plain(place);
+                changes.put_plain(self.place_value(shape, now, at)?);
             }
         }
         changes.close();
-        changes
-    }
-
-    fn has_changed(&self, variable: KeptVariable<'_>, before: &[i16], now: &[i16]) -> bool {
-        let KeptVariable { shape, at, end, .. } = variable;
-        before.get(at..end) != now.get(at..end) && !self.legend.shapes.is_queues(shape)
+        Ok(changes)
     }
 }

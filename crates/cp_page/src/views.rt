@@ -8,46 +8,53 @@ use cp_machine::{Entry, ProcessState, State};
 use cp_slots::Resolved;
 use cp_store::Frame;
 use cp_story::aim_of;
+use std::alloc::AllocError;
 
 impl<'a> Register<'a> {
     /// The place of the view of a process: `[line, [frame, ..]]`, the outermost frame first. The line is 0 where a call comes to its end.
-    pub fn place_view(&mut self, program: &Resolved, state: &State, process: u8) -> usize
+    pub fn place_view(
+        &mut self,
+        program: &Resolved,
+        state: &State,
+        process: u8,
+    ) -> Result<usize, AllocError>
         requires { IsStateOf program.now state.now }
     {
         let mut row = Json::new(self.alloc);
         row.open();
-        row.put_number(i64::from(next_line(program, state, process)));
-        self.put_frames(&mut row, state, process);
+        row.put_plain(next_line(program, state, process));
+        self.put_frames(&mut row, state, process)?;
         row.close();
         self.views.place(&row)
     }
 
-    fn put_frames(&mut self, row: &mut Json, state: &State, process: u8) {
+    fn put_frames(&mut self, row: &mut Json, state: &State, process: u8) -> Result<(), AllocError> {
         row.open();
         if let Some(process) = state.processes.get(process as usize)
             && !process.stack.is_empty()
         {
             for entry in &process.stack {
                 if let Some(frame) = outer_frame(entry) {
-                    row.put_place(self.place_frame(process, frame));
+                    row.put_plain(self.place_frame(process, frame)?);
                 }
             }
-            row.put_place(self.place_frame(process, process.frame));
+            row.put_plain(self.place_frame(process, process.frame)?);
         }
         row.close();
+        Ok(())
     }
 
     // The place of a frame: `[name, variable, value, variable, value, ..]`.
-    fn place_frame(&mut self, process: &ProcessState, frame: Frame) -> usize {
+    fn place_frame(&mut self, process: &ProcessState, frame: Frame) -> Result<usize, AllocError> {
         let mut row = Json::new(self.alloc);
         row.open();
-        row.put_place(self.place_frame_name(frame));
+        row.put_plain(self.place_frame_name(frame)?);
         let legend = self.legend;
         if let Some(routine) = legend.routines.get(frame.routine) {
             for variable in &routine.variables {
                 let at = frame.base.saturating_add(variable.slot);
-                row.put_place(self.strings.place_text(variable.name.as_str()));
-                row.put_place(self.place_value(variable.shape, &process.room.cells, at));
+                row.put_plain(self.strings.place_text(variable.name.as_str())?);
+                row.put_plain(self.place_value(variable.shape, &process.room.cells, at)?);
             }
         }
         row.close();
@@ -55,7 +62,7 @@ impl<'a> Register<'a> {
     }
 
     // The path of the component, and the routine where it is no initial statement.
-    fn place_frame_name(&mut self, frame: Frame) -> usize {
+    fn place_frame_name(&mut self, frame: Frame) -> Result<usize, AllocError> {
         let path = match self.legend.components.get(frame.component) {
             Some(component) => component.path.as_str(),
             None => "",
@@ -64,7 +71,8 @@ impl<'a> Register<'a> {
         if routine.is_empty() {
             return self.strings.place_text(path);
         }
-        self.strings.place_texts(path, ".", routine)
+        let name = format!(in self.alloc; "{path}.{routine}")?;
+        self.strings.place_text(name.as_str())
     }
 }
 

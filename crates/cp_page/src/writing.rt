@@ -1,7 +1,6 @@
 //! The whole page.
 
 use crate::data::data;
-use crate::json::Json;
 use crate::markup::{BEGIN, BETWEEN, BODY, END, HEAD, SCRIPT, SCRIPT_HASH, STYLE_HASH};
 use crate::script_counts::COUNTS;
 use crate::script_lanes::LANES;
@@ -20,12 +19,7 @@ pub fn page<O: ObserveProgress>(
     subject: PageSubject<'_>,
     observer: &mut O,
 ) -> Result<String, AllocError> {
-    let data = data(alloc, subject, observer);
-    with_data(alloc, &data)
-}
-
-// The page with these data.
-fn with_data(alloc: Global, data: &Json) -> Result<String, AllocError> {
+    let data = data(alloc, subject, observer)?;
     let mut text = String::new(alloc);
     for part in [BEGIN, STYLE_HASH, BETWEEN, SCRIPT_HASH, HEAD, STYLE, BODY] {
         text.push_str(part)?;
