@@ -1,6 +1,6 @@
 //! How a run stops between two events.
 
-ghost use Rattle.std.specs.Prelude.{◌≡◌, ◌++◌, map, option_map, string_bytes, IfOk, OnOk};
+ghost use Rattle.std.specs.Prelude.{◌≡◌, ◌++◌, map, option_map, string_bytes, IfOk};
 ghost use Rattle.cp_legend.specs.Names.{legend_seen};
 ghost use Rattle.cp_run.specs.Code.{answer_of};
 ghost use Rattle.cp_story.specs.Halted as spec;
@@ -9,9 +9,9 @@ ghost use Rattle.cp_story.specs.Views.{wait_of};
 
 use crate::observer::Last;
 use crate::story::Wait;
-use crate::words::{push_cell_queue, push_process};
+use crate::words::{error_words, push_cell_queue, push_process};
 use cp_legend::Legend;
-use cp_machine::{ErrorName, Status};
+use cp_machine::ErrorName;
 use cp_run::{OutcomeKind, RunEnd};
 use std::alloc::{AllocError, Global};
 
@@ -61,7 +61,7 @@ fn abrupt_end_as(
             AbruptEnd {
                 process,
                 line: Some(line),
-                words: error_words(alloc, legend, name, last.queue, waiting)?,
+                words: failure_words(alloc, legend, name, last.queue, waiting)?,
                 waiting,
             }
         }
@@ -107,7 +107,7 @@ fn first_in_cell(cell: usize, waits: &[Wait]) -> Option<u8>
 }
 
 // An error, and who waits in the queue if it is in use.
-fn error_words(
+fn failure_words(
     alloc: Global,
     legend: &Legend,
     name: ErrorName,
@@ -116,7 +116,8 @@ fn error_words(
 ) -> Result<String, AllocError>
     ensures { IfOk result (λ t. string_bytes t ≡ spec.error_text name ++ spec.in_use_text (legend_seen legend.now) queue waiting) }
 {
-    let mut text = String::from_str(alloc, stop_phrase(name))?;
+    let mut text = String::from_str(alloc, "stops with ")?;
+    text.push_str(error_words(name))?;
     if let (Some(cell), Some(process)) = (queue, waiting) {
         text.push_str(": ")?;
         push_process(legend, &mut text, process)?;
@@ -124,18 +125,4 @@ fn error_words(
         push_cell_queue(alloc, legend, &mut text, cell)?;
     }
     Ok(text)
-}
-
-fn stop_phrase(name: ErrorName) -> &'static str
-    ensures { result.now ≡ spec.error_text name }
-{
-    match name {
-        ErrorName::Overflow => "stops with overflow",
-        ErrorName::ZeroDivisor => "stops with zero-divisor",
-        ErrorName::Range => "stops with range",
-        ErrorName::NoCase => "stops with no-case",
-        ErrorName::QueueInUse => "stops with queue-in-use",
-        ErrorName::NotInit => "stops with not-init",
-        ErrorName::InitTwice => "stops with init-twice",
-    }
 }
