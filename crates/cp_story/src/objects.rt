@@ -214,11 +214,7 @@ fn event_object(alloc: Global, legend: &Legend, event: &StoryEvent) -> Result<Va
     put_cause(alloc, &mut object, event)?;
     put_happening(legend, &mut object, &event.happening)?;
     put_returned(alloc, &mut object, event)?;
-    object.put("woken", numbers(alloc, event.woken.as_slice())?)?;
-    object.put("let_in", numbers(alloc, event.let_in.as_slice())?)?;
-    object.put("status", statuses(alloc, legend, &event.statuses)?)?;
-    object.put("holders", holders(alloc, event.plain.holders.as_slice())?)?;
-    object.put("changes", changes(alloc, legend, &event.changes)?)?;
+    put_effects(alloc, legend, &mut object, event)?;
     Ok(object.into_value())
 }
 
@@ -241,6 +237,22 @@ fn put_choice(alloc: Global, object: &mut Object, choice: &Option<Choice>) -> Re
         Some(choice) => object.put("choice", choice_object(alloc, choice)?),
         None => Ok(()),
     }
+}
+
+// How the processes, the monitors and the variables stand after it.
+fn put_effects(
+    alloc: Global,
+    legend: &Legend,
+    object: &mut Object,
+    event: &StoryEvent,
+) -> Result<(), AllocError>
+    ensures { OnOk result (members_in object.new ≡ with_members (members_in object.old) (spec.effect_members (legend_seen legend.now) (told_of event.now))) }
+{
+    object.put("woken", numbers(alloc, event.woken.as_slice())?)?;
+    object.put("let_in", numbers(alloc, event.let_in.as_slice())?)?;
+    object.put("status", statuses(alloc, legend, &event.statuses)?)?;
+    object.put("holders", holders(alloc, event.plain.holders.as_slice())?)?;
+    object.put("changes", changes(alloc, legend, &event.changes)?)
 }
 
 // What came back, where a call ended.
