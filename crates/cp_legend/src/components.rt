@@ -1,6 +1,6 @@
 //! The components of a program with their paths.
 
-ghost use Rattle.std.specs.Prelude.{◌≡◌, ◌++◌, ◌∷◌, [], map, length, slice_get, IfOk, OnOk};
+ghost use Rattle.std.specs.Prelude.{◌≡◌, map, length, slice_get, IfOk, OnOk};
 ghost use Rattle.std.specs.String.{string_bytes};
 ghost use Rattle.cp_legend.specs.Names as spec;
 ghost use Rattle.cp_legend.specs.Names.{component_seen, part_seen, parts_seen, source_seen};
@@ -56,26 +56,6 @@ fn inside(alloc: Global, path: &str, text: &str) -> Result<String, AllocError>
     Ok(inner)
 }
 
-fn push_named(
-    alloc: Global,
-    components: &mut Vec<LegendComponent>,
-    component: Component,
-    path: &str,
-    outer: Option<u8>,
-) -> Result<(), AllocError>
-    ensures { OnOk result (map component_seen components.new.items ≡ map component_seen components.old.items ++ spec.named component path.now outer ∷ []) }
-{
-    let called = if path.is_empty() { "program" } else { path };
-    components.push(LegendComponent {
-        path: String::from_str(alloc, called)?,
-        kind: component.kind,
-        system: component.system,
-        monitor: monitor_of(component.kind, outer),
-        base: component.base,
-    })?;
-    Ok(())
-}
-
 // What components are named by: the tables, and the parts of each system type.
 #[derive(Clone, Copy)]
 struct Naming<'a> {
@@ -118,8 +98,15 @@ impl Naming<'_> {
         let Some(component) = self.component_at(components.len()) else {
             return Ok(());
         };
-        push_named(self.alloc, components, component, path, outer)?;
+        let called = if path.is_empty() { "program" } else { path };
         let monitor = monitor_of(component.kind, outer);
+        components.push(LegendComponent {
+            path: String::from_str(self.alloc, called)?,
+            kind: component.kind,
+            system: component.system,
+            monitor,
+            base: component.base,
+        })?;
         self.name_parts(components, self.parts_at(system), path, monitor, system)
     }
 

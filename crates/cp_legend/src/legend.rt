@@ -135,59 +135,49 @@ impl Legend {
     pub fn process_name(&self, process: u8) -> &str
         ensures { result.now ≡ spec.path_in (spec.process_in (map component_seen self.now.components.items) process) }
     {
-        match self.process(process) {
-            Some(component) => component.path.as_str(),
-            None => "",
-        }
+        self.process(process)
+            .map_or("", |component| component.path.as_str())
     }
 
     /// The name of the type of a process; the program has none.
     pub fn process_type(&self, process: u8) -> &str
         ensures { result.now ≡ spec.type_in (map system_seen self.now.systems.items) (spec.process_in (map component_seen self.now.components.items) process) }
     {
-        match self.process(process) {
-            Some(component) => self.type_name(component.system),
-            None => "",
-        }
+        self.process(process)
+            .map_or("", |component| self.type_name(component.system))
     }
 
     /// The path of a monitor.
     pub fn monitor_name(&self, monitor: u8) -> &str
         ensures { result.now ≡ spec.path_in (spec.monitor_in (map component_seen self.now.components.items) monitor) }
     {
-        match self.monitor(monitor) {
-            Some(component) => component.path.as_str(),
-            None => "",
-        }
+        self.monitor(monitor)
+            .map_or("", |component| component.path.as_str())
     }
 
     /// The name of the type of a monitor.
     pub fn monitor_type(&self, monitor: u8) -> &str
         ensures { result.now ≡ spec.type_in (map system_seen self.now.systems.items) (spec.monitor_in (map component_seen self.now.components.items) monitor) }
     {
-        match self.monitor(monitor) {
-            Some(component) => self.type_name(component.system),
-            None => "",
-        }
+        self.monitor(monitor)
+            .map_or("", |component| self.type_name(component.system))
     }
 
     /// The name of a routine.
     pub fn routine_name(&self, routine: usize) -> &str
         ensures { result.now ≡ spec.name_of_routine (slice_get (map routine_names_seen self.now.routines.items) routine) }
     {
-        match self.routines.get(routine) {
-            Some(routine) => routine.name.as_str(),
-            None => "",
-        }
+        self.routines
+            .get(routine)
+            .map_or("", |routine| routine.name.as_str())
     }
 
     fn type_name(&self, system: usize) -> &str
         ensures { result.now ≡ spec.name_at (map system_seen self.now.systems.items) system }
     {
-        match self.systems.get(system) {
-            Some(system) => system.name.as_str(),
-            None => "",
-        }
+        self.systems
+            .get(system)
+            .map_or("", |system| system.name.as_str())
     }
 
     fn process(&self, process: u8) -> Option<&LegendComponent>
@@ -216,17 +206,11 @@ impl Legend {
 fn is_process(kind: ComponentKind, process: u8) -> bool
     ensures { result ≡ spec.is_process kind process }
 {
-    match kind {
-        ComponentKind::Process(number) => number == process,
-        ComponentKind::Monitor(_) | ComponentKind::Class => false,
-    }
+    matches!(kind, ComponentKind::Process(number) if number == process)
 }
 
 fn is_monitor(kind: ComponentKind, monitor: u8) -> bool
     ensures { result ≡ spec.is_monitor kind monitor }
 {
-    match kind {
-        ComponentKind::Monitor(number) => number == monitor,
-        ComponentKind::Process(_) | ComponentKind::Class => false,
-    }
+    matches!(kind, ComponentKind::Monitor(number) if number == monitor)
 }

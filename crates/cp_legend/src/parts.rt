@@ -48,34 +48,14 @@ fn parts_of(
 {
     let mut parts = Vec::new(alloc);
     for symbol in &symbols.declared {
-        add_parts(alloc, &mut parts, symbols, symbol, number)?;
+        if home_of(symbols, symbol) != number {
+            continue;
+        }
+        if let LayoutMeaning::Contained(_, shape) = symbol.meaning {
+            add_contained(alloc, &mut parts, symbols, symbol.name.as_str(), shape)?;
+        }
     }
     Ok(parts)
-}
-
-// Those of a name, if the system type of this number declares it.
-fn add_parts(
-    alloc: Global,
-    parts: &mut Vec<ComponentPart>,
-    symbols: &Symbols,
-    symbol: &Symbol,
-    number: usize,
-) -> Result<(), AllocError>
-    ensures { OnOk result (map part_seen parts.new.items ≡ map part_seen parts.old.items ++ spec.parts_named (source_seen symbols.now) number (symbol_seen symbol.now)) }
-{
-    if home_of(symbols, symbol) != number {
-        return Ok(());
-    }
-    match symbol.meaning {
-        LayoutMeaning::Contained(_, shape) => add_contained(
-            alloc,
-            parts,
-            symbols,
-            symbol.name.as_str(),
-            shape,
-        ),
-        _ => Ok(()),
-    }
 }
 
 fn add_contained(

@@ -1,6 +1,6 @@
 //! Names of places: a variable or a part of one, by its first cell.
 
-ghost use Rattle.std.specs.Prelude.{◌≡◌, ◌++◌, ◌-◌, map, option_map, length, slice_get, IfOk, OnOk};
+ghost use Rattle.std.specs.Prelude.{◌≡◌, ◌++◌, ◌-◌, map, option_map, slice_get, IfOk, OnOk};
 ghost use Rattle.std.specs.String.{string_bytes};
 ghost use Rattle.cp_symbols.specs.Kinds.{times};
 ghost use Rattle.cp_symbols.specs.Symbols.{field_symbol_seen};
@@ -30,7 +30,9 @@ impl Legend {
     {
         let mut found = None;
         for component in &self.components {
-            found = later(found, component, cell);
+            if component.base <= cell {
+                found = Some(component);
+            }
         }
         found
     }
@@ -177,21 +179,6 @@ struct PlacePart {
     offset: usize,
 }
 
-// The later one of two components, if it begins at the cell or before.
-fn later<'a>(
-    found: Option<&'a LegendComponent>,
-    component: &'a LegendComponent,
-    cell: usize,
-) -> Option<&'a LegendComponent>
-    ensures { option_map (λ c. component_seen c.now) result ≡ spec.later (option_map (λ c. component_seen c.now) found.entry) (component_seen component.now) cell }
-{
-    if component.base <= cell {
-        Some(component)
-    } else {
-        found
-    }
-}
-
 fn element_at(array: ArrayType, offset: usize) -> usize
     ensures { result ≡ spec.element_at array offset }
 {
@@ -239,21 +226,9 @@ fn field_at(fields: &[FieldSymbol], offset: usize) -> Option<&FieldSymbol>
 {
     let mut found = None;
     for field in fields {
-        found = later_field(found, field, offset);
+        if field.offset <= offset {
+            found = Some(field);
+        }
     }
     found
-}
-
-fn later_field<'a>(
-    found: Option<&'a FieldSymbol>,
-    field: &'a FieldSymbol,
-    offset: usize,
-) -> Option<&'a FieldSymbol>
-    ensures { option_map (λ f. field_symbol_seen f.now) result ≡ spec.later_field (option_map (λ f. field_symbol_seen f.now) found.entry) (field_symbol_seen field.now) offset }
-{
-    if field.offset <= offset {
-        Some(field)
-    } else {
-        found
-    }
 }

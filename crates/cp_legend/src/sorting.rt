@@ -58,10 +58,7 @@ fn is_system(meaning: LayoutMeaning, number: usize) -> bool
 fn kind_of(symbols: &Symbols, number: usize) -> Option<SystemKind>
     ensures { result ≡ spec.kind_in (slice_get symbols.now.systems.items number) }
 {
-    match symbols.systems.get(number) {
-        Some(system) => Some(system.kind),
-        None => None,
-    }
+    symbols.systems.get(number).map(|system| system.kind)
 }
 
 /// The permanent variables of each system type.
@@ -86,28 +83,15 @@ fn permanents_of(
 {
     let mut variables = Vec::new(alloc);
     for symbol in &symbols.declared {
-        add_permanent(&mut variables, symbols, symbol, number)?;
+        if home_of(symbols, symbol) != number {
+            continue;
+        }
+        if let LayoutMeaning::Variable(PlaceOrigin::Permanent(slot), shape) = symbol.meaning {
+            let name = symbol.name.clone()?;
+            variables.push(Variable { name, slot, shape })?;
+        }
     }
     Ok(variables)
-}
-
-// A name, if it is a permanent variable of the system type of this number.
-fn add_permanent(
-    variables: &mut Vec<Variable>,
-    symbols: &Symbols,
-    symbol: &Symbol,
-    number: usize,
-) -> Result<(), AllocError>
-    ensures { OnOk result (map variable_seen variables.new.items ≡ map variable_seen variables.old.items ++ spec.permanent_named (source_seen symbols.now) number (symbol_seen symbol.now)) }
-{
-    if home_of(symbols, symbol) != number {
-        return Ok(());
-    }
-    if let LayoutMeaning::Variable(PlaceOrigin::Permanent(slot), shape) = symbol.meaning {
-        let name = symbol.name.clone()?;
-        variables.push(Variable { name, slot, shape })?;
-    }
-    Ok(())
 }
 
 /// The routines.
@@ -204,26 +188,15 @@ fn locals_of(alloc: Global, symbols: &Symbols, number: usize) -> Result<Vec<Vari
 {
     let mut variables = Vec::new(alloc);
     for symbol in &symbols.declared {
-        add_local(&mut variables, symbol, number)?;
+        if symbol.routine != number {
+            continue;
+        }
+        if let LayoutMeaning::Variable(PlaceOrigin::Local(slot), shape) = symbol.meaning {
+            let name = symbol.name.clone()?;
+            variables.push(Variable { name, slot, shape })?;
+        }
     }
     Ok(variables)
-}
-
-fn add_local(
-    variables: &mut Vec<Variable>,
-    symbol: &Symbol,
-    number: usize,
-) -> Result<(), AllocError>
-    ensures { OnOk result (map variable_seen variables.new.items ≡ map variable_seen variables.old.items ++ spec.local_named number (symbol_seen symbol.now)) }
-{
-    if symbol.routine != number {
-        return Ok(());
-    }
-    if let LayoutMeaning::Variable(PlaceOrigin::Local(slot), shape) = symbol.meaning {
-        let name = symbol.name.clone()?;
-        variables.push(Variable { name, slot, shape })?;
-    }
-    Ok(())
 }
 
 impl LegendRoutine {

@@ -11,7 +11,8 @@ use Rattle.cp_run.specs.declared.outcome.OutcomeKind.TheVariants as kind
 use Rattle.cp_run.specs.Run.{Answer, Ended, run}
 use Rattle.cp_run.specs.Slots.{slots}
 use Rattle.cp_store.specs.declared.error.ErrorName.{ErrorName}
-use Rattle.cp_store.specs.declared.error.ErrorName.TheVariants.{Overflow, ZeroDivisor, Range, NoCase, QueueInUse, NotInit, InitTwice}
+use Rattle.cp_store.specs.declared.error.ErrorName.TheVariants.{QueueInUse}
+use Rattle.cp_story.specs.Ends.{error_name}
 use Rattle.cp_story.specs.Sentences.{cell_queue_text, process_text}
 use Rattle.cp_story.specs.Story.{telling}
 use Rattle.cp_story.specs.Waiting.{Waiting, who_waits}
@@ -30,13 +31,7 @@ abbrev pub halted_seen : AbruptEnd → Halted
 halted_seen s = record { process = s.process; line = s.line; words = string_bytes s.words; waiting = s.waiting }
 
 abbrev pub error_text : ErrorName → List ℕ
-error_text Overflow = codes "stops with overflow"
-error_text ZeroDivisor = codes "stops with zero-divisor"
-error_text Range = codes "stops with range"
-error_text NoCase = codes "stops with no-case"
-error_text QueueInUse = codes "stops with queue-in-use"
-error_text NotInit = codes "stops with not-init"
-error_text InitTwice = codes "stops with init-twice"
+error_text name = codes "stops with " ++ error_name name
 
 -- ---- a queue that is in use
 

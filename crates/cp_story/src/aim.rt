@@ -120,18 +120,9 @@ fn queue_cell(state: &State, pid: u8, place: &Place) -> Option<usize>
 fn woken_by(state: &State, item: &Item, queue: Option<usize>) -> Option<u8>
     ensures { result ≡ spec.woken_by (machine_of state.now) item.now.action queue }
 {
-    match item.action {
-        Action::Continue(_) => waiter_in(state, queue),
+    match (&item.action, queue) {
+        (Action::Continue(_), Some(cell)) => waiter_of(state, cell),
         _ => None,
-    }
-}
-
-fn waiter_in(state: &State, queue: Option<usize>) -> Option<u8>
-    ensures { result ≡ spec.waiter_in (machine_of state.now) queue }
-{
-    match queue {
-        Some(cell) => waiter_of(state, cell),
-        None => None,
     }
 }
 

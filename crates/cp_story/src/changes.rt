@@ -93,14 +93,7 @@ fn has_changed(
 {
     let at = place(component, variable);
     let end = at.saturating_add(legend.shapes.cells_of(variable.shape));
-    !are_same(before, now, at, end) && !legend.shapes.is_queues(variable.shape)
-}
-
-// Whether the cells from a place to an end are the same in both.
-fn are_same(before: &[i16], now: &[i16], at: usize, end: usize) -> bool
-    ensures { result ≡ spec.are_same before.now now.now at end }
-{
-    before.get(at..end) == now.get(at..end)
+    before.get(at..end) != now.get(at..end) && !legend.shapes.is_queues(variable.shape)
 }
 
 // The name of a variable in a monitor: that of a class inside comes before it.

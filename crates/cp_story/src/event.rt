@@ -97,10 +97,3 @@ pub struct StoryEvent {
     /// It tells of what the trace has in its line.
     pub ghost same: { event_of happening ≡ plain.event },
 }
-
-impl StoryEvent {
-    /// Whether it continues a queue in which nobody waits.
-    pub fn wakes_nobody(&self) -> bool {
-        matches!(self.happening, Happening::Continue(..)) && self.woken.is_empty()
-    }
-}

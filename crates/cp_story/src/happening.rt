@@ -22,26 +22,14 @@ pub fn arguments(
 ) -> Result<Vec<SourceValue>, AllocError>
     ensures { IfOk result (λ v. map value_seen v.items ≡ spec.arguments (legend_seen legend.now) (slice_get (machine_of state.now).threads pid)) }
 {
-    let Some(process) = state.processes.get(pid as usize) else {
-        return Ok(Vec::new(alloc));
-    };
-    match legend.routines.get(process.frame.routine) {
-        Some(routine) => arguments_for(alloc, legend, process, &routine.parameters),
-        None => Ok(Vec::new(alloc)),
-    }
-}
-
-// The arguments of the innermost call for these parameters.
-fn arguments_for(
-    alloc: Global,
-    legend: &Legend,
-    process: &ProcessState,
-    parameters: &[LegendParameter],
-) -> Result<Vec<SourceValue>, AllocError>
-    ensures { IfOk result (λ v. map value_seen v.items ≡ map (spec.argument (legend_seen legend.now) (thread_of process.now)) parameters.now) }
-{
     let mut values = Vec::new(alloc);
-    for parameter in parameters {
+    let Some(process) = state.processes.get(pid as usize) else {
+        return Ok(values);
+    };
+    let Some(routine) = legend.routines.get(process.frame.routine) else {
+        return Ok(values);
+    };
+    for parameter in &routine.parameters {
         values.push(argument(alloc, legend, process, *parameter)?)?;
     }
     Ok(values)
@@ -116,7 +104,9 @@ fn frame_with(process: &ProcessState, cell: usize) -> Option<Frame>
 {
     let mut found = None;
     for entry in &process.stack {
-        found = nearer(caller_in(*entry), cell, found);
+        found = caller_in(*entry)
+            .filter(|frame| frame.base <= cell)
+            .or(found);
     }
     found
 }
@@ -129,21 +119,5 @@ fn caller_in(entry: Entry) -> Option<Frame>
         Entry::Return(frame, _, _) => Some(frame),
         Entry::InitEnd(frame, _) => Some(frame),
         Entry::Rest(_) | Entry::Successor(_, _, _) => None,
-    }
-}
-
-// A frame, if it begins at the cell or before; else another.
-fn nearer(frame: Option<Frame>, cell: usize, outer: Option<Frame>) -> Option<Frame>
-    ensures { result ≡ spec.nearer frame cell outer }
-{
-    match frame {
-        Some(frame) => {
-            if frame.base <= cell {
-                Some(frame)
-            } else {
-                outer
-            }
-        }
-        None => outer,
     }
 }

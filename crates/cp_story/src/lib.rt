@@ -26,6 +26,6 @@ pub use stopping::AbruptEnd;
 pub use story::{MOST_NUMBERS, Story, Wait, tell};
 pub use texts::text;
 pub use words::{
-    Stop, end_words, error_words, happening_words, kind_words, output_words, push_call,
-    push_returned, push_shown, refused_words, stop_words, unused_words, wait_words,
+    end_words, error_words, happening_words, kind_words, output_words, push_call, push_returned,
+    push_shown, refused_words, unused_words, wait_words,
 };

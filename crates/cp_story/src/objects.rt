@@ -107,25 +107,14 @@ fn story_object(
     ensures { IfOk result (λ o. object (members_in o) ≡ spec.story_data (legend_seen legend.now) story.now word.now (map string_bytes source.now)) }
 {
     let mut whole = Object::new(alloc);
-    put_story(alloc, legend, &mut whole, story)?;
+    whole.put("processes", processes(alloc, legend)?)?;
+    whole.put("monitors", monitors(alloc, legend)?)?;
+    whole.put("events", events(alloc, legend, &story.events)?)?;
+    whole.put("end", end(alloc, story)?)?;
     put_outcome(alloc, legend, &mut whole, story, word)?;
     whole.put("final", waits(alloc, legend, &story.waits)?)?;
     whole.put("source", lines(alloc, source)?)?;
     Ok(whole)
-}
-
-fn put_story(
-    alloc: Global,
-    legend: &Legend,
-    whole: &mut Object,
-    story: &Story,
-) -> Result<(), AllocError>
-    ensures { OnOk result (members_in whole.new ≡ with_members (members_in whole.old) (spec.first_members (legend_seen legend.now) story.now)) }
-{
-    whole.put("processes", processes(alloc, legend)?)?;
-    whole.put("monitors", monitors(alloc, legend)?)?;
-    whole.put("events", events(alloc, legend, &story.events)?)?;
-    whole.put("end", end(alloc, story)?)
 }
 
 // What of the word was used, and what was displayed, where the run has ended.
@@ -223,7 +212,7 @@ fn event_object(alloc: Global, legend: &Legend, event: &StoryEvent) -> Result<Va
 {
     let mut object = Object::new(alloc);
     put_cause(alloc, &mut object, event)?;
-    put_happening(alloc, legend, &mut object, &event.happening)?;
+    put_happening(legend, &mut object, &event.happening)?;
     put_returned(alloc, &mut object, event)?;
     put_effects(alloc, legend, &mut object, event)?;
     Ok(object.into_value())
@@ -339,7 +328,6 @@ fn event_word(happening: &Happening) -> &'static str
 
 #[tactic(auto, using(crate::proofs::Floats::with_both))]
 fn put_happening(
-    alloc: Global,
     legend: &Legend,
     object: &mut Object,
     happening: &Happening,
@@ -354,7 +342,7 @@ fn put_happening(
             ..
         } => {
             put_call(legend, object, *call)?;
-            object.put("arguments", values(alloc, arguments)?)
+            object.put("arguments", values(object.alloc, arguments)?)
         }
         Happening::Leave(call) | Happening::Admit(call) => put_call(legend, object, *call),
         Happening::Delay(queue, call) | Happening::Continue(queue, call) => {
@@ -365,7 +353,9 @@ fn put_happening(
             object.text("target", legend.process_name(*process))?;
             object.number("target_process", u64::from(*process))
         }
-        Happening::Display(shown) => object.put("value", shown_value(alloc, legend, *shown)?),
+        Happening::Display(shown) => {
+            object.put("value", shown_value(object.alloc, legend, *shown)?)
+        }
         Happening::End => Ok(()),
     }
 }
@@ -416,12 +406,7 @@ fn record(alloc: Global, members: &[Member]) -> Result<Value, AllocError>
     Ok(object.into_value())
 }
 
-fn put_status(
-    alloc: Global,
-    legend: &Legend,
-    object: &mut Object,
-    status: Status,
-) -> Result<(), AllocError>
+fn put_status(legend: &Legend, object: &mut Object, status: Status) -> Result<(), AllocError>
     ensures { OnOk result (members_in object.new ≡ with_members (members_in object.old) (spec.status_members (legend_seen legend.now) status)) }
 {
     match status {
@@ -434,7 +419,7 @@ fn put_status(
         Status::Delayed(cell) => {
             object.text("is", "delayed")?;
             object.number("monitor", u64::from(legend.monitor_of(cell).unwrap_or(0)))?;
-            let name = legend.permanent_name(alloc, cell, 1)?;
+            let name = legend.permanent_name(object.alloc, cell, 1)?;
             object.text("queue", name.as_str())
         }
         Status::Ended => object.text("is", "ended"),
@@ -448,7 +433,7 @@ fn statuses(alloc: Global, legend: &Legend, statuses: &[Status]) -> Result<Value
     let mut items = Vec::new(alloc);
     for status in statuses {
         let mut object = Object::new(alloc);
-        put_status(alloc, legend, &mut object, *status)?;
+        put_status(legend, &mut object, *status)?;
         items.push(object.into_value())?;
     }
     Ok(Value::Array(items))
@@ -492,7 +477,7 @@ pub fn waits(alloc: Global, legend: &Legend, waits: &[Wait]) -> Result<Value, Al
     for wait in waits {
         let mut object = Object::new(alloc);
         object.number("process", u64::from(wait.process))?;
-        put_status(alloc, legend, &mut object, wait.status)?;
+        put_status(legend, &mut object, wait.status)?;
         object.put("inside", numbers(alloc, &wait.inside)?)?;
         items.push(object.into_value())?;
     }

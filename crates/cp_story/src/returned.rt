@@ -47,24 +47,9 @@ fn push_parameters(
     ensures { OnOk result (map given_of all.new.items ≡ map given_of all.old.items ++ flat_map (spec.parameter_given (legend_seen legend.now) (machine_of state.now).permanents (thread_of process.now)) parameters.now) }
 {
     for parameter in parameters {
-        push_parameter(alloc, legend, state, process, *parameter, all)?;
-    }
-    Ok(())
-}
-
-// Appends the place that a parameter names, if it is a `var` parameter.
-fn push_parameter(
-    alloc: Global,
-    legend: &Legend,
-    state: &State,
-    process: &ProcessState,
-    parameter: LegendParameter,
-    all: &mut Vec<Returned>,
-) -> Result<(), AllocError>
-    ensures { OnOk result (map given_of all.new.items ≡ map given_of all.old.items ++ spec.parameter_given (legend_seen legend.now) (machine_of state.now).permanents (thread_of process.now) parameter) }
-{
-    if let LegendPassing::Reference = parameter.passing {
-        all.push(place_of(alloc, legend, state, process, parameter)?)?;
+        if let LegendPassing::Reference = parameter.passing {
+            all.push(place_of(alloc, legend, state, process, *parameter)?)?;
+        }
     }
     Ok(())
 }

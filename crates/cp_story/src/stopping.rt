@@ -1,6 +1,6 @@
 //! How a run stops between two events.
 
-ghost use Rattle.std.specs.Prelude.{◌≡◌, ◌++◌, map, option_map, string_bytes, IfOk, OnOk};
+ghost use Rattle.std.specs.Prelude.{◌≡◌, ◌++◌, map, option_map, string_bytes, IfOk};
 ghost use Rattle.cp_legend.specs.Names.{legend_seen};
 ghost use Rattle.cp_run.specs.Code.{answer_of};
 ghost use Rattle.cp_story.specs.Halted as spec;
@@ -9,9 +9,9 @@ ghost use Rattle.cp_story.specs.Views.{wait_of};
 
 use crate::observer::Last;
 use crate::story::Wait;
-use crate::words::{push_cell_queue, push_process};
+use crate::words::{error_words, push_cell_queue, push_process};
 use cp_legend::Legend;
-use cp_machine::{ErrorName, Status};
+use cp_machine::ErrorName;
 use cp_run::{OutcomeKind, RunEnd};
 use std::alloc::{AllocError, Global};
 
@@ -51,26 +51,27 @@ fn abrupt_end_as(
 ) -> Result<Option<AbruptEnd>, AllocError>
     ensures { IfOk result (λ s. option_map halted_seen s ≡ spec.halted_as (legend_seen legend.now) last (map wait_of waits.now) kind) }
 {
-    match kind {
+    let stop = match kind {
         OutcomeKind::RunError {
             name,
             process,
             line,
         } => {
             let waiting = waiting_at_error(name, waits, last.queue);
-            let stop = end_by_error(alloc, legend, name, process, line, last.queue, waiting)?;
-            Ok(Some(stop))
+            AbruptEnd {
+                process,
+                line: Some(line),
+                words: failure_words(alloc, legend, name, last.queue, waiting)?,
+                waiting,
+            }
         }
-        OutcomeKind::StepLimit => {
-            let stop = end_at_limit(alloc, last, "goes on to the limit of steps")?;
-            Ok(Some(stop))
-        }
-        OutcomeKind::OutputLimit => {
-            let stop = end_at_limit(alloc, last, "displays a value too many")?;
-            Ok(Some(stop))
-        }
-        OutcomeKind::Finished | OutcomeKind::AllWaiting | OutcomeKind::ChoiceLimit => Ok(None),
-    }
+        OutcomeKind::StepLimit => end_at_limit(alloc, last, "goes on to the limit of steps")?,
+        OutcomeKind::OutputLimit => end_at_limit(alloc, last, "displays a value too many")?,
+        OutcomeKind::Finished | OutcomeKind::AllWaiting | OutcomeKind::ChoiceLimit => return Ok(
+            None,
+        ),
+    };
+    Ok(Some(stop))
 }
 
 fn end_at_limit(alloc: Global, last: Last, words: &str) -> Result<AbruptEnd, AllocError>
@@ -84,46 +85,13 @@ fn end_at_limit(alloc: Global, last: Last, words: &str) -> Result<AbruptEnd, All
     })
 }
 
-fn end_by_error(
-    alloc: Global,
-    legend: &Legend,
-    name: ErrorName,
-    process: u8,
-    line: u32,
-    queue: Option<usize>,
-    waiting: Option<u8>,
-) -> Result<AbruptEnd, AllocError>
-    ensures { IfOk result (λ s. halted_seen s ≡ spec.halted_by (legend_seen legend.now) name process line queue waiting) }
-{
-    Ok(AbruptEnd {
-        process,
-        line: Some(line),
-        words: error_words(alloc, legend, name, queue, waiting)?,
-        waiting,
-    })
-}
-
 // Who waits in the queue of a cell, where the error is that it is in use.
 fn waiting_at_error(name: ErrorName, waits: &[Wait], queue: Option<usize>) -> Option<u8>
     ensures { result ≡ spec.waiting_at_error name (map wait_of waits.now) queue }
 {
-    match name {
-        ErrorName::QueueInUse => waiting_in_cell(waits, queue),
-        ErrorName::Overflow
-        | ErrorName::ZeroDivisor
-        | ErrorName::Range
-        | ErrorName::NoCase
-        | ErrorName::NotInit
-        | ErrorName::InitTwice => None,
-    }
-}
-
-fn waiting_in_cell(waits: &[Wait], queue: Option<usize>) -> Option<u8>
-    ensures { result ≡ spec.waiting_in_cell (map wait_of waits.now) queue }
-{
-    match queue {
-        Some(cell) => first_in_cell(cell, waits),
-        None => None,
+    match (name, queue) {
+        (ErrorName::QueueInUse, Some(cell)) => first_in_cell(cell, waits),
+        _ => None,
     }
 }
 
@@ -131,24 +99,15 @@ fn first_in_cell(cell: usize, waits: &[Wait]) -> Option<u8>
     ensures { result ≡ spec.first_in_cell cell (map wait_of waits.now) }
 {
     for wait in waits {
-        if is_in_cell(cell, wait.status) {
+        if wait.status.is_delayed_at(cell) {
             return Some(wait.process);
         }
     }
     None
 }
 
-fn is_in_cell(cell: usize, status: Status) -> bool
-    ensures { result ≡ spec.is_in_cell cell status }
-{
-    match status {
-        Status::Delayed(other) => other == cell,
-        Status::Unstarted | Status::Ready | Status::AtGate(_) | Status::Ended => false,
-    }
-}
-
 // An error, and who waits in the queue if it is in use.
-fn error_words(
+fn failure_words(
     alloc: Global,
     legend: &Legend,
     name: ErrorName,
@@ -157,66 +116,13 @@ fn error_words(
 ) -> Result<String, AllocError>
     ensures { IfOk result (λ t. string_bytes t ≡ spec.error_text name ++ spec.in_use_text (legend_seen legend.now) queue waiting) }
 {
-    let mut text = String::from_str(alloc, stop_phrase(name))?;
-    push_in_use(alloc, legend, &mut text, queue, waiting)?;
+    let mut text = String::from_str(alloc, "stops with ")?;
+    text.push_str(error_words(name))?;
+    if let (Some(cell), Some(process)) = (queue, waiting) {
+        text.push_str(": ")?;
+        push_process(legend, &mut text, process)?;
+        text.push_str(" waits in ")?;
+        push_cell_queue(alloc, legend, &mut text, cell)?;
+    }
     Ok(text)
-}
-
-fn push_in_use(
-    alloc: Global,
-    legend: &Legend,
-    text: &mut String,
-    queue: Option<usize>,
-    waiting: Option<u8>,
-) -> Result<(), AllocError>
-    ensures { OnOk result (string_bytes text.new ≡ string_bytes text.old ++ spec.in_use_text (legend_seen legend.now) queue waiting) }
-{
-    match queue {
-        Some(cell) => push_in_cell(alloc, legend, text, cell, waiting),
-        None => Ok(()),
-    }
-}
-
-fn push_in_cell(
-    alloc: Global,
-    legend: &Legend,
-    text: &mut String,
-    cell: usize,
-    waiting: Option<u8>,
-) -> Result<(), AllocError>
-    ensures { OnOk result (string_bytes text.new ≡ string_bytes text.old ++ spec.in_cell_text (legend_seen legend.now) cell waiting) }
-{
-    match waiting {
-        Some(process) => push_waiting(alloc, legend, text, cell, process),
-        None => Ok(()),
-    }
-}
-
-fn push_waiting(
-    alloc: Global,
-    legend: &Legend,
-    text: &mut String,
-    cell: usize,
-    process: u8,
-) -> Result<(), AllocError>
-    ensures { OnOk result (string_bytes text.new ≡ string_bytes text.old ++ spec.waiting_text (legend_seen legend.now) cell process) }
-{
-    text.push_str(": ")?;
-    push_process(legend, text, process)?;
-    text.push_str(" waits in ")?;
-    push_cell_queue(alloc, legend, text, cell)
-}
-
-fn stop_phrase(name: ErrorName) -> &'static str
-    ensures { result.now ≡ spec.error_text name }
-{
-    match name {
-        ErrorName::Overflow => "stops with overflow",
-        ErrorName::ZeroDivisor => "stops with zero-divisor",
-        ErrorName::Range => "stops with range",
-        ErrorName::NoCase => "stops with no-case",
-        ErrorName::QueueInUse => "stops with queue-in-use",
-        ErrorName::NotInit => "stops with not-init",
-        ErrorName::InitTwice => "stops with init-twice",
-    }
 }

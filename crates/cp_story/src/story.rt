@@ -1,15 +1,14 @@
 //! A run of one schedule word, told event by event.
 
-ghost use Rattle.std.specs.Prelude.{◌≡◌, ◌<◌, ◌≤◌, ◌+◌, ◌-◌, ◌*◌, ◌++◌, ◌∷◌, [], true, false, if◌then◌else◌, IfOk, length, map, option_map};
+ghost use Rattle.std.specs.Prelude.{◌≡◌, ◌<◌, ◌≤◌, ◌+◌, ◌-◌, ◌*◌, ◌++◌, ◌∷◌, [], if◌then◌else◌, IfOk, length, map, option_map};
 ghost use Rattle.cp_legend.specs.Names.{legend_seen};
 ghost use Rattle.cp_machine.specs.System.{machine_of, IsStateOf};
-ghost use Rattle.cp_machine.specs.Machine.{thread_at};
 ghost use Rattle.cp_run.specs.Run.{run, those_below};
 ghost use Rattle.cp_run.specs.Slots.{slots};
 ghost use Rattle.cp_run.specs.Code.{answer_of};
 ghost use Rattle.cp_run.specs.Trace.{holders_in, step_lines, trace};
 ghost use Rattle.cp_story.specs.Story.{story_of, decision_in, telling, told_more, told_step};
-ghost use Rattle.cp_story.specs.Halted.{halted_at, halted_seen, how_halted};
+ghost use Rattle.cp_story.specs.Halted.{halted_seen, how_halted};
 ghost use Rattle.cp_run.specs.Stop.{numbers_left};
 ghost use Rattle.cp_story.specs.Told.{lines_of};
 ghost use Rattle.cp_story.specs.Views.{past_of, decision_of, telling_of, told_of, wait_of};
@@ -255,10 +254,7 @@ fn is_inside(state: &State, monitor: u8, process: u8) -> bool
     requires { monitor < length state.now.guards.items }
     ensures { result ≡ waiting.is_inside (machine_of state.now) process monitor }
 {
-    match state.holder(monitor) {
-        Some(holder) => holder == process,
-        None => false,
-    }
+    state.holder(monitor) == Some(process)
 }
 
 /// Runs a word from the opening state and tells what happens: the events of its trace, and the run's end.
@@ -296,7 +292,16 @@ pub fn tell<L: Ledger>(
         events,
         ..
     } = teller;
-    finish_story(alloc, program, legend, &state, observer, events, end, left)
+    let waits = waits_of(alloc, program, &state, &observer)?;
+    let stop = abrupt_end(alloc, legend, &end, observer.last, &waits)?;
+    Ok(Story {
+        events,
+        last_choice: observer.choice,
+        waits,
+        end,
+        stop,
+        left,
+    })
 }
 
 // How many numbers of a word stand after those that a run used until it ended.
@@ -307,36 +312,4 @@ fn count_left(word: &[u8], end: &RunEnd) -> usize
         RunEnd::Ended { used, .. } => word.len().saturating_sub(*used),
         _ => 0,
     }
-}
-
-// The whole story, where a run has stopped.
-fn finish_story(
-    alloc: Global,
-    program: &Resolved,
-    legend: &Legend,
-    state: &State,
-    observer: Observer<'_>,
-    events: Vec<StoryEvent>,
-    end: RunEnd,
-    left: usize,
-) -> Result<Story, AllocError>
-    requires { IsStateOf program.now state.now }
-    ensures lines { IfOk result (λ s. lines_of s.events.items ≡ lines_of events.items) }
-    ensures told { IfOk result (λ s. map told_of s.events.items ≡ map told_of events.items) }
-    ensures choice { IfOk result (λ s. option_map decision_of s.last_choice ≡ (past_of observer.entry).choice) }
-    ensures waits { IfOk result (λ s. map wait_of s.waits.items ≡ waits_in program.now (machine_of state.now) (past_of observer.entry).calls) }
-    ensures end { IfOk result (λ s. s.end ≡ end) }
-    ensures stop { IfOk result (λ s. option_map halted_seen s.stop ≡ halted_at (legend_seen legend.now) (answer_of end) (past_of observer.entry).last (waits_in program.now (machine_of state.now) (past_of observer.entry).calls)) }
-    ensures left { IfOk result (λ s. s.left ≡ left) }
-{
-    let waits = waits_of(alloc, program, state, &observer)?;
-    let stop = abrupt_end(alloc, legend, &end, observer.last, &waits)?;
-    Ok(Story {
-        events,
-        last_choice: observer.choice,
-        waits,
-        end,
-        stop,
-        left,
-    })
 }

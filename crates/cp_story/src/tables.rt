@@ -1,6 +1,6 @@
 //! Columns of text.
 
-ghost use Rattle.std.specs.Prelude.{◌≡◌, ◌++◌, [], map, IfOk, OnOk, slice_get, slice_index_or};
+ghost use Rattle.std.specs.Prelude.{◌≡◌, ◌++◌, [], map, IfOk, OnOk, slice_get};
 ghost use Rattle.std.specs.String.{string_bytes};
 ghost use Rattle.cp_run.specs.Table.{each};
 ghost use Rattle.cp_story.specs.Columns as spec;
@@ -14,24 +14,15 @@ const COLUMNS: usize = 5;
 /// A line of a table.
 #[derive(Drop)]
 pub struct TableRow {
-    cells: Vec<String>,
+    pub cells: Vec<String>,
 }
 
 impl TableRow {
-    pub fn new(cells: Vec<String>) -> TableRow
-        ensures { row_seen result ≡ map string_bytes cells.items }
-    {
-        TableRow { cells }
-    }
-
     // How wide its cell of a column is, if it has one.
     fn width(&self, column: usize) -> usize
         ensures { result ≡ spec.width_of (slice_get (row_seen self.now) column) }
     {
-        match self.cells.get(column) {
-            Some(cell) => cell.len(),
-            None => 0,
-        }
+        self.cells.get(column).map_or(0, |cell| cell.len())
     }
 }
 
@@ -42,21 +33,10 @@ pub fn push_rows(alloc: Global, text: &mut String, rows: &[TableRow]) -> Result<
 {
     let widths = widths(alloc, rows)?;
     for row in rows {
-        push_row(alloc, text, &widths, row)?;
+        push_cells(alloc, text, &widths, &row.cells)?;
+        text.push_str("\n")?;
     }
     Ok(())
-}
-
-fn push_row(
-    alloc: Global,
-    text: &mut String,
-    widths: &[usize],
-    row: &TableRow,
-) -> Result<(), AllocError>
-    ensures { OnOk result (string_bytes text.new ≡ string_bytes text.old ++ spec.row_text widths.now (row_seen row.now)) }
-{
-    push_cells(alloc, text, widths, &row.cells)?;
-    text.push_str("\n")
 }
 
 #[tactic(auto, using(crate::proofs::Rows::cells_step, crate::proofs::Rows::cells_none))]
@@ -71,18 +51,10 @@ fn push_cells(
     let mut before = String::new(alloc);
     for (column, cell) in cells.iter().enumerate() {
         push_cell(text, &mut before, cell.as_str())?;
-        push_gap(&mut before, width_at(widths, column), cell.as_str())?;
+        let width = widths.get(column).copied().unwrap_or(0);
+        push_gap(&mut before, width, cell.as_str())?;
     }
     Ok(())
-}
-
-fn width_at(widths: &[usize], column: usize) -> usize
-    ensures { result ≡ slice_index_or widths.now column 0 }
-{
-    match widths.get(column) {
-        Some(width) => *width,
-        None => 0,
-    }
 }
 
 // Appends a cell behind the spaces that stand before it; where there is no text, they stand before the next one.

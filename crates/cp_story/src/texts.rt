@@ -1,6 +1,6 @@
 //! A story as lines of text.
 
-ghost use Rattle.std.specs.Prelude.{◌≡◌, ◌++◌, [], map, option_map, codes, decimal, string_bytes, IfOk, OnOk};
+ghost use Rattle.std.specs.Prelude.{◌≡◌, ◌++◌, [], map, option_map, decimal, string_bytes, IfOk, OnOk};
 ghost use Rattle.cp_legend.specs.Names.{legend_seen};
 ghost use Rattle.cp_story.specs.Columns.{row_seen, rows_text};
 ghost use Rattle.cp_story.specs.Halted.{halted_seen};
@@ -32,6 +32,7 @@ pub fn text(alloc: Global, legend: &Legend, story: &Story, end: &str) -> Result<
     Ok(text)
 }
 
+#[tactic(auto, using(crate::proofs::Rows::row_more))]
 fn push_table(
     alloc: Global,
     legend: &Legend,
@@ -41,7 +42,9 @@ fn push_table(
     ensures { OnOk result (string_bytes text.new ≡ string_bytes text.old ++ rows_text (spec.story_rows (legend_seen legend.now) story.now)) }
 {
     let mut rows = event_rows(alloc, legend, &story.events)?;
-    push_stop(alloc, legend, &mut rows, &story.last_choice, &story.stop)?;
+    if let Some(stop) = &story.stop {
+        rows.push(stop_row(alloc, legend, &story.last_choice, stop)?)?;
+    }
     push_rows(alloc, text, &rows)
 }
 
@@ -60,26 +63,6 @@ fn event_rows(
     Ok(rows)
 }
 
-// Appends how a run stopped, where no event tells of it.
-#[tactic(auto, using(crate::proofs::Rows::row_more))]
-fn push_stop(
-    alloc: Global,
-    legend: &Legend,
-    rows: &mut Vec<TableRow>,
-    choice: &Option<Choice>,
-    stop: &Option<AbruptEnd>,
-) -> Result<(), AllocError>
-    ensures { OnOk result (map row_seen rows.new.items ≡ map row_seen rows.old.items ++ spec.stop_rows (legend_seen legend.now) (option_map decision_of choice.now) (option_map halted_seen stop.now)) }
-{
-    match stop {
-        Some(stop) => {
-            rows.push(stop_row(alloc, legend, choice, stop)?)?;
-            Ok(())
-        }
-        None => Ok(()),
-    }
-}
-
 #[tactic(auto, using(crate::proofs::Rows::each_step, crate::proofs::Rows::each_none))]
 fn push_waits(
     alloc: Global,
@@ -90,22 +73,11 @@ fn push_waits(
     ensures { OnOk result (string_bytes text.new ≡ string_bytes text.old ++ spec.waits_text (legend_seen legend.now) (map wait_of waits.now)) }
 {
     for wait in waits {
-        push_wait(alloc, legend, text, wait)?;
+        let words = wait_words(alloc, legend, wait)?;
+        text.push_str(words.as_str())?;
+        text.push_str("\n")?;
     }
     Ok(())
-}
-
-fn push_wait(
-    alloc: Global,
-    legend: &Legend,
-    text: &mut String,
-    wait: &Wait,
-) -> Result<(), AllocError>
-    ensures { OnOk result (string_bytes text.new ≡ string_bytes text.old ++ (sentences.wait_text (legend_seen legend.now) (wait_of wait.now) ++ codes "\n")) }
-{
-    let words = wait_words(alloc, legend, wait)?;
-    text.push_str(words.as_str())?;
-    text.push_str("\n")
 }
 
 // Why the number of the last choice can't be taken, if it can't.
@@ -117,26 +89,13 @@ fn push_refused(
 ) -> Result<(), AllocError>
     ensures { OnOk result (string_bytes text.new ≡ string_bytes text.old ++ spec.refused_line (spec.refusal end.now (option_map decision_of choice.now))) }
 {
-    match end {
-        RunEnd::NotReady { .. } => push_refused_choice(alloc, text, choice),
-        RunEnd::Ended { .. } | RunEnd::Wants { .. } => Ok(()),
-    }
-}
-
-fn push_refused_choice(
-    alloc: Global,
-    text: &mut String,
-    choice: &Option<Choice>,
-) -> Result<(), AllocError>
-    ensures { OnOk result (string_bytes text.new ≡ string_bytes text.old ++ spec.refused_line (option_map decision_of choice.now)) }
-{
-    match choice {
-        Some(choice) => {
+    match (end, choice) {
+        (RunEnd::NotReady { .. }, Some(choice)) => {
             let words = refused_words(alloc, choice)?;
             text.push_str(words.as_str())?;
             text.push_str("\n")
         }
-        None => Ok(()),
+        _ => Ok(()),
     }
 }
 
@@ -162,7 +121,7 @@ fn event_row(alloc: Global, legend: &Legend, event: &StoryEvent) -> Result<Table
     let words = happening_words(alloc, legend, event)?;
     let changes = changes_text(alloc, legend, &event.changes)?;
     let cells = vec![in alloc; choice, process, line, words, changes]?;
-    Ok(TableRow::new(cells))
+    Ok(TableRow { cells })
 }
 
 fn stop_row(
@@ -178,7 +137,7 @@ fn stop_row(
     let line = line_text(alloc, stop.line)?;
     let words = stop.words.clone()?;
     let cells = vec![in alloc; choice, process, line, words]?;
-    Ok(TableRow::new(cells))
+    Ok(TableRow { cells })
 }
 
 /// A choice as `0 of 01`: the number taken, and the numbers that could be.
@@ -187,23 +146,16 @@ pub fn choice_text(alloc: Global, choice: &Option<Choice>) -> Result<String, All
 {
     let mut text = String::new(alloc);
     if let Some(choice) = choice {
-        push_taken(&mut text, choice)?;
+        let number = choice.number;
+        let options = choice.options.as_slice();
+        write!(text, "{number} of ")?;
+        push_numbers(
+            &mut text,
+            if are_digits(options) { "" } else { "," },
+            options,
+        )?;
     }
     Ok(text)
-}
-
-fn push_taken(text: &mut String, choice: &Choice) -> Result<(), AllocError>
-    ensures { OnOk result (string_bytes text.new ≡ string_bytes text.old ++ spec.taken_text (decision_of choice.now)) }
-{
-    let number = choice.number;
-    write!(text, "{number} of ")?;
-    push_options(text, choice.options.as_slice())
-}
-
-fn push_options(text: &mut String, options: &[u8]) -> Result<(), AllocError>
-    ensures { OnOk result (string_bytes text.new ≡ string_bytes text.old ++ spec.options_text options.now) }
-{
-    push_numbers(text, if are_digits(options) { "" } else { "," }, options)
 }
 
 #[tactic(auto, using(crate::proofs::Rows::numbers_step, crate::proofs::Rows::numbers_none))]

@@ -1,9 +1,8 @@
 //! What happened, in words.
 
-ghost use Rattle.std.specs.Prelude.{◌≡◌, ◌++◌, [], map, option_map, codes, string_bytes, IfOk, OnOk, slice_get};
+ghost use Rattle.std.specs.Prelude.{◌≡◌, ◌++◌, ◌==◌, ◌&&◌, [], length, map, option_map, codes, string_bytes, IfOk, OnOk};
 ghost use Rattle.cp_legend.specs.Names.{legend_seen};
 ghost use Rattle.cp_legend.specs.Values.{value_seen};
-ghost use Rattle.cp_legend.specs.Written.{value_text};
 ghost use Rattle.cp_run.specs.Code.{answer_of};
 ghost use Rattle.cp_run.specs.Table.{each};
 ghost use Rattle.cp_story.specs.Ends as ends;
@@ -18,23 +17,12 @@ use cp_machine::{ErrorName, Shown, Status};
 use cp_run::{OutcomeKind, RunEnd};
 use std::alloc::{AllocError, Global};
 
-/// What is said of a stop that no event tells of.
-#[derive(Clone, Copy)]
-pub struct Stop<'a> {
-    pub process: Option<u8>,
-    pub line: Option<u32>,
-    pub words: &'a str,
-}
-
-/// What is said of how a run stopped, where it did so between two events.
-pub fn stop_words(story: &Story) -> Option<Stop<'_>> {
-    match &story.stop {
-        Some(stop) => Some(Stop {
-            process: Some(stop.process),
-            line: stop.line,
-            words: stop.words.as_str(),
-        }),
-        None => None,
+impl StoryEvent {
+    /// Whether it continues a queue in which nobody waits.
+    pub fn wakes_nobody(&self) -> bool
+        ensures { result ≡ (spec.is_continue self.now.happening && length self.now.woken.items == 0) }
+    {
+        matches!(self.happening, Happening::Continue(..)) && self.woken.is_empty()
     }
 }
 
@@ -58,23 +46,11 @@ fn push_processes(
     ensures { OnOk result (string_bytes text.new ≡ string_bytes text.old ++ each (spec.between_text (legend_seen legend.now) before.now after.now) processes.now) }
 {
     for process in processes {
-        push_between(legend, text, before, *process, after)?;
+        text.push_str(before)?;
+        push_process(legend, text, *process)?;
+        text.push_str(after)?;
     }
     Ok(())
-}
-
-fn push_between(
-    legend: &Legend,
-    text: &mut String,
-    before: &str,
-    process: u8,
-    after: &str,
-) -> Result<(), AllocError>
-    ensures { OnOk result (string_bytes text.new ≡ string_bytes text.old ++ spec.between_text (legend_seen legend.now) before.now after.now process) }
-{
-    text.push_str(before)?;
-    push_process(legend, text, process)?;
-    text.push_str(after)
 }
 
 /// Appends a call: the monitor, the routine, and the arguments if there are any.
@@ -105,27 +81,20 @@ fn push_bare_call(
     push_call(legend, text, call, &[])
 }
 
+#[tactic(auto, using(crate::proofs::Rows::joined_step, crate::proofs::Rows::joined_none))]
 fn push_arguments(text: &mut String, arguments: &[SourceValue]) -> Result<(), AllocError>
     ensures { OnOk result (string_bytes text.new ≡ string_bytes text.old ++ spec.arguments_text (map value_seen arguments.now)) }
 {
     if arguments.is_empty() {
         return Ok(());
     }
-    push_values(text, arguments)?;
-    text.push_str(")")
-}
-
-#[tactic(auto, using(crate::proofs::Rows::joined_step, crate::proofs::Rows::joined_none))]
-fn push_values(text: &mut String, values: &[SourceValue]) -> Result<(), AllocError>
-    ensures { OnOk result (string_bytes text.new ≡ string_bytes text.old ++ joined (codes "(") (codes ", ") value_text (map value_seen values.now)) }
-{
     let mut before = "(";
-    for value in values {
+    for value in arguments {
         text.push_str(before)?;
         value.push_to(text)?;
         before = ", ";
     }
-    Ok(())
+    text.push_str(")")
 }
 
 /// Appends a queue, after the monitor that it is in.
@@ -145,7 +114,10 @@ pub fn push_shown(legend: &Legend, text: &mut String, value: Shown) -> Result<()
         Shown::Integer(number) => write!(text, "{number}"),
         Shown::Char(code) => push_char(text, code),
         Shown::Truth(truth) => text.push_str(if truth { "true" } else { "false" }),
-        Shown::Constant(number) => push_constant(legend, text, number as usize),
+        Shown::Constant(number) => match legend.constants.get(number as usize) {
+            Some(name) => text.push_str(name.as_str()),
+            None => Ok(()),
+        },
     }
 }
 
@@ -162,15 +134,6 @@ fn push_char(text: &mut String, code: u8) -> Result<(), AllocError>
     }
 }
 
-fn push_constant(legend: &Legend, text: &mut String, number: usize) -> Result<(), AllocError>
-    ensures { OnOk result (string_bytes text.new ≡ string_bytes text.old ++ spec.constant_text (slice_get (legend_seen legend.now).constants number)) }
-{
-    match legend.constants.get(number) {
-        Some(name) => text.push_str(name.as_str()),
-        None => Ok(()),
-    }
-}
-
 /// What an event was: `enters b.put(3)`, `waits in b.sender, lets 2 q in`.
 pub fn happening_words(
     alloc: Global,
@@ -181,7 +144,9 @@ pub fn happening_words(
 {
     let mut text = String::new(alloc);
     push_happening(legend, &mut text, &event.happening)?;
-    push_nobody(&mut text, &event.happening, event.woken.as_slice())?;
+    if event.wakes_nobody() {
+        text.push_str(", where nobody waits")?;
+    }
     push_returned(&mut text, &event.returned)?;
     push_processes(legend, &mut text, ", wakes ", event.woken.as_slice(), "")?;
     push_processes(legend, &mut text, ", lets ", event.let_in.as_slice(), " in")?;
@@ -239,40 +204,18 @@ fn entering(waits: bool) -> &'static str
     }
 }
 
-// That nobody waits in a queue that is continued.
-fn push_nobody(text: &mut String, happening: &Happening, woken: &[u8]) -> Result<(), AllocError>
-    ensures { OnOk result (string_bytes text.new ≡ string_bytes text.old ++ spec.nobody_text happening.now woken.now) }
-{
-    if is_continue(happening) && woken.is_empty() {
-        return text.push_str(", where nobody waits");
-    }
-    Ok(())
-}
-
-fn is_continue(happening: &Happening) -> bool
-    ensures { result ≡ spec.is_continue happening.now }
-{
-    matches!(happening, Happening::Continue(..))
-}
-
 /// Appends what came back from a call: `, y = 2` for each `var` parameter, `, = 2` for a function's result.
 #[tactic(auto, using(crate::proofs::Rows::each_item_step, crate::proofs::Rows::each_item_none))]
 pub fn push_returned(text: &mut String, returned: &[Returned]) -> Result<(), AllocError>
     ensures { OnOk result (string_bytes text.new ≡ string_bytes text.old ++ each spec.returned_text returned.now) }
 {
     for one in returned {
-        push_one_returned(text, one)?;
+        text.push_str(", ")?;
+        push_named(text, one.name.as_str())?;
+        text.push_str("= ")?;
+        one.value.push_to(text)?;
     }
     Ok(())
-}
-
-fn push_one_returned(text: &mut String, one: &Returned) -> Result<(), AllocError>
-    ensures { OnOk result (string_bytes text.new ≡ string_bytes text.old ++ spec.returned_text one.now) }
-{
-    text.push_str(", ")?;
-    push_named(text, one.name.as_str())?;
-    text.push_str("= ")?;
-    one.value.push_to(text)
 }
 
 fn push_named(text: &mut String, name: &str) -> Result<(), AllocError>
@@ -311,7 +254,11 @@ fn push_place(
             push_cell_queue(alloc, legend, text, cell)
         }
         Status::Unstarted | Status::Ready | Status::AtGate(_) | Status::Ended => {
-            push_at_gate(legend, text, call)
+            text.push_str(" waits at the gate")?;
+            match call {
+                Some(call) => push_bare_call(legend, text, " for ", call),
+                None => Ok(()),
+            }
         }
     }
 }
@@ -330,26 +277,6 @@ pub fn push_cell_queue(
     text.push_str(legend.monitor_name(monitor))?;
     text.push_str(".")?;
     text.push_str(name.as_str())
-}
-
-fn push_at_gate(
-    legend: &Legend,
-    text: &mut String,
-    call: Option<OpenCall>,
-) -> Result<(), AllocError>
-    ensures { OnOk result (string_bytes text.new ≡ string_bytes text.old ++ (codes " waits at the gate" ++ spec.gate_text (legend_seen legend.now) call)) }
-{
-    text.push_str(" waits at the gate")?;
-    push_gate(legend, text, call)
-}
-
-fn push_gate(legend: &Legend, text: &mut String, call: Option<OpenCall>) -> Result<(), AllocError>
-    ensures { OnOk result (string_bytes text.new ≡ string_bytes text.old ++ spec.gate_text (legend_seen legend.now) call) }
-{
-    match call {
-        Some(call) => push_bare_call(legend, text, " for ", call),
-        None => Ok(()),
-    }
 }
 
 fn push_monitor(legend: &Legend, text: &mut String, monitor: u8) -> Result<(), AllocError>
@@ -455,19 +382,13 @@ pub fn refused_words(alloc: Global, choice: &Choice) -> Result<String, AllocErro
     let number = choice.number;
     let mut text = String::new(alloc);
     write!(text, "{number}")?;
-    text.push_str(refusal(choice.at_gate))?;
-    push_options(&mut text, choice.options.as_slice())?;
-    Ok(text)
-}
-
-fn refusal(at_gate: bool) -> &'static str
-    ensures { result.now ≡ spec.refusal_text at_gate }
-{
-    if at_gate {
+    text.push_str(if choice.at_gate {
         " can't be let in here: "
     } else {
         " can't go on here: "
-    }
+    })?;
+    push_options(&mut text, choice.options.as_slice())?;
+    Ok(text)
 }
 
 // Numbers as alternatives: `0, 1 or 2`.

@@ -1,6 +1,5 @@
-use Rattle.std.proofs.Common.{◌∙◌, ap}
+use Rattle.std.proofs.Common.{◌∙◌, ap, map}
 use Rattle.cp_run.specs.Code.{answer_of}
-use Rattle.cp_run.proofs.Tracing.{ok_as}
 use Rattle.cp_legend.specs.Names.{legend_seen}
 use Rattle.cp_machine.specs.Machine.{Machine, machine_of}
 use Rattle.cp_run.specs.Run.{Answer, run}
@@ -9,7 +8,7 @@ use Rattle.cp_run.specs.Stop.{last_state, numbers_left}
 use Rattle.cp_story.specs.Halted.{halted_at}
 use Rattle.cp_story.specs.Story.{Telling}
 use Rattle.cp_story.specs.Told.{lines_of}
-use Rattle.cp_story.specs.Views.{past_of, telling_of}
+use Rattle.cp_story.specs.Views.{past_of, telling_of, wait_of}
 use Rattle.cp_story.specs.Waiting.{waits_in}
 use Rattle.cp_story.proofs.Telling.{run_told}
 use Rattle.cp_story.proofs.story.tell.Goals as goal
@@ -30,18 +29,17 @@ returns g c =
     let last = last_state sys choices steps word in
     let ran = c.in_ok-end.ensures in
     let whole = run_told r gates choices steps word l c.in_ok-observer.observer c.new-events.result.items (machine_of c.in_ok-state.state) (telling_of teller.observer teller.events.items, lines_of teller.events.items) c.new-events.ensures.items c.in_ok-state.ensures.opening c.in_ok-observer.ensures ran.seen in
-    let story = c.finish_story.ensures in
-    let result = c.finish_story.result in
     record {
-      lines = ok_as result _ _ story.lines (λ s is. is ∙ whole.lines);
-      told = ok_as result _ _ story.told (λ s is. is ∙ ap (λ (t : Telling). t.events) whole.told);
-      choice = ok_as result _ _ story.choice (λ s is. is ∙ ap (λ (t : Telling). t.past.choice) whole.told);
-      waits = ok_as result _ _ story.waits (λ s is. is ∙ ap (λ (m : Machine). waits_in r m past.calls) ran.stop ∙ ap (λ (t : Telling). waits_in r last t.past.calls) whole.told);
-      answer = ok_as result _ _ story.end (λ s is. ap answer_of is ∙ ran.answer);
-      stop = ok_as result _ _ story.stop (λ s is. is
+      lines = whole.lines;
+      told = ap (λ (t : Telling). t.events) whole.told;
+      choice = ap (λ (t : Telling). t.past.choice) whole.told;
+      waits = c.in_ok-waits.ensures ∙ ap (λ (m : Machine). waits_in r m past.calls) ran.stop ∙ ap (λ (t : Telling). waits_in r last t.past.calls) whole.told;
+      answer = ran.answer;
+      stop = c.in_ok-stop.ensures
+          ∙ ap (halted_at l (answer_of c.in_ok-end.end) past.last) (ap (map wait_of) c.deref.ensures.value ∙ c.in_ok-waits.ensures)
           ∙ ap (λ (a : Answer). halted_at l a past.last (waits_in r ended past.calls)) ran.answer
           ∙ ap (λ (m : Machine). halted_at l answer past.last (waits_in r m past.calls)) ran.stop
-          ∙ ap (λ (t : Telling). halted_at l answer t.past.last (waits_in r last t.past.calls)) whole.told);
-      left = ok_as result _ _ story.left (λ s is. is ∙ c.count_left-left.ensures ∙ ap (λ (a : Answer). numbers_left word a) ran.answer);
+          ∙ ap (λ (t : Telling). halted_at l answer t.past.last (waits_in r last t.past.calls)) whole.told;
+      left = c.count_left-left.ensures ∙ ap (λ (a : Answer). numbers_left word a) ran.answer;
       ticks = ran.ticks;
     }
