@@ -144,13 +144,21 @@ pub fn happening_words(
 {
     let mut text = String::new(alloc);
     push_happening(legend, &mut text, &event.happening)?;
-    if event.wakes_nobody() {
-        text.push_str(", where nobody waits")?;
-    }
+    push_nobody(&mut text, event)?;
     push_returned(&mut text, &event.returned)?;
     push_processes(legend, &mut text, ", wakes ", event.woken.as_slice(), "")?;
     push_processes(legend, &mut text, ", lets ", event.let_in.as_slice(), " in")?;
     Ok(text)
+}
+
+// That nobody waits in a queue that is continued.
+fn push_nobody(text: &mut String, event: &StoryEvent) -> Result<(), AllocError>
+    ensures { OnOk result (string_bytes text.new ≡ string_bytes text.old ++ spec.nobody_text event.now.happening event.now.woken.items) }
+{
+    if event.wakes_nobody() {
+        return text.push_str(", where nobody waits");
+    }
+    Ok(())
 }
 
 fn push_happening(
