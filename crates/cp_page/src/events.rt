@@ -8,7 +8,7 @@ use crate::variables::path_inside;
 use cp_legend::SourceValue;
 use cp_machine::{Shown, State};
 use cp_slots::Resolved;
-use cp_story::{Happening, OpenCall, Queue, StoryEvent, push_call, push_shown};
+use cp_story::{Happening, OpenCall, Queue, Returned, StoryEvent, push_call, push_shown};
 use std::alloc::AllocError;
 
 impl<'a> Register<'a> {
@@ -19,7 +19,6 @@ impl<'a> Register<'a> {
         program: &Resolved,
         state: &State,
         event: &StoryEvent,
-        returned: &str,
         changes: &Json,
     ) -> Result<usize, AllocError>
         requires { IsStateOf program.now state.now }
@@ -29,7 +28,7 @@ impl<'a> Register<'a> {
             _ => 0,
         };
         let view = self.place_view(program, state, event.plain.process)?;
-        let (letter, whom, text) = self.tell(&event.happening, returned, started)?;
+        let (letter, whom, text) = self.tell(event, started)?;
         let line = match event.happening {
             Happening::Leave(_) => 0,
             _ => event.line.unwrap_or(0),
@@ -52,11 +51,10 @@ impl<'a> Register<'a> {
     // What a happening is, by a letter, and what it is about: a monitor or a process, and a text or the view of who is started.
     fn tell(
         &mut self,
-        happening: &Happening,
-        returned: &str,
+        event: &StoryEvent,
         started: usize,
     ) -> Result<(&'static str, u8, usize), AllocError> {
-        Ok(match happening {
+        Ok(match &event.happening {
             Happening::Enter {
                 call,
                 arguments,
@@ -66,7 +64,7 @@ impl<'a> Register<'a> {
                 (letter, call.monitor, self.place_call(*call, arguments)?)
             }
             Happening::Admit(call) => ("a", call.monitor, self.place_call(*call, &[])?),
-            Happening::Leave(call) => ("l", call.monitor, self.strings.place_text(returned)?),
+            Happening::Leave(call) => ("l", call.monitor, self.place_returned(&event.returned)?),
             Happening::Delay(queue, _) => ("d", queue.monitor, self.place_queue(queue)?),
             Happening::Continue(queue, _) => ("c", queue.monitor, self.place_queue(queue)?),
             Happening::Start(process) => ("s", *process, started),
@@ -92,10 +90,34 @@ impl<'a> Register<'a> {
         self.strings.place_text(inside)
     }
 
+    // The place of what a call gave back: the result of a function, and then the values of the places that were handed over.
+    fn place_returned(&mut self, returned: &[Returned]) -> Result<usize, AllocError> {
+        let mut text = String::new(self.alloc);
+        let mut before = "";
+        for is_place in [false, true] {
+            for one in returned {
+                if one.name.is_empty() != is_place {
+                    text.push_str(before)?;
+                    push_returned(&mut text, one)?;
+                    before = ", ";
+                }
+            }
+        }
+        self.strings.place_text(text.as_str())
+    }
+
     // The place of a displayed value.
     fn place_shown(&mut self, shown: Shown) -> Result<usize, AllocError> {
         let mut text = String::new(self.alloc);
         push_shown(self.legend, &mut text, shown)?;
         self.strings.place_text(text.as_str())
     }
+}
+
+fn push_returned(text: &mut String, one: &Returned) -> Result<(), AllocError> {
+    if !one.name.is_empty() {
+        text.push_str(one.name.as_str())?;
+        text.push_str(" = ")?;
+    }
+    one.value.push_to(text)
 }

@@ -13,7 +13,6 @@ mod markup;
 mod outcomes;
 mod quiet;
 mod register;
-mod returned;
 mod script_counts;
 mod script_lanes;
 mod script_moves;

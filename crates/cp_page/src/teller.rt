@@ -8,7 +8,6 @@ ghost use Rattle.cp_run.specs.Code.{node_of};
 
 use crate::json::Json;
 use crate::register::Register;
-use crate::returned::values_returned;
 use crate::variables::{KeptVariable, kept_variables};
 use cp_legend::Legend;
 use cp_machine::{Event as Step, State, Ticks, step};
@@ -30,8 +29,6 @@ pub struct Teller<'a> {
     edge: Json,
     /// The process that made the last step.
     pub going: u8,
-    /// What a call gives back, if that step ends one.
-    returned: String,
 }
 
 impl<'a> Teller<'a> {
@@ -43,7 +40,6 @@ impl<'a> Teller<'a> {
             observer: Observer::new(alloc, legend, state)?,
             edge: Json::new(alloc),
             going: 0,
-            returned: String::new(alloc),
         })
     }
 
@@ -107,18 +103,15 @@ impl<'a> Teller<'a> {
             holders: Holders::new(Vec::new(alloc)),
         };
         let event = self.observer.observe(alloc, state, plain, aim)?;
-        let returned = self.returned.as_str();
-        self.register
-            .place_event(program, state, &event, returned, &changes)
+        self.register.place_event(program, state, &event, &changes)
     }
 
-    // Sees a step of a process come.
-    fn expect(&mut self, state: &State, process: u8) {
+    // Sees a step of a process come, which has this aim.
+    fn expect(&mut self, state: &State, process: u8, aim: Aim) {
         self.going = process;
         let alloc = self.register.alloc;
-        match values_returned(alloc, self.register.legend, state, process) {
-            Ok(text) => self.returned = text,
-            Err(_) => self.edge.refuse(),
+        if self.observer.expect(alloc, state, process, aim).is_err() {
+            self.edge.refuse();
         }
     }
 
@@ -152,7 +145,7 @@ impl<'a> Teller<'a> {
         let mut going = pid;
         for _ in 0..limits.steps {
             let aim = aim_of(program, state, going);
-            self.expect(state, going);
+            self.expect(state, going, aim);
             let event = step(program, state, going, steps);
             self.push_step(program, state, going, event, aim);
             match turn_of(program, limits, state, going, event) {

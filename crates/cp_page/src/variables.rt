@@ -99,18 +99,6 @@ fn class_of<'a>(legend: &Legend, component: &'a LegendComponent, owner: Owner) -
     }
 }
 
-/// The text of a value, whose cells begin at a place.
-pub fn value_text(
-    alloc: Global,
-    legend: &Legend,
-    shape: CellType,
-    cells: &[i16],
-    at: usize,
-) -> Result<String, AllocError> {
-    let value = legend.value(alloc, shape, cells, at)?;
-    value.text(alloc)
-}
-
 impl<'a> Register<'a> {
     /// The place of the text of a value, whose cells begin at a place.
     pub fn place_value(
@@ -119,8 +107,8 @@ impl<'a> Register<'a> {
         cells: &[i16],
         at: usize,
     ) -> Result<usize, AllocError> {
-        let text = value_text(self.alloc, self.legend, shape, cells, at)?;
-        self.strings.place_text(text.as_str())
+        let value = self.legend.value(self.alloc, shape, cells, at)?;
+        self.strings.place_text(value.text(self.alloc)?.as_str())
     }
 
     /// Appends the variables that stay, with their values: `[0, monitor, name, value]` or `[1, process, name, value]`; of queues the value is -1.
