@@ -8,7 +8,7 @@ use Rattle.cp_machine.specs.declared.state.State.{State}
 use Rattle.cp_machine.proofs.CallerLemmas.{threads_count}
 use Rattle.cp_machine.proofs.Unmoved.{keep_step}
 use Rattle.cp_ends.proofs.Arriving.{silent_already}
-use Rattle.cp_ends.proofs.LocalOutput.{local_output}
+use Rattle.cp_run.proofs.LocalOutput.{local_output}
 use Rattle.cp_at_once_laws.specs.AtOnce.{QuietLeg, calls_quietly, after_quiet, is_call}
 use Rattle.cp_at_once_laws.specs.Quiet.{is_quiet}
 use Rattle.cp_at_once.specs.Legs.{EndsQuietly, ends_quietly}

@@ -15,12 +15,13 @@ ghost use Rattle.cp_at_once.specs.Whole.{IsAnswer};
 use crate::found::FoundAtOnce;
 use crate::leg::process_at_once;
 use crate::origin::{MOST_IN_A_ROW, OriginAtOnce};
+use cp_ends::End;
 use cp_ends::choosing::{choose, open};
-use cp_ends::end::Arrival;
 use cp_ends::state_key::ReachedKey;
-use cp_machine::{Shown, State, Ticks};
+use cp_ends::told::Told;
+use cp_machine::{State, Ticks};
 use cp_progress::{ObserveProgress, Progress, STATES_BETWEEN, Unobserved};
-use cp_run::{Limits, candidates};
+use cp_run::{Halt, Limits, candidates};
 use cp_slots::Resolved;
 use std::alloc::{AllocError, Global};
 use std::marker::Brand;
@@ -31,7 +32,7 @@ use std::sync::ledger::{Blank, Ledger};
 struct SearchAtOnce {
     found: FoundAtOnce,
     key: ReachedKey,
-    told: Vec<Shown>,
+    told: Told,
     ahead: State,
 }
 
@@ -89,7 +90,7 @@ impl SearchAtOnce {
         ensures kept { IfOk result (λ s. s.found.kept.known.entries ≡ []) }
         ensures ends { IfOk result (λ s. s.found.ends.items ≡ []) }
         ensures values { IfOk result (λ s. s.found.values.items ≡ []) }
-        ensures told { IfOk result (λ s. s.told.items ≡ []) }
+        ensures told { IfOk result (λ s. s.told.values.items ≡ []) }
         ensures ahead { IfOk result (λ s. IsStateOf program.now s.ahead) }
     {
         let _ = program;
@@ -98,7 +99,7 @@ impl SearchAtOnce {
             key: ReachedKey {
                 bytes: Vec::new(alloc),
             },
-            told: Vec::new(alloc),
+            told: Told::new(alloc),
             ahead: state.copy(alloc)?,
         })
     }
@@ -128,7 +129,7 @@ impl SearchAtOnce {
         requires kept { self.old.found.kept.known.entries ≡ [] }
         requires ends { self.old.found.ends.items ≡ [] }
         requires values { self.old.found.values.items ≡ [] }
-        requires told { self.old.told.items ≡ [] }
+        requires told { self.old.told.values.items ≡ [] }
         requires ahead { IsStateOf program.now self.old.ahead }
         ensures { IfOk result (λ _. Answers program.now (slot_graph program.now limits.gates limits.steps) (HasLeg program.now limits.gates) most 8 self.new.found self.new.found.is_whole) }
     {
@@ -149,7 +150,7 @@ impl SearchAtOnce {
         observer: &mut O,
         state: &mut State,
         next: &mut State,
-        arrival: Arrival,
+        arrival: Halt<End>,
         steps: &mut Ticks<S>,
     ) -> Result<(), AllocError>
         requires own { IsStateOf program.now state.old }
@@ -160,7 +161,7 @@ impl SearchAtOnce {
         requires ends { self.old.found.ends.items ≡ [] }
         requires values { self.old.found.values.items ≡ [] }
         requires goal { goal_at arrival (machine_of next.old) ≡ (slot_graph program.now limits.gates limits.steps).start.goal }
-        requires shown { self.old.told.items ≡ (slot_graph program.now limits.gates limits.steps).start.shown }
+        requires shown { self.old.told.values.items ≡ (slot_graph program.now limits.gates limits.steps).start.shown }
         ensures { IfOk result (λ _. Answers program.now (slot_graph program.now limits.gates limits.steps) (HasLeg program.now limits.gates) most 8 self.new.found self.new.found.is_whole) }
     {
         let is_room = self.follow(
@@ -246,7 +247,7 @@ impl SearchAtOnce {
         let numbers = candidates(program, limits, state);
         for process in numbers.as_slice() {
             next.take_from(state);
-            self.told.clear();
+            self.told.values.clear();
             let arrival = choose(
                 alloc,
                 program,
@@ -272,7 +273,7 @@ impl SearchAtOnce {
         limits: Limits,
         most: u32,
         state: &mut State,
-        arrival: Arrival,
+        arrival: Halt<End>,
         origin: OriginAtOnce,
         steps: &mut Ticks<S>,
     ) -> Result<bool, AllocError>
@@ -281,7 +282,7 @@ impl SearchAtOnce {
         requires ahead { IsStateOf program.now self.old.ahead }
         requires numbers { length origin.numbers.items ≤ 1 }
         ensures own { IsStateOf program.now state.new }
-        ensures found { IfOk result (λ is_room. (states : List (Machine × List ℕ)) (word : List ℕ) (a : SlotArrival) → Holds program.now (slot_graph program.now limits.gates limits.steps) most self.old.found states → IsWordOf states origin word → ArrivesAt (slot_graph program.now limits.gates limits.steps) word a → goal_at arrival (machine_of state.old) ≡ a.goal → self.old.told.items ≡ a.shown → GoesOn program.now (slot_graph program.now limits.gates limits.steps) (HasLeg program.now limits.gates) most 8 self.old.found states self.new.found a is_room) }
+        ensures found { IfOk result (λ is_room. (states : List (Machine × List ℕ)) (word : List ℕ) (a : SlotArrival) → Holds program.now (slot_graph program.now limits.gates limits.steps) most self.old.found states → IsWordOf states origin word → ArrivesAt (slot_graph program.now limits.gates limits.steps) word a → goal_at arrival (machine_of state.old) ≡ a.goal → self.old.told.values.items ≡ a.shown → GoesOn program.now (slot_graph program.now limits.gates limits.steps) (HasLeg program.now limits.gates) most 8 self.old.found states self.new.found a is_room) }
         ensures ahead { IsStateOf program.now self.new.ahead }
     {
         let mut arrival = arrival;
@@ -289,32 +290,32 @@ impl SearchAtOnce {
         for made in 0..MOST_IN_A_ROW {
             self.note(arrival, &origin)?;
             match arrival {
-                Arrival::End(_) => return Ok(true),
-                Arrival::Choice => {}
+                Halt::Ended(_) => return Ok(true),
+                Halt::Choice => {}
             }
             let Some(pid) = process_at_once(program, limits, state, &mut self.ahead, steps) else {
                 return self.keep(alloc, program, most, state, origin);
             };
             origin.numbers.push(pid);
-            self.told.clear();
+            self.told.values.clear();
             arrival = choose(alloc, program, limits, state, pid, &mut self.told, steps)?;
         }
         self.note(arrival, &origin)?;
         match arrival {
-            Arrival::End(_) => Ok(true),
-            Arrival::Choice => self.keep(alloc, program, most, state, origin),
+            Halt::Ended(_) => Ok(true),
+            Halt::Choice => self.keep(alloc, program, most, state, origin),
         }
     }
 
     // A word leads to where a stretch came to.
-    fn note(&mut self, arrival: Arrival, origin: &OriginAtOnce) -> Result<(), AllocError>
+    fn note(&mut self, arrival: Halt<End>, origin: &OriginAtOnce) -> Result<(), AllocError>
         ensures ahead { self.new.ahead ≡ self.old.ahead }
-        ensures found { IfOk result (λ _. (r : Tables) (g : SlotGraph) (most : ℕ) (states : List (Machine × List ℕ)) (word : List ℕ) (a : SlotArrival) (m : Machine) → Holds r g most self.old.found states → IsWordOf states origin.now word → ArrivesAt g word a → goal_at arrival m ≡ a.goal → self.old.told.items ≡ a.shown → NotesArrival r g most self.old.found states self.new.found a) }
+        ensures found { IfOk result (λ _. (r : Tables) (g : SlotGraph) (most : ℕ) (states : List (Machine × List ℕ)) (word : List ℕ) (a : SlotArrival) (m : Machine) → Holds r g most self.old.found states → IsWordOf states origin.now word → ArrivesAt g word a → goal_at arrival m ≡ a.goal → self.old.told.values.items ≡ a.shown → NotesArrival r g most self.old.found states self.new.found a) }
     {
-        self.found.add_values(self.told.as_slice(), origin)?;
+        self.found.add_values(self.told.values.as_slice(), origin)?;
         match arrival {
-            Arrival::End(end) => self.found.add_end(end, origin),
-            Arrival::Choice => Ok(()),
+            Halt::Ended(end) => self.found.add_end(end, origin),
+            Halt::Choice => Ok(()),
         }
     }
 

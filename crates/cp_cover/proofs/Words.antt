@@ -1,5 +1,5 @@
 -- The names that many proofs of this crate use, from one place.
-pub use Rattle.std.proofs.Common.{List, [], ap, arith, false, length, refl, subst, suc, sym, take, true, ℕ, ◌+◌, ◌-◌, ◌<◌, ◌∙◌, ◌≡◌, ◌≤◌}
+pub use Rattle.std.proofs.Common.{List, [], arith, length, refl, subst, suc, sym, take, true, ℕ, ◌+◌, ◌≡◌, ◌≤◌}
 pub use Rattle.std.specs.Prelude.{Contains}
 pub use Rattle.cp_machine.specs.Machine.{Machine}
 pub use Rattle.cp_machine.specs.System.{IsStateOf, machine_of}

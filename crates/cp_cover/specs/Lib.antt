@@ -1,3 +1,4 @@
 pub mod Layers
 pub mod Marks
+pub mod Passing
 pub mod Reached

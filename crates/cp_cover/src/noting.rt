@@ -1,20 +1,19 @@
 //! Stretches, with notes of what they come to.
 
-ghost use Rattle.std.specs.Prelude.{◌≡◌, ◌<◌, true, false, drop, IfOk, length, option_copied};
+ghost use Rattle.std.specs.Prelude.{◌≡◌, ◌<◌, true, drop, IfOk, length, option_copied};
 ghost use Rattle.cp_machine.specs.Machine.{thread_at};
 ghost use Rattle.cp_machine.specs.Stack.{above};
-ghost use Rattle.cp_machine.specs.System.{machine_of, is_ready, is_pending, opening, IsStateOf};
-ghost use Rattle.cp_run.specs.Run.{stretch, chosen, opened, may};
+ghost use Rattle.cp_machine.specs.System.{machine_of, opening, IsStateOf};
+ghost use Rattle.cp_run.specs.Run.{chosen, opened, may};
 ghost use Rattle.cp_run.specs.Slots.{slots};
 ghost use Rattle.cp_run.specs.Code.{node_of};
 ghost use Rattle.cp_cover.specs.Marks.{marks_in, Adds};
-ghost use Rattle.cp_cover.specs.Reached.{item_marks, wait_marks, stretch_marks, opened_marks, chosen_marks};
+ghost use Rattle.cp_cover.specs.Reached.{item_marks, wait_marks, opened_marks, chosen_marks};
 
 use crate::mark::CoverMark;
 use crate::marks::Marks;
-use cp_machine::{Entry, State, Status, Ticks, step};
-use cp_run::turn::{settled_turn, turn_at, turn_of};
-use cp_run::{Halt, Limits, OutcomeKind, Turn};
+use cp_machine::{Entry, Event, State, Status, Ticks};
+use cp_run::{Halt, Limits, Observe, OutcomeKind, halt_at, observe_choice, observe_opening};
 use cp_slots::Resolved;
 use std::alloc::AllocError;
 use std::sync::ledger::Ledger;
@@ -76,34 +75,75 @@ fn note_wait(state: &State, pid: u8, marks: &mut Marks) -> Result<(), AllocError
     }
 }
 
-/// A stretch, of which notes are made.
-fn note_stretch<S: Ledger>(
-    program: &Resolved,
-    limits: Limits,
-    state: &mut State,
-    pid: u8,
-    steps: &mut Ticks<S>,
-    marks: &mut Marks,
-) -> Result<Halt, AllocError>
-    requires own { IsStateOf program.now state.old }
-    requires ready { is_ready (machine_of state.old) pid ≡ true }
-    requires free { is_pending (machine_of state.old) ≡ false }
-    ensures node { IfOk result (λ h. stretch (slots program.now limits.gates) limits.steps (machine_of state.old) pid ≡ node_of h (machine_of state.new)) }
-    ensures own { IsStateOf program.now state.new }
-    ensures marks { IfOk result (λ _. Adds marks.old.known.keys (stretch_marks (slots program.now limits.gates) limits.steps (machine_of state.old) pid) marks.new.known.keys) }
-{
-    let mut going = pid;
-    for _ in 0..limits.steps {
-        note_item(state, going, marks)?;
-        let event = step(program, state, going, steps);
-        note_wait(state, going, marks)?;
-        match turn_of(program, limits, state, going, event) {
-            Turn::Over(kind) => return Ok(Halt::Ended(kind)),
-            Turn::Due => return Ok(Halt::Choice),
-            Turn::Goes(next) => going = next,
-        }
+impl Observe for Marks {
+    ghost use Rattle.std.specs.Prelude.{◌≡◌, ◌++◌, List, [], true, false};
+    ghost use Rattle.cp_machine.specs.Machine.{is_ready, thread_at};
+    ghost use Rattle.cp_cover.specs.Marks.{Adds};
+    ghost use Rattle.cp_cover.specs.Passing.{adds_local};
+    ghost use Rattle.cp_cover.specs.Reached.{item_marks, marker};
+    ghost use Rattle.cp_cover.specs.declared.mark.CoverMark.{CoverMark};
+
+    type Error = AllocError;
+
+    ghost Seen = { List CoverMark };
+
+    ghost IS_SILENT = { false };
+
+    ghost SEES_LOCAL = { false };
+
+    #[inline(always)]
+    fn is_silent() -> bool {
+        false
     }
-    Ok(Halt::Ended(OutcomeKind::StepLimit))
+
+    #[inline(always)]
+    fn sees_local() -> bool {
+        false
+    }
+
+    ghost holds = { λ marks r gates now seen. Adds [] seen marks.known.keys };
+
+    ghost fold = { λ r gates. marker };
+
+    ghost expects = { λ marks r gates before process seen. (is_ready before process ≡ true) × Adds [] (seen ++ item_marks (thread_at before.threads process).stack) marks.known.keys };
+
+    #[inline(always)]
+    fn expect_step(
+        &mut self,
+        _program: &Resolved,
+        _limits: Limits,
+        state: &State,
+        process: u8,
+    ) -> Result<(), AllocError> {
+        note_item(state, process, self)
+    }
+
+    #[inline(always)]
+    fn see_step(
+        &mut self,
+        _program: &Resolved,
+        _limits: Limits,
+        state: &State,
+        process: u8,
+        _event: Event,
+    ) -> Result<(), AllocError> {
+        note_wait(state, process, self)
+    }
+
+    fn see_admission(
+        &mut self,
+        _program: &Resolved,
+        _limits: Limits,
+        _state: &State,
+        _process: u8,
+    ) -> Result<(), AllocError> {
+        Ok(())
+    }
+
+    fn see_choice(&mut self, _program: &Resolved, _limits: Limits, _state: &State, _number: u8) {}
+
+    // Whoever made a local step waits nowhere.
+    ghost passes = { λ unseen marks r gates before after process seen step h. adds_local r before after process seen marks.known.keys step h.0 h.1 };
 }
 
 /// Takes a due choice, and notes what the stretch after it comes to.
@@ -114,22 +154,15 @@ pub fn note_choice<S: Ledger>(
     process: u8,
     steps: &mut Ticks<S>,
     marks: &mut Marks,
-) -> Result<Halt, AllocError>
+) -> Result<Halt<OutcomeKind>, AllocError>
     requires own { IsStateOf program.now state.old }
     requires may { may (slots program.now limits.gates) (machine_of state.old) process ≡ true }
     ensures node { IfOk result (λ h. chosen (slots program.now limits.gates) limits.steps (machine_of state.old) process ≡ node_of h (machine_of state.new)) }
     ensures own { IsStateOf program.now state.new }
     ensures marks { IfOk result (λ _. Adds marks.old.known.keys (chosen_marks (slots program.now limits.gates) limits.steps (machine_of state.old) process) marks.new.known.keys) }
 {
-    if state.pending().is_none() {
-        return note_stretch(program, limits, state, process, steps, marks);
-    }
-    state.admit(process);
-    match settled_turn(program, limits, state, true, process) {
-        Turn::Over(kind) => Ok(Halt::Ended(kind)),
-        Turn::Due => Ok(Halt::Choice),
-        Turn::Goes(next) => note_stretch(program, limits, state, next, steps, marks),
-    }
+    let turn = observe_choice(program, limits, state, process, steps, marks)?;
+    Ok(halt_at(turn))
 }
 
 /// Begins a run in the opening state, and notes what it comes to before the first choice.
@@ -139,18 +172,13 @@ pub fn note_opening<S: Ledger>(
     state: &mut State,
     steps: &mut Ticks<S>,
     marks: &mut Marks,
-) -> Result<Halt, AllocError>
+) -> Result<Halt<OutcomeKind>, AllocError>
     requires own { IsStateOf program.now state.old }
     requires start { machine_of state.old ≡ opening program.now limits.gates }
     ensures node { IfOk result (λ h. opened (slots program.now limits.gates) limits.steps ≡ node_of h (machine_of state.new)) }
     ensures own { IsStateOf program.now state.new }
     ensures marks { IfOk result (λ _. Adds marks.old.known.keys (opened_marks (slots program.now limits.gates) limits.steps) marks.new.known.keys) }
 {
-    // A sound program has a process.
-    let _processes = program.processes();
-    match turn_at(program, limits, state, false, 0) {
-        Turn::Over(kind) => Ok(Halt::Ended(kind)),
-        Turn::Due => Ok(Halt::Choice),
-        Turn::Goes(next) => note_stretch(program, limits, state, next, steps, marks),
-    }
+    let turn = observe_opening(program, limits, state, steps, marks)?;
+    Ok(halt_at(turn))
 }

@@ -231,7 +231,7 @@ impl CoverSearch {
         alloc: Global,
         program: &Resolved,
         state: &State,
-        halt: Halt,
+        halt: Halt<OutcomeKind>,
     ) -> Result<(), AllocError>
         requires own { IsStateOf program.now state.now }
         ensures marks { IfOk result (λ _. self.new.marks.known.keys ≡ self.old.marks.known.keys) }

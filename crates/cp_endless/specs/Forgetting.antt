@@ -2,10 +2,7 @@
 use Rattle.std.specs.Prelude.{◌≡◌, ◌⊎◌, ℕ}
 use Rattle.cp_machine.specs.declared.event.Event.TheVariants.{OutputFull}
 use Rattle.cp_run.specs.System.{System}
-
--- the same machine, whose output is taken away after each step; `forget` takes it from a state
-abbrev pub forgetting_system : {S : Type 0} → System S → (S → S) → System S
-forgetting_system sys forget = record sys { start = forget sys.start; step = λ s p. forget (sys.step s p) }
+pub use Rattle.cp_run.specs.Silent.{forgetting_system}
 
 -- What was displayed decides nothing, but whether the output is full. `R s t` says that t is s with less of what was displayed, or as much.
 pub record OutputDecidesNothing {S : Type 0} (sys : System S) (forget : S → S) (R : S → S → Type 0) : Type 0 where

@@ -13,17 +13,12 @@ use Rattle.cp_meaning.specs.State as meaning
 use Rattle.cp_meaning.specs.Readings as readings
 use Rattle.cp_run.specs.Slots.{slots}
 use Rattle.cp_run.specs.System.{System}
+pub use Rattle.cp_run.specs.Silent.{silent_slots, without_output}
 use Rattle.cp_refine.specs.Named.{named}
 use Rattle.cp_endless.specs.Fair.{StaysReady}
 use Rattle.cp_endless.specs.Forgetting.{forgetting_system, OutputDecidesNothing}
 
 -- ---- without what was displayed
-
-abbrev pub without_output : Machine → Machine
-without_output m = record m { output = [] }
-
-abbrev pub silent_slots : Tables → slot_gates.Gates → System Machine
-silent_slots r gates = forgetting_system (slots r gates) without_output
 
 abbrev pub named_without_output : meaning.State → meaning.State
 named_without_output s = record s { output = [] }

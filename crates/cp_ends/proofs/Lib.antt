@@ -2,9 +2,9 @@ pub mod Answering
 pub mod Arriving
 pub mod Finding
 pub mod GoingOn
+pub mod Halting
 pub mod Keeping
 pub mod Listing
-pub mod LocalOutput
 pub mod Numbering
 pub mod Returning
 pub mod Saying

@@ -1,10 +1,7 @@
 -- Whether a stretch that was cut comes back to where it is, by what is seen of it in so many steps.
-use Rattle.std.proofs.Common.{◌≡◌, ◌∙◌, ◌+◌, ◌<◌, ℕ, zero, suc, List, [], ◌∷◌, ◌++◌, Bool, true, false, if◌then◌else◌, Option, None, Some, refl, sym, ap, arith}
-use Rattle.cp_ends.proofs.Vocabulary.{◌==◌, ◌&&◌, ◌||◌, Shown, Turn, Goes, System, turn_after, each, Moment, stretch_moments, spot_after, spot_by, shown_at, End}
-use Rattle.cp_ends.proofs.Vocabulary.{Arrival, Alone, Spins, distance}
-use Rattle.cp_ends.specs.Arrivals.{cut_arrival, first_return, has_call, is_call, return_at, return_within}
-use Rattle.cp_ends.specs.declared.end.End as code
-use Rattle.cp_ends.proofs.Stretches.{moments_next}
+use Rattle.std.proofs.Common.{◌≡◌, ◌∙◌, ◌+◌, ◌<◌, ℕ, zero, suc, Bool, true, false, Option, None, Some, refl, sym, ap, arith}
+use Rattle.cp_ends.proofs.Vocabulary.{◌==◌, ◌&&◌, Turn, Goes, System, turn_after, spot_after, spot_by, distance}
+use Rattle.cp_ends.specs.Arrivals.{first_return, return_at, return_within}
 
 -- a stretch that stands nowhere stands nowhere later
 gone_on : {S : Type 0} (sys : System S) (n m : ℕ) (s : S) (p : ℕ) → spot_after sys n s p ≡ None → spot_after sys (n + m) s p ≡ None
@@ -83,45 +80,3 @@ module _ {S : Type 0} (sys : System S) (eq : S → S → Bool) (s : S) (p : ℕ)
   never_back n steps lt none gone =
       let d = distance n steps (omega (arith, lt)) in
       ap (return_within sys eq s p) (sym d.1) ∙ never_on n d.0 none gone
-
--- ---- whether a kernel call was made
-
-module _ {S : Type 0} (sys : System S) where
-  call_next : (ms : List (Moment S)) (m : Moment S) → has_call sys (ms ++ m ∷ []) ≡ has_call sys ms || is_call (sys.event m.state m.mover)
-  call_next [] m = by (is_call (sys.event m.state m.mover))
-    where
-      by : (b : Bool) → (b || false) ≡ (false || b)
-      by true = refl
-      by false = refl
-  call_next (x ∷ xs) m = by (is_call (sys.event x.state x.mover)) (call_next xs m)
-    where
-      by : (b : Bool) → has_call sys (xs ++ m ∷ []) ≡ has_call sys xs || is_call (sys.event m.state m.mover) → (b || has_call sys (xs ++ m ∷ [])) ≡ ((b || has_call sys xs) || is_call (sys.event m.state m.mover))
-      by true e = refl
-      by false e = e
-
-  pub none_called : (s : S) (p : ℕ) → has_call sys (stretch_moments sys 0 s p) ≡ false
-  unfolding stretch_moments
-  none_called s p = refl
-
-  pub called_next : (n : ℕ) (s : S) (p : ℕ) (t : S) (q : ℕ) (before now : Bool) → spot_after sys n s p ≡ Some (t, q) → before ≡ has_call sys (stretch_moments sys n s p) → now ≡ is_call (sys.event t q) → (before || now) ≡ has_call sys (stretch_moments sys (n + 1) s p)
-  called_next n s p t q before now spot b c =
-      ap (λ x. x || now) b ∙ ap (λ x. has_call sys (stretch_moments sys n s p) || x) c
-      ∙ sym (call_next (stretch_moments sys n s p) (record { state = t; mover = q }))
-      ∙ ap (has_call sys) (sym (moments_next sys n s p t q spot))
-
--- ---- how the stretch goes on then
-
-abbrev along : {S : Type 0} → code.End → List Shown → Arrival S code.End Shown
-along e shown = record { goal = End e; shown = shown }
-
-pub round_there : {S : Type 0} (sys quiet : System S) (s : S) (p n : ℕ) (o : Option ℕ) (old new : List Shown) (e : code.End) (called : Bool) → o ≡ Some n → new ≡ old ++ each (shown_at sys) (stretch_moments quiet (n + 1) s p) → called ≡ has_call quiet (stretch_moments quiet (n + 1) s p) → e ≡ (if called then Alone p else Spins p) →
-    cut_arrival sys quiet old s p o ≡ record { goal = End e; shown = new }
-round_there {S} sys quiet s p n o old new e called is told calls so =
-    ap (cut_arrival sys quiet old s p) is
-    ∙ ap (λ i. along (if has_call quiet (stretch_moments quiet i s p) then Alone p else Spins p) (old ++ each (shown_at sys) (stretch_moments quiet i s p))) (sym (plus n))
-    ∙ ap (λ b. along (if b then Alone p else Spins p) (old ++ each (shown_at sys) (stretch_moments quiet (n + 1) s p))) (sym calls)
-    ∙ ap (λ x. along x (old ++ each (shown_at sys) (stretch_moments quiet (n + 1) s p))) (sym so)
-    ∙ ap (along e) (sym told)
-  where
-    plus : (n : ℕ) → n + 1 ≡ suc n
-    plus n = omega arith

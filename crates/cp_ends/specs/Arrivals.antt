@@ -3,10 +3,13 @@ use Rattle.std.specs.Prelude.{◌==◌, ◌&&◌, ◌||◌, ℕ, zero, suc, List
 use Rattle.cp_machine.specs.declared.event.Event.{Event}
 use Rattle.cp_machine.specs.declared.event.Event.TheVariants.{Kernel}
 use Rattle.cp_machine.specs.declared.shown.Shown.{Shown}
+use Rattle.cp_run.specs.declared.outcome.Halt.{Halt}
+use Rattle.cp_run.specs.declared.outcome.Halt.TheVariants.{Choice, Ended}
 use Rattle.cp_run.specs.declared.outcome.OutcomeKind.TheVariants.{StepLimit}
 use Rattle.cp_run.specs.declared.outcome.Turn.{Turn}
 use Rattle.cp_run.specs.declared.outcome.Turn.TheVariants as turn
 use Rattle.cp_run.specs.System.{System}
+use Rattle.cp_run.specs.Fold.{Fold}
 use Rattle.cp_run.specs.Run.{Node, Halted, Choosing, may, turn_at, settled_turn, stretch}
 use Rattle.cp_run.specs.Table.{each}
 use Rattle.cp_endless.specs.Forgetting.{forgetting_system}
@@ -14,8 +17,6 @@ use Rattle.cp_endless.specs.Moments.{Moment, stretch_moments}
 use Rattle.cp_endless.specs.Rounds.{spot_after}
 use Rattle.cp_endless.specs.Shown.{shown_at}
 use Rattle.cp_ends.specs.Graph.{Goal, Place, End, Arrival, Graph}
-use Rattle.cp_ends.specs.declared.end.Arrival as arrival
-use Rattle.cp_ends.specs.declared.end.Arrival.TheVariants as came
 use Rattle.cp_ends.specs.declared.end.End as code
 use Rattle.cp_ends.specs.declared.end.End.TheVariants.{Over, Alone, Spins}
 
@@ -75,10 +76,25 @@ arrival_by s on (turn.Over kind) = record { goal = End (Over kind); shown = [] }
 arrival_by s on turn.Due = record { goal = Place s; shown = [] }
 arrival_by s on (turn.Goes q) = on q
 
+-- where it came to if it stands in this state after as many steps as the limit, this comes next, and so much was shown
+abbrev pub halt_arrival : {S : Type 0} → System S → System S → (S → S → Bool) → ℕ → List Shown → S → Turn → Arrival S code.End Shown
+halt_arrival sys quiet eq steps shown s (turn.Over kind) = record { goal = End (Over kind); shown = shown }
+halt_arrival sys quiet eq steps shown s turn.Due = record { goal = Place s; shown = shown }
+halt_arrival sys quiet eq steps shown s (turn.Goes q) = cut_arrival sys quiet shown s q (return_within quiet eq s q steps)
+
 -- where the code came to, in this state
-abbrev pub goal_at : {S : Type 0} → arrival.Arrival → S → Goal S code.End
-goal_at came.Choice s = Place s
-goal_at (came.End e) s = End e
+abbrev pub goal_at : {S : Type 0} → Halt code.End → S → Goal S code.End
+goal_at Choice s = Place s
+goal_at (Ended e) s = End e
+
+-- what is told of a run: the values that are shown, and whether a kernel call is made
+abbrev pub teller : {S : Type 0} → System S → Fold S (List Shown × Bool)
+teller sys =
+    record {
+      on_step = λ s p event t x. (x.0 ++ shown_at sys (record { state = s; mover = p }), is_call event || x.1);
+      on_admission = λ p t x. x;
+      on_choice = λ s p x. x;
+    }
 
 -- ---- the graph
 

@@ -12,12 +12,3 @@ pub enum End {
     /// The stretch of this process repeats for ever and never calls the kernel.
     Spins(u8),
 }
-
-/// Where a stretch came to.
-#[derive(Clone, Copy)]
-pub enum Arrival {
-    /// A choice is due.
-    Choice,
-    /// There is none any more.
-    End(End),
-}

@@ -4,7 +4,6 @@
 pub mod choosing;
 pub mod end;
 pub mod found;
-pub mod going;
 pub mod laws;
 pub mod origin;
 pub mod report;
@@ -12,6 +11,7 @@ pub mod round;
 pub mod search;
 pub mod state_key;
 pub mod states;
+pub mod told;
 
 pub use end::End;
 pub use found::Found;

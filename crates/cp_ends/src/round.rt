@@ -1,20 +1,23 @@
 //! Stretches that are cut: whether they repeat.
 
-ghost use Rattle.std.specs.Prelude.{◌≡◌, ◌++◌, [], List, IfOk, IfSome, IfNone, None, true, false};
+ghost use Rattle.std.specs.Prelude.{◌≡◌, ◌<◌, [], ℕ, suc, IfOk, None, Some, true, false};
 ghost use Rattle.cp_key.specs.Key.{key_of};
 ghost use Rattle.cp_machine.specs.System.{Machine, machine_of, output_of, is_ready, is_pending, IsStateOf};
-ghost use Rattle.cp_machine.specs.declared.shown.Shown as said;
+ghost use Rattle.cp_run.specs.Code.{IfGoes};
+ghost use Rattle.cp_run.specs.Fold.{fold_stretch};
+ghost use Rattle.cp_run.specs.Run.{turn_after};
+ghost use Rattle.cp_run.specs.Silent.{silent_slots};
 ghost use Rattle.cp_run.specs.Slots.{slots};
-ghost use Rattle.cp_endless.specs.Silent.{silent_slots};
+ghost use Rattle.cp_endless.specs.Rounds.{spot_after};
 ghost use Rattle.cp_ends.specs.Arrivals.{cut_arrival, return_within};
 ghost use Rattle.cp_ends.specs.Graph as graph;
 ghost use Rattle.cp_ends.specs.Holds.{same_key};
 
 use crate::end::End;
-use crate::going::take_step;
 use crate::state_key::ReachedKey;
-use cp_machine::{Shown, State, Ticks};
-use cp_run::{Limits, OutcomeKind, Turn};
+use crate::told::Told;
+use cp_machine::{State, Ticks};
+use cp_run::{Limits, Observe, OutcomeKind, Turn, expect_step, see_step};
 use cp_slots::Resolved;
 use std::alloc::{AllocError, Global};
 use std::sync::ledger::Ledger;
@@ -27,7 +30,7 @@ pub fn end_of_cut<S: Ledger>(
     limits: Limits,
     state: &mut State,
     pid: u8,
-    told: &mut Vec<Shown>,
+    told: &mut Told,
     steps: &mut Ticks<S>,
 ) -> Result<End, AllocError>
     requires own { IsStateOf program.now state.old }
@@ -36,36 +39,41 @@ pub fn end_of_cut<S: Ledger>(
     requires quiet { output_of (machine_of state.old) ≡ [] }
     ensures own { IsStateOf program.now state.new }
     ensures quiet { IfOk result (λ _. output_of (machine_of state.new) ≡ []) }
-    ensures cut { IfOk result (λ e. cut_arrival (slots program.now limits.gates) (silent_slots program.now limits.gates) told.old.items (machine_of state.old) pid (return_within (silent_slots program.now limits.gates) same_key (machine_of state.old) pid limits.steps) ≡ record { goal = graph.End e; shown = told.new.items }) }
+    ensures cut { IfOk result (λ e. cut_arrival (slots program.now limits.gates) (silent_slots program.now limits.gates) told.old.values.items (machine_of state.old) pid (return_within (silent_slots program.now limits.gates) same_key (machine_of state.old) pid limits.steps) ≡ record { goal = graph.End e; shown = told.new.values.items }) }
 {
-    let count = told.len();
-    let round = round_of(alloc, program, limits, state, pid, told, steps)?;
-    let Some(end) = round else {
-        told.truncate(count);
+    let count = told.values.len();
+    told.is_called = false;
+    if !observe_round(alloc, program, limits, state, pid, steps, told)? {
+        told.values.truncate(count);
         return Ok(End::Over(OutcomeKind::StepLimit));
-    };
-    Ok(end)
+    }
+    if told.is_called {
+        return Ok(End::Alone(pid));
+    }
+    Ok(End::Spins(pid))
 }
 
-// The round in which a stretch goes, if there is one.
-fn round_of<S: Ledger>(
+/// Goes on with a process until the state is what it was at first and this process would go on again, or a choice is due or the run is over,
+/// or as many steps are made as the limits allow. An observer is told of it. Tells whether it came back.
+pub fn observe_round<S: Ledger, O: Observe<Error = AllocError>>(
     alloc: Global,
     program: &Resolved,
     limits: Limits,
     state: &mut State,
     pid: u8,
-    told: &mut Vec<Shown>,
     steps: &mut Ticks<S>,
-) -> Result<Option<End>, AllocError>
+    observer: &mut O,
+) -> Result<bool, AllocError>
+    requires silent { O.IS_SILENT ≡ true }
     requires own { IsStateOf program.now state.old }
     requires ready { is_ready (machine_of state.old) pid ≡ true }
     requires free { is_pending (machine_of state.old) ≡ false }
     requires quiet { output_of (machine_of state.old) ≡ [] }
     ensures own { IsStateOf program.now state.new }
     ensures quiet { IfOk result (λ _. output_of (machine_of state.new) ≡ []) }
-    ensures some { IfOk result (λ r. IfSome r (λ e. cut_arrival (slots program.now limits.gates) (silent_slots program.now limits.gates) told.old.items (machine_of state.old) pid (return_within (silent_slots program.now limits.gates) same_key (machine_of state.old) pid limits.steps) ≡ record { goal = graph.End e; shown = told.new.items })) }
-    ensures none { IfOk result (λ r. IfNone r (return_within (silent_slots program.now limits.gates) same_key (machine_of state.old) pid limits.steps ≡ None)) }
-    ensures more { IfOk result (λ _. (more : List said.Shown) × (told.new.items ≡ told.old.items ++ more)) }
+    ensures round { IfOk result (λ is_round. is_round ≡ true → (k : ℕ) × (k < limits.steps) × (return_within (silent_slots program.now limits.gates) same_key (machine_of state.old) pid limits.steps ≡ Some k) × (spot_after (silent_slots program.now limits.gates) (suc k) (machine_of state.old) pid ≡ Some (machine_of state.new, pid)) × (same_key (machine_of state.new) (machine_of state.old) ≡ true) × ((x : O.Seen) → O.holds observer.old program.now limits.gates (machine_of state.old) x → O.holds observer.new program.now limits.gates (machine_of state.new) (fold_stretch (silent_slots program.now limits.gates) (O.fold program.now limits.gates) (suc k) (machine_of state.old) pid x))) }
+    ensures none { IfOk result (λ is_round. is_round ≡ false → return_within (silent_slots program.now limits.gates) same_key (machine_of state.old) pid limits.steps ≡ None) }
+    ensures seen { IfOk result (λ _. (n : ℕ) × ((x : O.Seen) → O.holds observer.old program.now limits.gates (machine_of state.old) x → O.holds observer.new program.now limits.gates (machine_of state.new) (fold_stretch (silent_slots program.now limits.gates) (O.fold program.now limits.gates) n (machine_of state.old) pid x))) }
 {
     let mut first = ReachedKey {
         bytes: Vec::new(alloc),
@@ -75,23 +83,44 @@ fn round_of<S: Ledger>(
         bytes: Vec::new(alloc),
     };
     let mut going = pid;
-    let mut is_called = false;
     for _ in 0..limits.steps {
-        let stepped = take_step(program, limits, state, going, told, steps)?;
-        let Turn::Goes(next) = stepped.turn else {
-            return Ok(None);
+        let turn = take_step(program, limits, state, going, steps, observer)?;
+        let Turn::Goes(next) = turn else {
+            return Ok(false);
         };
         going = next;
-        is_called = is_called || stepped.is_call;
         if going == pid && is_at(state, &first, &mut key)? {
-            return Ok(Some(if is_called {
-                End::Alone(pid)
-            } else {
-                End::Spins(pid)
-            }));
+            return Ok(true);
         }
     }
-    Ok(None)
+    Ok(false)
+}
+
+// A step of which nothing stays displayed. Answers what comes next.
+#[inline(always)]
+fn take_step<S: Ledger, O: Observe>(
+    program: &Resolved,
+    limits: Limits,
+    state: &mut State,
+    pid: u8,
+    steps: &mut Ticks<S>,
+    observer: &mut O,
+) -> Result<Turn, O::Error>
+    requires silent { O.IS_SILENT ≡ true }
+    requires own { IsStateOf program.now state.old }
+    requires ready { is_ready (machine_of state.old) pid ≡ true }
+    requires free { is_pending (machine_of state.old) ≡ false }
+    ensures own { IsStateOf program.now state.new }
+    ensures ready { IfOk result (λ t. IfGoes t (λ q. is_ready (machine_of state.new) q ≡ true)) }
+    ensures free { IfOk result (λ t. IfGoes t (λ q. is_pending (machine_of state.new) ≡ false)) }
+    ensures state { IfOk result (λ _. machine_of state.new ≡ (silent_slots program.now limits.gates).step (machine_of state.old) pid) }
+    ensures turn { IfOk result (λ t. t ≡ turn_after (silent_slots program.now limits.gates) (machine_of state.new) pid ((silent_slots program.now limits.gates).event (machine_of state.old) pid)) }
+    ensures seen { IfOk result (λ _. (x : O.Seen) → O.holds observer.old program.now limits.gates (machine_of state.old) x → O.holds observer.new program.now limits.gates (machine_of state.new) ((O.fold program.now limits.gates).on_step (machine_of state.old) pid ((silent_slots program.now limits.gates).event (machine_of state.old) pid) (machine_of state.new) x)) }
+{
+    if expect_step(program, limits, state, pid, steps, observer)? {
+        return Ok(Turn::Goes(pid));
+    }
+    see_step(program, limits, state, pid, steps, observer)
 }
 
 // Whether this is the state of a key. There is room for another one.

@@ -13,12 +13,13 @@ ghost use Rattle.cp_ends.specs.Searched as pure;
 ghost use Rattle.cp_ends.specs.Whole.{IsAnswer};
 
 use crate::choosing::{choose, open};
-use crate::end::Arrival;
+use crate::end::End;
 use crate::found::Found;
 use crate::origin::Origin;
-use cp_machine::{Shown, State, Ticks};
+use crate::told::Told;
+use cp_machine::{State, Ticks};
 use cp_progress::{ObserveProgress, Progress, STATES_BETWEEN, Unobserved};
-use cp_run::{Limits, candidates};
+use cp_run::{Halt, Limits, candidates};
 use cp_slots::Resolved;
 use std::alloc::{AllocError, Global};
 use std::marker::Brand;
@@ -28,7 +29,7 @@ use std::sync::ledger::{Blank, Ledger};
 #[derive(Drop)]
 struct Search {
     found: Found,
-    told: Vec<Shown>,
+    told: Told,
 }
 
 /// Goes on from the opening state, and from each state that is found, with each number that may be chosen there, in the order in which
@@ -98,11 +99,11 @@ fn search_with<O: ObserveProgress, S: Ledger>(
 impl Search {
     fn new(alloc: Global) -> Search
         ensures found { (r : Tables) → Holds r result.found (record { states = []; ends = []; values = [] }) }
-        ensures told { result.told.items ≡ [] }
+        ensures told { result.told.values.items ≡ [] }
     {
         Search {
             found: Found::new(alloc),
-            told: Vec::new(alloc),
+            told: Told::new(alloc),
         }
     }
 
@@ -205,7 +206,7 @@ impl Search {
         ensures own { IsStateOf program.now state.new }
         ensures found { IfOk result (λ is_room. (f : SlotFindings) (word : List ℕ) → HoldsFew program.now most self.old.found f → IsWordOf f.states origin word → IsBefore (length f.states) origin → Arrives program.now most self.new.found f word ((slot_graph program.now limits.gates limits.steps).on (machine_of state.old) process) is_room) }
     {
-        self.told.clear();
+        self.told.values.clear();
         let arrival = choose(
             alloc,
             program,
@@ -225,20 +226,20 @@ impl Search {
         program: &Resolved,
         most: u32,
         state: &State,
-        arrival: Arrival,
+        arrival: Halt<End>,
         origin: Origin,
     ) -> Result<bool, AllocError>
         requires own { IsStateOf program.now state.now }
         requires quiet { output_of (machine_of state.now) ≡ [] }
-        ensures { IfOk result (λ is_room. (f : SlotFindings) (word : List ℕ) (a : SlotArrival) → HoldsFew program.now most self.old.found f → IsWordOf f.states origin word → IsBefore (length f.states) origin → goal_at arrival (machine_of state.now) ≡ a.goal → self.old.told.items ≡ a.shown → Arrives program.now most self.new.found f word a is_room) }
+        ensures { IfOk result (λ is_room. (f : SlotFindings) (word : List ℕ) (a : SlotArrival) → HoldsFew program.now most self.old.found f → IsWordOf f.states origin word → IsBefore (length f.states) origin → goal_at arrival (machine_of state.now) ≡ a.goal → self.old.told.values.items ≡ a.shown → Arrives program.now most self.new.found f word a is_room) }
     {
-        self.found.add_values(self.told.as_slice(), origin)?;
+        self.found.add_values(self.told.values.as_slice(), origin)?;
         match arrival {
-            Arrival::End(end) => {
+            Halt::Ended(end) => {
                 self.found.add_end(end, origin)?;
                 Ok(true)
             }
-            Arrival::Choice => self.add_state(alloc, program, most, state, origin),
+            Halt::Choice => self.add_state(alloc, program, most, state, origin),
         }
     }
 

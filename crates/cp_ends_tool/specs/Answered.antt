@@ -7,8 +7,8 @@ use Rattle.cp_slots.specs.Tables.{Tables}
 use Rattle.cp_resolved.specs.Enumerations.{constant_names}
 use Rattle.cp_resolved.specs.Resolving.{IsProgramOf}
 use Rattle.cp_run.specs.Slots.{slots}
-use Rattle.cp_refine.specs.Excluding.{RunsExclude}
-use Rattle.cp_refine.specs.Named.{named, named_gates}
+use Rattle.cp_lawful.specs.Accepted.{KeepsExclusion}
+use Rattle.cp_refine.specs.Named.{named_gates}
 use Rattle.cp_endless.specs.Silent.{without_output}
 use Rattle.cp_ends.specs.Firsts.{those_within}
 use Rattle.cp_ends.specs.Holds.{SlotFindings}
@@ -56,9 +56,9 @@ AreTold o t r verdict text = (f : SlotFindings) × (to : Option ℕ) × AreAll o
 abbrev pub AreEndsBy : Options → Tree → Tables → Verdict → List ℕ → Type 0
 AreEndsBy o t r verdict text = MatchBool o.at_once (IsAtOnceReport o t r verdict text) (AreTold o t r verdict text)
 
--- with `--ends`; and no run of the program, of whatever length, lets two processes into one monitor
+-- with `--ends`; and in no state that the program reaches two processes are inside one monitor
 abbrev pub AreEnds : Options → Answering
-AreEnds o t verdict text = ((r : Tables) × IsProgramOf t r × AreEndsBy o t r verdict text) × ((choices : ℕ) → RunsExclude (named t (named_gates o.gates)) choices o.steps)
+AreEnds o t verdict text = ((r : Tables) × IsProgramOf t r × AreEndsBy o t r verdict text) × KeepsExclusion t (named_gates o.gates)
 
 -- whether it is asked for ends, and not for one schedule
 abbrev pub asks_ends : Options → Bool

@@ -12,7 +12,7 @@ use cp_drops::drop_program;
 use cp_front::{MOST_BYTES, ReadFault, Sink, Source, StreamFault, load, read_source};
 use cp_progress_line::ObserveWork;
 use cp_tool::answering::{Answer, Verdict, answer_refusal, status_of, write_answer};
-use cp_tool::{ExitStatus, Options, explore_stream};
+use cp_tool::{Options, Status, explore_stream_observed};
 use std::alloc::{AllocError, Global};
 use std::thread::Threads;
 
@@ -20,14 +20,14 @@ use std::thread::Threads;
 ///
 /// The whole text is built before the first write. Nothing is written after a failed read or where memory is refused, and a prefix of
 /// the text after a failed write. An observer is told how far a search has come.
-pub fn answer_stream<X: Threads + Sync, O: ObserveWork + Send, R: Source, W: Sink>(
+pub fn answer_stream<X: Threads + Sync, O: ObserveWork, R: Source, W: Sink>(
     rt: &X,
     alloc: Global,
     options: &Options,
     observer: &mut O,
     source: &mut R,
     sink: &mut W,
-) -> ExitStatus
+) -> Status
     // What is written is the answer to what was read, and nothing else; status 4 comes exactly where a call failed or took nothing.
     ensures told { (ending : Result Verdict StreamFault) × (result.code ≡ code_by stream.code_of ending) × stream.Tells (spec.IsAnswered options.now) (R.remaining source.old) (W.contents sink.old) (W.contents sink.new) ending × (R.failed_reads source.new + (W.failed_writes sink.new + W.empty_writes sink.new) ≡ R.failed_reads source.old + (W.failed_writes sink.old + W.empty_writes sink.old) + faults_in ending) }
     ensures reads { R.reads source.new ≤ R.reads source.old + 65536 }
@@ -35,7 +35,7 @@ pub fn answer_stream<X: Threads + Sync, O: ObserveWork + Send, R: Source, W: Sin
     if asks_ends(options) {
         ends_stream(alloc, options, observer, source, sink)
     } else {
-        explore_stream(rt, alloc, options, observer, source, sink)
+        explore_stream_observed(rt, alloc, options, observer, source, sink)
     }
 }
 
@@ -56,7 +56,7 @@ pub fn ends_stream<O: ObserveWork, R: Source, W: Sink>(
     observer: &mut O,
     source: &mut R,
     sink: &mut W,
-) -> ExitStatus
+) -> Status
     ensures told { (ending : Result Verdict StreamFault) × (result.code ≡ code_by stream.code_of ending) × stream.Tells (spec.AreEnds options.now) (R.remaining source.old) (W.contents sink.old) (W.contents sink.new) ending × (R.failed_reads source.new + (W.failed_writes sink.new + W.empty_writes sink.new) ≡ R.failed_reads source.old + (W.failed_writes sink.old + W.empty_writes sink.old) + faults_in ending) }
     ensures reads { R.reads source.new ≤ R.reads source.old + 65536 }
 {

@@ -28,9 +28,7 @@ pub fn answer_for<O: ObserveProgress>(
 ) -> Result<Answer, AllocError>
     ensures { IfOk result (λ a. OfPrograms program.now (λ t. spec.AreEndsBy options.now t program.now a.verdict a.text)) }
 {
-    let Some(limits) = Limits::new(options.choices, options.steps, options.gates) else {
-        unreachable!()
-    };
+    let limits = options.limits();
     if options.at_once {
         at_once_answer(alloc, options, observer, program, limits)
     } else {

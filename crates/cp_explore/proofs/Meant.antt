@@ -1,11 +1,11 @@
--- The rows of the machine are those of the meaning, of which no run lets two processes into one monitor.
+-- The rows of the machine are those of the meaning, which lets no two processes into one monitor.
 use Rattle.std.proofs.Common.{◌≡◌, ◌∙◌, ℕ, List, map, Result, Ok, Err, IfOk, ap, sym}
 use Rattle.cp_slots.specs.Tables.{Tables}
 use Rattle.cp_machine.specs.declared.gates.Gates.{Gates}
 use Rattle.cp_run.specs.Slots.{slots}
 use Rattle.cp_run.specs.Table.{Line, table}
+use Rattle.cp_lawful.proofs.Accepting.{keeps_exclusion}
 use Rattle.cp_refine.specs.Named.{named_gates}
-use Rattle.cp_refine.proofs.Excluding.{runs_exclude}
 use Rattle.cp_refine.proofs.Meaning.{runs_as_meant}
 use Rattle.cp_explore.specs.Meant.{AreExclusive, AreMeant, AreTallied}
 use Rattle.cp_merged.specs.Tallies.{tally}
@@ -26,5 +26,5 @@ meant_rows (Err fault) r gates choices steps h = tt
 pub tallied : (r : Tables) (gates : Gates) (choices steps : ℕ) (tallies : List Tally) → tallies ≡ tally same_outcome (table (slots r gates) choices steps) → AreTallied r gates choices steps tallies
 tallied r gates choices steps tallies e t read ok same = e ∙ sym (ap (λ (lines : List Line). tally same_outcome lines) (runs_as_meant t r gates read ok same choices steps).tables)
 
-pub are_exclusive : (r : Tables) (gates : Gates) (choices steps : ℕ) → AreExclusive r gates choices steps
-are_exclusive r gates choices steps t read ok same = runs_exclude t r (named_gates gates) read ok same choices steps
+pub are_exclusive : (r : Tables) (gates : Gates) → AreExclusive r gates
+are_exclusive r gates t read ok same = keeps_exclusion t ok (named_gates gates)

@@ -4,10 +4,9 @@ use Rattle.cp_tree.specs.Read.{IsRead}
 use Rattle.cp_tree.specs.Syntax.{Tree}
 use Rattle.cp_layout.specs.Laid.{plain, laid}
 use Rattle.cp_slots.specs.Tables.{Tables}
-use Rattle.cp_lawful.specs.Accepted.{IsAccepted}
+use Rattle.cp_lawful.specs.Accepted.{IsAccepted, KeepsExclusion}
 use Rattle.cp_machine.specs.declared.gates.Gates.{Gates}
 use Rattle.cp_run.specs.Table.{Line, table}
-use Rattle.cp_refine.specs.Excluding.{RunsExclude}
 use Rattle.cp_refine.specs.Named.{named, named_gates}
 use Rattle.cp_walk.specs.Groups.{Tally}
 use Rattle.cp_walk.specs.Report.{same_outcome}
@@ -25,6 +24,6 @@ AreMeant r gates choices steps lines = OfPrograms r (λ t. lines ≡ table (name
 abbrev pub AreTallied : Tables → Gates → (choices steps : ℕ) → List Tally → Type 0
 AreTallied r gates choices steps tallies = OfPrograms r (λ t. tallies ≡ tally same_outcome (table (named t (named_gates gates)) choices steps))
 
--- in every state that a run of the meaning passes through, at most one process is inside each monitor
-abbrev pub AreExclusive : Tables → Gates → (choices steps : ℕ) → Type 0
-AreExclusive r gates choices steps = OfPrograms r (λ t. RunsExclude (named t (named_gates gates)) choices steps)
+-- in every state that the program reaches, at most one process is inside each monitor or initialises it
+abbrev pub AreExclusive : Tables → Gates → Type 0
+AreExclusive r gates = OfPrograms r (λ t. KeepsExclusion t (named_gates gates))

@@ -9,9 +9,9 @@ pub use cp_lawful::{law_exclusive, law_ownership};
 pub use cp_merged::{MergeFault, Tallies, merged_report};
 pub use cp_run::law_prefix_free;
 pub use cp_walk::{
-    Cutting, ExploreFault, GatherFault, Job, MOST_MEMBERS, NoGate, Report, Row, RowPiece, Rows,
-    SplitFault, StartGate, Table, Text, beginnings, gather, report, trace_report,
+    Cutting, ExploreFault, GatherFault, Job, MOST_MEMBERS, NoGate, Report, Row, RowPiece as Piece,
+    Rows, SplitFault, StartGate as Gate, Table, Text, beginnings, gather, report, trace_report,
 };
 pub use merged::explore_merged;
 pub use one_thread::explore_one;
-pub use threads::explore;
+pub use threads::{explore, explore_observed};

@@ -12,5 +12,5 @@ mod writing;
 
 pub use bodies::Parts;
 pub use law::{law_core, law_key};
-pub use reading::{thaw, thaw_output};
+pub use reading::thaw;
 pub use writing::{freeze, freeze_core, most_bytes};

@@ -5,7 +5,7 @@ ghost use Rattle.std.specs.List.{flat_map};
 ghost use Rattle.cp_slots.specs.Tables.{Tables};
 ghost use Rattle.cp_machine.specs.Bodies.{body_of, has_moved, KeepBodies};
 ghost use Rattle.cp_machine.specs.Fits.{HaveCells, HaveReferences, HaveStacks, IsReserved, IsStateOf};
-ghost use Rattle.cp_machine.specs.Machine.{Machine, Monitor, Thread, machine_of, monitor_of, output_of, thread_at, thread_of};
+ghost use Rattle.cp_machine.specs.Machine.{Machine, Monitor, Thread, machine_of, monitor_of, thread_at, thread_of};
 ghost use Rattle.cp_key.specs.Key.{body_key, key_of, monitor_key, status_key, threads_key};
 ghost use Rattle.cp_key.specs.Known.{AreBodies, AreBodiesIn, AreKeyOf, ArePartsOf, AreSameInside, KeepUnmoved, TellsItsEnd, inside};
 ghost use Rattle.cp_key.specs.Numbers.{byte_key, integer_key, list_key, number_key};
@@ -31,15 +31,6 @@ pub fn thaw<'a>(key: &'a [u8], known: &Parts<'a>, state: &mut State, moved: &mut
     ensures own { (r : Tables) (m : Machine) → IsStateOf r state.old → IsMachineOf r m → key.now ≡ key_of m → IsStateOf r state.new }
 {
     thaw_state(&mut KeyReader { bytes: key }, known, state, moved)
-}
-
-/// The output of a state becomes that of the one that has a key, and the rest stays as it is. It takes no memory.
-pub fn thaw_output(key: &[u8], state: &mut State)
-    requires { (m : Machine) × (length m.output ≤ vec_capacity state.old.output) × (key.now ≡ key_of m) }
-    ensures output { (m : Machine) → key.now ≡ key_of m → output_of (machine_of state.new) ≡ m.output }
-    ensures room { vec_capacity state.old.output ≤ vec_capacity state.new.output }
-{
-    thaw_list(&mut KeyReader { bytes: key }, &mut state.output);
 }
 
 #[inline(always)]

@@ -1,6 +1,8 @@
 -- A program that breaks no rule has what the laws need.
 use Rattle.cp_lawful.proofs.Words.{◌≡◌, [], Tree, faults_of}
 use Rattle.cp_meaning.specs.WellFormed.{IsWellFormed}
+use Rattle.cp_meaning.proofs.OwnershipLemmas.{exclusive}
+use Rattle.cp_lawful.specs.Accepted.{ExclusiveLaw}
 use Rattle.cp_lawful.proofs.Earlier.{parameters_earlier}
 use Rattle.cp_lawful.proofs.Paths.{distinct_paths, contained_earlier}
 use Rattle.cp_lawful.proofs.Once.{accepted_distinct}
@@ -14,3 +16,6 @@ well_formed t h =
       contained_earlier = contained_earlier t.program (accepted_distinct t h);
       parameters_earlier = parameters_earlier t.program;
     }
+
+pub keeps_exclusion : ExclusiveLaw
+keeps_exclusion t ok g s before = exclusive t.program (well_formed t ok) g s before

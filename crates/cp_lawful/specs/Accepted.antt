@@ -20,9 +20,13 @@ IsAccepted t = faults_of t ≡ []
 abbrev pub WellFormedLaw : Type 0
 WellFormedLaw = (t : Tree) → IsAccepted t → IsWellFormed t.program
 
--- in every reached state, whatever ready process steps, at most one process is inside a monitor or initialises it
+-- in every state that the program reaches, at most one process is inside each monitor or initialises it
+abbrev pub KeepsExclusion : Tree → Gates → Type 0
+KeepsExclusion t g = (s : State) → IsReached t.program g s → IsExclusive s
+
+-- every accepted program keeps exclusion
 abbrev pub ExclusiveLaw : Type 0
-ExclusiveLaw = (t : Tree) → IsAccepted t → (g : Gates) (s : State) → IsReached t.program g s → IsExclusive s
+ExclusiveLaw = (t : Tree) → IsAccepted t → (g : Gates) → KeepsExclusion t g
 
 -- whoever is inside a monitor is its holder
 abbrev pub HolderLaw : Type 0

@@ -6,7 +6,7 @@ use Rattle.cp_meaning.specs.Types.{Ty, has_components}
 use Rattle.cp_meaning.specs.Values.{Value, least}
 use Rattle.cp_meaning.specs.Declarations.{Variable}
 use Rattle.cp_meaning.specs.State.{Holder, in_call, in_component, Place, Content, holds, refers, knows, Environment, Component, component_at, no_component, Call}
-use Rattle.cp_meaning.specs.Places.{View, content_of, with_content, call_above, with_environment, with_call_environment, with_permanents, environment_of, with_environment_of, stored}
+use Rattle.cp_meaning.specs.Places.{View, content_of, with_content, call_above, with_environment, with_call_environment, environment_of, with_environment_of, stored}
 use Rattle.cp_meaning.proofs.Frames.{at_set, Frame, frames, entry_in, initial_in}
 use Rattle.cp_meaning.proofs.Good.{or_right}
 use Rattle.cp_meaning.proofs.Stored.{frames_kept}
@@ -145,6 +145,15 @@ append_content x (c ∷ a) b k h = go (cons_content x c (a ++ b) k h) (append_co
     go (inl e) rest = inl (cons_here x c a e.0 ∙ ap Some e.1)
     go (inr e) rest = later e.0 (rest e.1)
 
+-- where the first environment has nothing for a name, the second one decides
+pub nothing_append : (x : Name) (a b : Environment) → content_of x a ≡ None → content_of x (a ++ b) ≡ content_of x b
+nothing_append x [] b h = refl
+nothing_append x (c ∷ a) b h = go (same_name x c.0) h (nothing_append x a b)
+  where
+    go : (s : Bool) → (if s then Some c.1 else content_of x a) ≡ None → (content_of x a ≡ None → content_of x (a ++ b) ≡ content_of x b) → (if s then Some c.1 else content_of x (a ++ b)) ≡ content_of x b
+    go true h rest = absurd (let bad : Some c.1 ≡ None = h in cc)
+    go false h rest = rest h
+
 -- least values are values
 pub least_values : (x : Name) (vs : List Variable) (k : Content) → content_of x (least_of vs) ≡ Some k → IsValue k
 least_values x [] k h = absurd (let bad : None ≡ Some k = h in cc)
@@ -214,15 +223,3 @@ tree_in v (in_component n) e = set_tree v.components n _ refl refl refl
 
 pub stored_tree : (v : View) (q : Place) (w : Value) → SameTree v.components (stored v q w).components
 stored_tree v q w = tree_in v q.holder _
-
--- only variables of the place's holder change
-changed_in : (base : List Component) (me : ℕ) (fs : List Frame) (v : View) (h : Holder) (e : Environment) → HeldPlace base me fs h → (n : ℕ) (x : Name) → (content_of x (permanents_at v.components n) ≡ content_of x (permanents_at (with_environment_of v h e).components n) → ⊥) → HeldBy base me fs n
-changed_in base me fs v (in_call b) e k n x ne = absurd (ne refl)
-changed_in base me fs v (in_component m) e k n x ne = go (permanents_set v.components m n _)
-  where
-    go : ((n ≡ m) × (permanents_at (with_permanents v.components m e) n ≡ e)) ⊎ (permanents_at (with_permanents v.components m e) n ≡ permanents_at v.components n) → HeldBy base me fs n
-    go (inl s) = subst (HeldBy base me fs) (sym s.0) k
-    go (inr s) = absurd (ne (ap (content_of x) (sym s)))
-
-pub stored_changed : (base : List Component) (me : ℕ) (fs : List Frame) (v : View) (q : Place) (w : Value) → HeldPlace base me fs q.holder → (n : ℕ) (x : Name) → (content_of x (permanents_at v.components n) ≡ content_of x (permanents_at (stored v q w).components n) → ⊥) → HeldBy base me fs n
-stored_changed base me fs v q w k = changed_in base me fs v q.holder _ k

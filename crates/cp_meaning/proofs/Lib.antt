@@ -19,6 +19,7 @@ pub mod LocalLaw
 mod Order
 mod OrderPrograms
 pub mod Orderly
+mod OwnChanges
 pub mod OwnKernel
 pub mod OwnLocal
 pub mod OwnOpening

@@ -347,7 +347,7 @@ module _ (p : Program) (c : Call) (calls : List Call) (cs : List Component) (pid
 
   -- ---- items
 
-  rules : Rules p c calls cs pid (GoodDoing cs fs) Alike (ItemsFit fs) (λ q. Unit {0}) (λ e. Unit {0}) (λ k e. Unit {0})
+  rules : Rules p (c ∷ calls) cs pid (GoodDoing cs fs) Alike (ItemsFit fs) (λ q. Unit {0}) (λ e. Unit {0}) (λ k e. Unit {0})
   rules =
       record {
         near = λ d. whatever (target_value v d);
@@ -371,4 +371,4 @@ module _ (p : Program) (c : Call) (calls : List Call) (cs : List Component) (pid
       }
 
   pub takes_good : (items : List Item) → ItemsFit fs items → GoodOutcome cs fs (takes v pid items)
-  takes_good items f = takes_all p c calls cs pid (GoodDoing cs fs) Alike (ItemsFit fs) (λ q. Unit {0}) (λ e. Unit {0}) (λ k e. Unit {0}) rules items f
+  takes_good items f = takes_all p (c ∷ calls) cs pid (GoodDoing cs fs) Alike (ItemsFit fs) (λ q. Unit {0}) (λ e. Unit {0}) (λ k e. Unit {0}) rules items f

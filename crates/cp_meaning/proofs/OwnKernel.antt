@@ -1,17 +1,17 @@
--- Each kernel rule keeps what processes hold, and changes no variable but the parameters of a process that begins.
-use Rattle.std.proofs.Common.{◌≡◌, ◌≢◌, ℕ, suc, ◌<◌, ◌==◌, ◌∙◌, ◌⊎◌, inl, inr, Bool, true, false, if◌then◌else◌, List, [], ◌∷◌, ◌++◌, length, slice_set, Option, Some, None, ap, sym, refl, subst, arith, eqb-true, length-set}
+-- Each kernel rule keeps what processes hold.
+use Rattle.std.proofs.Common.{◌≡◌, ℕ, suc, ◌<◌, ◌==◌, ◌∙◌, ◌⊎◌, inl, inr, Bool, true, false, if◌then◌else◌, List, [], ◌∷◌, ◌++◌, length, slice_set, Option, Some, None, ap, sym, refl, subst, arith, eqb-true}
 use Rattle.cp_tree.specs.declared.declaration.SystemKind.TheVariants as system_kind
-use Rattle.cp_meaning.proofs.Words.{Program, Name, system_of, content_of, with_permanents, owner_of, IsStarted, is_parameter, IsParameterOf}
-use Rattle.cp_meaning.specs.State.{refers, knows, Environment, uninitialised, initialising, Component, component_at, Status, unstarted, ready, at_gate, delayed, ended, Process, process_at, Gates, first_gates, any_gates, State}
+use Rattle.cp_meaning.proofs.Words.{Program, Name, system_of, content_of, with_permanents, owner_of}
+use Rattle.cp_meaning.specs.State.{refers, knows, Environment, Component, component_at, Status, unstarted, ready, at_gate, delayed, ended, Process, process_at, Gates, first_gates, any_gates, State}
 use Rattle.cp_meaning.specs.Move.{Move, stays, enters, leaves, delays, continues, starts, shows, ends, Doing}
 use Rattle.cp_meaning.specs.Kernel.{output_room, line_of, with_line_of, moved_to, with_process_status, made_ready, first_in, one_in, let_in, is_anybody_inside, entering, is_delayed_in, continuing, after, process_of, begun, with_begun, starting_as, starting, displaying, kernel_step}
-use Rattle.cp_meaning.proofs.Frames.{Frame, frames}
+use Rattle.cp_meaning.proofs.Frames.{frames}
 use Rattle.cp_meaning.proofs.Good.{status_at}
 use Rattle.cp_meaning.proofs.Stored.{field_kept}
 use Rattle.cp_meaning.proofs.Orderly.{which, within_set}
 use Rattle.cp_meaning.proofs.ComponentTree.{kind_at, SameTree, tree_after, set_tree, own_owner}
-use Rattle.cp_meaning.proofs.Held.{HeldBy, HeldCalls, Bottom, permanents_at, ClassesKnown, append_content, EarlierKnown, permanents_set, known_set}
-use Rattle.cp_meaning.proofs.OwnLocal.{Owned, nothing_append}
+use Rattle.cp_meaning.proofs.Held.{HeldCalls, Bottom, permanents_at, ClassesKnown, append_content, EarlierKnown, known_set}
+use Rattle.cp_meaning.proofs.OwnLocal.{Owned}
 
 pub record OwnedProcess (base : List Component) (p : Process) : Type 0 where
   pub held : HeldCalls base p.component p.calls
@@ -35,11 +35,11 @@ owned_set base ps pid x old new q lt = go (which ps pid q x (within_set ps pid q
     go (inr h) = subst (OwnedProcess base) (sym h.1) (old q (within_set ps pid q x lt))
 
 -- the same variables and statuses
-abbrev SameVariables : List Component → List Component → Type 0
+abbrev pub SameVariables : List Component → List Component → Type 0
 SameVariables cs ds = (n : ℕ) → (permanents_at ds n ≡ permanents_at cs n) × (status_at ds n ≡ status_at cs n)
 
 -- the same open calls
-abbrev SameCalls : List Process → List Process → Type 0
+abbrev pub SameCalls : List Process → List Process → Type 0
 SameCalls ps qs = (q : ℕ) → q < length ps → (process_at qs q).calls ≡ (process_at ps q).calls
 
 -- from one state to another with the same variables and open calls
@@ -51,7 +51,7 @@ pub record Keeps (base : List Component) (s t : State) : Type 0 where
 pub keeps_all : (base : List Component) (s : State) → Keeps base s s
 keeps_all base s = record { owned = λ h. h; variables = λ n. (refl, refl); calls = λ q lt. refl }
 
-lined : (base : List Component) (s : State) (m : ℕ) (line : List ℕ) → Keeps base s (with_line_of s m line)
+pub lined : (base : List Component) (s : State) (m : ℕ) (line : List ℕ) → Keeps base s (with_line_of s m line)
 lined base s m line =
     record {
       owned = λ h. (record { tree = tree_after base s.components _ h.tree (set_tree s.components m _ refl refl refl); classes = known_set _ s.components m _ (λ d x t. h.classes m d x t) h.classes; earlier = known_set _ s.components m _ (λ d x t. h.earlier m d x t) h.earlier; processes = h.processes });
@@ -95,11 +95,11 @@ one_keeps base [] s m = keeps_all base s
 one_keeps base (q ∷ []) s m = goes_in base s m q []
 one_keeps base (q ∷ r ∷ line) s m = record { owned = λ h. record { tree = h.tree; classes = h.classes; earlier = h.earlier; processes = h.processes }; variables = λ n. (refl, refl); calls = λ k lt. refl }
 
-let_in_keeps : (base : List Component) (g : Gates) (s : State) (m : ℕ) → Keeps base s (let_in g s m)
+pub let_in_keeps : (base : List Component) (g : Gates) (s : State) (m : ℕ) → Keeps base s (let_in g s m)
 let_in_keeps base first_gates s m = first_keeps base (line_of s m) s m
 let_in_keeps base any_gates s m = one_keeps base (line_of s m) s m
 
-continuing_keeps : (base : List Component) (s : State) (m : ℕ) (o : Option ℕ) → Keeps base s (continuing s m o)
+pub continuing_keeps : (base : List Component) (s : State) (m : ℕ) (o : Option ℕ) → Keeps base s (continuing s m o)
 continuing_keeps base s m None = let_in_keeps base s.gates s m
 continuing_keeps base s m (Some r) = go (is_delayed_in m (process_at s.processes r).status)
   where
@@ -124,31 +124,16 @@ process_found d (p ∷ ps) r h = go (p.component == d) refl h (process_of d ps) 
         subst (λ j. (j < length (p ∷ ps)) × ((process_at (p ∷ ps) j).component ≡ d)) same ((let lt = there.0 in omega arith), there.1)
 
 module _ (p : Program) (s : State) (pid : ℕ) (base : List Component) (old : OwnedState base s) (lt : pid < length s.processes) (is_ready : (process_at s.processes pid).status ≡ ready) (d : Doing) where
-  abbrev cs : List Component
-  cs = s.components
-
   abbrev ds : List Component
   ds = d.components
 
   abbrev me : Process
   me = process_at s.processes pid
 
-  abbrev fs : List Frame
-  fs = frames me.calls
-
-  -- what a step from s to t keeps
-  pub record Steps (t : State) : Type 0 where
-    pub owned : OwnedState base t
-    pub changed : (n : ℕ) (x : Name) → content_of x (permanents_at cs n) ≢ content_of x (permanents_at t.components n) → HeldBy base me.component fs n ⊎ (IsStarted s t n × IsParameterOf p base n x)
-    pub others : (q : ℕ) → q < length s.processes → q ≢ pid → ((process_at t.processes q).calls ≡ (process_at s.processes q).calls) ⊎ (((process_at s.processes q).status ≡ unstarted) × ((process_at t.processes q).status ≡ ready))
-
   abbrev become : Status → Process
   become status = record { component = me.component; status = status; calls = d.calls; items = d.items }
 
-  no_step : Steps s
-  no_step = record { owned = old; changed = λ n x ne. absurd (ne refl); others = λ q l ne. inl refl }
-
-  module _ (move : Move) (h : Owned p base me.component fs cs d.calls ds move) where
+  module _ (move : Move) (h : Owned base me.component d.calls ds move) where
     moved_owned : (status : Status) → OwnedState base (moved_to status s pid d)
     moved_owned status =
         record {
@@ -158,42 +143,20 @@ module _ (p : Program) (s : State) (pid : ℕ) (base : List Component) (old : Ow
           processes = owned_set base s.processes pid (become status) old.processes (λ l. record { held = h.held; bottom = h.bottom; component = (old.processes pid lt).component });
         }
 
-    other_process : (status : Status) (q : ℕ) → q < length s.processes → q ≢ pid → process_at (moved_to status s pid d).processes q ≡ process_at s.processes q
-    other_process status q l ne = go (which s.processes pid q (become status) l)
-      where
-        go : ((q ≡ pid) × (process_at (slice_set s.processes pid (become status)) q ≡ become status)) ⊎ ((q ≡ pid → ⊥) × (process_at (slice_set s.processes pid (become status)) q ≡ process_at s.processes q)) → process_at (slice_set s.processes pid (become status)) q ≡ process_at s.processes q
-        go (inl e) = absurd (ne e.0)
-        go (inr e) = e.1
+    steps_to : (status : Status) (t : State) → Keeps base (moved_to status s pid d) t → OwnedState base t
+    steps_to status t keeps = keeps.owned (moved_owned status)
 
-    -- what follows the item changes no variable
-    steps_to : (status : Status) (t : State) → Keeps base (moved_to status s pid d) t → Steps t
-    steps_to status t keeps =
-        record {
-          owned = keeps.owned (moved_owned status);
-          changed = λ n x ne. go n x (h.changed n x (λ e. ne (e ∙ ap (content_of x) (sym (keeps.variables n).0))));
-          others = λ q l ne. inl (keeps.calls q (rw (length-set s.processes pid (become status)) l) ∙ ap (λ y. y.calls) (other_process status q l ne));
-        }
-      where
-        go : (n : ℕ) (x : Name) → HeldBy base me.component fs n ⊎ (((status_at cs n ≡ uninitialised) × (status_at ds n ≡ initialising)) × IsParameterOf p base n x) → HeldBy base me.component fs n ⊎ (IsStarted s t n × IsParameterOf p base n x)
-        go n x (inl k) = inl k
-        go n x (inr k) = inr (inl (k.0.0, (keeps.variables n).1 ∙ k.0.1), k.1)
-
-    steps_moved : (status : Status) → Steps (moved_to status s pid d)
-    steps_moved status = steps_to status (moved_to status s pid d) (keeps_all base (moved_to status s pid d))
-
-  entering_steps : (m : ℕ) (b : Bool) → Owned p base me.component fs cs d.calls ds (enters m) → Steps (entering b s pid m d)
-  entering_steps m false h = steps_moved (enters m) h ready
+  entering_steps : (m : ℕ) (b : Bool) → Owned base me.component d.calls ds (enters m) → OwnedState base (entering b s pid m d)
+  entering_steps m false h = moved_owned (enters m) h ready
   entering_steps m true h = steps_to (enters m) h (at_gate m) _ (lined base (moved_to (at_gate m) s pid d) m _)
 
-  displaying_steps : (b : Bool) (x : _) → Owned p base me.component fs cs d.calls ds (shows x) → Steps (displaying b s pid d x).state
-  displaying_steps true x h = no_step
-  displaying_steps false x h =
-      let k = steps_moved (shows x) h ready in
-      record { owned = record { tree = k.owned.tree; classes = k.owned.classes; earlier = k.owned.earlier; processes = k.owned.processes }; changed = k.changed; others = k.others }
+  displaying_steps : (b : Bool) (x : _) → Owned base me.component d.calls ds (shows x) → OwnedState base (displaying b s pid d x).state
+  displaying_steps true x h = old
+  displaying_steps false x h = let k = moved_owned (shows x) h ready in record { tree = k.tree; classes = k.classes; earlier = k.earlier; processes = k.processes }
 
   -- ---- a process begins
 
-  module _ (c r : ℕ) (e : Environment) (h : Owned p base me.component fs cs d.calls ds (starts c e)) (its_kind : kind_at ds c ≡ system_kind.Process)
+  module _ (c r : ℕ) (e : Environment) (h : Owned base me.component d.calls ds (starts c e)) (its_kind : kind_at ds c ≡ system_kind.Process)
       (there : r < length (moved_to ready s pid d).processes) (its : (process_at (moved_to ready s pid d).processes r).component ≡ c) (idle : (process_at (moved_to ready s pid d).processes r).status ≡ unstarted) where
     abbrev moved : State
     moved = moved_to ready s pid d
@@ -211,11 +174,11 @@ module _ (p : Program) (s : State) (pid : ℕ) (base : List Component) (old : Ow
     in_range = subst (λ j. j < length base) its (now.processes r there).component
 
     known : (n : ℕ) (x : Name) → kind_at base n ≡ system_kind.Class → (content_of x e ≡ Some (knows n)) ⊎ (content_of x (permanents_at ds c) ≡ Some (knows n)) → owner_of base n ≡ owner_of base c
-    known n x class (inl t) = (h.starting.0 in_range n x t).0 class
+    known n x class (inl t) = (h.starting in_range n x t).0 class
     known n x class (inr t) = h.classes c n x t class
 
     lower : (n : ℕ) (x : Name) → (kind_at base n ≡ system_kind.Process → ⊥) → (content_of x e ≡ Some (knows n)) ⊎ (content_of x (permanents_at ds c) ≡ Some (knows n)) → (component_at base n).system < (component_at base c).system
-    lower n x never (inl t) = (h.starting.0 in_range n x t).1 never
+    lower n x never (inl t) = (h.starting in_range n x t).1 never
     lower n x never (inr t) = h.earlier c n x t never
 
     begun_owned : OwnedState base (with_begun p moved r c e)
@@ -227,58 +190,13 @@ module _ (p : Program) (s : State) (pid : ℕ) (base : List Component) (old : Ow
           processes = owned_set base moved.processes r new now.processes (λ l. (record { held = (inl (own_owner base c system_kind.Process (sym (h.tree.kind c) ∙ its_kind) (λ b. cc)), in_range, (λ x q t. absurd (let bad : None ≡ Some (refers q) = t in cc)), tt); bottom = refl; component = in_range }));
         }
 
-    begun_there : process_at (slice_set moved.processes r new) r ≡ new
-    begun_there = go (which moved.processes r r new there)
-      where
-        go : ((r ≡ r) × (process_at (slice_set moved.processes r new) r ≡ new)) ⊎ ((r ≡ r → ⊥) × (process_at (slice_set moved.processes r new) r ≡ process_at moved.processes r)) → process_at (slice_set moved.processes r new) r ≡ new
-        go (inl k) = k.1
-        go (inr k) = absurd (k.0 refl)
+  starting_as_steps : (c r : ℕ) (e : Environment) (status : Status) → Owned base me.component d.calls ds (starts c e) → kind_at ds c ≡ system_kind.Process → r < length (moved_to ready s pid d).processes →
+      (process_at (moved_to ready s pid d).processes r).component ≡ c → (process_at (moved_to ready s pid d).processes r).status ≡ status → OwnedState base (starting_as p s pid d r status c e).state
+  starting_as_steps c r e unstarted h its_kind there its idle = begun_owned c r e h its_kind there its idle
+  starting_as_steps c r e _ h its_kind there its idle = old
 
-    -- the process that begins is not the one that steps
-    before_begun : process_at moved.processes r ≡ process_at s.processes r
-    before_begun = go (which s.processes pid r (become ready) (rw (← length-set s.processes pid (become ready)) there))
-      where
-        go : ((r ≡ pid) × (process_at moved.processes r ≡ become ready)) ⊎ ((r ≡ pid → ⊥) × (process_at moved.processes r ≡ process_at s.processes r)) → process_at moved.processes r ≡ process_at s.processes r
-        go (inl k) = absurd (let bad : unstarted ≡ ready = sym idle ∙ ap (λ y. y.status) k.1 in cc)
-        go (inr k) = k.1
-
-    started_now : IsStarted s (with_begun p moved r c e) c
-    started_now = inr (r, sym (ap (λ y. y.component) before_begun) ∙ its, sym (ap (λ y. y.status) before_begun) ∙ idle, ap (λ y. y.status) begun_there)
-
-    begun_changed : (n : ℕ) (x : Name) → content_of x (permanents_at cs n) ≢ content_of x (permanents_at es n) → HeldBy base me.component fs n ⊎ (IsStarted s (with_begun p moved r c e) n × IsParameterOf p base n x)
-    begun_changed n x ne = go (permanents_set ds c n _)
-      where
-        later : HeldBy base me.component fs n ⊎ (((status_at cs n ≡ uninitialised) × (status_at ds n ≡ initialising)) × IsParameterOf p base n x) → HeldBy base me.component fs n ⊎ (IsStarted s (with_begun p moved r c e) n × IsParameterOf p base n x)
-        later (inl k) = inl k
-        later (inr k) = inr (inl (k.0.0, field_kept (λ y. y.status) ds c _ refl n ∙ k.0.1), k.1)
-
-        named : (n ≡ c) → permanents_at (with_permanents ds c (e ++ permanents_at ds c)) n ≡ e ++ permanents_at ds c → (b : Bool) → is_parameter x (system_of p (component_at base c).system).parameters ≡ b →
-            HeldBy base me.component fs n ⊎ (IsStarted s (with_begun p moved r c e) n × IsParameterOf p base n x)
-        named k u true t = inr (subst (IsStarted s (with_begun p moved r c e)) (sym k) started_now, subst (λ j. IsParameterOf p base j x) (sym k) t)
-        named k u false t = later (h.changed n x (λ same. ne (same ∙ ap (λ j. content_of x (permanents_at ds j)) k ∙ sym (nothing_append x e (permanents_at ds c) (h.starting.1 x t)) ∙ ap (content_of x) (sym u))))
-
-        go : ((n ≡ c) × (permanents_at (with_permanents ds c (e ++ permanents_at ds c)) n ≡ e ++ permanents_at ds c)) ⊎ (permanents_at (with_permanents ds c (e ++ permanents_at ds c)) n ≡ permanents_at ds n) → HeldBy base me.component fs n ⊎ (IsStarted s (with_begun p moved r c e) n × IsParameterOf p base n x)
-        go (inl k) = named k.0 k.1 (is_parameter x (system_of p (component_at base c).system).parameters) refl
-        go (inr k) = later (h.changed n x (λ t. ne (t ∙ ap (content_of x) (sym k))))
-
-    begun_others : (q : ℕ) → q < length s.processes → q ≢ pid → ((process_at (slice_set moved.processes r new) q).calls ≡ (process_at s.processes q).calls) ⊎ (((process_at s.processes q).status ≡ unstarted) × ((process_at (slice_set moved.processes r new) q).status ≡ ready))
-    begun_others q l ne = go (which moved.processes r q new (rw (length-set s.processes pid (become ready)) l))
-      where
-        go : ((q ≡ r) × (process_at (slice_set moved.processes r new) q ≡ new)) ⊎ ((q ≡ r → ⊥) × (process_at (slice_set moved.processes r new) q ≡ process_at moved.processes q)) →
-            ((process_at (slice_set moved.processes r new) q).calls ≡ (process_at s.processes q).calls) ⊎ (((process_at s.processes q).status ≡ unstarted) × ((process_at (slice_set moved.processes r new) q).status ≡ ready))
-        go (inl k) = inr (ap (λ j. (process_at s.processes j).status) k.0 ∙ sym (ap (λ y. y.status) before_begun) ∙ idle, ap (λ y. y.status) k.1)
-        go (inr k) = inl (ap (λ y. y.calls) k.1 ∙ ap (λ y. y.calls) (other_process (starts c e) h ready q l ne))
-
-    begun_steps : Steps (with_begun p moved r c e)
-    begun_steps = record { owned = begun_owned; changed = begun_changed; others = begun_others }
-
-  starting_as_steps : (c r : ℕ) (e : Environment) (status : Status) → Owned p base me.component fs cs d.calls ds (starts c e) → kind_at ds c ≡ system_kind.Process → r < length (moved_to ready s pid d).processes →
-      (process_at (moved_to ready s pid d).processes r).component ≡ c → (process_at (moved_to ready s pid d).processes r).status ≡ status → Steps (starting_as p s pid d r status c e).state
-  starting_as_steps c r e unstarted h its_kind there its idle = begun_steps c r e h its_kind there its idle
-  starting_as_steps c r e _ h its_kind there its idle = no_step
-
-  starting_steps : (c : ℕ) (o : Option ℕ) (e : Environment) → Owned p base me.component fs cs d.calls ds (starts c e) → kind_at ds c ≡ system_kind.Process → process_of c (moved_to ready s pid d).processes ≡ o → Steps (starting p s pid d o c e).state
-  starting_steps c None e h its_kind is = steps_moved (starts c e) h ready
+  starting_steps : (c : ℕ) (o : Option ℕ) (e : Environment) → Owned base me.component d.calls ds (starts c e) → kind_at ds c ≡ system_kind.Process → process_of c (moved_to ready s pid d).processes ≡ o → OwnedState base (starting p s pid d o c e).state
+  starting_steps c None e h its_kind is = moved_owned (starts c e) h ready
   starting_steps c (Some r) e h its_kind is =
       let f = process_found c (moved_to ready s pid d).processes r is in
       starting_as_steps c r e (process_at (moved_to ready s pid d).processes r).status h its_kind f.0 f.1 refl
@@ -294,12 +212,12 @@ module _ (p : Program) (s : State) (pid : ℕ) (base : List Component) (old : Ow
   StartsProcess (shows x) = Unit {0}
   StartsProcess ends = Unit {0}
 
-  pub kernel_step_owned : (move : Move) → Owned p base me.component fs cs d.calls ds move → StartsProcess move → Steps (kernel_step p s pid d move).state
-  kernel_step_owned stays h k = steps_moved stays h ready
+  pub kernel_step_owned : (move : Move) → Owned base me.component d.calls ds move → StartsProcess move → OwnedState base (kernel_step p s pid d move).state
+  kernel_step_owned stays h k = moved_owned stays h ready
   kernel_step_owned (enters n) h k = entering_steps n (is_anybody_inside n s.processes) h
   kernel_step_owned (leaves n) h k = steps_to (leaves n) h ready _ (let_in_keeps base s.gates (moved_to ready s pid d) n)
   kernel_step_owned (delays n) h k = steps_to (delays n) h (delayed n) _ (let_in_keeps base s.gates (moved_to (delayed n) s pid d) n)
   kernel_step_owned (continues n o) h k = steps_to (continues n o) h ready _ (continuing_keeps base (moved_to ready s pid d) n o)
   kernel_step_owned (starts c e) h k = starting_steps c (process_of c (moved_to ready s pid d).processes) e h k refl
   kernel_step_owned (shows x) h k = displaying_steps (length s.output == output_room) x h
-  kernel_step_owned ends h k = steps_moved ends h ended
+  kernel_step_owned ends h k = moved_owned ends h ended

@@ -1,6 +1,6 @@
--- Each local rule changes only what the process holds, and keeps what is held.
-use Rattle.std.proofs.Common.{pos, ◌≡◌, ℕ, ◌<◌, ◌≤◌, ◌-◌, ◌==◌, ◌∙◌, ◌⊎◌, inl, inr, ℤ, Bool, true, false, ◌||◌, if◌then◌else◌, List, [], ◌∷◌, ◌++◌, length, Option, Some, None, Ok, Err, ap, sym, refl, subst, arith, eqb-true, eq-eqb}
-use Rattle.cp_meaning.proofs.Words.{SystemKind, SystemMeaning, system_of, owner_of, is_parameter, IsParameterOf, Value, queue_value}
+-- Each local rule keeps what is held.
+use Rattle.std.proofs.Common.{pos, ◌≡◌, ℕ, ◌<◌, ◌-◌, ◌==◌, ◌∙◌, ◌⊎◌, inl, inr, ℤ, Bool, true, false, if◌then◌else◌, List, [], ◌∷◌, ◌++◌, length, Option, Some, None, Ok, Err, ap, sym, refl, subst, arith, eqb-true, eq-eqb}
+use Rattle.cp_meaning.proofs.Words.{SystemKind, SystemMeaning, system_of, owner_of, Value, queue_value}
 use Rattle.cp_meaning.proofs.Words.{number_of, number_value, step_down, Move, stays, enters, leaves, delays, continues, starts, shows, ends, Doing, HasNoClass, HasEarlier}
 use Rattle.cp_tree.specs.declared.declaration.SystemKind.TheVariants as system_kind
 use Rattle.cp_tree.specs.Syntax.{Expression, Expressions, more_expressions, Designator, designator, Selectors, no_selectors, more_selectors, Selector, field, index, Program}
@@ -18,53 +18,34 @@ use Rattle.cp_meaning.specs.LocalRules.{continued_from, outer, return_move, retu
 use Rattle.cp_meaning.proofs.Frames.{Frame, frames, frames-callers, below, system_at}
 use Rattle.cp_meaning.proofs.Good.{status_at}
 use Rattle.cp_meaning.proofs.Stored.{stored_frames}
-use Rattle.cp_meaning.proofs.LocalLaw.{uninitialised_told, within, status_set}
+use Rattle.cp_meaning.proofs.LocalLaw.{within}
 use Rattle.cp_meaning.proofs.ComponentTree.{path_at, kind_at, SameTree, tree_after, set_tree, own_owner, Distinct, contained_owner, ContainedEarlier, contained_below}
-use Rattle.cp_meaning.proofs.Held.{HeldBy, HeldPlace, RefersHeld, HeldCalls, Bottom, permanents_at, ClassesKnown, held_more, place_more, held_alike, length-frames, kind_past, IsValue, cons_content, append_content, least_values, least_result_value, stored_held, EarlierKnown, permanents_set, known_set, stored_known, stored_tree, stored_changed}
+use Rattle.cp_meaning.proofs.Held.{HeldBy, HeldPlace, RefersHeld, HeldCalls, Bottom, permanents_at, ClassesKnown, held_more, place_more, held_alike, length-frames, kind_past, IsValue, cons_content, append_content, least_values, least_result_value, stored_held, EarlierKnown, known_set, stored_known, stored_tree}
 use Rattle.cp_meaning.proofs.Taken.{AllOf, bind_known, bind_all, if_all, Rules, takes_all}
 
--- names that are none of these parameters have nothing in the environment
-abbrev pub NamedBy : List Parameter → Environment → Type 0
-NamedBy qs e = (x : Name) → is_parameter x qs ≡ false → content_of x e ≡ None
+-- what a started process is given: components that it may know
+abbrev pub MoveOwned : List Component → Move → Type 0
+MoveOwned base (starts c e) =
+    c < length base → (d : ℕ) (x : Name) → content_of x e ≡ Some (knows d) →
+    (kind_at base d ≡ system_kind.Class → owner_of base d ≡ owner_of base c) × ((kind_at base d ≡ system_kind.Process → ⊥) → system_at base d < system_at base c)
+MoveOwned base stays = Unit {0}
+MoveOwned base (enters n) = Unit {0}
+MoveOwned base (leaves n) = Unit {0}
+MoveOwned base (delays n) = Unit {0}
+MoveOwned base (continues n o) = Unit {0}
+MoveOwned base (shows x) = Unit {0}
+MoveOwned base ends = Unit {0}
 
--- what a started process is given: components that it may know, under names of its parameters
-abbrev pub MoveOwned : Program → List Component → Move → Type 0
-MoveOwned p base (starts c e) =
-    (c < length base → (d : ℕ) (x : Name) → content_of x e ≡ Some (knows d) →
-    (kind_at base d ≡ system_kind.Class → owner_of base d ≡ owner_of base c) × ((kind_at base d ≡ system_kind.Process → ⊥) → system_at base d < system_at base c)) ×
-    NamedBy (system_of p (component_at base c).system).parameters e
-MoveOwned p base stays = Unit {0}
-MoveOwned p base (enters n) = Unit {0}
-MoveOwned p base (leaves n) = Unit {0}
-MoveOwned p base (delays n) = Unit {0}
-MoveOwned p base (continues n o) = Unit {0}
-MoveOwned p base (shows x) = Unit {0}
-MoveOwned p base ends = Unit {0}
-
--- what a component was before it is begun to be initialised
-abbrev pub Begins : (cs ds : List Component) → ℕ → Type 0
-Begins cs ds n = (status_at cs n ≡ uninitialised) × (status_at ds n ≡ initialising)
-
-pub record Owned (p : Program) (base : List Component) (me : ℕ) (fs : List Frame) (cs : List Component) (calls : List Call) (ds : List Component) (move : Move) : Type 0 where
+pub record Owned (base : List Component) (me : ℕ) (calls : List Call) (ds : List Component) (move : Move) : Type 0 where
   pub tree : SameTree base ds
   pub held : HeldCalls base me calls
   pub bottom : Bottom me (frames calls)
   pub classes : ClassesKnown base ds
   pub earlier : EarlierKnown base ds
-  pub changed : (n : ℕ) (x : Name) → (content_of x (permanents_at cs n) ≡ content_of x (permanents_at ds n) → ⊥) → HeldBy base me fs n ⊎ (Begins cs ds n × IsParameterOf p base n x)
-  pub starting : MoveOwned p base move
+  pub starting : MoveOwned base move
 
-abbrev pub OwnedBy : Program → List Component → ℕ → List Frame → List Component → Outcome Doing → Type 0
-OwnedBy p base me fs cs o = AllOf (λ (d : Doing). Owned p base me fs cs d.calls d.components d.move) o
-
--- where the first environment has nothing for a name, the second one decides
-pub nothing_append : (x : Name) (a b : Environment) → content_of x a ≡ None → content_of x (a ++ b) ≡ content_of x b
-nothing_append x [] b h = refl
-nothing_append x (c ∷ a) b h = go (same_name x c.0) h (nothing_append x a b)
-  where
-    go : (s : Bool) → (if s then Some c.1 else content_of x a) ≡ None → (content_of x a ≡ None → content_of x (a ++ b) ≡ content_of x b) → (if s then Some c.1 else content_of x (a ++ b)) ≡ content_of x b
-    go true h rest = absurd (let bad : Some c.1 ≡ None = h in cc)
-    go false h rest = rest h
+abbrev pub OwnedBy : List Component → ℕ → Outcome Doing → Type 0
+OwnedBy base me o = AllOf (λ (d : Doing). Owned base me d.calls d.components d.move) o
 
 module _ (p : Program) (c : Call) (calls : List Call) (cs : List Component) (pid me : ℕ) (base : List Component) (tree : SameTree base cs) (distinct : Distinct base)
     (kinds : (n : ℕ) → n < length base → kind_at base n ≡ (system_of p (component_at base n).system).kind)
@@ -78,10 +59,10 @@ module _ (p : Program) (c : Call) (calls : List Call) (cs : List Component) (pid
   fs = frames (c ∷ calls)
 
   abbrev OwnedDoing : Doing → Type 0
-  OwnedDoing d = Owned p base me fs cs d.calls d.components d.move
+  OwnedDoing d = Owned base me d.calls d.components d.move
 
   abbrev OwnedOutcome : Outcome Doing → Type 0
-  OwnedOutcome o = OwnedBy p base me fs cs o
+  OwnedOutcome o = OwnedBy base me o
 
   -- ---- views with other values
 
@@ -91,10 +72,9 @@ module _ (p : Program) (c : Call) (calls : List Call) (cs : List Component) (pid
     still_held : HeldCalls base me u.calls
     still_known : ClassesKnown base u.components
     still_earlier : EarlierKnown base u.components
-    only : (n : ℕ) (x : Name) → (content_of x (permanents_at cs n) ≡ content_of x (permanents_at u.components n) → ⊥) → HeldBy base me fs n
 
   alike : Alike v
-  alike = record { same_frames = refl; still = tree; still_held = held; still_known = classes; still_earlier = earlier; only = λ n x ne. absurd (ne refl) }
+  alike = record { same_frames = refl; still = tree; still_held = held; still_known = classes; still_earlier = earlier }
 
   alike_stored : (q : Place) (w : Value) → HeldPlace base me fs q.holder → Alike (stored v q w)
   alike_stored q w h =
@@ -104,12 +84,11 @@ module _ (p : Program) (c : Call) (calls : List Call) (cs : List Component) (pid
         still_held = stored_held base me v q w held;
         still_known = stored_known _ v q w classes;
         still_earlier = stored_known _ v q w earlier;
-        only = stored_changed base me fs v q w h;
       }
 
-  items_owned : (u : View) (items : List Item) (move : Move) → Alike u → MoveOwned p base move → OwnedDoing (with_move (with_items u items) move)
+  items_owned : (u : View) (items : List Item) (move : Move) → Alike u → MoveOwned base move → OwnedDoing (with_move (with_items u items) move)
   items_owned u items move a m =
-      record { tree = a.still; held = a.still_held; bottom = subst (Bottom me) (sym a.same_frames) bottom; classes = a.still_known; earlier = a.still_earlier; changed = λ n x ne. inl (a.only n x ne); starting = m }
+      record { tree = a.still; held = a.still_held; bottom = subst (Bottom me) (sym a.same_frames) bottom; classes = a.still_known; earlier = a.still_earlier; starting = m }
 
   -- ---- places
 
@@ -281,17 +260,6 @@ module _ (p : Program) (c : Call) (calls : List Call) (cs : List Component) (pid
   bound_held (q ∷ qs) (more_expressions e es) = bound_cons q.name (bound_argument v q e) (bound v qs es) (argument_held q e) (bound_held qs es)
   bound_held _ _ = nothing_bound
 
-  named_cons : (q : Parameter) (qs : List Parameter) (k : Content) (e : Environment) → NamedBy qs e → NamedBy (q ∷ qs) ((q.name, k) ∷ e)
-  named_cons q qs k e g x h = go (same_name x q.name) h
-    where
-      go : (b : Bool) → (b || is_parameter x qs) ≡ false → (if b then Some k else content_of x e) ≡ None
-      go true h = absurd (let bad : true ≡ false = h in cc)
-      go false h = g x h
-
-  bound_named : (qs : List Parameter) (es : Expressions) → AllOf (NamedBy qs) (bound v qs es)
-  bound_named (q ∷ qs) (more_expressions e es) = bind_all (NamedBy (q ∷ qs)) (bound_argument v q e) _ (λ k. bind_known (NamedBy qs) (NamedBy (q ∷ qs)) (bound v qs es) _ (bound_named qs es) (λ rest g. named_cons q qs k rest g))
-  bound_named _ _ = λ x h. refl
-
   -- what holds of each component that has the type of one of the parameters
 
   module _ (Q : ℕ → Type 0) where
@@ -354,9 +322,6 @@ module _ (p : Program) (c : Call) (calls : List Call) (cs : List Component) (pid
 
   -- ---- calls
 
-  unchanged : (n : ℕ) (x : Name) → (content_of x (permanents_at cs n) ≡ content_of x (permanents_at cs n) → ⊥) → HeldBy base me fs n ⊎ (Begins cs cs n × IsParameterOf p base n x)
-  unchanged n x ne = absurd (ne refl)
-
   no_reference : (x : Name) (q : Place) → IsValue (refers q) → HeldPlace base me fs q.holder
   no_reference x q h = absurd h
 
@@ -371,10 +336,10 @@ module _ (p : Program) (c : Call) (calls : List Call) (cs : List Component) (pid
       go (inl t) = inner (append_content x e (least_of r.variables) (refers q) t)
       go (inr t) = no_reference x q (least_result_value x r.result (refers q) t)
 
-  opened_owned : (d : ℕ) (kind : CallKind) (r : RoutineMeaning) (o : Option Name) (items : List Item) (e : Environment) (move : Move) → HeldBy base me ((kind, d) ∷ fs) d → d < length base → RefersHeld base me fs e → MoveOwned p base move →
+  opened_owned : (d : ℕ) (kind : CallKind) (r : RoutineMeaning) (o : Option Name) (items : List Item) (e : Environment) (move : Move) → HeldBy base me ((kind, d) ∷ fs) d → d < length base → RefersHeld base me fs e → MoveOwned base move →
       OwnedDoing (with_move (opened v d kind r o items e) move)
   opened_owned d kind r o items e move h lt refs m =
-      record { tree = tree; held = (h, lt, opened_refers r e refs, held); bottom = bottom; classes = classes; earlier = earlier; changed = unchanged; starting = m }
+      record { tree = tree; held = (h, lt, opened_refers r e refs, held); bottom = bottom; classes = classes; earlier = earlier; starting = m }
 
   monitor_entered : (d : ℕ) → kind_at base d ≡ system_kind.Monitor → HeldBy base me ((entry_routine, d) ∷ fs) d
   monitor_entered d k =
@@ -402,16 +367,15 @@ module _ (p : Program) (c : Call) (calls : List Call) (cs : List Component) (pid
 
   -- ---- starts
 
-  initial_owned : (d : ℕ) (s : SystemMeaning) (items : List Item) (e : Environment) → d < length base → status_at cs d ≡ uninitialised → HeldBy base me ((initial_statement, d) ∷ fs) d →
-      ((n : ℕ) (x : Name) → content_of x e ≡ Some (knows n) → kind_at base n ≡ system_kind.Class → owner_of base n ≡ owner_of base d) → ((n : ℕ) (x : Name) → content_of x e ≡ Some (knows n) → Below (system_at base d) n) → NamedBy (system_of p (component_at base d).system).parameters e → OwnedDoing (initial v d s items e)
-  initial_owned d s items e lt free h known lower names =
+  initial_owned : (d : ℕ) (s : SystemMeaning) (items : List Item) (e : Environment) → d < length base → HeldBy base me ((initial_statement, d) ∷ fs) d →
+      ((n : ℕ) (x : Name) → content_of x e ≡ Some (knows n) → kind_at base n ≡ system_kind.Class → owner_of base n ≡ owner_of base d) → ((n : ℕ) (x : Name) → content_of x e ≡ Some (knows n) → Below (system_at base d) n) → OwnedDoing (initial v d s items e)
+  initial_owned d s items e lt h known lower =
       record {
         tree = tree_after base cs ds tree (set_tree cs d _ refl refl refl);
         held = (h, lt, (λ x q t. no_content x (refers q) t), held);
         bottom = bottom;
         classes = known_set _ cs d _ (λ n x t class. all n x class (append_content x e (permanents_at cs d) (knows n) t)) classes;
         earlier = known_set _ cs d _ (λ n x t never. lower_all n x never (append_content x e (permanents_at cs d) (knows n) t)) earlier;
-        changed = λ n x ne. go n x ne (status_set cs d n initialising (e ++ permanents_at cs d));
         starting = tt;
       }
     where
@@ -426,29 +390,10 @@ module _ (p : Program) (c : Call) (calls : List Call) (cs : List Component) (pid
       lower_all n x never (inl t) = lower n x t never
       lower_all n x never (inr t) = earlier d n x t never
 
-      go : (n : ℕ) (x : Name) → (content_of x (permanents_at cs n) ≡ content_of x (permanents_at (with_status cs d initialising (e ++ permanents_at cs d)) n) → ⊥) →
-          ((n ≡ d) × (status_at (with_status cs d initialising (e ++ permanents_at cs d)) n ≡ initialising)) ⊎ ((n ≡ d → length cs ≤ d) × (status_at (with_status cs d initialising (e ++ permanents_at cs d)) n ≡ status_at cs n)) →
-          HeldBy base me fs n ⊎ (Begins cs (with_status cs d initialising (e ++ permanents_at cs d)) n × IsParameterOf p base n x)
-      go n x ne (inl t) = named (is_parameter x (system_of p (component_at base d).system).parameters) refl
-        where
-          same : content_of x e ≡ None → ((n ≡ d) × (permanents_at (with_status cs d initialising (e ++ permanents_at cs d)) n ≡ e ++ permanents_at cs d)) ⊎ (permanents_at (with_status cs d initialising (e ++ permanents_at cs d)) n ≡ permanents_at cs n) →
-              content_of x (permanents_at cs n) ≡ content_of x (permanents_at (with_status cs d initialising (e ++ permanents_at cs d)) n)
-          same h (inl u) = ap (λ j. content_of x (permanents_at cs j)) t.0 ∙ sym (nothing_append x e (permanents_at cs d) h) ∙ ap (content_of x) (sym u.1)
-          same h (inr u) = ap (content_of x) (sym u)
-
-          named : (b : Bool) → is_parameter x (system_of p (component_at base d).system).parameters ≡ b → HeldBy base me fs n ⊎ (Begins cs (with_status cs d initialising (e ++ permanents_at cs d)) n × IsParameterOf p base n x)
-          named true h = inr ((ap (status_at cs) t.0 ∙ free, t.1), subst (λ j. IsParameterOf p base j x) (sym t.0) h)
-          named false h = absurd (ne (same (names x h) (permanents_set cs d n _)))
-      go n x ne (inr t) = other (permanents_set cs d n _)
-        where
-          other : ((n ≡ d) × (permanents_at (with_status cs d initialising (e ++ permanents_at cs d)) n ≡ e ++ permanents_at cs d)) ⊎ (permanents_at (with_status cs d initialising (e ++ permanents_at cs d)) n ≡ permanents_at cs n) → HeldBy base me fs n ⊎ (Begins cs (with_status cs d initialising (e ++ permanents_at cs d)) n × IsParameterOf p base n x)
-          other (inl u) = absurd (let le = t.0 u.0 in let size = tree.size in omega arith)
-          other (inr u) = absurd (ne (ap (content_of x) (sym u)))
-
   initialised_owned : (d : ℕ) (s : SystemMeaning) (items : List Item) (e : Environment) → d < length base → HeldBy base me ((initial_statement, d) ∷ fs) d →
-      ((n : ℕ) (x : Name) → content_of x e ≡ Some (knows n) → kind_at base n ≡ system_kind.Class → owner_of base n ≡ owner_of base d) → ((n : ℕ) (x : Name) → content_of x e ≡ Some (knows n) → Below (system_at base d) n) → NamedBy (system_of p (component_at base d).system).parameters e → OwnedOutcome (initialised_in v d s items e)
-  initialised_owned d s items e lt h known lower names =
-      if_all OwnedDoing (is_uninitialised (status_at cs d)) _ _ (λ u. initial_owned d s items e lt (uninitialised_told (status_at cs d) u) h known lower names) tt
+      ((n : ℕ) (x : Name) → content_of x e ≡ Some (knows n) → kind_at base n ≡ system_kind.Class → owner_of base n ≡ owner_of base d) → ((n : ℕ) (x : Name) → content_of x e ≡ Some (knows n) → Below (system_at base d) n) → OwnedOutcome (initialised_in v d s items e)
+  initialised_owned d s items e lt h known lower =
+      if_all OwnedDoing (is_uninitialised (status_at cs d)) _ _ (λ u. initial_owned d s items e lt h known lower) tt
 
   system_not_class : (d : ℕ) → d < length base → (kind_at cs d ≡ system_kind.Class → ⊥) → (system_of p (component_at cs d).system).kind ≡ system_kind.Class → ⊥
   system_not_class d lt h k = h (tree.kind d ∙ kinds d lt ∙ ap (λ j. (system_of p j).kind) (sym (tree.system d)) ∙ k)
@@ -458,31 +403,30 @@ module _ (p : Program) (c : Call) (calls : List Call) (cs : List Component) (pid
     owned : KnowsOwned e
     free : ((system_of p k).kind ≡ system_kind.Class → ⊥) → AllFit NoClass e
     lower : AllFit (Below k) e
-    names : NamedBy (system_of p k).parameters e
 
   bound_handed : (k : ℕ) (es : Expressions) → AllOf (Handed k) (bound v (system_of p k).parameters es)
   bound_handed k es = go (bound v (system_of p k).parameters es) (bound_held (system_of p k).parameters es) (λ h. bound_fits NoClass (system_of p k).parameters es (no_class_fits (system_of p k).parameters (class_parameters k h)))
-      (bound_fits (Below k) (system_of p k).parameters es (below_fits k (system_of p k).parameters (parameters_earlier k))) (bound_named (system_of p k).parameters es)
+      (bound_fits (Below k) (system_of p k).parameters es (below_fits k (system_of p k).parameters (parameters_earlier k)))
     where
-      go : (o : Outcome Environment) → AllOf EnvironmentHeld o → (((system_of p k).kind ≡ system_kind.Class → ⊥) → BoundFits NoClass o) → BoundFits (Below k) o → AllOf (NamedBy (system_of p k).parameters) o → AllOf (Handed k) o
-      go (Ok e) h free lower names = record { owned = h.1; free = free; lower = lower; names = names }
-      go (Err e) h free lower names = tt
+      go : (o : Outcome Environment) → AllOf EnvironmentHeld o → (((system_of p k).kind ≡ system_kind.Class → ⊥) → BoundFits NoClass o) → BoundFits (Below k) o → AllOf (Handed k) o
+      go (Ok e) h free lower = record { owned = h.1; free = free; lower = lower }
+      go (Err e) h free lower = tt
 
   started_owned : (k : SystemKind) (d : ℕ) (items : List Item) (e : Environment) → kind_at cs d ≡ k → (kind_at base d ≡ system_kind.Class → owner_of base d ≡ owner_of base c.component) → Handed (component_at cs d).system e →
       OwnedOutcome (started_as k v d (system_of p (component_at cs d).system) items e)
-  started_owned k d items e is owns h = by_kind k is (subst (λ j. AllFit (Below j) e) (tree.system d) h.lower) (subst (λ j. NamedBy (system_of p j).parameters e) (tree.system d) h.names)
+  started_owned k d items e is owns h = by_kind k is (subst (λ j. AllFit (Below j) e) (tree.system d) h.lower)
     where
-      by_kind : (k : SystemKind) → kind_at cs d ≡ k → AllFit (Below (system_at base d)) e → NamedBy (system_of p (component_at base d).system).parameters e → OwnedOutcome (started_as k v d (system_of p (component_at cs d).system) items e)
-      by_kind system_kind.Class is lower names =
+      by_kind : (k : SystemKind) → kind_at cs d ≡ k → AllFit (Below (system_at base d)) e → OwnedOutcome (started_as k v d (system_of p (component_at cs d).system) items e)
+      by_kind system_kind.Class is lower =
           let class = in_base d system_kind.Class is in
-          initialised_owned d (system_of p (component_at cs d).system) items e (not_past d class) (class_held d initial_statement (owns class)) (λ n x t k. h.owned n x t k ∙ sym (owns class)) lower names
-      by_kind system_kind.Monitor is lower names =
+          initialised_owned d (system_of p (component_at cs d).system) items e (not_past d class) (class_held d initial_statement (owns class)) (λ n x t k. h.owned n x t k ∙ sym (owns class)) lower
+      by_kind system_kind.Monitor is lower =
           let lt = within base d (λ b. (let bad : system_kind.Monitor ≡ system_kind.Process = sym (in_base d system_kind.Monitor is) ∙ b in cc)) in
           initialised_owned d (system_of p (component_at cs d).system) items e lt (monitor_started d (in_base d system_kind.Monitor is))
-          (λ n x t k. absurd (h.free (system_not_class d lt (λ b. (let bad : system_kind.Monitor ≡ system_kind.Class = sym is ∙ b in cc))) n x t k)) lower names
-      by_kind system_kind.Process is lower names =
+          (λ n x t k. absurd (h.free (system_not_class d lt (λ b. (let bad : system_kind.Monitor ≡ system_kind.Class = sym is ∙ b in cc))) n x t k)) lower
+      by_kind system_kind.Process is lower =
           items_owned v items (starts d e) alike
-          ((λ lt n x t. ((λ k. absurd (h.free (system_not_class d lt (λ b. (let bad : system_kind.Process ≡ system_kind.Class = sym is ∙ b in cc))) n x t k)), lower n x t)), names)
+          (λ lt n x t. ((λ k. absurd (h.free (system_not_class d lt (λ b. (let bad : system_kind.Process ≡ system_kind.Class = sym is ∙ b in cc))) n x t k)), lower n x t))
 
   -- ---- ends of calls
 
@@ -497,23 +441,23 @@ module _ (p : Program) (c : Call) (calls : List Call) (cs : List Component) (pid
   rest_bottom : Bottom me (frames calls)
   rest_bottom = bottom_rest (c.kind, c.component) (frames calls) bottom
 
-  leaving_owned : (k : SystemKind) (m : ℕ) → MoveOwned p base (Rattle.cp_meaning.specs.LocalRules.leaving_move k m)
+  leaving_owned : (k : SystemKind) (m : ℕ) → MoveOwned base (Rattle.cp_meaning.specs.LocalRules.leaving_move k m)
   leaving_owned system_kind.Monitor m = tt
   leaving_owned _ m = tt
 
-  back_owned : MoveOwned p base (return_move cs c)
+  back_owned : MoveOwned base (return_move cs c)
   back_owned = go (Rattle.cp_meaning.specs.State.is_entry_kind c.kind)
     where
-      go : (b : Bool) → MoveOwned p base (if b then Rattle.cp_meaning.specs.LocalRules.leaving_move (component_at cs c.component).kind c.component else stays)
+      go : (b : Bool) → MoveOwned base (if b then Rattle.cp_meaning.specs.LocalRules.leaving_move (component_at cs c.component).kind c.component else stays)
       go true = leaving_owned (component_at cs c.component).kind c.component
       go false = tt
 
   returned_owned : (o : Option Name) (items : List Item) → OwnedDoing (returned v o items)
-  returned_owned None items = record { tree = tree; held = held.3; bottom = rest_bottom; classes = classes; earlier = earlier; changed = unchanged; starting = back_owned }
+  returned_owned None items = record { tree = tree; held = held.3; bottom = rest_bottom; classes = classes; earlier = earlier; starting = back_owned }
   returned_owned (Some x) items =
       let q = plain_place (this_call (outer v)) x in
       let w = value_at v (plain_place (this_call v) result_name) in
-      record { tree = tree; held = stored_held base me (outer v) q w held.3; bottom = subst (Bottom me) (sym (stored_frames (outer v) q w)) rest_bottom; classes = classes; earlier = earlier; changed = unchanged; starting = back_owned }
+      record { tree = tree; held = stored_held base me (outer v) q w held.3; bottom = subst (Bottom me) (sym (stored_frames (outer v) q w)) rest_bottom; classes = classes; earlier = earlier; starting = back_owned }
 
   continued_owned : (k : CallKind) (items : List Item) (q : Place) → HeldPlace base me fs q.holder → OwnedDoing (continued_from v k items q)
   continued_owned entry_routine items q h =
@@ -525,7 +469,6 @@ module _ (p : Program) (c : Call) (calls : List Call) (cs : List Component) (pid
         bottom = subst (Bottom me) (sym (frames-callers u.calls ∙ ap below (stored_frames v q (queue_value None)))) rest_bottom;
         classes = a.still_known;
         earlier = a.still_earlier;
-        changed = λ n x ne. inl (a.only n x ne);
         starting = tt;
       }
   continued_owned _ items q h = items_owned v items stays alike tt
@@ -538,22 +481,12 @@ module _ (p : Program) (c : Call) (calls : List Call) (cs : List Component) (pid
         bottom = rest_bottom;
         classes = known_set _ cs m _ (λ d x t class. classes m d x t class) classes;
         earlier = known_set _ cs m _ (λ d x t never. earlier m d x t never) earlier;
-        changed = λ n x ne. go n x ne (permanents_set cs m n _);
         starting = tt;
       }
-    where
-      ds : List Component
-      ds = with_status cs m initialised (permanents_at cs m)
-
-      go : (n : ℕ) (x : Name) → (content_of x (permanents_at cs n) ≡ content_of x (permanents_at (with_status cs m initialised (permanents_at cs m)) n) → ⊥) →
-          ((n ≡ m) × (permanents_at (with_status cs m initialised (permanents_at cs m)) n ≡ permanents_at cs m)) ⊎ (permanents_at (with_status cs m initialised (permanents_at cs m)) n ≡ permanents_at cs n) →
-          HeldBy base me fs n ⊎ (Begins cs (with_status cs m initialised (permanents_at cs m)) n × IsParameterOf p base n x)
-      go n x ne (inl t) = absurd (ne (ap (λ j. content_of x (permanents_at cs j)) t.0 ∙ ap (content_of x) (sym t.1)))
-      go n x ne (inr t) = absurd (ne (ap (content_of x) (sym t)))
 
   -- ---- items
 
-  rules : Rules p c calls cs pid OwnedDoing Alike (λ items. Unit {0}) (λ q. HeldPlace base me fs q.holder) EnvironmentHeld Handed
+  rules : Rules p (c ∷ calls) cs pid OwnedDoing Alike (λ items. Unit {0}) (λ q. HeldPlace base me fs q.holder) EnvironmentHeld Handed
   rules =
       record {
         near = target_held;
@@ -577,4 +510,4 @@ module _ (p : Program) (c : Call) (calls : List Call) (cs : List Component) (pid
       }
 
   pub takes_owned : (items : List Item) → OwnedOutcome (takes v pid items)
-  takes_owned items = takes_all p c calls cs pid OwnedDoing Alike (λ items. Unit {0}) (λ q. HeldPlace base me fs q.holder) EnvironmentHeld Handed rules items tt
+  takes_owned items = takes_all p (c ∷ calls) cs pid OwnedDoing Alike (λ items. Unit {0}) (λ q. HeldPlace base me fs q.holder) EnvironmentHeld Handed rules items tt

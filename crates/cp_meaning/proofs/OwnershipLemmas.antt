@@ -1,10 +1,10 @@
 -- In every step each changed variable is one that the process holds.
-use Rattle.std.proofs.Common.{◌≡◌, ◌≢◌, ℕ, ◌<◌, ◌≤◌, ◌==◌, ◌∙◌, ◌⊎◌, inl, inr, Bool, true, false, ◌&&◌, List, [], ◌∷◌, length, Option, Some, None, Ok, Err, ap, sym, refl, subst, arith, eqb-true}
+use Rattle.std.proofs.Common.{◌≡◌, ℕ, ◌<◌, ◌≤◌, ◌==◌, ◌∙◌, ◌⊎◌, inl, inr, Bool, true, false, ◌&&◌, List, [], ◌∷◌, length, Option, Some, None, Ok, Err, ap, sym, refl, subst, arith, eqb-true}
 use Rattle.cp_tree.specs.declared.declaration.SystemKind.TheVariants as system_kind
-use Rattle.cp_meaning.proofs.Words.{Program, Name, Outcome, content_of, Move, starts, Doing, takes, line_of, system_of, IsExclusive, IsWellFormed}
+use Rattle.cp_meaning.proofs.Words.{Program, Outcome, content_of, Move, starts, Doing, takes, line_of, IsExclusive, IsWellFormed}
 use Rattle.cp_meaning.specs.State.{Holder, in_call, in_component, Component, component_at, CallKind, own_statement, local_routine, Call, Item, ready, unstarted, Process, process_at, Gates, State, has_entry, initialises}
 use Rattle.cp_meaning.specs.Steps.{first_components, opening, settled, step_of, without, admitted_to, admitted, IsReached, at_first, by_step, by_admission, by_forgetting}
-use Rattle.cp_meaning.specs.Ownership.{owner_of, IsStarted, HoldsComponent, HoldsPlace, HoldsCalls, below_or_same, CallsDescend, IsLawfulProcess, IsLawful, is_parameter, IsParameterOf, ChangesHeld, OthersKept, VariablesKept}
+use Rattle.cp_meaning.specs.Ownership.{owner_of, HoldsComponent, HoldsPlace, HoldsCalls, below_or_same, CallsDescend, IsLawfulProcess, IsLawful, VariablesKept}
 use Rattle.cp_meaning.specs.OwnershipLaw.{Ownership}
 use Rattle.cp_meaning.proofs.Frames.{Frame, frames, entry_in, initial_in, entry-frames, fit-initial, Above, Descends}
 use Rattle.cp_meaning.proofs.Good.{NonEmpty, Good, GoodOutcome, or_cases}
@@ -12,9 +12,10 @@ use Rattle.cp_meaning.proofs.Orderly.{ProcessFits}
 use Rattle.cp_meaning.proofs.LineLaw.{OrderlyState}
 use Rattle.cp_meaning.proofs.Exclusion.{opening_orderly, outcome_law, item_law, admitted_law, orderly_exclusive}
 use Rattle.cp_meaning.proofs.ComponentTree.{owner_same, Distinct, ContainedEarlier}
-use Rattle.cp_meaning.proofs.Held.{HeldBy, HeldPlace, HeldCalls, Bottom, permanents_at, held_more, length-frames}
+use Rattle.cp_meaning.proofs.Held.{HeldBy, HeldPlace, HeldCalls, Bottom, held_more, length-frames}
 use Rattle.cp_meaning.proofs.OwnLocal.{OwnedBy, there_below, takes_owned}
 use Rattle.cp_meaning.proofs.OwnKernel.{OwnedProcess, OwnedState, Keeps, keeps_all, goes_in, StartsProcess, kernel_step_owned}
+use Rattle.cp_meaning.proofs.OwnChanges.{step_changes}
 use Rattle.cp_meaning.proofs.OwnOpening.{first_kinds, opening_owned}
 
 -- ---- from what is held to the definition
@@ -99,30 +100,26 @@ module _ (p : Program) (ok : IsWellFormed p) where
     x = process_at s.processes pid
 
     pub both : (calls : List Call) (items : List Item) → x.calls ≡ calls → x.items ≡ items → NonEmpty (frames calls) → HeldCalls base x.component calls → Bottom x.component (frames calls) →
-        GoodOutcome s.components (frames calls) (takes (record { program = p; calls = calls; components = s.components }) pid items) × OwnedBy p base x.component (frames calls) s.components (takes (record { program = p; calls = calls; components = s.components }) pid items)
+        GoodOutcome s.components (frames calls) (takes (record { program = p; calls = calls; components = s.components }) pid items) × OwnedBy base x.component (takes (record { program = p; calls = calls; components = s.components }) pid items)
     both [] items e i some held bottom = absurd some
     both (c ∷ calls) items e i some held bottom = (
       item_law p s.components c calls items pid x e i (orderly.orderly.processes pid lt) (there_below p c calls s.components pid x.component base owned.tree distinct (first_kinds p) ok.class_parameters contained ok.parameters_earlier owned.earlier held bottom owned.classes),
       takes_owned p c calls s.components pid x.component base owned.tree distinct (first_kinds p) ok.class_parameters contained ok.parameters_earlier owned.earlier held bottom owned.classes items,
     )
 
-    -- what a step to t keeps and changes
+    -- what a step to t keeps
     record Result (t : State) : Type 0 where
       owned_after : OwnedState base t
       orderly_after : OrderlyState t
-      changed : (n : ℕ) (y : Name) → content_of y (permanents_at s.components n) ≢ content_of y (permanents_at t.components n) → HeldBy base x.component (frames x.calls) n ⊎ (IsStarted s t n × IsParameterOf p base n y)
-      others : OthersKept s t pid
 
     pub starts_process : (d : Doing) (move : Move) → Good s.components (frames x.calls) (frames d.calls) d.components d.items move → StartsProcess p s pid base owned lt is_ready d move
     starts_process d (starts c e) good = good.layout.kind c ∙ good.moves.1
     starts_process d _ good = tt
 
     module _ (none : s.pending ≡ None) where
-      settled_result : (o : Outcome Doing) → GoodOutcome s.components (frames x.calls) o × OwnedBy p base x.component (frames x.calls) s.components o → Result (settled p s pid o).state
-      settled_result (Ok d) h =
-          let k = kernel_step_owned p s pid base owned lt is_ready d d.move h.1 (starts_process d d.move h.0) in
-          record { owned_after = k.owned; orderly_after = outcome_law p s pid (Ok d) orderly none lt is_ready h.0; changed = k.changed; others = k.others }
-      settled_result (Err e) h = record { owned_after = owned; orderly_after = orderly; changed = λ n y ne. absurd (ne refl); others = λ q l ne. inl refl }
+      settled_result : (o : Outcome Doing) → GoodOutcome s.components (frames x.calls) o × OwnedBy base x.component o → Result (settled p s pid o).state
+      settled_result (Ok d) h = record { owned_after = kernel_step_owned p s pid base owned lt is_ready d d.move h.1 (starts_process d d.move h.0); orderly_after = outcome_law p s pid (Ok d) orderly none lt is_ready h.0 }
+      settled_result (Err e) h = record { owned_after = owned; orderly_after = orderly }
 
       step_result : Result (step_of p s pid).state
       step_result =
@@ -161,23 +158,13 @@ module _ (p : Program) (ok : IsWellFormed p) where
   pub exclusive : (g : Gates) (s : State) → IsReached p g s → IsExclusive s
   exclusive g s before = orderly_exclusive s (reached g s before).1
 
-  changes : (g : Gates) (s : State) (pid : ℕ) → IsReached p g s → s.pending ≡ None → pid < length s.processes → (process_at s.processes pid).status ≡ ready → ChangesHeld p s (step_of p s pid).state pid
-  changes g s pid before none lt is_ready n y ne =
-      let old = reached g s before in
-      let r = step_result s pid old.0 old.1 lt is_ready none in
-      go old.0 old.1 (r.changed n y ne)
-    where
-      go : OwnedState base s → OrderlyState s → HeldBy base (process_at s.processes pid).component (frames (process_at s.processes pid).calls) n ⊎ (IsStarted s (step_of p s pid).state n × IsParameterOf p base n y) → HoldsComponent s (process_at s.processes pid) n ⊎ (IsStarted s (step_of p s pid).state n × IsParameterOf p s.components n y)
-      go owned orderly (inl k) = inl (holds_from base s owned (process_at s.processes pid) (orderly.orderly.processes pid lt) n k)
-      go owned orderly (inr k) = inr (k.0, subst (λ j. is_parameter y (system_of p j).parameters ≡ true) (sym (owned.tree.system n)) k.1)
-
   pub ownership : (g : Gates) → Ownership p g
   ownership g =
       record {
         opening_lawful = lawful g (opening p g) at_first;
         steps_lawful = λ s pid before law none lt is_ready. lawful g _ (by_step s pid before none lt is_ready);
         admissions_lawful = λ s m q before law is member. lawful g _ (by_admission s m q before is member);
-        changes_held = λ s pid before law none lt is_ready. changes g s pid before none lt is_ready;
-        others_kept = λ s pid before law none lt is_ready. (let old = reached g s before in let r = step_result s pid old.0 old.1 lt is_ready none in r.others);
-        admissions_keep = λ s m q before law is member. admission_keeps s q;
+        changes_held = λ s pid law none lt is_ready. (step_changes p s pid lt (law.processes pid lt).calls).held;
+        others_kept = λ s pid law none lt is_ready. (step_changes p s pid lt (law.processes pid lt).calls).others;
+        admissions_keep = λ s m q law is member. admission_keeps s q;
       }

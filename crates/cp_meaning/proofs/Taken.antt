@@ -6,8 +6,8 @@ use Rattle.cp_tree.specs.Syntax.{Expressions, Designator, Start, Statement, assi
 use Rattle.cp_meaning.specs.Names.{temporary}
 use Rattle.cp_meaning.specs.Scopes.{Meaning, routine_meaning, standard_meaning, delay_procedure, continue_procedure, display_procedure}
 use Rattle.cp_meaning.specs.Declarations.{RoutineMeaning, Parameter}
-use Rattle.cp_meaning.specs.State.{Place, Environment, Component, component_at, local_routine, Call, Item, statement_item, function_call, start_item, until, successor, return, init_end, end}
-use Rattle.cp_meaning.specs.Places.{View, Target, target_named, value_at, stored, component_there}
+use Rattle.cp_meaning.specs.State.{Place, Environment, Component, component_at, local_routine, Call, current, Item, statement_item, function_call, start_item, until, successor, return, init_end, end}
+use Rattle.cp_meaning.specs.Places.{View, Target, target_named, value_at, stored, this_component, component_there}
 use Rattle.cp_meaning.specs.Operations.{Typed, same_integer, is_true, checked}
 use Rattle.cp_meaning.specs.Expressions.{value, target_value, first_value, meaning_here, routine_called}
 use Rattle.cp_meaning.specs.Calls.{bound, opened, is_initialised, entered_as, with_move, with_items, entered, called_as, called, started_as, started}
@@ -38,11 +38,11 @@ pub if_all : {A : Type 0} (P : A → Type 0) (b : Bool) (x y : Outcome A) → (b
 if_all P true x y h k = h refl
 if_all P false x y h k = k
 
--- ---- an item of a process whose innermost open call is c
+-- ---- an item of a process with these open calls
 
-module _ (p : Program) (c : Call) (calls : List Call) (cs : List Component) (pid : ℕ) where
+module _ (p : Program) (calls : List Call) (cs : List Component) (pid : ℕ) where
   abbrev v : View
-  v = record { program = p; calls = c ∷ calls; components = cs }
+  v = record { program = p; calls = calls; components = cs }
 
   -- What the rules keep: P is of doings, Kept of views with other values, Fit of the items that remain, Near of the places that are found. Bound is
   -- of the arguments of a call, and Handed of those with which a component of a system type is started.
@@ -58,13 +58,13 @@ module _ (p : Program) (c : Call) (calls : List Call) (cs : List Component) (pid
     pub goes_on : (u : View) (items : List Item) → Kept u → Fit items → P (with_items u items)
     pub ended : (items : List Item) → Fit items → P (with_move (with_items v items) ends)
     pub shows : (items : List Item) (x : Typed) → Fit items → P (shown v items x)
-    pub opens : (r : RoutineMeaning) (o : Option Name) (items : List Item) (e : Environment) → Bound e → Fit items → P (opened v c.component local_routine r o items e)
+    pub opens : (r : RoutineMeaning) (o : Option Name) (items : List Item) (e : Environment) → Bound e → Fit items → P (opened v (this_component v) local_routine r o items e)
     pub enters : (q : Place) (r : RoutineMeaning) (o : Option Name) (items : List Item) (e : Environment) → Near q → Bound e → is_initialised (component_at cs (component_there v q)).status ≡ true → Fit items →
         P (entered_as (component_at cs (component_there v q)).kind v (component_there v q) r o items e)
     pub starts : (q : Place) (items : List Item) (e : Environment) → Near q → Handed (component_at cs (component_there v q)).system e → Fit items →
         AllOf P (started_as (component_at cs (component_there v q)).kind v (component_there v q) (system_of p (component_at cs (component_there v q)).system) items e)
-    pub waits : (q : Place) (items : List Item) → Near q → Fit items → P (with_move (with_items (stored v q (queue_value (Some pid))) items) (delays c.component))
-    pub continues : (q : Place) (items : List Item) → Near q → Fit items → P (continued_from v c.kind items q)
+    pub waits : (q : Place) (items : List Item) → Near q → Fit items → P (with_move (with_items (stored v q (queue_value (Some pid))) items) (delays (this_component v)))
+    pub continues : (q : Place) (items : List Item) → Near q → Fit items → P (continued_from v (current calls).kind items q)
     pub returns : (o : Option Name) (items : List Item) → Fit (return o ∷ items) → P (returned v o items)
     pub finishes : (m : ℕ) (items : List Item) → Fit (init_end m ∷ items) → P (finished v m items)
 
@@ -105,7 +105,7 @@ module _ (p : Program) (c : Call) (calls : List Call) (cs : List Component) (pid
     called_all m d (Some r) o es items f = bind_known (λ (t : Target). Near t.place) P (target_value v d) _ (rules.near d) (λ t n. entered_all t.place r o es items n f)
 
     call_all : (d : Designator) (es : Expressions) (o : Option Name) (items : List Item) → Fit items → AllOf P (called v d es o items)
-    call_all d es o items f = called_all (meaning_here v d) d (routine_called p c.scope d) o es items f
+    call_all d es o items f = called_all (meaning_here v d) d (routine_called p (current calls).scope d) o es items f
 
     start_all : (t : Start) (items : List Item) → Fit items → AllOf P (started v t items)
     start_all t items f =

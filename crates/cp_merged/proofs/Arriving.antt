@@ -152,16 +152,16 @@ counts_small f n l = omega (arith, l)
 pub words_small : (f : Front Machine) (n : ℕ) → total f + n < 10 ^ 126 → words_of f.layer + n < 10 ^ 126
 words_small f n l = omega (arith, l)
 
-pub ended_holds : {A E : Type 0} (q : Result A E) (s new_s : Store) (es new_es : List (EndKey × code.Prefixes)) (ss new_ss : List (StateRow × code.Prefixes)) (kind : OutcomeKind) (x : code.Prefixes) (state : State) (halt : Halt) → halt ≡ HasEnded kind → new_s ≡ s → new_ss ≡ ss → IfOk q (λ _. (ts : List Tally) → AreEnds es ts → AreEnds new_es (with_tally same_outcome ts (record { first = record { word = x.first.items; outcome = record { kind = kind; output = output_of (machine_of state) } }; count = x.count }))) → IfOk q (λ _. (r : Tables) (gates : Gates) (f : Front Machine) → IsStateOf r state → Holds r s es ss f → Holds r new_s new_es new_ss (arrived (slots r gates) same_outcome same_key x.first.items x.count (node_of halt (machine_of state)) f))
+pub ended_holds : {A E : Type 0} (q : Result A E) (s new_s : Store) (es new_es : List (EndKey × code.Prefixes)) (ss new_ss : List (StateRow × code.Prefixes)) (kind : OutcomeKind) (x : code.Prefixes) (state : State) (halt : Halt OutcomeKind) → halt ≡ HasEnded kind → new_s ≡ s → new_ss ≡ ss → IfOk q (λ _. (ts : List Tally) → AreEnds es ts → AreEnds new_es (with_tally same_outcome ts (record { first = record { word = x.first.items; outcome = record { kind = kind; output = output_of (machine_of state) } }; count = x.count }))) → IfOk q (λ _. (r : Tables) (gates : Gates) (f : Front Machine) → IsStateOf r state → Holds r s es ss f → Holds r new_s new_es new_ss (arrived (slots r gates) same_outcome same_key x.first.items x.count (node_of halt (machine_of state)) f))
 ended_holds (Err e) s new_s es new_es ss new_ss kind x state halt is store same go = tt
 ended_holds (Ok u) s new_s es new_es ss new_ss kind x state halt is store same go = λ r gates f own h.
-    subst (λ (y : Halt). Holds r new_s new_es new_ss (arrived (slots r gates) same_outcome same_key x.first.items x.count (node_of y (machine_of state)) f)) (sym is)
+    subst (λ (y : Halt OutcomeKind). Holds r new_s new_es new_ss (arrived (slots r gates) same_outcome same_key x.first.items x.count (node_of y (machine_of state)) f)) (sym is)
     (record { ended = go f.ended h.ended; layer = subst (λ (t : Store). AreLeads r t new_ss f.layer) (sym store) (subst (λ (l : List (StateRow × code.Prefixes)). AreLeads r s l f.layer) (sym same) h.layer) })
 
-pub waits_holds : {A E : Type 0} (q : Result A E) (s new_s : Store) (es new_es : List (EndKey × code.Prefixes)) (ss new_ss : List (StateRow × code.Prefixes)) (x : code.Prefixes) (state : State) (halt : Halt) → halt ≡ Choice → new_es ≡ es → IfOk q (λ _. (r : Tables) (xs : List (Lead Machine)) → IsStateOf r state → AreLeads r s ss xs → AreLeads r new_s new_ss (with_lead same_key xs (record { state = machine_of state; first = x.first.items; count = x.count }))) → IfOk q (λ _. (r : Tables) (gates : Gates) (f : Front Machine) → IsStateOf r state → Holds r s es ss f → Holds r new_s new_es new_ss (arrived (slots r gates) same_outcome same_key x.first.items x.count (node_of halt (machine_of state)) f))
+pub waits_holds : {A E : Type 0} (q : Result A E) (s new_s : Store) (es new_es : List (EndKey × code.Prefixes)) (ss new_ss : List (StateRow × code.Prefixes)) (x : code.Prefixes) (state : State) (halt : Halt OutcomeKind) → halt ≡ Choice → new_es ≡ es → IfOk q (λ _. (r : Tables) (xs : List (Lead Machine)) → IsStateOf r state → AreLeads r s ss xs → AreLeads r new_s new_ss (with_lead same_key xs (record { state = machine_of state; first = x.first.items; count = x.count }))) → IfOk q (λ _. (r : Tables) (gates : Gates) (f : Front Machine) → IsStateOf r state → Holds r s es ss f → Holds r new_s new_es new_ss (arrived (slots r gates) same_outcome same_key x.first.items x.count (node_of halt (machine_of state)) f))
 waits_holds (Err e) s new_s es new_es ss new_ss x state halt is same go = tt
 waits_holds (Ok u) s new_s es new_es ss new_ss x state halt is same go = λ r gates f own h.
-    subst (λ (y : Halt). Holds r new_s new_es new_ss (arrived (slots r gates) same_outcome same_key x.first.items x.count (node_of y (machine_of state)) f)) (sym is)
+    subst (λ (y : Halt OutcomeKind). Holds r new_s new_es new_ss (arrived (slots r gates) same_outcome same_key x.first.items x.count (node_of y (machine_of state)) f)) (sym is)
     (record { ended = subst (λ (l : List (EndKey × code.Prefixes)). AreEnds l f.ended) (sym same) h.ended; layer = go r f.layer own h.layer })
 
 -- words go one choice on

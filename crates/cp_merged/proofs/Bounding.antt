@@ -1,7 +1,7 @@
 -- Where a choice leads to, components are bound to others only where one started.
 use Rattle.std.proofs.Common.{◌≡◌, ℕ, zero, suc, Bool, true, false, if◌then◌else◌, List, [], ◌∷◌, ap, arith, sym, refl, subst}
 use Rattle.cp_slots.specs.Fits.{IsSound}
-use Rattle.cp_merged.proofs.Words.{Tables, Gates, State, node_of, processes_of, slots, Halt, AllWaiting, Finished}
+use Rattle.cp_merged.proofs.Words.{Tables, Gates, State, node_of, processes_of, slots, Halt, OutcomeKind, AllWaiting, Finished}
 use Rattle.cp_machine.specs.Fits.{IsStateOf, LinesFit, MachineFits}
 use Rattle.cp_machine.specs.Reach.{Reaches}
 use Rattle.cp_machine.specs.System.{Machine, admitted, is_pending, is_ready, in_line, machine_of, step_at}
@@ -124,12 +124,12 @@ module _ (r : Tables) (gates : Gates) where
   chosen_bound steps m p h goes false free =
       subst (λ node. Bounds m (standing node)) (sym (chosen_free (slots r gates) steps m p free)) (stretch_bound steps m p h (may_be_ready (slots r gates) m p free goes) free)
 
-  halted : (halt : Halt) (m n : Machine) (node : Node Machine) → node ≡ node_of halt n → Bounds m (standing node) → Bounds m n
+  halted : (halt : Halt OutcomeKind) (m n : Machine) (node : Node Machine) → node ≡ node_of halt n → Bounds m (standing node) → Bounds m n
   halted Choice m n node is h = subst (Bounds m) (ap standing is) h
   halted (Ended kind) m n node is h = subst (Bounds m) (ap standing is) h
 
 -- after a choice in a state of the program
-pub choice_bounds : (r : Tables) (gates : Gates) (steps : ℕ) (s : State) (p : ℕ) (halt : Halt) (n : Machine) → IsStateOf r s → may (slots r gates) (machine_of s) p ≡ true → chosen (slots r gates) steps (machine_of s) p ≡ node_of halt n → Bounds (machine_of s) n
+pub choice_bounds : (r : Tables) (gates : Gates) (steps : ℕ) (s : State) (p : ℕ) (halt : Halt OutcomeKind) (n : Machine) → IsStateOf r s → may (slots r gates) (machine_of s) p ≡ true → chosen (slots r gates) steps (machine_of s) p ≡ node_of halt n → Bounds (machine_of s) n
 choice_bounds r gates steps s p halt n own may_go is =
     let fine : Fine r (machine_of s) = record { sound = own.sound; fits = own.fits; lines = own.lines; reach = own.reach } in
     halted r gates halt (machine_of s) n (chosen (slots r gates) steps (machine_of s) p) is (chosen_bound r gates steps (machine_of s) p fine may_go (is_pending (machine_of s)) refl)

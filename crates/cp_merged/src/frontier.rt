@@ -161,7 +161,7 @@ impl Frontier {
         &mut self,
         alloc: Global,
         state: &State,
-        halt: Halt,
+        halt: Halt<OutcomeKind>,
         before: &State,
         row: &mut StateRow,
         moved: &Moved,

@@ -10,7 +10,6 @@ pub mod layering;
 pub mod ordered;
 pub mod prefixes;
 pub mod report;
-pub mod state_key;
 pub mod tallies;
 pub mod tally;
 pub mod word;

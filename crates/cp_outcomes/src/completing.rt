@@ -7,7 +7,6 @@ ghost use Rattle.cp_outcomes.specs.Findings.{IsKnownOf};
 use crate::known::Known;
 use cp_merged::{MergeFault, explore_merged_with};
 use cp_progress::ObserveProgress;
-use cp_run::Limits;
 use cp_walk::Job;
 use std::alloc::{AllocError, Global};
 
@@ -52,9 +51,7 @@ fn merge_with<O: ObserveProgress>(
     requires { choices < job.limits.choices }
     ensures { IfOk result (λ known. IfSome known (IsKnownOf (slots job.entry.program.now job.entry.limits.gates) job.entry.limits.choices job.entry.limits.steps)) }
 {
-    let Some(limits) = Limits::new(choices, job.limits.steps, job.limits.gates) else {
-        unreachable!()
-    };
+    let limits = job.limits.with_choices(choices);
     let fewer = Job {
         program: job.program,
         limits,

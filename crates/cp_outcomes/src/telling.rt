@@ -20,7 +20,6 @@ use crate::told::is_among;
 use cp_merged::word::{Word, word_of};
 use cp_merged::{MergeFault, Tallies, Tally, explore_merged_with};
 use cp_progress::ObserveProgress;
-use cp_run::Limits;
 use cp_walk::Job;
 use std::alloc::{AllocError, Global};
 
@@ -93,9 +92,7 @@ fn excess_written<O: ObserveProgress>(
             Format::Json => excess_json(alloc, excess),
         };
     };
-    let Some(limits) = Limits::new(known.choices, subject.limits.steps, subject.limits.gates) else {
-        unreachable!()
-    };
+    let limits = subject.limits.with_choices(known.choices);
     let fewer = Subject { limits, ..subject };
     let told = write_findings(alloc, fewer, form, &known.tallies, observer)?;
     match form {

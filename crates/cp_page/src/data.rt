@@ -9,8 +9,9 @@ use crate::json::Json;
 use crate::keys::Merging;
 use crate::outcomes::{MOST_LISTED, first_words, put_outcomes, survey};
 use crate::register::Register;
+use crate::schedules::{EndlessSchedules, LimitedSchedules, Schedules};
 use crate::source::put_source;
-use crate::subject::{Length, PageSubject};
+use crate::subject::{Length, MOST_STATES, PageSubject};
 use crate::teller::Teller;
 use cp_legend::Legend;
 use cp_machine::{Gates, State, Ticks};
@@ -22,9 +23,6 @@ use cp_walk::Job;
 use std::alloc::{AllocError, Global};
 use std::marker::Brand;
 use std::sync::ledger::{Blank, Ledger};
-
-/// How many states a layer may have when schedules are counted.
-const MOST_IN_A_LAYER: usize = 200_000;
 
 /// The first outcomes, whose first schedules are gone along to their ends.
 const MOST_LAID_OUT: usize = 500;
@@ -60,13 +58,13 @@ fn put_counted<O: ObserveProgress>(
         program: subject.program,
         limits: subject.limits,
     };
-    let found = survey(alloc, job, MOST_IN_A_LAYER, observer)?;
+    let found = survey(alloc, job, MOST_STATES as usize, observer)?;
     let tallies = match &found {
         Some(tallies) => tallies.as_slice(),
         None => &[],
     };
     let words = first_words(alloc, tallies, MOST_LAID_OUT)?;
-    put_graph(alloc, json, subject, observer, merging_for(tallies), &words)?;
+    put_graph::<LimitedSchedules, O>(alloc, json, subject, observer, merging_for(tallies), &words)?;
     json.put_member("isWhole", found.is_some());
     json.put_member("more", tallies.len().saturating_sub(MOST_LISTED));
     json.put_name("outcomes");
@@ -82,7 +80,7 @@ fn put_endless<O: ObserveProgress>(
 ) -> Result<(), AllocError> {
     let endless = endless_of(alloc, subject, observer)?;
     let words = endless.words(alloc)?;
-    put_graph(
+    put_graph::<EndlessSchedules, O>(
         alloc,
         json,
         subject,
@@ -143,7 +141,7 @@ fn put_pair(json: &mut Json, name: &str, type_name: &str) {
 }
 
 // The variables that stay with their first values, the states and the edges that are found, and the tables on which they stand.
-fn put_graph<O: ObserveProgress>(
+fn put_graph<K: Schedules, O: ObserveProgress>(
     alloc: Global,
     json: &mut Json,
     subject: PageSubject<'_>,
@@ -152,18 +150,18 @@ fn put_graph<O: ObserveProgress>(
     words: &[Vec<u8>],
 ) -> Result<(), AllocError> {
     let state = State::start(alloc, subject.program, subject.limits.gates)?;
-    let mut teller = Teller::new(alloc, subject.legend, &state)?;
+    let mut teller: Teller<'_, K> = Teller::new(alloc, subject.legend, &state)?;
     let views = put_start(json, subject.program, &state, &mut teller)?;
     let mut graph = PageGraph::new(alloc, subject, teller, merging);
     put_found(json, subject, observer, words, &mut graph, &views)
 }
 
 // The variables that stay, with their first values. The answer is where each process stands before it is started.
-fn put_start(
+fn put_start<K: Schedules>(
     json: &mut Json,
     program: &Resolved,
     state: &State,
-    teller: &mut Teller<'_>,
+    teller: &mut Teller<'_, K>,
 ) -> Result<Json, AllocError>
     requires { IsStateOf program.now state.now }
 {
@@ -174,15 +172,15 @@ fn put_start(
 }
 
 // The states and the edges that are found, with the tables, where these are the views at the start.
-fn put_found<O: ObserveProgress>(
+fn put_found<K: Schedules, O: ObserveProgress>(
     json: &mut Json,
     subject: PageSubject<'_>,
     observer: &mut O,
     words: &[Vec<u8>],
-    graph: &mut PageGraph<'_>,
+    graph: &mut PageGraph<'_, K>,
     views: &Json,
 ) -> Result<(), AllocError> {
-    let start = lay_out::<O, Brand>(subject, observer, graph, words, Blank::new(1))?;
+    let start = lay_out::<K, O, Brand>(subject, observer, graph, words, Blank::new(1))?;
     json.put_name("start");
     json.open();
     json.put_plain(start);
@@ -223,10 +221,10 @@ fn first_views(
 
 // Finds the states: the first ones, those along the schedule that is laid out at first, and those along words, until so many were gone on from for
 // these. The answer is the edge before the first choice.
-fn lay_out<O: ObserveProgress, S: Ledger>(
+fn lay_out<K: Schedules, O: ObserveProgress, S: Ledger>(
     subject: PageSubject<'_>,
     observer: &mut O,
-    graph: &mut PageGraph<'_>,
+    graph: &mut PageGraph<'_, K>,
     words: &[Vec<u8>],
     blank: Blank,
 ) -> Result<usize, AllocError>

@@ -6,15 +6,12 @@ ghost use Rattle.cp_waits.specs.Named.{TellOfAll};
 
 use crate::ends::put_plain_end;
 use crate::json::Json;
-use crate::subject::PageSubject;
+use crate::subject::{MOST_STATES, PageSubject};
 use cp_ends::{Found, search_ends_with};
 use cp_legend::Legend;
 use cp_progress::ObserveProgress;
 use cp_waits::{How, Waiting, Waits, find_waits_with};
 use std::alloc::{AllocError, Global};
-
-/// How many states there may be in all.
-const MOST: u32 = 200_000;
 
 /// What is possible in schedules of any length.
 #[derive(Drop)]
@@ -38,7 +35,7 @@ pub fn endless_of<O: ObserveProgress>(
         limits,
         ..
     } = subject;
-    let found = search_ends_with(alloc, program, limits, MOST, observer)?;
+    let found = search_ends_with(alloc, program, limits, MOST_STATES, observer)?;
     let waits = match found.stopped {
         None => Some(find_waits_with(alloc, program, limits, &found, observer)?),
         Some(_) => None,

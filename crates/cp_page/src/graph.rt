@@ -6,14 +6,14 @@ use crate::due::DueState;
 use crate::ends::end_row;
 use crate::json::Json;
 use crate::keys::{Merging, key_of};
-use crate::quiet::{arrival_of, quiet_choice, quiet_opening};
+use crate::schedules::Schedules;
 use crate::subject::{Length, PageSubject};
 use crate::teller::Teller;
-use cp_ends::end::Arrival;
+use cp_ends::End;
 use cp_ends::state_key::ReachedKey;
 use cp_machine::{State, Ticks};
 use cp_progress::{ObserveProgress, Progress, STATES_BETWEEN};
-use cp_run::may;
+use cp_run::{Halt, may};
 use cp_slots::Resolved;
 use indexmap::IndexSet;
 use std::alloc::{AllocError, Global};
@@ -30,9 +30,9 @@ struct Node<'a> {
 
 /// The states that were found, and the edges between them.
 #[derive(Drop)]
-pub struct PageGraph<'a> {
+pub struct PageGraph<'a, K> {
     subject: PageSubject<'a>,
-    pub teller: Teller<'a>,
+    pub teller: Teller<'a, K>,
     merging: Merging,
     nodes: Vec<Node<'a>>,
     /// The keys of the states.
@@ -45,14 +45,14 @@ pub struct PageGraph<'a> {
     choices: u8,
 }
 
-impl<'a> PageGraph<'a> {
+impl<'a, K: Schedules> PageGraph<'a, K> {
     /// A graph without states.
     pub fn new(
         alloc: Global,
         subject: PageSubject<'a>,
-        teller: Teller<'a>,
+        teller: Teller<'a, K>,
         merging: Merging,
-    ) -> PageGraph<'a> {
+    ) -> PageGraph<'a, K> {
         PageGraph {
             subject,
             teller,
@@ -74,20 +74,14 @@ impl<'a> PageGraph<'a> {
         let PageSubject {
             program,
             limits,
-            length,
             ..
         } = self.subject;
-        let alloc = self.alloc();
-        let mut state = State::start(alloc, program, limits.gates)?;
+        let mut state = State::start(self.alloc(), program, limits.gates)?;
         self.teller.begin_edge(&state)?;
-        let halt = self.teller.tell_opening(program, limits, &mut state, ticks);
-        match length {
-            Length::Limited => self.arrive(program, state, arrival_of(halt), 0),
-            Length::Any => {
-                let (state, arrival) = quiet_opening(alloc, program, limits, ticks)?;
-                self.arrive(program, state, arrival, 0)
-            }
-        }
+        let halt = self
+            .teller
+            .tell_opening(program, limits, &mut state, ticks)?;
+        self.arrive(program, state, halt, 0)
     }
 
     // Goes on from a state, if there is one at this place, with each process that may be chosen.
@@ -129,33 +123,18 @@ impl<'a> PageGraph<'a> {
         process: u8,
         ticks: &mut Ticks<S>,
     ) -> Result<(), AllocError> {
-        let PageSubject { limits, length, .. } = self.subject;
-        let alloc = self.alloc();
+        let limits = self.subject.limits;
         let program = before.program;
         if !may(program, limits, &before.state, process) {
             return Ok(());
         }
-        let mut state = before.state.copy(alloc)?;
+        let mut state = before.state.copy(self.alloc())?;
         self.teller.begin_edge(&state)?;
         self.teller.observer.calls = before.calls.clone()?;
         let halt = self
             .teller
-            .tell_choice(program, limits, &mut state, process, ticks);
-        let depth = before.depth.saturating_add(1);
-        let edge = match length {
-            Length::Limited => self.arrive(program, state, arrival_of(halt), depth)?,
-            Length::Any => {
-                let (state, arrival) = quiet_choice(
-                    alloc,
-                    program,
-                    limits,
-                    &before.state,
-                    process,
-                    ticks,
-                )?;
-                self.arrive(program, state, arrival, depth)?
-            }
-        };
+            .tell_choice(program, limits, &mut state, process, ticks)?;
+        let edge = self.arrive(program, state, halt, before.depth.saturating_add(1))?;
         if let Some(node) = self.nodes.get_mut(at) {
             node.edges.push(edge)?;
         }
@@ -175,18 +154,18 @@ impl<'a> PageGraph<'a> {
         &mut self,
         program: &'a Resolved,
         state: State,
-        arrival: Arrival,
+        halt: Halt<End>,
         depth: u8,
     ) -> Result<usize, AllocError>
         requires { IsStateOf program.now state }
     {
-        match arrival {
-            Arrival::End(end) => {
+        match halt {
+            Halt::Ended(end) => {
                 let row = end_row(self.alloc(), program, &state, end, self.teller.going);
                 let place = self.teller.register.ends.place(&row)?;
                 self.edge_to(None, place)
             }
-            Arrival::Choice => {
+            Halt::Choice => {
                 let place = self.place_state(program, state, depth)?;
                 self.edge_to(Some(place), place)
             }

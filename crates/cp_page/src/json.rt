@@ -59,11 +59,6 @@ impl Json {
         Ok(self.text.as_str())
     }
 
-    /// Memory was refused for what was to be told.
-    pub fn refuse(&mut self) {
-        self.is_refused = true;
-    }
-
     // Appends a sign of JSON.
     fn put_sign(&mut self, sign: char) {
         if !self.is_refused && push_inert(&mut self.text, sign).is_err() {
@@ -82,7 +77,7 @@ impl Json {
     fn put_made_signs(&mut self, made: Result<String, AllocError>) {
         match made {
             Ok(signs) => self.put_signs(signs.as_str()),
-            Err(_) => self.refuse(),
+            Err(_) => self.is_refused = true,
         }
     }
 
@@ -160,7 +155,7 @@ impl Json {
     pub fn put_value(&mut self, value: &Json) {
         match value.text() {
             Ok(text) => self.put_literal(text),
-            Err(_) => self.refuse(),
+            Err(_) => self.is_refused = true,
         }
     }
 

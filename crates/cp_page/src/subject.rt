@@ -4,6 +4,9 @@ use cp_legend::Legend;
 use cp_run::Limits;
 use cp_slots::Resolved;
 
+/// How many states there may be in all, or in a layer where schedules are counted.
+pub const MOST_STATES: u32 = 200_000;
+
 /// Which schedules a page is about.
 #[derive(Clone, Copy, PartialEq, Eq)]
 pub enum Length {

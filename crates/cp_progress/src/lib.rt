@@ -28,9 +28,6 @@ pub struct WalkProgress {
 
 /// Whoever is told how far work has come: a search by layers after each layer, and within one now and then; a walk now and then.
 pub trait ObserveProgress {
-    /// Whether anything comes of what is told.
-    fn is_listening(&self) -> bool;
-
     /// What it does changes nothing in the search.
     fn observe_progress(&mut self, progress: Progress);
 
@@ -43,11 +40,6 @@ pub trait ObserveProgress {
 pub struct Unobserved;
 
 impl ObserveProgress for Unobserved {
-    #[inline(always)]
-    fn is_listening(&self) -> bool {
-        false
-    }
-
     #[inline(always)]
     fn observe_progress(&mut self, progress: Progress) {
         let _ = progress;

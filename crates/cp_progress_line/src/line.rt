@@ -107,10 +107,6 @@ impl<C: Clock + Drop, W: Write + Drop> ProgressLine<C, W> {
 }
 
 impl<C: Clock + Drop, W: Write + Drop> ObserveProgress for ProgressLine<C, W> {
-    fn is_listening(&self) -> bool {
-        self.began.is_some()
-    }
-
     fn observe_progress(&mut self, progress: Progress) {
         if let Some(now) = self.time_to_write() {
             self.show(now, text_of(self.alloc, self.counted, progress));

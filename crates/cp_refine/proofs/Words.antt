@@ -31,8 +31,8 @@ pub use Rattle.cp_tree.specs.declared.statement.Direction.{Direction}
 pub use Rattle.cp_meaning.proofs.Frames.{Descends, ItemsFit as FramesFit, entry-frames, frames}
 pub use Rattle.cp_meaning.proofs.Good.{IsMonitor}
 pub use Rattle.cp_meaning.proofs.LineLaw.{OrderlyState}
-pub use Rattle.cp_meaning.proofs.OwnLocal.{nothing_append as content_second}
-pub use Rattle.cp_meaning.proofs.OwnershipLemmas.{exclusive, reached}
+pub use Rattle.cp_meaning.proofs.Held.{nothing_append as content_second}
+pub use Rattle.cp_meaning.proofs.OwnershipLemmas.{reached}
 pub use Rattle.cp_meaning.specs.Calls.{bound, bound_argument, bound_value, bound_variable, least_of, least_result, refers_to, started_as, started_at, with_items}
 pub use Rattle.cp_meaning.specs.Calls.{with_move}
 pub use Rattle.cp_meaning.specs.Components.{Listed, Path, PathStep, components_of, same_path, step_down}

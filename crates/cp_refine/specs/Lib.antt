@@ -2,7 +2,6 @@ pub mod Agrees
 pub mod AllKnown
 pub mod Bodies
 pub mod ComponentNames
-pub mod Excluding
 pub mod Followed
 pub mod Following
 pub mod Given
@@ -19,6 +18,5 @@ pub mod Remaining
 pub mod Represents
 pub mod RoutinesKnown
 pub mod Running
-pub mod States
 pub mod StatesKnown
 pub mod Stopped

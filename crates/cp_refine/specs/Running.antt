@@ -1,21 +1,22 @@
 -- What the machine that runs stands for, in each state that it reaches.
-use Rattle.std.specs.Prelude.{◌≡◌, ℕ, List, [], ◌∷◌}
+use Rattle.std.specs.Prelude.{◌≡◌, ℕ, ◌<◌, List, [], ◌∷◌}
 use Rattle.cp_tree.specs.Read.{IsRead}
 use Rattle.cp_tree.specs.Syntax.{Tree}
 use Rattle.cp_layout.specs.Laid.{plain, laid}
 use Rattle.cp_slots.specs.Tables.{Tables}
 use Rattle.cp_lawful.specs.Accepted.{IsAccepted}
 use Rattle.cp_meaning.specs.Exclusive.{IsExclusive}
+use Rattle.cp_meaning.specs.Readings.{rising_line}
 use Rattle.cp_meaning.specs.Ownership.{ChangesHeld, OthersKept}
 use Rattle.cp_meaning.specs.State.{Gates, State}
 use Rattle.cp_meaning.specs.Steps.{step_of}
-use Rattle.cp_machine.specs.Machine.{Machine}
+use Rattle.cp_machine.specs.Machine.{Machine, waiting_of}
 use Rattle.cp_run.specs.Slots.{slots}
 use Rattle.cp_run.specs.System.{System}
 use Rattle.cp_resolved.specs.TreeLayouts.{layouts_of}
 use Rattle.cp_refine.specs.InStep.{CanGo, CanEnter, LooksAlike}
 use Rattle.cp_refine.specs.Law.{Simulates}
-use Rattle.cp_refine.specs.Named.{named, gates_of}
+use Rattle.cp_refine.specs.Named.{named, gates_of, monitor_number}
 
 -- what happens to a state: a process takes a step, or is let in at the pending monitor
 pub data Happening : Type 0 where
@@ -42,6 +43,8 @@ pub record RunsAsMeant (t : Tree) (r : Tables) (g : Gates) (hs : List Happening)
   pub met : IsMet (named t g) hs state
   pub simulates : Simulates t r (layouts_of t) g state m
   pub alike : LooksAlike (named t g) (slots r (gates_of g)) state m
+  -- who is at the gate of each monitor, in rising order
+  pub waiting : (k : ℕ) → k < (named t g).monitors → rising_line state (monitor_number t.program g k) ≡ waiting_of m k
   pub exclusive : IsExclusive state
   pub steps : (p : ℕ) → CanGo (slots r (gates_of g)) m p → StepsAsMeant t r g state m p
 

@@ -1,5 +1,5 @@
 -- Two states that are alike: from both a run comes to the same ends and the same choices.
-use Rattle.std.proofs.Common.{◌≡◌, ℕ, zero, suc, Bool, true, false, ◌&&◌, nat_lt, if◌then◌else◌, List, [], ◌∷◌, refl, sym, ap, ◌∙◌, subst}
+use Rattle.std.proofs.Common.{◌≡◌, ℕ, zero, suc, Bool, true, false, ◌&&◌, nat_lt, if◌then◌else◌, List, [], refl, sym, ap, ◌∙◌, subst}
 use Rattle.cp_run.proofs.Words.{Event, Turn, Over, Due, Goes, AllWaiting, Finished, System}
 use Rattle.cp_machine.specs.declared.event.Event.TheVariants.{Local, Kernel, Ended, Fault, OutputFull}
 use Rattle.cp_run.specs.Run.{Node, Halted, Choosing, node_at, those_below, turn_among, settled_turn, turn_at, turn_after, stretch, may, chosen}

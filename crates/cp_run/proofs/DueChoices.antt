@@ -6,8 +6,8 @@ use Rattle.cp_machine.specs.declared.gates.Gates.{Gates}
 use Rattle.cp_machine.specs.declared.state.State.{State}
 use Rattle.cp_machine.specs.System.{Machine, admitted, in_line}
 use Rattle.cp_machine.proofs.CallerLemmas.{line_within, admitted_free}
-use Rattle.cp_run.proofs.Words.{IsStateOf, is_pending, is_ready, machine_of, pending_is, Turn, may, chosen, stretch, settled_turn, node_at, slots}
-use Rattle.cp_run.proofs.Choosing.{may_in_line, may_be_ready, chosen_free, chosen_at_gate}
+use Rattle.cp_run.proofs.Words.{IsStateOf, is_pending, is_ready, machine_of, pending_is, may, slots}
+use Rattle.cp_run.proofs.Choosing.{may_in_line, may_be_ready}
 
 -- a process may go on in a state of the program's
 abbrev pub MayGoOn : Tables → State → ℕ → Type 0
@@ -24,9 +24,6 @@ module _ (r : Tables) (gates : Gates) (s : State) (p : ℕ) (pending : Option �
       let free = pending_is (machine_of s) pending false read none in
       record { own = own; ready = may_be_ready (slots r gates) (machine_of s) p free allowed; free = free }
 
-  pub goes_to : (steps : ℕ) → is_some pending ≡ false → chosen (slots r gates) steps (machine_of s) p ≡ stretch (slots r gates) steps (machine_of s) p
-  goes_to steps none = chosen_free (slots r gates) steps (machine_of s) p (pending_is (machine_of s) pending false read none)
-
   -- a monitor is pending: the process that is chosen is let in, and then nothing is pending
   pub chosen_comes : is_some pending ≡ true → IsStateOf r s → may (slots r gates) (machine_of s) p ≡ true → MayComeIn s p
   chosen_comes some own allowed =
@@ -35,6 +32,3 @@ module _ (r : Tables) (gates : Gates) (s : State) (p : ℕ) (pending : Option �
 
   pub free_behind : is_some pending ≡ true → may (slots r gates) (machine_of s) p ≡ true → (n : Machine) → n ≡ admitted (machine_of s) p → is_pending n ≡ false
   free_behind some allowed n at = admitted_free (machine_of s) n p (may_in_line (slots r gates) (machine_of s) p (pending_is (machine_of s) pending true read some) allowed) at
-
-  pub comes_to : (steps : ℕ) → is_some pending ≡ true → (n : Machine) (turn : Turn) → n ≡ admitted (machine_of s) p → turn ≡ settled_turn (slots r gates) n true p → chosen (slots r gates) steps (machine_of s) p ≡ node_at n (stretch (slots r gates) steps n) turn
-  comes_to steps some n turn at is = chosen_at_gate (slots r gates) steps (machine_of s) n p turn (pending_is (machine_of s) pending true read some) at is

@@ -3,6 +3,7 @@ use Rattle.std.proofs.Common.{◌≡◌, ◌∙◌, ℕ, zero, suc, ◌-◌, ◌
 use Rattle.std.proofs.lemmas.Bool.{eqb-true}
 use Rattle.cp_machine.specs.declared.event.Event.{Event}
 use Rattle.cp_run.specs.declared.outcome.Halt.{Halt}
+use Rattle.cp_run.specs.declared.outcome.OutcomeKind.{OutcomeKind}
 use Rattle.cp_run.specs.declared.outcome.Halt.TheVariants.{Choice, Ended as HasEnded}
 use Rattle.cp_run.specs.declared.outcome.Turn.{Turn}
 use Rattle.cp_run.specs.Code.{node_of, is_over}
@@ -41,7 +42,7 @@ module _ {S X : Type 0} (sys : System S) (w : Fold S X) where
   fold_chosen_gate steps s t p turn x y e at is more = rw (e, more, is, at) refl
 
   -- an ended run shows no more
-  pub fold_over : (steps k : ℕ) (word : List ℕ) (h : Halt) (s : S) (x : X) → is_over k h ≡ true → fold_from sys w steps k word (node_of h s) x ≡ x
+  pub fold_over : (steps k : ℕ) (word : List ℕ) (h : Halt OutcomeKind) (s : S) (x : X) → is_over k h ≡ true → fold_from sys w steps k word (node_of h s) x ≡ x
   unfolding fold_from
   fold_over steps zero word Choice s x e = refl
   fold_over steps (suc k) word Choice s x e = absurd (omega (arith, eqb-true (suc k) 0 e))

@@ -5,10 +5,13 @@ pub mod DueChoices
 pub mod Failing
 pub mod FoldAlong
 pub mod Folding
+pub mod LocalOutput
+pub mod Moving
 pub mod Observed
 pub mod Owning
 pub mod Prefixes
 pub mod Running
+pub mod Silently
 pub mod Standing
 pub mod Stops
 pub mod Stretching
@@ -17,6 +20,6 @@ pub mod TraceFold
 pub mod TraceRuns
 pub mod Tracing
 pub mod Turning
+pub mod Walking
 pub mod Wanting
-pub mod Watching
 mod Words

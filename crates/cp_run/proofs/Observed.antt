@@ -1,11 +1,12 @@
 -- A run that is observed: where its stretches halt, and what it has come to after some numbers of its word.
 use Rattle.std.proofs.Common.{◌≡◌, ◌∙◌, ℕ, ◌-◌, ◌+◌, ◌<◌, List, [], true, false, ap, sym, refl, arith, drop, get_or, length}
 use Rattle.cp_run.specs.declared.outcome.Halt.{Halt}
+use Rattle.cp_run.specs.declared.outcome.OutcomeKind.{OutcomeKind}
 use Rattle.cp_run.specs.declared.outcome.Halt.TheVariants.{Choice}
 use Rattle.cp_run.specs.declared.outcome.Turn.{Turn}
 use Rattle.cp_run.specs.declared.outcome.Turn.TheVariants.{Over, Due, Goes}
 use Rattle.cp_run.specs.Code.{IfGoes, further, halt_at, is_over, node_of}
-use Rattle.cp_run.specs.Fold.{Fold, fold_chosen, fold_from, fold_opened, fold_run, fold_stretch, fold_turn}
+use Rattle.cp_run.specs.Fold.{Fold, blind, fold_chosen, fold_from, fold_opened, fold_run, fold_stretch, fold_turn}
 use Rattle.cp_run.specs.Run.{Answer, Node, NotReady, chosen, may, node_at, opened, run, run_from, stretch}
 use Rattle.cp_run.specs.Stop.{last_state, last_state_from}
 use Rattle.cp_run.specs.System.{System}
@@ -31,6 +32,10 @@ pub halts_there : {S : Type 0} (sys : System S) (left : ℕ) (s : S) (turn : Tur
 halts_there sys left s (Over kind) none = refl
 halts_there sys left s Due none = refl
 halts_there sys left s (Goes q) none = used_up sys left s q none
+
+-- nothing is seen
+abbrev pub unseen : {S : Type 0} → Fold S (Unit {0})
+unseen = blind
 
 module _ {S X : Type 0} (sys : System S) (w : Fold S X) where
   pub shows_no_more : (left : ℕ) (s : S) (turn : Turn) (x : X) → IfGoes turn (λ q. left ≡ 0) → fold_turn (fold_stretch sys w left s) turn x ≡ x
@@ -67,7 +72,7 @@ module _ {S X : Type 0} (sys : System S) (w : Fold S X) where
           stop = ap (λ n. last_state_from sys steps n word first) k ∙ ap (last_state_from sys steps (choices - 0) word) is;
         }
 
-    module _ (n : ℕ) (h : Halt) (s : S) (x : X) where
+    module _ (n : ℕ) (h : Halt OutcomeKind) (s : S) (x : X) where
       pub stopped_there : is_over (choices - n) h ≡ true → Reached n (node_of h s) x → Stopped (further n (run_from sys steps (choices - n) [] (node_of h s))) x s
       stopped_there over r =
           let k = choices - n in

@@ -3,7 +3,7 @@ use Rattle.std.proofs.Common.{◌≡◌, ℕ, zero, suc, Bool, true, false, ◌=
 use Rattle.std.proofs.lemmas.List.{length-append}
 use Rattle.std.proofs.lemmas.Bool.{eqb-true}
 use Rattle.cp_run.specs.System.{System}
-use Rattle.cp_run.specs.Run.{Node, Halted, Choosing, Answer, Ended, Wants, NotReady, later, may, chosen, opened, run_from, run}
+use Rattle.cp_run.specs.Run.{Node, Halted, Choosing, Answer, Ended, NotReady, later, may, chosen, opened, run_from, run}
 use Rattle.cp_run.specs.Table.{Line, words, lines_of, each, table, IsAmong, Here, There, IsPrefixFree}
 
 -- the word is wholly used

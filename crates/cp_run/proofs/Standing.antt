@@ -1,7 +1,7 @@
 -- Where a choice of process is due, two or more processes are ready.
 use Rattle.std.proofs.Common.{◌≡◌, ℕ, zero, suc, ◌<◌, Bool, true, false, ◌&&◌, if◌then◌else◌, List, [], ◌∷◌, ◌++◌, refl, sym, ap, ◌∙◌, arith}
 use Rattle.cp_run.proofs.Words.{lt-ltb, Event, Turn, Over, Due, Goes, AllWaiting, Finished, System}
-use Rattle.cp_machine.specs.declared.event.Event.TheVariants.{Local, Kernel, Ended, Fault, OutputFull}
+use Rattle.cp_machine.specs.declared.event.Event.TheVariants.{Local, Fault, OutputFull}
 use Rattle.cp_run.specs.Run.{Node, Halted, Choosing, node_at, those_below, turn_among, settled_turn, turn_at, turn_after, stretch, may, chosen, opened}
 
 -- a number below n may be

@@ -2,6 +2,7 @@
 use Rattle.std.proofs.Common.{◌≡◌, ◌∙◌, ℕ, zero, suc, ◌+◌, true, false, if◌then◌else◌, List, [], ◌∷◌, ap, refl, arith}
 use Rattle.std.proofs.lemmas.Bool.{eqb-true}
 use Rattle.cp_run.specs.declared.outcome.Halt.{Halt}
+use Rattle.cp_run.specs.declared.outcome.OutcomeKind.{OutcomeKind}
 use Rattle.cp_run.specs.declared.outcome.Halt.TheVariants.{Choice, Ended as HasEnded}
 use Rattle.cp_run.specs.Code.{node_of, is_over}
 use Rattle.cp_run.specs.Run.{Choosing, may, chosen}
@@ -9,14 +10,14 @@ use Rattle.cp_run.specs.System.{System}
 use Rattle.cp_run.specs.Stop.{last_state_from}
 
 module _ {S : Type 0} (sys : System S) where
-  pub stops_over : (steps k : ℕ) (word : List ℕ) (h : Halt) (s : S) → is_over k h ≡ true → last_state_from sys steps k word (node_of h s) ≡ s
+  pub stops_over : (steps k : ℕ) (word : List ℕ) (h : Halt OutcomeKind) (s : S) → is_over k h ≡ true → last_state_from sys steps k word (node_of h s) ≡ s
   unfolding last_state_from
   stops_over steps zero word Choice s e = refl
   stops_over steps (suc k) word Choice s e = absurd (omega (arith, eqb-true (suc k) 0 e))
   stops_over steps zero word (HasEnded kind) s e = refl
   stops_over steps (suc k) word (HasEnded kind) s e = refl
 
-  pub stops_with_word : (steps k : ℕ) (word : List ℕ) (h : Halt) (s : S) → word ≡ [] → last_state_from sys steps k word (node_of h s) ≡ s
+  pub stops_with_word : (steps k : ℕ) (word : List ℕ) (h : Halt OutcomeKind) (s : S) → word ≡ [] → last_state_from sys steps k word (node_of h s) ≡ s
   unfolding last_state_from
   stops_with_word steps zero word (HasEnded kind) s e = refl
   stops_with_word steps (suc k) word (HasEnded kind) s e = refl

@@ -2,7 +2,7 @@
 use Rattle.std.proofs.Common.{◌≡◌, ℕ, zero, suc, ◌+◌, ◌*◌, ◌≤◌, Bool, true, false, if◌then◌else◌, List, [], ◌∷◌, ◌++◌, length, ap, arith}
 use Rattle.std.proofs.lemmas.List.{length-append}
 use Rattle.std.proofs.Math.Nat.{mul-le-mul_right}
-use Rattle.cp_run.proofs.Words.{Event, Turn, Over, Due, Goes, System}
+use Rattle.cp_run.proofs.Words.{Event, Turn, Goes, System}
 use Rattle.cp_machine.specs.declared.event.Event.TheVariants.{Local, Kernel, Ended, Fault, OutputFull}
 use Rattle.cp_run.specs.declared.line.TraceLine.{TraceLine}
 use Rattle.cp_run.specs.declared.line.TraceEvent.TheVariants.{Admit}

@@ -4,6 +4,7 @@ use Rattle.cp_run.specs.declared.outcome.Turn.{Turn}
 use Rattle.cp_run.specs.declared.outcome.Turn.TheVariants.{Over, Due, Goes}
 use Rattle.cp_run.specs.declared.outcome.Halt.{Halt}
 use Rattle.cp_run.specs.declared.outcome.Halt.TheVariants.{Choice, Ended as HasEnded}
+use Rattle.cp_run.specs.declared.outcome.OutcomeKind.{OutcomeKind}
 use Rattle.cp_run.specs.declared.outcome.OutcomeKind.TheVariants.{StepLimit}
 use Rattle.cp_run.specs.declared.outcome.RunEnd.{RunEnd}
 use Rattle.cp_run.specs.declared.outcome.RunEnd.TheVariants as end
@@ -15,12 +16,12 @@ IfGoes Due P = Unit {0}
 IfGoes (Goes q) P = P q
 
 -- where a stretch that came to the state s stands still
-abbrev pub node_of : {S : Type 0} → Halt → S → Node S
+abbrev pub node_of : {S : Type 0} → Halt OutcomeKind → S → Node S
 node_of Choice s = Choosing s
 node_of (HasEnded kind) s = Halted kind s
 
 -- where a stretch halts that may make no more steps
-abbrev pub halt_at : Turn → Halt
+abbrev pub halt_at : Turn → Halt OutcomeKind
 halt_at (Over kind) = HasEnded kind
 halt_at Due = Choice
 halt_at (Goes q) = HasEnded StepLimit
@@ -37,6 +38,6 @@ further n (Wants ready) = Wants ready
 further n (NotReady place) = NotReady (n + place)
 
 -- whether a run is over where its stretch halted, with this many choices left
-abbrev pub is_over : ℕ → Halt → Bool
+abbrev pub is_over : ℕ → Halt OutcomeKind → Bool
 is_over choices Choice = choices == 0
 is_over choices (HasEnded kind) = true

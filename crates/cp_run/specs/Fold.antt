@@ -54,3 +54,22 @@ beside f g =
       on_admission = λ p t x. (f.on_admission p t x.0, g.on_admission p t x.1);
       on_choice = λ s p x. (f.on_choice s p x.0, g.on_choice s p x.1);
     }
+
+-- in which state it stands after at most so many steps, and what comes next
+unfoldable pub walked : {S : Type 0} → System S → ℕ → S → Turn → S × Turn
+walked sys zero s turn = (s, turn)
+walked sys (suc left) s (Over kind) = (s, Over kind)
+walked sys (suc left) s Due = (s, Due)
+walked sys (suc left) s (Goes p) = walked sys left (sys.step s p) (turn_after sys (sys.step s p) p (sys.event s p))
+
+-- after the opening, and after a choice
+unfoldable pub walked_opened : {S : Type 0} → System S → ℕ → S × Turn
+walked_opened sys steps = walked sys steps sys.start (turn_at sys sys.start false 0)
+
+unfoldable pub walked_chosen : {S : Type 0} → System S → ℕ → S → ℕ → S × Turn
+walked_chosen sys steps s p =
+    if sys.is_pending s then (let t = sys.admit s p in walked sys steps t (settled_turn sys t true p)) else walked sys steps s (Goes p)
+
+-- nothing is made of a run
+abbrev pub blind : {S X : Type 0} → Fold S X
+blind = record { on_step = λ s p event t x. x; on_admission = λ p t x. x; on_choice = λ s p x. x }

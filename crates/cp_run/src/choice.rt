@@ -1,6 +1,6 @@
 //! Choices: what a due choice may take, and where it leads to.
 
-ghost use Rattle.std.specs.Prelude.{◌≡◌, ◌≤◌, ◌+◌, true, false, is_some};
+ghost use Rattle.std.specs.Prelude.{◌≡◌, ◌≤◌, ◌+◌, true};
 ghost use Rattle.cp_machine.specs.Bodies.{KeepBodies};
 ghost use Rattle.cp_machine.specs.System.{Machine, machine_of, opening, IsStateOf};
 ghost use Rattle.cp_run.specs.Run.{those_below, may, chosen, opened};
@@ -8,9 +8,9 @@ ghost use Rattle.cp_run.specs.Slots.{slots, processes_of};
 ghost use Rattle.cp_run.specs.Code.{node_of};
 
 use crate::limits::Limits;
-use crate::outcome::{Halt, Turn};
-use crate::stretches::stretch;
-use crate::turn::{settled_turn, turn_at};
+use crate::moves::Moves;
+use crate::observing::{halt_at, observe_choice, observe_opening};
+use crate::outcome::{Halt, OutcomeKind};
 use arrayvec::ArrayVec;
 use cp_machine::{State, Ticks, Unwatched, Watch};
 use cp_slots::Resolved;
@@ -36,7 +36,7 @@ pub fn may(program: &Resolved, limits: Limits, state: &State, process: u8) -> bo
 }
 
 /// Takes a due choice: lets the process in at the pending monitor, or goes on with it. `watch` is told of the processes that move.
-pub fn choose<S: Ledger, C: Ledger, W: Watch>(
+pub fn choose<S: Ledger, C: Ledger, W: Watch + Copy>(
     program: &Resolved,
     limits: Limits,
     state: &mut State,
@@ -44,7 +44,7 @@ pub fn choose<S: Ledger, C: Ledger, W: Watch>(
     watch: &mut W,
     steps: &mut Ticks<S>,
     calls: &mut Ticks<C>,
-) -> Halt
+) -> Halt<OutcomeKind>
     requires own { IsStateOf program.now state.old }
     requires may { may (slots program.now limits.gates) (machine_of state.old) process ≡ true }
     ensures node { chosen (slots program.now limits.gates) limits.steps (machine_of state.old) process ≡ node_of result (machine_of state.new) }
@@ -53,14 +53,14 @@ pub fn choose<S: Ledger, C: Ledger, W: Watch>(
     ensures calls { calls.new ≤ calls.old + 1 }
     ensures kept { (before : Machine) → KeepBodies (W.moved watch.old) before (machine_of state.old) → KeepBodies (W.moved watch.new) before (machine_of state.new) }
 {
-    if state.pending().is_none() {
-        return stretch(program, limits, state, process, watch, steps, calls);
-    }
-    state.admit(process);
-    match settled_turn(program, limits, state, true, process) {
-        Turn::Over(kind) => Halt::Ended(kind),
-        Turn::Due => Halt::Choice,
-        Turn::Goes(next) => stretch(program, limits, state, next, watch, steps, calls),
+    calls.tick();
+    let mut moves = Moves { watch: *watch };
+    match observe_choice(program, limits, state, process, steps, &mut moves) {
+        Ok(turn) => {
+            *watch = moves.watch;
+            halt_at(turn)
+        }
+        Err(never) => match never {},
     }
 }
 
@@ -71,7 +71,7 @@ pub fn open<S: Ledger, C: Ledger>(
     state: &mut State,
     steps: &mut Ticks<S>,
     calls: &mut Ticks<C>,
-) -> Halt
+) -> Halt<OutcomeKind>
     requires own { IsStateOf program.now state.old }
     requires start { machine_of state.old ≡ opening program.now limits.gates }
     ensures node { opened (slots program.now limits.gates) limits.steps ≡ node_of result (machine_of state.new) }
@@ -79,10 +79,10 @@ pub fn open<S: Ledger, C: Ledger>(
     ensures steps { steps.new ≤ steps.old + limits.steps }
     ensures calls { calls.new ≤ calls.old + 1 }
 {
-    let _processes = program.processes();
-    match turn_at(program, limits, state, false, 0) {
-        Turn::Over(kind) => Halt::Ended(kind),
-        Turn::Due => Halt::Choice,
-        Turn::Goes(next) => stretch(program, limits, state, next, &mut Unwatched, steps, calls),
+    calls.tick();
+    let mut moves = Moves { watch: Unwatched };
+    match observe_opening(program, limits, state, steps, &mut moves) {
+        Ok(turn) => halt_at(turn),
+        Err(never) => match never {},
     }
 }

@@ -36,4 +36,16 @@ impl Limits {
             gates,
         })
     }
+
+    /// The same, with another number of choices.
+    pub fn with_choices(self, choices: u8) -> Limits
+        requires few { choices ≤ 100 }
+        ensures { (result.choices ≡ choices) × (result.steps ≡ self.steps) × (result.gates ≡ self.gates) }
+    {
+        Limits {
+            choices,
+            steps: self.steps,
+            gates: self.gates,
+        }
+    }
 }

@@ -1,87 +1,28 @@
-//! Runs that are observed.
+//! Stretches and runs that are observed.
 
 ghost use Rattle.std.specs.Prelude.{◌≡◌, ◌≤◌, ◌+◌, ◌*◌, false, true, IfOk, length};
 ghost use Rattle.cp_machine.specs.System.{machine_of, is_ready, is_pending, opening, IsStateOf};
 ghost use Rattle.cp_run.specs.Code.{IfGoes, answer_of, halt_at, node_of};
-ghost use Rattle.cp_run.specs.Fold.{fold_chosen, fold_run, fold_stretch, fold_turn};
-ghost use Rattle.cp_run.specs.Run.{chosen, may, node_at, run, stretch};
+ghost use Rattle.cp_run.specs.Fold.{fold_chosen, fold_opened, fold_run, fold_stretch, fold_turn, walked, walked_chosen, walked_opened};
+ghost use Rattle.cp_run.specs.Run.{chosen, may, node_at, opened, run, stretch, turn_after};
+ghost use Rattle.cp_run.specs.Silent.{left_by, slots_by};
 ghost use Rattle.cp_run.specs.Slots.{slots};
 ghost use Rattle.cp_run.specs.Stop.{last_state};
+ghost use Rattle.cp_run.specs.declared.outcome.Turn.TheVariants.{Goes};
 
 use crate::choice::may;
 use crate::limits::Limits;
+use crate::observe::Observe;
 use crate::outcome::{Halt, OutcomeKind, RunEnd, Turn};
 use crate::runs::{end_of_word, is_over};
 use crate::turn::{settled_turn, turn_at, turn_of};
-use cp_machine::{Event, State, Ticks, step};
+use cp_machine::{State, Ticks, local_step, step};
 use cp_slots::Resolved;
 use std::alloc::{AllocError, Global};
 use std::sync::ledger::Ledger;
 
-/// Whoever is told of a run while it is made.
-pub trait Observe {
-    ghost use Rattle.std.specs.Prelude.{◌≡◌, ℕ, true, IfOk};
-    ghost use Rattle.cp_machine.specs.System.{Machine, machine_of, is_ready, IsStateOf};
-    ghost use Rattle.cp_machine.specs.declared.gates.Gates.{Gates};
-    ghost use Rattle.cp_run.specs.Fold.{Fold};
-    ghost use Rattle.cp_slots.specs.Tables.{Tables};
-
-    ghost Seen: { Type 0 };
-
-    /// What is seen of the run so far.
-    ghost seen: { Self → Seen };
-
-    /// What is seen of a step, an admission and a choice.
-    ghost fold: { Tables → Gates → Fold Machine Seen };
-
-    /// In this state the process is about to make a step, and so much was seen before.
-    ghost expects: { Self → Tables → Machine → ℕ → Seen → Type 0 };
-
-    /// Sees a step of a process come.
-    fn expect_step(
-        &mut self,
-        alloc: Global,
-        program: &Resolved,
-        state: &State,
-        process: u8,
-    ) -> Result<(), AllocError>
-        requires own { IsStateOf program.now state.now }
-        requires ready { is_ready (machine_of state.now) process ≡ true }
-        ensures { IfOk result (λ _. expects self.new program.now (machine_of state.now) process (seen self.old)) };
-
-    /// Sees the step that was expected: it was this event, and led to this state.
-    fn see_step(
-        &mut self,
-        alloc: Global,
-        program: &Resolved,
-        limits: Limits,
-        state: &State,
-        process: u8,
-        event: Event,
-    ) -> Result<(), AllocError>
-        requires own { IsStateOf program.now state.now }
-        ensures { IfOk result (λ _. (before : Machine) (x : Seen) → expects self.old program.now before process x → seen self.new ≡ (fold program.now limits.gates).on_step before process event (machine_of state.now) x) };
-
-    /// Sees that a process was let in, which led to this state.
-    fn see_admission(
-        &mut self,
-        alloc: Global,
-        program: &Resolved,
-        limits: Limits,
-        state: &State,
-        process: u8,
-    ) -> Result<(), AllocError>
-        requires own { IsStateOf program.now state.now }
-        ensures { IfOk result (λ _. seen self.new ≡ (fold program.now limits.gates).on_admission process (machine_of state.now) (seen self.old)) };
-
-    /// Sees a due choice, and the number that is to be taken.
-    fn see_choice(&mut self, program: &Resolved, limits: Limits, state: &State, number: u8)
-        requires own { IsStateOf program.now state.now }
-        ensures { seen self.new ≡ (fold program.now limits.gates).on_choice (machine_of state.now) number (seen self.old) };
-}
-
-// Where a stretch halts that makes no more steps.
-fn halt_at(turn: Turn) -> Halt
+/// Where a stretch halts that makes no more steps.
+pub fn halt_at(turn: Turn) -> Halt<OutcomeKind>
     ensures { result ≡ halt_at turn }
 {
     match turn {
@@ -91,22 +32,94 @@ fn halt_at(turn: Turn) -> Halt
     }
 }
 
-// A stretch, if one comes next.
+// What a state has displayed is taken away, where nothing is to be shown.
+fn leave(program: &Resolved, state: &mut State, is_silent: bool)
+    requires own { IsStateOf program.now state.old }
+    ensures own { IsStateOf program.now state.new }
+    ensures state { machine_of state.new ≡ left_by is_silent (machine_of state.old) }
+{
+    let _ = program;
+    if is_silent {
+        state.output.clear();
+    }
+}
+
+/// An observer sees a step of a process come, and the step is taken if it is local and need not be seen. Tells whether it was taken.
+#[inline(always)]
+pub fn expect_step<S: Ledger, O: Observe>(
+    program: &Resolved,
+    limits: Limits,
+    state: &mut State,
+    process: u8,
+    steps: &mut Ticks<S>,
+    observer: &mut O,
+) -> Result<bool, O::Error>
+    requires own { IsStateOf program.now state.old }
+    requires ready { is_ready (machine_of state.old) process ≡ true }
+    requires free { is_pending (machine_of state.old) ≡ false }
+    ensures state { IfOk result (λ taken. taken ≡ true → machine_of state.new ≡ (slots_by O.IS_SILENT program.now limits.gates).step (machine_of state.old) process) }
+    ensures turn { IfOk result (λ taken. taken ≡ true → Goes process ≡ turn_after (slots_by O.IS_SILENT program.now limits.gates) (machine_of state.new) process ((slots_by O.IS_SILENT program.now limits.gates).event (machine_of state.old) process)) }
+    ensures seen { IfOk result (λ taken. taken ≡ true → (x : O.Seen) → O.holds observer.old program.now limits.gates (machine_of state.old) x → O.holds observer.new program.now limits.gates (machine_of state.new) ((O.fold program.now limits.gates).on_step (machine_of state.old) process ((slots_by O.IS_SILENT program.now limits.gates).event (machine_of state.old) process) (machine_of state.new) x)) }
+    ensures same { IfOk result (λ taken. taken ≡ false → machine_of state.new ≡ machine_of state.old) }
+    ensures expects { IfOk result (λ taken. taken ≡ false → (x : O.Seen) → O.holds observer.old program.now limits.gates (machine_of state.old) x → O.expects observer.new program.now limits.gates (machine_of state.old) process x) }
+    ensures own { IsStateOf program.now state.new }
+    ensures ready { IfOk result (λ _. is_ready (machine_of state.new) process ≡ true) }
+    ensures free { IfOk result (λ _. is_pending (machine_of state.new) ≡ false) }
+    ensures steps { steps.new ≤ steps.old + 1 }
+    ensures none { IfOk result (λ taken. taken ≡ false → steps.new ≡ steps.old) }
+{
+    observer.expect_step(program, limits, state, process)?;
+    if !O::sees_local() && local_step(program, state, process, steps) {
+        leave(program, state, O::is_silent());
+        return Ok(true);
+    }
+    Ok(false)
+}
+
+/// Takes the step that an observer expects. Answers what comes next.
+#[inline(always)]
+pub fn see_step<S: Ledger, O: Observe>(
+    program: &Resolved,
+    limits: Limits,
+    state: &mut State,
+    process: u8,
+    steps: &mut Ticks<S>,
+    observer: &mut O,
+) -> Result<Turn, O::Error>
+    requires own { IsStateOf program.now state.old }
+    requires ready { is_ready (machine_of state.old) process ≡ true }
+    requires free { is_pending (machine_of state.old) ≡ false }
+    ensures state { IfOk result (λ _. machine_of state.new ≡ (slots_by O.IS_SILENT program.now limits.gates).step (machine_of state.old) process) }
+    ensures turn { IfOk result (λ t. t ≡ turn_after (slots_by O.IS_SILENT program.now limits.gates) (machine_of state.new) process ((slots_by O.IS_SILENT program.now limits.gates).event (machine_of state.old) process)) }
+    ensures seen { IfOk result (λ _. (x : O.Seen) → O.expects observer.old program.now limits.gates (machine_of state.old) process x → O.holds observer.new program.now limits.gates (machine_of state.new) ((O.fold program.now limits.gates).on_step (machine_of state.old) process ((slots_by O.IS_SILENT program.now limits.gates).event (machine_of state.old) process) (machine_of state.new) x)) }
+    ensures own { IsStateOf program.now state.new }
+    ensures ready { IfOk result (λ t. IfGoes t (λ q. is_ready (machine_of state.new) q ≡ true)) }
+    ensures free { IfOk result (λ t. IfGoes t (λ q. is_pending (machine_of state.new) ≡ false)) }
+    ensures steps { steps.new ≤ steps.old + 1 }
+{
+    let event = step(program, state, process, steps);
+    observer.see_step(program, limits, state, process, event)?;
+    leave(program, state, O::is_silent());
+    Ok(turn_of(program, limits, state, process, event))
+}
+
+// A stretch, if one comes next: at most as many steps as the limit. Answers what comes after them.
 fn observe_stretch<S: Ledger, O: Observe>(
-    alloc: Global,
     program: &Resolved,
     limits: Limits,
     state: &mut State,
     turn: Turn,
     steps: &mut Ticks<S>,
     observer: &mut O,
-) -> Result<Halt, AllocError>
+) -> Result<Turn, O::Error>
     requires own { IsStateOf program.now state.old }
     requires ready { IfGoes turn (λ q. is_ready (machine_of state.old) q ≡ true) }
     requires free { IfGoes turn (λ q. is_pending (machine_of state.old) ≡ false) }
-    ensures node { IfOk result (λ h. node_at (machine_of state.old) (stretch (slots program.now limits.gates) limits.steps (machine_of state.old)) turn ≡ node_of h (machine_of state.new)) }
-    ensures seen { IfOk result (λ _. O.seen observer.new ≡ fold_turn (fold_stretch (slots program.now limits.gates) (O.fold program.now limits.gates) limits.steps (machine_of state.old)) turn (O.seen observer.old)) }
+    ensures walked { IfOk result (λ t. walked (slots_by O.IS_SILENT program.now limits.gates) limits.steps (machine_of state.old) turn ≡ (machine_of state.new, t)) }
+    ensures seen { IfOk result (λ _. (x : O.Seen) → O.holds observer.old program.now limits.gates (machine_of state.old) x → O.holds observer.new program.now limits.gates (machine_of state.new) (fold_turn (fold_stretch (slots_by O.IS_SILENT program.now limits.gates) (O.fold program.now limits.gates) limits.steps (machine_of state.old)) turn x)) }
     ensures own { IsStateOf program.now state.new }
+    ensures ready { IfOk result (λ t. IfGoes t (λ q. is_ready (machine_of state.new) q ≡ true)) }
+    ensures free { IfOk result (λ t. IfGoes t (λ q. is_pending (machine_of state.new) ≡ false)) }
     ensures steps { steps.new ≤ steps.old + limits.steps }
 {
     let mut next = turn;
@@ -114,27 +127,27 @@ fn observe_stretch<S: Ledger, O: Observe>(
         let Turn::Goes(process) = next else {
             break;
         };
-        observer.expect_step(alloc, program, state, process)?;
-        let event = step(program, state, process, steps);
-        observer.see_step(alloc, program, limits, state, process, event)?;
-        next = turn_of(program, limits, state, process, event);
+        if expect_step(program, limits, state, process, steps, observer)? {
+            continue;
+        }
+        next = see_step(program, limits, state, process, steps, observer)?;
     }
-    Ok(halt_at(next))
+    Ok(next)
 }
 
 // What comes after a due choice was taken.
 fn take_choice<O: Observe>(
-    alloc: Global,
     program: &Resolved,
     limits: Limits,
     state: &mut State,
     process: u8,
     observer: &mut O,
-) -> Result<Turn, AllocError>
+) -> Result<Turn, O::Error>
     requires own { IsStateOf program.now state.old }
     requires may { may (slots program.now limits.gates) (machine_of state.old) process ≡ true }
-    ensures node { IfOk result (λ t. chosen (slots program.now limits.gates) limits.steps (machine_of state.old) process ≡ node_at (machine_of state.new) (stretch (slots program.now limits.gates) limits.steps (machine_of state.new)) t) }
-    ensures seen { IfOk result (λ t. fold_chosen (slots program.now limits.gates) (O.fold program.now limits.gates) limits.steps (machine_of state.old) process (O.seen observer.old) ≡ fold_turn (fold_stretch (slots program.now limits.gates) (O.fold program.now limits.gates) limits.steps (machine_of state.new)) t (O.seen observer.new)) }
+    ensures node { IfOk result (λ t. (silent : _) → chosen (slots_by silent program.now limits.gates) limits.steps (machine_of state.old) process ≡ node_at (machine_of state.new) (stretch (slots_by silent program.now limits.gates) limits.steps (machine_of state.new)) t) }
+    ensures walked { IfOk result (λ t. (silent : _) → walked_chosen (slots_by silent program.now limits.gates) limits.steps (machine_of state.old) process ≡ walked (slots_by silent program.now limits.gates) limits.steps (machine_of state.new) t) }
+    ensures seen { IfOk result (λ t. (silent : _) (x : O.Seen) → O.holds observer.old program.now limits.gates (machine_of state.old) x → (y : O.Seen) × O.holds observer.new program.now limits.gates (machine_of state.new) y × (fold_chosen (slots_by silent program.now limits.gates) (O.fold program.now limits.gates) limits.steps (machine_of state.old) process x ≡ fold_turn (fold_stretch (slots_by silent program.now limits.gates) (O.fold program.now limits.gates) limits.steps (machine_of state.new)) t y)) }
     ensures ready { IfOk result (λ t. IfGoes t (λ q. is_ready (machine_of state.new) q ≡ true)) }
     ensures free { IfOk result (λ t. IfGoes t (λ q. is_pending (machine_of state.new) ≡ false)) }
     ensures own { IsStateOf program.now state.new }
@@ -143,13 +156,61 @@ fn take_choice<O: Observe>(
         return Ok(Turn::Goes(process));
     }
     state.admit(process);
-    observer.see_admission(alloc, program, limits, state, process)?;
+    observer.see_admission(program, limits, state, process)?;
     Ok(settled_turn(program, limits, state, true, process))
+}
+
+/// Takes a due choice, and makes the stretch after it. An observer is told of it. Answers what comes next; where that is a step, the stretch
+/// made as many as the limits allow.
+pub fn observe_choice<S: Ledger, O: Observe>(
+    program: &Resolved,
+    limits: Limits,
+    state: &mut State,
+    process: u8,
+    steps: &mut Ticks<S>,
+    observer: &mut O,
+) -> Result<Turn, O::Error>
+    requires own { IsStateOf program.now state.old }
+    requires may { may (slots program.now limits.gates) (machine_of state.old) process ≡ true }
+    ensures node { IfOk result (λ t. chosen (slots_by O.IS_SILENT program.now limits.gates) limits.steps (machine_of state.old) process ≡ node_of (halt_at t) (machine_of state.new)) }
+    ensures walked { IfOk result (λ t. walked_chosen (slots_by O.IS_SILENT program.now limits.gates) limits.steps (machine_of state.old) process ≡ (machine_of state.new, t)) }
+    ensures seen { IfOk result (λ _. (x : O.Seen) → O.holds observer.old program.now limits.gates (machine_of state.old) x → O.holds observer.new program.now limits.gates (machine_of state.new) (fold_chosen (slots_by O.IS_SILENT program.now limits.gates) (O.fold program.now limits.gates) limits.steps (machine_of state.old) process x)) }
+    ensures own { IsStateOf program.now state.new }
+    ensures ready { IfOk result (λ t. IfGoes t (λ q. is_ready (machine_of state.new) q ≡ true)) }
+    ensures free { IfOk result (λ t. IfGoes t (λ q. is_pending (machine_of state.new) ≡ false)) }
+    ensures steps { steps.new ≤ steps.old + limits.steps }
+{
+    let turn = take_choice(program, limits, state, process, observer)?;
+    observe_stretch(program, limits, state, turn, steps, observer)
+}
+
+/// The same of the beginning of a run, in the opening state.
+pub fn observe_opening<S: Ledger, O: Observe>(
+    program: &Resolved,
+    limits: Limits,
+    state: &mut State,
+    steps: &mut Ticks<S>,
+    observer: &mut O,
+) -> Result<Turn, O::Error>
+    requires own { IsStateOf program.now state.old }
+    requires start { machine_of state.old ≡ opening program.now limits.gates }
+    ensures node { IfOk result (λ t. opened (slots_by O.IS_SILENT program.now limits.gates) limits.steps ≡ node_of (halt_at t) (machine_of state.new)) }
+    ensures walked { IfOk result (λ t. walked_opened (slots_by O.IS_SILENT program.now limits.gates) limits.steps ≡ (machine_of state.new, t)) }
+    ensures seen { IfOk result (λ _. (x : O.Seen) → O.holds observer.old program.now limits.gates (machine_of state.old) x → O.holds observer.new program.now limits.gates (machine_of state.new) (fold_opened (slots_by O.IS_SILENT program.now limits.gates) (O.fold program.now limits.gates) limits.steps x)) }
+    ensures own { IsStateOf program.now state.new }
+    ensures ready { IfOk result (λ t. IfGoes t (λ q. is_ready (machine_of state.new) q ≡ true)) }
+    ensures free { IfOk result (λ t. IfGoes t (λ q. is_pending (machine_of state.new) ≡ false)) }
+    ensures steps { steps.new ≤ steps.old + limits.steps }
+{
+    // A sound program has a process.
+    let _processes = program.processes();
+    let first = turn_at(program, limits, state, false, 0);
+    observe_stretch(program, limits, state, first, steps, observer)
 }
 
 /// Runs a word from the opening state, in which `state` is. An observer is told of it; where it fails, so does the run.
 /// `ticks` counts the steps that succeed.
-pub fn observe_run<L: Ledger, O: Observe>(
+pub fn observe_run<L: Ledger, O: Observe<Error = AllocError>>(
     alloc: Global,
     program: &Resolved,
     limits: Limits,
@@ -158,19 +219,18 @@ pub fn observe_run<L: Ledger, O: Observe>(
     state: &mut State,
     observer: &mut O,
 ) -> Result<RunEnd, AllocError>
+    requires loud { O.IS_SILENT ≡ false }
     requires word { length word.now ≤ 100 }
     requires own { IsStateOf program.now state.old }
     requires start { machine_of state.old ≡ opening program.now limits.gates }
     ensures answer { IfOk result (λ end. answer_of end ≡ run (slots program.now limits.gates) limits.choices limits.steps word.now) }
-    ensures seen { IfOk result (λ _. O.seen observer.new ≡ fold_run (slots program.now limits.gates) (O.fold program.now limits.gates) limits.choices limits.steps word.now (O.seen observer.old)) }
+    ensures seen { IfOk result (λ _. (x : O.Seen) → O.holds observer.old program.now limits.gates (machine_of state.old) x → O.holds observer.new program.now limits.gates (machine_of state.new) (fold_run (slots program.now limits.gates) (O.fold program.now limits.gates) limits.choices limits.steps word.now x)) }
     ensures stop { IfOk result (λ _. machine_of state.new ≡ last_state (slots program.now limits.gates) limits.choices limits.steps word.now) }
     ensures own { IsStateOf program.now state.new }
     ensures ticks { ticks.new ≤ ticks.old + (limits.choices + 1) * limits.steps }
 {
-    // A sound program has a process.
-    let _processes = program.processes();
-    let first = turn_at(program, limits, state, false, 0);
-    let mut halt = observe_stretch(alloc, program, limits, state, first, ticks, observer)?;
+    let first = observe_opening(program, limits, state, ticks, observer)?;
+    let mut halt = halt_at(first);
     for (place, process) in word.iter().enumerate() {
         if is_over(limits, halt, place) {
             return end_of_word(alloc, program, limits, halt, state, place);
@@ -179,8 +239,8 @@ pub fn observe_run<L: Ledger, O: Observe>(
         if !may(program, limits, state, *process) {
             return Ok(RunEnd::NotReady { place });
         }
-        let turn = take_choice(alloc, program, limits, state, *process, observer)?;
-        halt = observe_stretch(alloc, program, limits, state, turn, ticks, observer)?;
+        let next = observe_choice(program, limits, state, *process, ticks, observer)?;
+        halt = halt_at(next);
     }
     end_of_word(alloc, program, limits, halt, state, word.len())
 }

@@ -37,9 +37,9 @@ pub enum Turn {
 
 /// Where a stretch came to: a choice is due, or the run is over for a cause other than the number of choices.
 #[derive(Clone, Copy)]
-pub enum Halt {
+pub enum Halt<E> {
     Choice,
-    Ended(OutcomeKind),
+    Ended(E),
 }
 
 // How many values an output holds without memory of its own.

@@ -95,7 +95,7 @@ pub fn end_of_word(
     alloc: Global,
     program: &Resolved,
     limits: Limits,
-    halt: Halt,
+    halt: Halt<OutcomeKind>,
     state: &State,
     used: usize,
 ) -> Result<RunEnd, AllocError>
@@ -124,7 +124,7 @@ pub fn end_of_word(
 }
 
 /// Whether a run is over where its stretch halted, after this many choices.
-pub fn is_over(limits: Limits, halt: Halt, used: usize) -> bool
+pub fn is_over(limits: Limits, halt: Halt<OutcomeKind>, used: usize) -> bool
     requires { used ≤ limits.choices }
     ensures { result ≡ is_over (limits.choices - used) halt }
 {

@@ -9,7 +9,8 @@ ghost use Rattle.cp_run.specs.Trace.{holders_in, trace};
 
 use crate::limits::Limits;
 use crate::line::{Holders, TraceEvent, TraceLine};
-use crate::observing::{Observe, observe_run};
+use crate::observe::Observe;
+use crate::observing::observe_run;
 use crate::outcome::RunEnd;
 use cp_machine::{Event, State, Ticks};
 use cp_slots::Resolved;
@@ -37,6 +38,7 @@ pub fn holders(
 /// The lines of a run so far.
 #[derive(Drop)]
 struct Lines {
+    alloc: Global,
     lines: Vec<TraceLine>,
 }
 
@@ -44,7 +46,6 @@ impl Lines {
     // Appends a line, with the holders of a state.
     fn push(
         &mut self,
-        alloc: Global,
         program: &Resolved,
         limits: Limits,
         state: &State,
@@ -54,7 +55,7 @@ impl Lines {
         requires { IsStateOf program.now state.now }
         ensures { IfOk result (λ _. self.new.lines.items ≡ self.old.lines.items ++ record { process = process; event = event; holders = holders_in (slots program.now limits.gates) (machine_of state.now) } ∷ []) }
     {
-        let holders = holders(alloc, program, limits, state)?;
+        let holders = holders(self.alloc, program, limits, state)?;
         self.lines.push(TraceLine {
             process,
             event,
@@ -65,23 +66,39 @@ impl Lines {
 }
 
 impl Observe for Lines {
-    ghost use Rattle.std.specs.Prelude.{◌≡◌, List};
+    ghost use Rattle.std.specs.Prelude.{◌≡◌, List, true, false};
     ghost use Rattle.cp_run.specs.Slots.{slots};
     ghost use Rattle.cp_run.specs.Trace.{tracer};
     ghost use Rattle.cp_run.specs.declared.line.TraceLine.{TraceLine};
 
+    type Error = AllocError;
+
     ghost Seen = { List TraceLine };
 
-    ghost seen = { λ l. l.lines.items };
+    ghost IS_SILENT = { false };
+
+    ghost SEES_LOCAL = { true };
+
+    #[inline(always)]
+    fn is_silent() -> bool {
+        false
+    }
+
+    #[inline(always)]
+    fn sees_local() -> bool {
+        true
+    }
+
+    ghost holds = { λ l r gates now lines. l.lines.items ≡ lines };
 
     ghost fold = { λ r gates. tracer (slots r gates) };
 
-    ghost expects = { λ l r before process lines. l.lines.items ≡ lines };
+    ghost expects = { λ l r gates before process lines. l.lines.items ≡ lines };
 
     fn expect_step(
         &mut self,
-        _alloc: Global,
         _program: &Resolved,
+        _limits: Limits,
         _state: &State,
         _process: u8,
     ) -> Result<(), AllocError> {
@@ -90,7 +107,6 @@ impl Observe for Lines {
 
     fn see_step(
         &mut self,
-        alloc: Global,
         program: &Resolved,
         limits: Limits,
         state: &State,
@@ -102,21 +118,22 @@ impl Observe for Lines {
             Event::Ended => TraceEvent::End,
             Event::Local | Event::Fault(_) | Event::OutputFull => return Ok(()),
         };
-        self.push(alloc, program, limits, state, process, event)
+        self.push(program, limits, state, process, event)
     }
 
     fn see_admission(
         &mut self,
-        alloc: Global,
         program: &Resolved,
         limits: Limits,
         state: &State,
         process: u8,
     ) -> Result<(), AllocError> {
-        self.push(alloc, program, limits, state, process, TraceEvent::Admit)
+        self.push(program, limits, state, process, TraceEvent::Admit)
     }
 
     fn see_choice(&mut self, _program: &Resolved, _limits: Limits, _state: &State, _number: u8) {}
+
+    ghost passes = { λ unseen self r gates before after process x step h. absurd (Prim.cc) };
 }
 
 /// Runs a word from the opening state, and answers a line for each kernel event, process end and admission, and the run's end.
@@ -135,6 +152,7 @@ pub fn trace<L: Ledger>(
     ensures ticks { ticks.new ≤ ticks.old + (limits.choices + 1) * limits.steps }
 {
     let mut lines = Lines {
+        alloc,
         lines: Vec::new(alloc),
     };
     let mut state = State::start(alloc, program, limits.gates)?;

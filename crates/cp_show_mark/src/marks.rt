@@ -33,7 +33,6 @@ use cp_ends_verdict::{
 use cp_outcomes::completing::greatest_known;
 use cp_outcomes::known::Known;
 use cp_progress::ObserveProgress;
-use cp_show_options::{limits_of, longest_limits_of};
 use cp_verdict::{
     MarkFault, Marked, Misread, Reading, TableMark, expectations, expectations_in, mark_program,
     mark_tallies, misread_text as reason,
@@ -180,7 +179,7 @@ fn judge_ends<O: ObserveProgress>(
     let subject = MarkSubject {
         program,
         legend,
-        limits: longest_limits_of(options),
+        limits: options.longest_limits(),
         most: options.states,
     };
     // Without calls at once they are made all the same where there are too many states.
@@ -230,7 +229,7 @@ pub fn mark_of<O: ObserveProgress>(
     ensures meaning { (t : Tree) → ∥ IsRead t.program ∥₁ → IsAccepted t → IsProgramOf t examinee.entry.program.now → IfOk result (λ a. spec.TellsMark (constant_names t.program) reading.now.expectations.items (table (named t (named_gates examinee.entry.options.now.gates)) examinee.entry.options.now.choices examinee.entry.options.now.steps) a.verdict) }
     ensures text { IfOk result (λ a. TellsText (setting_of examinee.entry) reading.now.expectations.items (option_map (λ w. w.now) reading.now.doubtful) a.verdict (string_bytes a.text)) }
 {
-    let limits = limits_of(examinee.options);
+    let limits = examinee.options.limits();
     let job = Job {
         program: examinee.program,
         limits,
@@ -316,7 +315,7 @@ fn too_many_text<O: ObserveProgress>(
 {
     let job = Job {
         program: examinee.program,
-        limits: limits_of(examinee.options),
+        limits: examinee.options.limits(),
     };
     let found = greatest_known(alloc, job, examinee.options.states, observer)?;
     match found {

@@ -10,7 +10,6 @@ ghost use Rattle.cp_show_mark.specs.Stories.{IsStoryOf};
 use crate::examinee::Examinee;
 use cp_legend::Legend;
 use cp_machine::Ticks;
-use cp_show_options::limits_of;
 use cp_slots::Resolved;
 use cp_story::{Story, Wait, tell};
 use cp_tool::Options;
@@ -49,7 +48,7 @@ fn story_by<L: Ledger>(
     ensures so { IfOk result (λ story. IsStoryOf (legend_seen legend.now) program.now options.now.gates options.now.choices options.now.steps word.now story) }
 {
     let mut ticks: Ticks<L> = Ticks::new(blank);
-    tell(alloc, program, legend, limits_of(options), word, &mut ticks)
+    tell(alloc, program, legend, options.limits(), word, &mut ticks)
 }
 
 /// Who waits where at the end of a word.

@@ -9,7 +9,7 @@ const ABOUT: &str =
 const USAGE: &str = "cpx_show PART [OPTIONS] < PROGRAM";
 
 const NOTES: &str =
-    "Example: cpx_show trace --schedule 0.1 < program.cp\n\nStatus: 0 reported, 1 source refused, 2 options refused, 3 no memory, 4 read or write fault,\n5 too many states or outcomes, 6 an expectation fails, 7 one is not settled";
+    "Example: cpx_show trace --schedule 0.1 < program.cp\nVersion: cpx_show --version\n\nStatus: 0 reported, 1 source refused, 2 options refused, 3 no memory, 4 read or write fault,\n5 too many states or outcomes, 6 an expectation fails, 7 one is not settled";
 
 const EXPECTATIONS: &str =
     "OUTCOME: finished, all-waiting, run-error or run-error NAME; after it, if wanted,\noutput VALUES, where .. stands for any values at any place; or shown VALUE, for a schedule\nthat displays it, whatever it ends in. A constant that is named as an outcome begins is\nwritten in parentheses: shown (finished). Several expectations are joined by and.\nWithout words those in comments of the program are taken: (* expect never all-waiting *)\n\nWith --ends of schedules of any length, without outputs; END may be alone or spins as well, and\nwhat is expected may be never waiting, some waiting, some waiting PROCESS, never shown VALUE\nor some shown VALUE. With too many states kernel calls are made at once, but for waiting.\n\nStatus: 0 holds, 6 fails, 7 not settled; 1 to 5 as cpx";

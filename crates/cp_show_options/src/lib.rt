@@ -3,9 +3,7 @@
 
 mod command;
 mod faults;
-pub mod limits;
 pub mod parts;
 mod words;
 
-pub use limits::{limits_of, longest_limits_of};
 pub use parts::{Asked, ShowPart, read_parts, refused_part};

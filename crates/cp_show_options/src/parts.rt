@@ -1,12 +1,17 @@
 //! What the words of a call ask for.
 
+ghost use Rattle.std.specs.Prelude.{◌≡◌, Err, map, true};
+ghost use Rattle.cp_tool.specs.Options.{asks_version};
+
 use crate::command::command;
 use crate::faults::{USUAL_STATES, choice_fault, extent_of, outcome_of, page_states};
 use crate::words::{numbers_of, shared_words, texts_of, words_given};
 use clap::ArgMatches;
 use clap::error::ErrorKind;
 use cp_lanes::{PictureView, SheetExtent};
-use cp_tool::{OptionFault, Options, SourceReading, read_options, reason_for, word_reason};
+use cp_tool::{
+    OptionFault, Options, SourceReading, asks_version, read_options, reason_for, word_reason,
+};
 use cp_verdict::{Misread, Reading, expectations};
 use std::alloc::{AllocError, Global};
 
@@ -73,8 +78,17 @@ pub struct Asked {
     pub round: usize,
 }
 
-/// What the words ask for, of which the first is the program's name. The options of `cpx` are read as `cpx` reads them.
-pub fn read_parts<'a>(alloc: Global, words: &'a [&'a str]) -> Result<Asked, OptionFault> {
+/// What the words ask for, of which the first is the program's name. The version and the options of `cpx` are read as `cpx` reads them.
+pub fn read_parts<'a>(alloc: Global, words: &'a [&'a str]) -> Result<Asked, OptionFault>
+    ensures version { asks_version (map (λ s. s.now) words.entry.now) ≡ true → result ≡ Err OptionFault.Version }
+{
+    if asks_version(words) {
+        return Err(OptionFault::Version);
+    }
+    read_command(alloc, words)
+}
+
+fn read_command<'a>(alloc: Global, words: &'a [&'a str]) -> Result<Asked, OptionFault> {
     let command = command(alloc)?;
     match command.try_get_matches_from(words) {
         Ok(matches) => read_matches(alloc, &matches),

@@ -4,12 +4,12 @@ ghost use Rattle.std.specs.Prelude.{◌≡◌, ◌≤◌, IfOk, length, true};
 ghost use Rattle.cp_run.specs.Slots.{slots};
 ghost use Rattle.cp_simplest.specs.Simple as spec;
 
-use crate::keys::outcome_key;
 use crate::levels::Word;
 use crate::search::SimplestSearch;
 use cp_machine::Ticks;
+use cp_merged::end_key::EndKey;
 use cp_progress::ObserveProgress;
-use cp_run::{Limits, Outcome, OutcomeKind, RunEnd, run};
+use cp_run::{Limits, Outcome, OutcomeKind, Output, RunEnd, run};
 use cp_slots::Resolved;
 use cp_walk::Job;
 use cp_walk::numbers::is_same;
@@ -77,8 +77,11 @@ fn search_counted<O: ObserveProgress, S: Ledger, C: Ledger>(
     let Job { program, limits } = job;
     let mut ends = IndexMap::new(alloc);
     for (place, outcome) in outcomes.iter().enumerate() {
-        let key = outcome_key(alloc, outcome.kind, outcome.output.as_slice())?;
-        ends.insert(key, place)?;
+        let outcome = Outcome {
+            kind: outcome.kind,
+            output: Output::of(alloc, outcome.output.as_slice())?,
+        };
+        ends.insert(EndKey { outcome }, place)?;
     }
     let mut search = SimplestSearch::new(alloc, limits, ends, has_limit(outcomes), most)?;
     let mut states = Vec::new(alloc);

@@ -2,7 +2,6 @@
 #![tactic(auto)]
 
 pub mod finding;
-mod keys;
 mod levels;
 mod search;
 mod watching;

@@ -6,14 +6,15 @@ ghost use Rattle.cp_run.specs.Run.{may};
 ghost use Rattle.cp_run.specs.Slots.{slots};
 
 use crate::finding::SimplestSchedule;
-use crate::keys::{Key, outcome_key, state_key};
 use crate::levels::{Level, LevelLabel, LevelTarget, Word, extend_word, merge_labels};
 use crate::watching::LastMoved;
 use arrayvec::ArrayVec;
-use cp_machine::{State, Ticks};
+use cp_key::{Parts, freeze};
+use cp_machine::{Moved, State, Ticks};
+use cp_merged::end_key::EndKey;
 use cp_progress::{ObserveProgress, Progress, STATES_BETWEEN};
 use cp_run::choice::{choose, open};
-use cp_run::{Halt, Limits, OutcomeKind, candidates, may};
+use cp_run::{Halt, Limits, OutcomeKind, candidates, may, outcome_at};
 use cp_slots::Resolved;
 use indexmap::IndexMap;
 use std::alloc::{AllocError, Global};
@@ -26,14 +27,14 @@ const NEVER: u8 = 255;
 /// What was found so far.
 #[derive(Drop)]
 pub struct SimplestSearch {
-    /// The places of the states that were found.
-    known: IndexMap<Key, usize>,
+    /// The places of the states that were found, by their keys.
+    known: IndexMap<Vec<u8>, usize>,
     /// For each state the words that led to it.
     reached: Vec<Reached>,
     /// Whether words of all lengths are gone on from: where a run ends at the limit of choices, a shorter one stands for no longer one.
     by_length: bool,
     /// The outcomes for which a word is looked for, by their places.
-    ends: IndexMap<Key, usize>,
+    ends: IndexMap<EndKey, usize>,
     pub found: Vec<Option<SimplestSchedule>>,
     /// How many outcomes have no word yet.
     missing: usize,
@@ -120,7 +121,7 @@ impl SimplestSearch {
     pub fn new(
         alloc: Global,
         limits: Limits,
-        ends: IndexMap<Key, usize>,
+        ends: IndexMap<EndKey, usize>,
         by_length: bool,
         most: usize,
     ) -> Result<SimplestSearch, AllocError> {
@@ -410,7 +411,7 @@ impl SimplestSearch {
         program: &Resolved,
         limits: Limits,
         states: &mut Vec<State>,
-        halt: Halt,
+        halt: Halt<OutcomeKind>,
         state: State,
         word: Word,
         last: u8,
@@ -442,7 +443,7 @@ impl SimplestSearch {
         program: &Resolved,
         limits: Limits,
         states: &mut Vec<State>,
-        halt: Halt,
+        halt: Halt<OutcomeKind>,
         state: State,
         length: usize,
         last: u8,
@@ -467,8 +468,8 @@ impl SimplestSearch {
         kind: OutcomeKind,
         state: &State,
     ) -> Result<Option<LevelTarget>, AllocError> {
-        let key = outcome_key(alloc, kind, state.output())?;
-        match self.ends.get(&key) {
+        let outcome = outcome_at(alloc, kind, state)?;
+        match self.ends.get(&EndKey { outcome }) {
             Some(place) => Ok(Some(LevelTarget::End(*place))),
             None => Ok(None),
         }
@@ -487,7 +488,14 @@ impl SimplestSearch {
         requires all { All (λ s. IsStateOf program.now s) states.old.items }
         ensures { IfOk result (λ _. All (λ s. IsStateOf program.now s) states.new.items) }
     {
-        let key = state_key(alloc, &state)?;
+        let mut key = Vec::new(alloc);
+        freeze(
+            &state,
+            &state,
+            &Parts::none(),
+            &Moved::everybody(),
+            &mut key,
+        )?;
         if let Some(place) = self.known.get(&key) {
             return Ok(Some(LevelTarget::State(*place, last)));
         }

@@ -58,6 +58,7 @@ pub struct Story {
 /// The events of a run, while it is made.
 #[derive(Drop)]
 struct Storyteller<'a> {
+    alloc: Global,
     observer: Observer<'a>,
     events: Vec<StoryEvent>,
     /// What the process is about to do that makes the next step.
@@ -68,7 +69,6 @@ impl<'a> Storyteller<'a> {
     // Appends the event of a line of the trace.
     fn push_event(
         &mut self,
-        alloc: Global,
         program: &Resolved,
         limits: Limits,
         state: &State,
@@ -80,13 +80,13 @@ impl<'a> Storyteller<'a> {
         ensures lines { IfOk result (λ _. lines_of self.new.events.items ≡ lines_of self.old.events.items ++ record { process = process; event = event; holders = holders_in (slots program.now limits.gates) (machine_of state.now) } ∷ []) }
         ensures told { IfOk result (λ _. telling_of self.new.observer self.new.events.items ≡ told_more program.now limits.gates event process aim (machine_of state.now) (telling_of self.old.observer self.old.events.items)) }
     {
-        let holders = holders(alloc, program, limits, state)?;
+        let holders = holders(self.alloc, program, limits, state)?;
         let plain = TraceLine {
             process,
             event,
             holders,
         };
-        let event = self.observer.observe(alloc, state, plain, aim)?;
+        let event = self.observer.observe(self.alloc, state, plain, aim)?;
         self.events.push(event)?;
         Ok(())
     }
@@ -94,7 +94,6 @@ impl<'a> Storyteller<'a> {
     // Appends the event of a step, if it is one.
     fn push_step(
         &mut self,
-        alloc: Global,
         program: &Resolved,
         limits: Limits,
         state: &State,
@@ -111,12 +110,12 @@ impl<'a> Storyteller<'a> {
             Step::Ended => TraceEvent::End,
             Step::Local | Step::Fault(_) | Step::OutputFull => return Ok(()),
         };
-        self.push_event(alloc, program, limits, state, process, event, aim)
+        self.push_event(program, limits, state, process, event, aim)
     }
 }
 
 impl<'a> Observe for Storyteller<'a> {
-    ghost use Rattle.std.specs.Prelude.{◌≡◌, List};
+    ghost use Rattle.std.specs.Prelude.{◌≡◌, List, true, false};
     ghost use Rattle.cp_run.specs.Fold.{beside};
     ghost use Rattle.cp_run.specs.Slots.{slots};
     ghost use Rattle.cp_run.specs.Trace.{tracer};
@@ -126,30 +125,49 @@ impl<'a> Observe for Storyteller<'a> {
     ghost use Rattle.cp_story.specs.Told.{lines_of};
     ghost use Rattle.cp_story.specs.Views.{telling_of};
 
+    type Error = AllocError;
+
     ghost Seen = { Telling × List TraceLine };
 
-    ghost seen = { λ t. (telling_of t.observer t.events.items, lines_of t.events.items) };
+    ghost IS_SILENT = { false };
+
+    ghost SEES_LOCAL = { true };
+
+    #[inline(always)]
+    fn is_silent() -> bool
+        ensures { result ≡ false }
+    {
+        false
+    }
+
+    #[inline(always)]
+    fn sees_local() -> bool
+        ensures { result ≡ true }
+    {
+        true
+    }
+
+    ghost holds = { λ t r gates now x. (telling_of t.observer t.events.items, lines_of t.events.items) ≡ x };
 
     ghost fold = { λ r gates. beside (teller r gates) (tracer (slots r gates)) };
 
-    ghost expects = { λ t r before process x. (t.aim ≡ aim_in r before process) × (telling_of t.observer t.events.items ≡ expecting t.aim before process x.0) × (lines_of t.events.items ≡ x.1) };
+    ghost expects = { λ t r gates before process x. (t.aim ≡ aim_in r before process) × (telling_of t.observer t.events.items ≡ expecting t.aim before process x.0) × (lines_of t.events.items ≡ x.1) };
 
     fn expect_step(
         &mut self,
-        alloc: Global,
         program: &Resolved,
+        _limits: Limits,
         state: &State,
         process: u8,
     ) -> Result<(), AllocError> {
         let aim = aim_of(program, state, process);
-        self.observer.expect(alloc, state, process, aim)?;
+        self.observer.expect(self.alloc, state, process, aim)?;
         self.aim = aim;
         Ok(())
     }
 
     fn see_step(
         &mut self,
-        alloc: Global,
         program: &Resolved,
         limits: Limits,
         state: &State,
@@ -157,24 +175,25 @@ impl<'a> Observe for Storyteller<'a> {
         event: Step,
     ) -> Result<(), AllocError> {
         let aim = self.aim;
-        self.push_step(alloc, program, limits, state, process, event, aim)
+        self.push_step(program, limits, state, process, event, aim)
     }
 
     fn see_admission(
         &mut self,
-        alloc: Global,
         program: &Resolved,
         limits: Limits,
         state: &State,
         process: u8,
     ) -> Result<(), AllocError> {
         let event = TraceEvent::Admit;
-        self.push_event(alloc, program, limits, state, process, event, NONE)
+        self.push_event(program, limits, state, process, event, NONE)
     }
 
     fn see_choice(&mut self, program: &Resolved, limits: Limits, state: &State, number: u8) {
         self.observer.choice = Some(choice_of(program, limits, state, number));
     }
+
+    ghost passes = { λ unseen self r gates before after process x step h. absurd (Prim.cc) };
 }
 
 // The choice that is due, and the number that is taken.
@@ -281,6 +300,7 @@ pub fn tell<L: Ledger>(
     let observer = Observer::new(alloc, legend, &state)?;
     let events = Vec::new(alloc);
     let mut teller = Storyteller {
+        alloc,
         observer,
         events,
         aim: NONE,

@@ -56,7 +56,7 @@ module _ (p : Program) (c : Call) (calls : List Call) (cs : List Component) (pid
   leaving_well true system_kind.Process n ds = tt
   leaving_well false k n ds = tt
 
-  rules : Rules p c calls cs pid EntersWell (λ u. Unit {0}) (λ items. Unit {0}) (λ q. Unit {0}) (λ e. Unit {0}) (λ k e. Unit {0})
+  rules : Rules p (c ∷ calls) cs pid EntersWell (λ u. Unit {0}) (λ items. Unit {0}) (λ q. Unit {0}) (λ e. Unit {0}) (λ k e. Unit {0})
   rules =
       record {
         near = λ d. whatever (target_value v d);
@@ -80,7 +80,7 @@ module _ (p : Program) (c : Call) (calls : List Call) (cs : List Component) (pid
       }
 
   pub takes_well : (items : List Item) → AllOf EntersWell (takes v pid items)
-  takes_well items = takes_all p c calls cs pid EntersWell (λ u. Unit {0}) (λ items. Unit {0}) (λ q. Unit {0}) (λ e. Unit {0}) (λ k e. Unit {0}) rules items tt
+  takes_well items = takes_all p (c ∷ calls) cs pid EntersWell (λ u. Unit {0}) (λ items. Unit {0}) (λ q. Unit {0}) (λ e. Unit {0}) (λ k e. Unit {0}) rules items tt
 
 -- ---- what the kernel does
 

@@ -108,7 +108,7 @@ module _ (p : Program) (c : Call) (calls : List Call) (cs : List Component) (pid
   end_moves local_routine m n hs x gs h = absurd h
   end_moves entry_routine m n hs x gs h = absurd h
 
-  rules : Rules p c calls cs pid MovesSo (λ u. framed u.calls ≡ fs) (ItemsFit (frames (c ∷ calls))) (λ q. Unit {0}) (λ e. Unit {0}) (λ k e. Unit {0})
+  rules : Rules p (c ∷ calls) cs pid MovesSo (λ u. framed u.calls ≡ fs) (ItemsFit (frames (c ∷ calls))) (λ q. Unit {0}) (λ e. Unit {0}) (λ k e. Unit {0})
   rules =
       record {
         near = λ d. whatever (target_value v d);
@@ -132,7 +132,7 @@ module _ (p : Program) (c : Call) (calls : List Call) (cs : List Component) (pid
       }
 
   pub takes_moves : (items : List Item) → ItemsFit (frames (c ∷ calls)) items → AllOf MovesSo (takes v pid items)
-  takes_moves items f = takes_all p c calls cs pid MovesSo (λ u. framed u.calls ≡ fs) (ItemsFit (frames (c ∷ calls))) (λ q. Unit {0}) (λ e. Unit {0}) (λ k e. Unit {0}) rules items f
+  takes_moves items f = takes_all p (c ∷ calls) cs pid MovesSo (λ u. framed u.calls ≡ fs) (ItemsFit (frames (c ∷ calls))) (λ q. Unit {0}) (λ e. Unit {0}) (λ k e. Unit {0}) rules items f
 
 -- ---- what the kernel does
 

@@ -220,21 +220,22 @@ fn board_seats(rt: HostRuntime) {
     assert!(rt; is_drawn_without_note(rt.alloc()));
 }
 
-// A board with nothing drawn.
-fn new_answer(alloc: Global) -> CallAnswer {
+// A board of one task, which the last of its seats draws.
+fn board_answer(alloc: Global) -> CallAnswer {
     match Board::new(alloc, 1, 16) {
-        Ok((board, seats)) => {
+        Ok((board, mut seats)) => {
+            let is_drawn = draws(&board, &mut seats[15], 0, 7, 7);
             let closed = board.close(seats);
-            ample_answer(closed.claimed == 0 && closed.total == 0)
+            ample_answer(is_drawn && closed.claimed == 1 && closed.total == 7)
         }
         Err(BoardFault::Memory(_)) => CallAnswer::Memory,
         Err(_) => CallAnswer::Other,
     }
 }
 
-// Also to be run with each allocation refused in turn: the answer is then `Memory`, and the next call gives a board.
+// Where a board was refused memory, the next call gives one.
 #[test]
-fn board_growths_refused(rt: HostRuntime) {
-    let answers = [new_answer(rt.alloc()), new_answer(rt.alloc())];
+fn refused_growth_of_a_board(rt: HostRuntime) {
+    let answers = [board_answer(rt.alloc()), board_answer(rt.alloc())];
     assert!(rt; are_right(&answers));
 }

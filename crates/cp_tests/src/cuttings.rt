@@ -9,11 +9,9 @@ use crate::programs::{TWO_CYCLES, TWO_DISPLAYS, limits_of, program_of};
 use arrayvec::ArrayVec;
 use cp_drops::drop_program;
 use cp_explore::{
-    Cutting, GatherFault, Job, Row, RowPiece, Rows, SplitFault, Table, beginnings, explore_one,
-    gather,
+    Cutting, GatherFault, Job, Piece, Row, Rows, SplitFault, Table, beginnings, explore_one, gather,
 };
 use cp_machine::{Gates, Ticks};
-use cp_progress::Unobserved;
 use cp_run::{Limits, Outcome, OutcomeKind, Output};
 use cp_slots::Resolved;
 use std::alloc::{AllocError, Global};
@@ -111,7 +109,7 @@ pub static MEMBERS: [&[u8]; 5] = [&[0, 0], &[0, 1], &[0, 2], &[1, 0], &[1, 1]];
 fn has_members_of_two(alloc: Global, program: &Resolved) -> bool {
     match whole(alloc, program, 5) {
         Some(mut cutting) => {
-            cutting.to_depth(alloc, 2, &mut Unobserved).is_ok() && are_members(&cutting, &MEMBERS)
+            cutting.to_depth(alloc, 2).is_ok() && are_members(&cutting, &MEMBERS)
         }
         None => false,
     }
@@ -172,19 +170,19 @@ fn empty_row(alloc: Global) -> Row {
 }
 
 /// A piece of this many rows with nothing displayed.
-fn empty_piece(alloc: Global, task: u32, count: u32) -> Result<RowPiece, AllocError> {
+fn empty_piece(alloc: Global, task: u32, count: u32) -> Result<Piece, AllocError> {
     let mut rows = Vec::new(alloc);
     for _ in 0..count {
         rows.push(empty_row(alloc))?;
     }
-    Ok(RowPiece {
+    Ok(Piece {
         task,
         rows: Rows::new(rows),
     })
 }
 
 /// Pieces of these tasks with so many rows each.
-fn pieces_of(alloc: Global, sizes: &[(u32, u32)]) -> Result<Vec<RowPiece>, AllocError> {
+fn pieces_of(alloc: Global, sizes: &[(u32, u32)]) -> Result<Vec<Piece>, AllocError> {
     let mut pieces = Vec::new(alloc);
     for (task, count) in sizes {
         pieces.push(empty_piece(alloc, *task, *count)?)?;
@@ -214,7 +212,7 @@ fn is_fault(fault: &GatherFault, wanted: PiecesAnswer) -> bool {
 }
 
 /// Whether this comes of pieces.
-fn gathers_to(alloc: Global, tasks: u32, pieces: Vec<RowPiece>, wanted: PiecesAnswer) -> bool {
+fn gathers_to(alloc: Global, tasks: u32, pieces: Vec<Piece>, wanted: PiecesAnswer) -> bool {
     match gather(alloc, tasks, pieces) {
         Ok(table) => match wanted {
             PiecesAnswer::Rows(count) => table.rows.as_slice().len() == count,
@@ -289,7 +287,7 @@ fn copy_of(alloc: Global, row: &Row) -> Result<Row, AllocError> {
 }
 
 /// The rows of a table that begin with a member, as a piece; no rows where there is no such member.
-fn piece_of(alloc: Global, table: &Table, task: u32) -> Result<RowPiece, AllocError> {
+fn piece_of(alloc: Global, table: &Table, task: u32) -> Result<Piece, AllocError> {
     let mut rows = Vec::new(alloc);
     if let Some(member) = MEMBERS.get(task as usize) {
         for row in table.rows.as_slice() {
@@ -298,18 +296,14 @@ fn piece_of(alloc: Global, table: &Table, task: u32) -> Result<RowPiece, AllocEr
             }
         }
     }
-    Ok(RowPiece {
+    Ok(Piece {
         task,
         rows: Rows::new(rows),
     })
 }
 
 /// The pieces of these tasks, cut from a table.
-pub fn cut_pieces(
-    alloc: Global,
-    table: &Table,
-    tasks: &[u32],
-) -> Result<Vec<RowPiece>, AllocError> {
+pub fn cut_pieces(alloc: Global, table: &Table, tasks: &[u32]) -> Result<Vec<Piece>, AllocError> {
     let mut pieces = Vec::new(alloc);
     for task in tasks {
         pieces.push(piece_of(alloc, table, *task)?)?;

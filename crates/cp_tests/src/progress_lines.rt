@@ -200,15 +200,3 @@ fn a_walk_from_beginnings_tells_how_many_are_done(rt: HostRuntime) {
     let wanted = "\rschedules so far: 1200, beginnings done: 19 of 40";
     assert!(rt; terminal.taken.as_slice() == wanted.as_bytes());
 }
-
-#[test]
-fn only_work_at_a_terminal_is_listened_to(rt: HostRuntime) {
-    let clock = TickingClock {
-        reads: Cell::new(0),
-    };
-    let terminal = FakeTerminal::new(rt.alloc(), false);
-    let mut line = ProgressLine::new(rt.alloc(), clock, Some(terminal), "outcomes");
-    assert!(rt; !line.is_listening());
-    line.observe_begin();
-    assert!(rt; line.is_listening());
-}

@@ -4,6 +4,7 @@
 ghost use Rattle.std.specs.Prelude.{◌≡◌, ◌≤◌};
 
 use crate::answers::{CallAnswer, ample_answer, are_right, memory_answer};
+use crate::checks::{BROKEN, BrokenCheck, ONE_OR_BOTH};
 use crate::cuttings::{MEMBERS, are_members, are_same, cut_pieces};
 use crate::programs::{
     BUFFER, TWO_DISPLAYS, WantedEnd, fault_of, has_ended, limits_of, program_of, tree_of,
@@ -18,9 +19,8 @@ use cp_explore::{
     gather, report,
 };
 use cp_machine::{Gates, Shown, Ticks};
-use cp_progress::Unobserved;
 use cp_run::{Limits, OutcomeKind, RunEnd, run, trace};
-use cp_scope::{CheckFault, Rule};
+use cp_scope::CheckFault;
 use cp_slots::Resolved;
 use cp_tree::Tree;
 use std::alloc::Global;
@@ -241,7 +241,7 @@ fn answers_to_two_splits(alloc: Global, cutting: &mut Cutting) -> [CallAnswer; 2
 
 /// A cutting's members are split to a depth.
 fn depth_answer(alloc: Global, cutting: &mut Cutting) -> CallAnswer {
-    match cutting.to_depth(alloc, 2, &mut Unobserved) {
+    match cutting.to_depth(alloc, 2) {
         Ok(()) => ample_answer(are_members(cutting, &MEMBERS)),
         Err(_) => CallAnswer::Memory,
     }
@@ -253,7 +253,7 @@ fn answer_of_two_workers<X: Threads + Sync>(
     alloc: Global,
     cutting: &Cutting,
 ) -> CallAnswer {
-    match explore(rt, alloc, cutting, 2, &NoGate, &mut Unobserved) {
+    match explore(rt, alloc, cutting, 2, &NoGate) {
         Ok(table) => report_answer(alloc, cutting.job.program, &table),
         Err(ExploreFault::Memory) => CallAnswer::Memory,
         Err(ExploreFault::TooManyRows) => CallAnswer::Other,
@@ -354,15 +354,25 @@ fn source_answer(alloc: Global, source: &str, wanted: Option<CheckFault>) -> Cal
     }
 }
 
+/// The answer to a program that breaks a rule.
+fn broken_answer(alloc: Global, broken: &BrokenCheck) -> CallAnswer {
+    let fault = CheckFault::Rule {
+        at: broken.at,
+        rule: broken.rule,
+    };
+    source_answer(alloc, broken.source, Some(fault))
+}
+
+/// Where both rules are broken, want of memory does not turn the answer into the other one.
 #[test]
 fn refused_growth_of_a_check(rt: HostRuntime) {
-    let broken = CheckFault::Rule {
-        at: 1,
-        rule: Rule::C1,
-    };
     let answers = [
         source_answer(rt.alloc(), BUFFER, None),
-        source_answer(rt.alloc(), "begin x := 1; y := 2 end.", Some(broken)),
+        broken_answer(rt.alloc(), &BROKEN[0]),
+        broken_answer(rt.alloc(), &ONE_OR_BOTH[0]),
+        broken_answer(rt.alloc(), &ONE_OR_BOTH[1]),
+        broken_answer(rt.alloc(), &ONE_OR_BOTH[2]),
+        broken_answer(rt.alloc(), &ONE_OR_BOTH[3]),
     ];
     assert!(rt; are_right(&answers));
 }

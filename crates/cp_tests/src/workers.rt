@@ -3,9 +3,8 @@ ghost use Rattle.std.specs.Prelude.{◌<◌, ◌≤◌};
 
 use crate::programs::{TWO_DISPLAYS, limits_of, program_of};
 use cp_drops::drop_program;
-use cp_explore::{Cutting, Job, NoGate, StartGate, Table, explore, report};
+use cp_explore::{Cutting, Gate, Job, NoGate, Table, explore, report};
 use cp_machine::Gates;
-use cp_progress::Unobserved;
 use cp_slots::Resolved;
 use std::alloc::Global;
 use std::sync::atomic::{AtomicBool, AtomicU64, Ordering};
@@ -24,7 +23,7 @@ struct Drawing {
 }
 
 /// Whether workers give the report of `TWO_DISPLAYS`.
-fn is_reported<X: Threads + Sync, G: StartGate + Sync>(
+fn is_reported<X: Threads + Sync, G: Gate + Sync>(
     rt: &X,
     alloc: Global,
     drawing: Drawing,
@@ -42,7 +41,7 @@ fn is_reported<X: Threads + Sync, G: StartGate + Sync>(
     }
 }
 
-fn is_cut_and_reported<X: Threads + Sync, G: StartGate + Sync>(
+fn is_cut_and_reported<X: Threads + Sync, G: Gate + Sync>(
     rt: &X,
     alloc: Global,
     program: &Resolved,
@@ -54,9 +53,7 @@ fn is_cut_and_reported<X: Threads + Sync, G: StartGate + Sync>(
     let limits = limits_of(5, Gates::First);
     match Cutting::whole(alloc, Job { program, limits }) {
         Ok(mut cutting) => {
-            cutting
-                .to_depth(alloc, drawing.depth, &mut Unobserved)
-                .is_ok()
+            cutting.to_depth(alloc, drawing.depth).is_ok()
                 && is_explored(rt, alloc, &cutting, drawing.workers, gate)
         }
         Err(_) => false,
@@ -64,7 +61,7 @@ fn is_cut_and_reported<X: Threads + Sync, G: StartGate + Sync>(
 }
 
 /// Whether workers explore a cutting to the report of `TWO_DISPLAYS`.
-fn is_explored<X: Threads + Sync, G: StartGate + Sync>(
+fn is_explored<X: Threads + Sync, G: Gate + Sync>(
     rt: &X,
     alloc: Global,
     cutting: &Cutting,
@@ -73,7 +70,7 @@ fn is_explored<X: Threads + Sync, G: StartGate + Sync>(
 ) -> bool
     requires { (0 < workers) × (workers ≤ 16) }
 {
-    match explore(rt, alloc, cutting, workers, gate, &mut Unobserved) {
+    match explore(rt, alloc, cutting, workers, gate) {
         Ok(table) => has_report(alloc, cutting.job.program, &table),
         Err(_) => false,
     }
@@ -93,7 +90,7 @@ struct Pair {
     is_seen: AtomicBool,
 }
 
-impl StartGate for Pair {
+impl Gate for Pair {
     fn pass(&self, _task: u32) {
         if self.passed.fetch_add(1, Ordering::SeqCst) > 0 {
             return;
@@ -129,7 +126,7 @@ struct Together {
     late: AtomicU64,
 }
 
-impl StartGate for Together {
+impl Gate for Together {
     fn pass(&self, _task: u32) {
         self.passed.fetch_add(1, Ordering::SeqCst);
         for _ in 0..10_000_000 {
@@ -164,7 +161,7 @@ struct LastTask {
     late: AtomicU64,
 }
 
-impl StartGate for LastTask {
+impl Gate for LastTask {
     fn pass(&self, task: u32) {
         if task != self.task {
             self.passed.fetch_add(1, Ordering::SeqCst);

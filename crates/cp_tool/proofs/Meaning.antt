@@ -16,7 +16,7 @@ use Rattle.cp_run.specs.Trace.{trace}
 use Rattle.cp_run.specs.declared.line.TraceLine.{TraceLine}
 use Rattle.cp_refine.specs.Law.{SameRuns}
 use Rattle.cp_refine.specs.Named.{named, named_gates}
-use Rattle.cp_refine.proofs.Excluding.{runs_exclude}
+use Rattle.cp_lawful.proofs.Accepting.{keeps_exclusion}
 use Rattle.cp_refine.proofs.Meaning.{runs_as_meant}
 use Rattle.cp_resolved.proofs.Resolving.{read_names}
 use Rattle.cp_walk.specs.Text.{Spellings}
@@ -65,4 +65,4 @@ module _ (t : Tree) (r : Tables) (o : Options) (verdict : Verdict) (text : List 
   explored_so h = by_schedule o.schedule (constant_names t.program) (subst (OnSlots o.schedule) (read_names t r read ok is.laid) h)
 
   pub explored : IsExploredOn o r verdict text → IsExploredAlone o t verdict text
-  explored h = (explored_so h, runs_exclude t r (named_gates o.gates) read ok is.laid o.choices o.steps)
+  explored h = (explored_so h, keeps_exclusion t ok (named_gates o.gates))

@@ -9,7 +9,7 @@ use Rattle.cp_run.specs.System.{System}
 use Rattle.cp_run.specs.Run.{run}
 use Rattle.cp_run.specs.Table.{Line, table}
 use Rattle.cp_run.specs.Trace.{trace}
-use Rattle.cp_refine.specs.Excluding.{RunsExclude}
+use Rattle.cp_lawful.specs.Accepted.{KeepsExclusion}
 use Rattle.cp_refine.specs.Named.{named, named_gates}
 use Rattle.cp_walk.specs.Text.{Spellings}
 use Rattle.cp_walk.specs.Report.{report_text}
@@ -39,9 +39,9 @@ IsExplored o t verdict text =
     let rows = table meaning o.choices o.steps in
     MatchOption o.schedule (MatchBool o.merge (IsMergedOf o t names rows verdict text) (IsReported o names rows verdict text)) (λ word. IsTraced o meaning names word.items verdict text)
 
--- the same, and that no run of the program lets two processes into one monitor
+-- the same, and that in no state which the program reaches two processes are inside one monitor
 abbrev pub IsExploredAlone : Options → Tree → Verdict → List ℕ → Type 0
-IsExploredAlone o t verdict text = IsExplored o t verdict text × RunsExclude (named t (named_gates o.gates)) o.choices o.steps
+IsExploredAlone o t verdict text = IsExplored o t verdict text × KeepsExclusion t (named_gates o.gates)
 
 -- ---- from a source to its program
 

@@ -12,7 +12,7 @@ use Rattle.cp_tool.specs.Words.{IsWord, default_choices, most_choices, spelled}
 use Rattle.cp_tool.specs.declared.command_line.CommandKind.{CommandKind}
 use Rattle.cp_tool.specs.declared.options.Options.{Options}
 use Rattle.cp_tool.specs.declared.options.OptionFault.{OptionFault}
-use Rattle.cp_tool.specs.declared.options.OptionFault.TheVariants.{Refused, Memory, Help}
+use Rattle.cp_tool.specs.declared.options.OptionFault.TheVariants.{Refused, Memory, Help, Version}
 
 abbrev pub gates_text : Gates → Text
 gates_text First = codes "first"
@@ -95,9 +95,15 @@ pub record BeginsRefused (words : List Text) : Type 0 where
   pub count : ℕ
   pub begun : HasRefusedValue (take count words)
 
--- help comes only where the words ask for it; words are refused where they give no options, and
+-- the word after the program's name asks for the version, and there is no other
+abbrev pub asks_version : List Text → Bool
+asks_version (name ∷ word ∷ []) = bytes_eq word (codes "--version")
+asks_version _ = false
+
+-- help and the version come only where the words ask for them; words are refused where they give no options, and
 -- where they ask for help only if a value before that is refused
 abbrev pub IsFaultFor : List Text → OptionFault → Type 0
 IsFaultFor words (Help text) = IsAmong DisplayHelp (faults_for words)
 IsFaultFor words Refused = (faults_for words ≡ DisplayHelp ∷ [] → BeginsRefused words) × ((o : Options) → ¬ Gives words o)
 IsFaultFor words Memory = Unit {0}
+IsFaultFor words Version = asks_version words ≡ true

@@ -16,7 +16,7 @@ use crate::dealing::deal;
 use crate::options::Options;
 use cp_drops::drop_program;
 use cp_explore::{
-    Cutting, ExploreFault, Job, MergeFault, NoGate, Table, Text, explore, explore_merged,
+    Cutting, ExploreFault, Job, MergeFault, NoGate, Table, Text, explore_merged, explore_observed,
     merged_report, report, trace_report,
 };
 use cp_front::{
@@ -24,7 +24,7 @@ use cp_front::{
     refusal_line, write_text,
 };
 use cp_machine::Ticks;
-use cp_progress::ObserveProgress;
+use cp_progress::{ObserveProgress, Unobserved};
 use cp_progress_line::ObserveWork;
 use cp_run::{Limits, trace};
 use cp_slots::Resolved;
@@ -90,12 +90,11 @@ pub fn status_of(ending: Result<Verdict, StreamFault>) -> ExitStatus
 /// Reads a source, explores it as the options say, and writes the answer.
 ///
 /// The whole text is built before the first write. Nothing is written after a failed read or where memory is refused, and a prefix of
-/// the text after a failed write. An observer is told how far the exploration has come.
-pub fn explore_stream<X: Threads + Sync, O: ObserveWork + Send, R: Source, W: Sink>(
+/// the text after a failed write.
+pub fn explore_stream<X: Threads + Sync, R: Source, W: Sink>(
     rt: &X,
     alloc: Global,
     options: &Options,
-    observer: &mut O,
     source: &mut R,
     sink: &mut W,
 ) -> ExitStatus
@@ -103,10 +102,25 @@ pub fn explore_stream<X: Threads + Sync, O: ObserveWork + Send, R: Source, W: Si
     ensures told { (ending : Result Verdict StreamFault) × (result.code ≡ code_by spec.code_of ending) × spec.Tells (spec.IsExploredAlone options.now) (R.remaining source.old) (W.contents sink.old) (W.contents sink.new) ending × (R.failed_reads source.new + (W.failed_writes sink.new + W.empty_writes sink.new) ≡ R.failed_reads source.old + (W.failed_writes sink.old + W.empty_writes sink.old) + faults_in ending) }
     ensures reads { R.reads source.new ≤ R.reads source.old + 65536 }
 {
+    explore_stream_observed(rt, alloc, options, &mut Unobserved, source, sink)
+}
+
+/// The same, where an observer is told how far the exploration has come.
+pub fn explore_stream_observed<X: Threads + Sync, O: ObserveWork, R: Source, W: Sink>(
+    rt: &X,
+    alloc: Global,
+    options: &Options,
+    observer: &mut O,
+    source: &mut R,
+    sink: &mut W,
+) -> ExitStatus
+    ensures told { (ending : Result Verdict StreamFault) × (result.code ≡ code_by spec.code_of ending) × spec.Tells (spec.IsExploredAlone options.now) (R.remaining source.old) (W.contents sink.old) (W.contents sink.new) ending × (R.failed_reads source.new + (W.failed_writes sink.new + W.empty_writes sink.new) ≡ R.failed_reads source.old + (W.failed_writes sink.old + W.empty_writes sink.old) + faults_in ending) }
+    ensures reads { R.reads source.new ≤ R.reads source.old + 65536 }
+{
     status_of(serve(rt, alloc, options, observer, source, sink))
 }
 
-fn serve<X: Threads + Sync, O: ObserveWork + Send, R: Source, W: Sink>(
+fn serve<X: Threads + Sync, O: ObserveWork, R: Source, W: Sink>(
     rt: &X,
     alloc: Global,
     options: &Options,
@@ -140,7 +154,7 @@ pub fn write_answer<W: Sink>(sink: &mut W, answer: &Answer) -> Result<Verdict, S
 }
 
 // What is answered to a source.
-fn answer_to<X: Threads + Sync, O: ObserveWork + Send>(
+fn answer_to<X: Threads + Sync, O: ObserveWork>(
     rt: &X,
     alloc: Global,
     options: &Options,
@@ -176,7 +190,7 @@ pub fn answer_refusal(alloc: Global, refusal: Refusal) -> Result<Answer, AllocEr
 }
 
 /// The trace of the schedule that the options name, or the report of all schedules.
-fn answer_program<X: Threads + Sync, O: ObserveProgress + Send>(
+fn answer_program<X: Threads + Sync, O: ObserveProgress>(
     rt: &X,
     alloc: Global,
     options: &Options,
@@ -216,9 +230,7 @@ fn trace_schedule<L: Ledger>(
     requires word { length word.now ≤ 100 }
     ensures { IfOk result (λ a. spec.IsTraced options.now (on_slots.machine options.now program.now) program.now.names word.now a.verdict a.text) }
 {
-    let Some(limits) = Limits::new(options.choices, options.steps, options.gates) else {
-        unreachable!()
-    };
+    let limits = options.limits();
     let mut ticks: Ticks<L> = Ticks::new(blank);
     let (lines, end) = trace(alloc, program, limits, word, &mut ticks)?;
     let report = trace_report(alloc, program, &lines, &end, word)?;
@@ -237,9 +249,7 @@ fn report_merged<O: ObserveProgress>(
 ) -> Result<Answer, AllocError>
     ensures { IfOk result (λ a. merging.IsMerged options.now (on_slots.machine options.now program.now) program.now.names (on_slots.machine_rows options.now program.now) a.verdict a.text) }
 {
-    let Some(limits) = Limits::new(options.choices, options.steps, options.gates) else {
-        unreachable!()
-    };
+    let limits = options.limits();
     let job = Job { program, limits };
     match explore_merged(alloc, job, options.states as usize, observer) {
         Ok(tallies) => Ok(Answer {
@@ -259,7 +269,7 @@ fn report_merged<O: ObserveProgress>(
 }
 
 /// The report of a program's table, or that it has too many rows.
-fn report_table<X: Threads + Sync, O: ObserveProgress + Send>(
+fn report_table<X: Threads + Sync, O: ObserveProgress>(
     rt: &X,
     alloc: Global,
     options: &Options,
@@ -269,9 +279,7 @@ fn report_table<X: Threads + Sync, O: ObserveProgress + Send>(
     requires { options.now.merge ≡ false }
     ensures { IfOk result (λ a. spec.IsReported options.now program.now.names (on_slots.machine_rows options.now program.now) a.verdict a.text) }
 {
-    let Some(limits) = Limits::new(options.choices, options.steps, options.gates) else {
-        unreachable!()
-    };
+    let limits = options.limits();
     match tabulate(rt, alloc, options, observer, program, limits) {
         Ok(table) => Ok(Answer {
             verdict: Verdict::Reported,
@@ -286,7 +294,7 @@ fn report_table<X: Threads + Sync, O: ObserveProgress + Send>(
 }
 
 /// The table of a program. The threads draw the members of a cutting.
-fn tabulate<X: Threads + Sync, O: ObserveProgress + Send>(
+fn tabulate<X: Threads + Sync, O: ObserveProgress>(
     rt: &X,
     alloc: Global,
     options: &Options,
@@ -306,7 +314,7 @@ fn tabulate<X: Threads + Sync, O: ObserveProgress + Send>(
         return Err(ExploreFault::Memory);
     };
     let workers = workers_needed(options.workers, cutting.members().len());
-    explore(rt, alloc, &cutting, workers, &NoGate, observer)
+    explore_observed(rt, alloc, &cutting, workers, &NoGate, observer)
 }
 
 /// No more workers than there are members to draw: starting a thread costs more than a small exploration.

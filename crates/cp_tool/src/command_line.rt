@@ -1,8 +1,8 @@
 //! The options of the words.
-ghost use Rattle.std.specs.Prelude.{◌≡◌, ◌≤◌, IfErr, IfOk, codes, is_some, length, map, option_map, true};
+ghost use Rattle.std.specs.Prelude.{◌≡◌, ◌≤◌, Err, IfErr, IfOk, codes, is_some, length, map, option_map, true};
 ghost use Rattle.clap.specs.Words.{first_of, found_of, rows_of};
 ghost use Rattle.cp_tool.specs.Finds.{Finds};
-ghost use Rattle.cp_tool.specs.Options.{Gives, HasOptions, HasRefusedValue, IsScheduled, IsFaultFor, IsGated, IsGatedFor, IsKind, is_asked};
+ghost use Rattle.cp_tool.specs.Options.{Gives, HasOptions, HasRefusedValue, IsScheduled, IsFaultFor, IsGated, IsGatedFor, IsKind, asks_version, is_asked};
 ghost use Rattle.cp_tool.specs.Words.{default_choices, most_choices};
 
 use crate::command::command;
@@ -15,9 +15,28 @@ use clap::error::ErrorKind;
 use cp_machine::Gates;
 use std::alloc::{AllocError, Global};
 
-/// The options, as `clap` matches the words, of which the first is the program's name. Where they ask for help, they are
-/// refused if a word before that is.
+/// The options, as `clap` matches the words, of which the first is the program's name. The version is asked for by a word that stands alone. Where the
+/// words ask for help, they are refused if a word before that is.
 pub fn read_options<'a>(alloc: Global, words: &'a [&'a str]) -> Result<Options, OptionFault>
+    ensures options { IfOk result (Gives (map (λ s. s.now) words.entry.now)) }
+    ensures fault { IfErr result (IsFaultFor (map (λ s. s.now) words.entry.now)) }
+    ensures version { asks_version (map (λ s. s.now) words.entry.now) ≡ true → result ≡ Err OptionFault.Version }
+{
+    if asks_version(words) {
+        return Err(OptionFault::Version);
+    }
+    read_matches(alloc, words)
+}
+
+/// Whether these words, of which the first is the program's name, ask for its version: `--version` stands alone.
+pub fn asks_version(words: &[&str]) -> bool
+    ensures { result ≡ asks_version (map (λ s. s.now) words.now) }
+{
+    words.len() == 2 && words[1] == "--version"
+}
+
+// The options of words that don't ask for the version.
+fn read_matches<'a>(alloc: Global, words: &'a [&'a str]) -> Result<Options, OptionFault>
     ensures options { IfOk result (Gives (map (λ s. s.now) words.entry.now)) }
     ensures fault { IfErr result (IsFaultFor (map (λ s. s.now) words.entry.now)) }
 {

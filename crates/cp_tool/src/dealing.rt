@@ -22,7 +22,7 @@ pub fn deal<O: ObserveProgress>(
     ensures alone { options.now.cut_is_given ≡ false → options.now.workers ≡ 1 → cutting.new.words ≡ cutting.old.words }
 {
     if options.cut_is_given {
-        return cutting.to_depth(alloc, options.cut, observer);
+        return cutting.to_depth_observed(alloc, options.cut, observer);
     }
     if options.workers == 1 {
         return Ok(());
@@ -49,7 +49,7 @@ fn spread<O: ObserveProgress>(
         if before >= enough {
             return Ok(());
         }
-        cutting.to_depth(alloc, depth, observer)?;
+        cutting.to_depth_observed(alloc, depth, observer)?;
         if cutting.members().len() == before {
             return Ok(());
         }

@@ -10,8 +10,8 @@ pub mod options;
 pub mod reason;
 mod schedule;
 
-pub use answering::{ExitStatus, explore_stream};
-pub use command_line::read_options;
+pub use answering::{ExitStatus as Status, explore_stream, explore_stream_observed};
+pub use command_line::{asks_version, read_options};
 pub use cp_front::{Failed, Sink, Source, Wrapped};
 pub use options::{OptionFault, Options};
-pub use reason::{SourceReading, VERSION, asks_version, reason_for, word_reason};
+pub use reason::{SourceReading, VERSION, reason_for, word_reason};

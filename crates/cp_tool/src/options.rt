@@ -5,6 +5,7 @@ ghost use Rattle.cp_tool.specs.Words.{IsWord, most_choices};
 
 use arrayvec::ArrayVec;
 use cp_machine::Gates;
+use cp_run::{Limits, MOST_CHOICES};
 use std::alloc::AllocError;
 
 /// What the words of a call ask for, each in its range.
@@ -49,6 +50,25 @@ pub struct Options {
     ghost schedule_range: { ForSome schedule (λ w. IsWord (most_choices merge) w.items) },
 }
 
+impl Options {
+    /// The limits that they set.
+    pub fn limits(&self) -> Limits
+        ensures { (result.choices ≡ self.now.choices) × (result.steps ≡ self.now.steps) × (result.gates ≡ self.now.gates) }
+    {
+        let Some(limits) = Limits::new(self.choices, self.steps, self.gates) else {
+            unreachable!()
+        };
+        limits
+    }
+
+    /// The same with as many choices as there can be.
+    pub fn longest_limits(&self) -> Limits
+        ensures { (result.choices ≡ 100) × (result.steps ≡ self.now.steps) × (result.gates ≡ self.now.gates) }
+    {
+        self.limits().with_choices(MOST_CHOICES)
+    }
+}
+
 /// Why there are no options.
 #[derive(Drop)]
 pub enum OptionFault {
@@ -58,6 +78,8 @@ pub enum OptionFault {
     Memory,
     /// The words ask for help, and this is its text.
     Help(String),
+    /// The words ask for the version.
+    Version,
 }
 
 impl From<AllocError> for OptionFault {

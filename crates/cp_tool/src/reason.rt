@@ -10,16 +10,6 @@ use std::alloc::{AllocError, Global};
 /// What `--version` prints after the program's name.
 pub const VERSION: &str = "0.9.0";
 
-/// Whether a word after the program's name asks for the version.
-pub fn asks_version(words: &[&str]) -> bool {
-    for word in words.iter().skip(1) {
-        if *word == "--version" {
-            return true;
-        }
-    }
-    false
-}
-
 /// How a program is given its source, for whoever names a file among the words.
 #[derive(Clone, Copy)]
 pub struct SourceReading<'a> {
@@ -59,6 +49,9 @@ pub fn word_reason(
         return String::from_str(alloc, said);
     };
     let word = rest.split_once('\'').map_or(rest, |(word, _)| word);
+    if word == "--version" {
+        return String::from_str(alloc, "--version: only alone");
+    }
     if let Some((_, similar)) = message.split_once("a similar argument exists: '") {
         let similar = similar.split_once('\'').map_or(similar, |(name, _)| name);
         return format!(in alloc; "{word}: did you mean {similar}");

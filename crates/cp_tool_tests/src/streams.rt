@@ -2,8 +2,7 @@
 ghost use Rattle.std.specs.Prelude.{◌≡◌};
 
 use crate::fakes::{EndlessReader, FakeRefusal, OneByteReader, OneByteWriter};
-use cp_progress::Unobserved;
-use cp_tool::{ExitStatus, Options, Wrapped, explore_stream};
+use cp_tool::{Options, Status, Wrapped, explore_stream};
 use std::alloc::Global;
 use std::io::Read;
 use std::marker::Brand;
@@ -28,7 +27,7 @@ pub const NEVER: Refusals = Refusals {
 /// What was written, and with which status.
 #[derive(Drop)]
 pub struct ToolAnswer {
-    pub status: ExitStatus,
+    pub status: Status,
     pub text: Vec<u8>,
 }
 
@@ -90,7 +89,7 @@ fn answer_of<X: Threads + Sync, R: Read + Drop, A: Ledger, B: Ledger>(
 {
     let mut source: Wrapped<R, A> = Wrapped::new(reader, reads);
     let mut sink: Wrapped<OneByteWriter, B> = Wrapped::new(writer, writes);
-    let status = explore_stream(rt, alloc, options, &mut Unobserved, &mut source, &mut sink);
+    let status = explore_stream(rt, alloc, options, &mut source, &mut sink);
     ToolAnswer {
         status,
         text: sink.into_inner().taken,

@@ -61,7 +61,7 @@ const LONGEST: [&str; 3] = [
 ];
 
 /// Words that are refused.
-static REFUSED: [&[&str]; 53] = [
+static REFUSED: [&[&str]; 59] = [
     &["cpx", "--choices", "21"],
     &["cpx", "--steps", "0"],
     &["cpx", "--steps", "100001"],
@@ -96,6 +96,12 @@ static REFUSED: [&[&str]; 53] = [
     &["cpx", "--", "program.cp"],
     &["cpx", "--nothing"],
     &["cpx", "--nothing", "--help"],
+    &["cpx", "--version", "--choices", "5"],
+    &["cpx", "--choices", "99", "--version"],
+    &["cpx", "--version", "--version"],
+    &["cpx", "--version", "--help"],
+    &["cpx", "--version=9"],
+    &["cpx", "--", "--version"],
     &["cpx", "--choices", "99", "--help"],
     &["cpx", "--rows", "--schedule=00", "-h"],
     &["cpx", "--gates", "last", "--cut", "2", "--help"],
@@ -127,11 +133,12 @@ static REFUSED: [&[&str]; 53] = [
 ];
 
 /// Words that ask for help.
-static HELP: [&[&str]; 9] = [
+static HELP: [&[&str]; 10] = [
     &["cpx", "--help"],
     &["cpx", "-h"],
     &["cpx", "--rows", "--help"],
     &["cpx", "--help", "--nothing"],
+    &["cpx", "--help", "--version"],
     &["cpx", "--choices", "20", "--help"],
     &["cpx", "-h", "--choices", "99"],
     &["cpx", "--merge", "--choices", "99", "--help"],
@@ -290,6 +297,12 @@ fn is_refused(alloc: Global, words: &[&str]) -> bool {
 }
 
 #[test]
+fn the_version_is_asked_for_by_one_word(rt: HostRuntime) {
+    let answer = read_options(rt.alloc(), ["cpx", "--version"].as_slice());
+    assert!(rt; matches!(answer, Err(OptionFault::Version)));
+}
+
+#[test]
 fn other_words_are_refused(rt: HostRuntime) {
     for (number, words) in REFUSED.iter().enumerate() {
         assert!(rt; is_refused(rt.alloc(), words), "{number}");
@@ -297,7 +310,7 @@ fn other_words_are_refused(rt: HostRuntime) {
 }
 
 /// What help says.
-static HELP_PARTS: [&str; 20] = [
+static HELP_PARTS: [&str; 21] = [
     "Usage: cpx [OPTIONS] < PROGRAM",
     "--choices <K>",
     "0 to 20, with --merge to 100 [default: 8]",
@@ -318,6 +331,7 @@ static HELP_PARTS: [&str; 20] = [
     "--gates <WHO>",
     "[default: first]",
     "cpx --choices 5 < program.cp",
+    "cpx --version",
 ];
 
 fn has_all_parts(text: &str) -> bool {

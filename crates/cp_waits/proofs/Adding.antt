@@ -1,7 +1,7 @@
 -- What is added to a graph, choice by choice and state by state, makes it the graph of the states.
 use Rattle.std.proofs.Common.{◌≡◌, ◌⊎◌, inl, inr, ⊎_elim, ◌<◌, ◌≤◌, ◌+◌, ◌∙◌, ℕ, zero, suc, Bool, true, List, [], ◌∷◌, ◌++◌, Option, Some, map, length, get_or, refl, sym, ap, subst, arith, length-append, append_assoc}
 use Rattle.cp_waits.proofs.Words.{Contains, slice_get, cases_lt, System, may, chosen, those_below, contains_cases, Origin, Leg, first_leg, choice_leg}
-use Rattle.cp_waits.proofs.Words.{ComesTo, first_edge, end_edge, Edge, Graph, Standstill, PassingSets, Came}
+use Rattle.cp_waits.proofs.Words.{ComesTo, first_edge, end_edge, Edge, Graph, Standstill, PassingSets, Halt}
 use Rattle.std.proofs.Math.ListN.{get_or-append}
 use Rattle.std.proofs.Math.Seq.{get_or-append_seam}
 use Rattle.std.proofs.lemmas.List.{append-nil, map-append}
@@ -78,15 +78,15 @@ module _ {S : Type 0} (sys : System S) (inside waiting : S → ℕ → Bool) (st
             (Contains-append_cases ps qs p at);
       }
 
-  pub adds_one_choice : (i : ℕ) (x : S × List ℕ) (p : ℕ) (to : Option ℕ) (passing : PassingSets) (came : Came) (last : S) (a b c : Graph) → slice_get states i ≡ Some x → may sys x.0 p ≡ true → IsNumber states (chosen sys steps x.0 p) to → ComesTo sys inside waiting steps (choice_leg sys steps x.0 p) (x.0 ∷ []) passing came last → AddsStill sys inside waiting steps (choice_leg sys steps x.0 p) (Choice i p) a b → b.processes ≡ a.processes → b.ends.items ≡ a.ends.items → b.edges.items ≡ a.edges.items → c.processes ≡ b.processes → c.ends.items ≡ b.ends.items → c.standstills.items ≡ b.standstills.items → c.edges.items ≡ b.edges.items ++ record { number = p; to = to; passing = passing } ∷ [] → AddsChoices sys inside waiting steps states i x.0 (p ∷ []) a c
-  adds_one_choice i x p to passing came last a b c at m leads seen still processes ends edges processes_more ends_more stills_more edges_more =
+  pub adds_one_choice : (i : ℕ) (x : S × List ℕ) (p : ℕ) (to : Option ℕ) (passing : PassingSets) (halt : Halt (Option PassingSets)) (last : S) (a b c : Graph) → slice_get states i ≡ Some x → may sys x.0 p ≡ true → IsNumber states (chosen sys steps x.0 p) to → ComesTo sys inside waiting steps (choice_leg sys steps x.0 p) (x.0 ∷ []) passing halt last → AddsStill sys inside waiting steps (choice_leg sys steps x.0 p) (Choice i p) a b → b.processes ≡ a.processes → b.ends.items ≡ a.ends.items → b.edges.items ≡ a.edges.items → c.processes ≡ b.processes → c.ends.items ≡ b.ends.items → c.standstills.items ≡ b.standstills.items → c.edges.items ≡ b.edges.items ++ record { number = p; to = to; passing = passing } ∷ [] → AddsChoices sys inside waiting steps states i x.0 (p ∷ []) a c
+  adds_one_choice i x p to passing halt last a b c at m leads seen still processes ends edges processes_more ends_more stills_more edges_more =
       record {
         processes = processes_more ∙ processes;
         ends = ends_more ∙ ends;
         edges = edge ∷ [];
         more = edges_more ∙ ap (λ l. l ++ edge ∷ []) edges;
         numbered = refl;
-        choices = (record { to = leads; came = came; last = last; seen = seen }, tt);
+        choices = (record { to = leads; halt = halt; last = last; seen = seen }, tt);
         keeps = λ s h. subst (λ l. Contains l s) (sym stills_more) (still.keeps s h);
         is = λ s h. ⊎_elim (λ (old : Contains a.standstills.items s). inl old) (λ (new : IsStillOf sys inside waiting steps (choice_leg sys steps x.0 p) (Choice i p) s). inr (is_still s new)) (still.is s (subst (λ l. Contains l s) stills_more h));
         all = λ k q here lt w. all k q (contains_cases p k [] here) lt w;

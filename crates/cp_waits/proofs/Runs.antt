@@ -1,12 +1,12 @@
 -- A way along the edges of a graph is a run of its machine.
 use Rattle.std.proofs.Common.{◌≡◌, ◌⊎◌, inl, inr, ⊎_elim, ◌∙◌, ◌<◌, ℕ, Bool, true, false, if◌then◌else◌, List, [], ◌∷◌, map, length, None, Some, refl, sym, ap, subst, arith}
-use Rattle.cp_waits.proofs.Words.{slice_get, Each, System, Node, Halted, Choosing, may, chosen, IsServed, LeadsTo, node_after, some_same, Edge, Graph, Came}
+use Rattle.cp_waits.proofs.Words.{slice_get, Each, System, Node, Halted, Choosing, may, chosen, IsServed, LeadsTo, node_after, some_same, Edge, Graph, Halt, Option, PassingSets}
 use Rattle.cp_waits.proofs.Words.{IsChoice, IsNumber, keeps, AreLasso, AreLingeringLasso, Seen, has}
+use Rattle.cp_run.specs.declared.outcome.Halt.TheVariants as halt
 use Rattle.cp_endless.specs.Lasso.{HasLasso, IsWaitingLoop, WaitsAlong}
 use Rattle.cp_endless.specs.Moments.{AnyOf, Moment, moments, moments_along, states_along}
 use Rattle.cp_waits.specs.declared.passing.Keeping.{Keeping}
 use Rattle.cp_waits.specs.declared.passing.Keeping.TheVariants.{Waiting, Inside}
-use Rattle.cp_waits.specs.declared.watching.Came.TheVariants as came
 use Rattle.cp_waits.specs.Legs.{ComesTo, IsHalted, choice_leg}
 use Rattle.cp_waits.specs.Walks.{IsEdge, IsWay, IsRound}
 use Rattle.cp_endless.proofs.Basics.{any_left, any_right, each_append as each_joined}
@@ -22,10 +22,10 @@ pub record Goes {S : Type 0} (sys : System S) (inside waiting : S → ℕ → Bo
 pub edge_goes : {S : Type 0} (sys : System S) (inside waiting : S → ℕ → Bool) (steps : ℕ) (states : List (S × List ℕ)) (s : S) (e : Edge) (j : ℕ) → IsChoice sys inside waiting steps states s e → e.to ≡ Some j → Goes sys inside waiting steps states s e j
 edge_goes {S} sys inside waiting steps states s e j c to = by (chosen sys steps s e.number) refl c.to
   where
-    seen_by : (t : S) → chosen sys steps s e.number ≡ Choosing t → (x : Came) → ComesTo sys inside waiting steps (choice_leg sys steps s e.number) (s ∷ []) e.passing x c.last → Seen sys inside waiting (s ∷ []) (moments sys steps s e.number) e.passing
-    seen_by t is came.Choice h = h.1
-    seen_by t is came.End h = absurd (subst IsHalted is h.0.halted)
-    seen_by t is (came.Repeats again) h = absurd (subst IsHalted is h.0.halted)
+    seen_by : (t : S) → chosen sys steps s e.number ≡ Choosing t → (x : Halt (Option PassingSets)) → ComesTo sys inside waiting steps (choice_leg sys steps s e.number) (s ∷ []) e.passing x c.last → Seen sys inside waiting (s ∷ []) (moments sys steps s e.number) e.passing
+    seen_by t is halt.Choice h = h.1
+    seen_by t is (halt.Ended None) h = absurd (subst IsHalted is h.0.halted)
+    seen_by t is (halt.Ended (Some again)) h = absurd (subst IsHalted is h.0.halted)
 
     by : (n : Node S) → chosen sys steps s e.number ≡ n → IsNumber states n e.to → Goes sys inside waiting steps states s e j
     by (Halted kind t) is none = let both = sym none ∙ to in absurd (cc)
@@ -35,7 +35,7 @@ edge_goes {S} sys inside waiting steps states s e j c to = by (chosen sys steps 
           word = number.1;
           there = subst (λ i. slice_get states i ≡ Some (t, number.1)) (some_same number.0 j (sym number.2 ∙ to)) number.3;
           goes = is;
-          seen = seen_by t is c.came c.seen;
+          seen = seen_by t is c.halt c.seen;
         }
 
 -- the process that keeps doing something

@@ -1,10 +1,11 @@
 -- Stretches that let a process wait for ever, and what was seen of them.
 use Rattle.std.proofs.Common.{◌≡◌, ◌⊎◌, inl, inr, ◌<◌, ◌≤◌, ◌∙◌, ℕ, suc, Bool, true, false, List, [], ◌∷◌, ◌++◌, Some, if◌then◌else◌, refl, sym, ap, subst, arith}
 use Rattle.cp_waits.proofs.Words.{Contains, ◌&&◌, not, nat_lt, Turn, Goes, System, Repeats, Origin, some_same, LetsWait, has, Graph, Standstill, PassingSets}
-use Rattle.cp_waits.proofs.Words.{Set, Came}
+use Rattle.cp_waits.proofs.Words.{Set, Halt, Option, None}
 use Rattle.std.proofs.lemmas.Bool.{cases_lt, le-ltb, lt-ltb}
 use Rattle.std.proofs.lemmas.List.Elements.{Contains-append_left, Contains-push, Contains-push_cases}
 use Rattle.cp_run.specs.declared.outcome.OutcomeKind.TheVariants.{StepLimit}
+use Rattle.cp_run.specs.declared.outcome.Halt.TheVariants.{Choice, Ended}
 use Rattle.cp_run.specs.Run.{Node, Halted, Choosing, node_at, settled_turn, turn_at, stretch, opened, chosen}
 use Rattle.cp_endless.specs.Rounds.{IsRound, spot_by}
 use Rattle.cp_endless.specs.Standstill.{StandsStill, IsStandstill}
@@ -12,7 +13,6 @@ use Rattle.cp_endless.proofs.steps.Rounds.{standstills, standstills_found}
 use Rattle.cp_ends.proofs.words.Returns.{cut_there}
 use Rattle.cp_waits.specs.Building.{IsOfStretch, IsStillOf, AddsStill}
 use Rattle.cp_waits.specs.Legs.{Leg, first_leg, choice_leg, GoesRound, ComesTo}
-use Rattle.cp_waits.specs.declared.watching.Came.TheVariants.{Choice, End, Repeats as GoesOn}
 use Rattle.cp_refine.proofs.gates.Gates.{and_false as and_none}
 
 -- ---- where legs lead
@@ -57,16 +57,16 @@ module _ {S : Type 0} (sys : System S) (inside waiting : S → ℕ → Bool) (st
       still = standstills_found sys x.begin x.first (round_of x.begin x.first x.repeats) waiting q stands
 
   -- where a choice is due, or the run is over, nobody waits in its stretch for ever
-  pub no_round : IsOfStretch sys steps leg → (came : Came) (due : List S) (p : PassingSets) (m : S) → ((again : PassingSets) → came ≡ GoesOn again → ⊥) → ComesTo sys inside waiting steps leg due p came m → (q : ℕ) → LetsWait sys waiting steps leg q → ⊥
+  pub no_round : IsOfStretch sys steps leg → (halt : Halt (Option PassingSets)) (due : List S) (p : PassingSets) (m : S) → ((again : PassingSets) → halt ≡ Ended (Some again) → ⊥) → ComesTo sys inside waiting steps leg due p halt m → (q : ℕ) → LetsWait sys waiting steps leg q → ⊥
   no_round of Choice due p m none h q w =
       choosing (leg.node) (sym (of w.begin w.first w.spot ∙ cut_there sys steps w.begin w.first w.repeats.state w.repeats.process w.repeats.comes)) h.0
     where
       choosing : (node : Node S) → Halted StepLimit w.repeats.state ≡ node → node ≡ Choosing m → ⊥
       choosing node e d = let both = e ∙ d in cc
-  no_round of End due p m none h q w = h.0.never w.begin w.first w.spot w.repeats
-  no_round of (GoesOn again) due p m none h q w = none again refl
+  no_round of (Ended None) due p m none h q w = h.0.never w.begin w.first w.spot w.repeats
+  no_round of (Ended (Some again)) due p m none h q w = none again refl
 
-  pub round_seen : (again : PassingSets) (due : List S) (p : PassingSets) (m : S) → ComesTo sys inside waiting steps leg due p (GoesOn again) m → GoesRound sys inside waiting steps leg again
+  pub round_seen : (again : PassingSets) (due : List S) (p : PassingSets) (m : S) → ComesTo sys inside waiting steps leg due p (Ended (Some again)) m → GoesRound sys inside waiting steps leg again
   round_seen again due p m h = h.0
 
   -- ---- standstills of a graph

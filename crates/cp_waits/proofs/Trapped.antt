@@ -1,16 +1,16 @@
 -- Traps of a graph are traps of its machine: whoever waits for ever comes to where it waits, whatever is chosen.
 use Rattle.std.proofs.Common.{◌≡◌, ◌⊎◌, inl, inr, ⊎_elim, ◌∙◌, ◌+◌, ◌<◌, ◌≤◌, ℕ, zero, suc, Bool, true, false, if◌then◌else◌, List, [], ◌∷◌, length, map, Option, None, Some, refl, sym, ap, subst, arith}
 use Rattle.cp_waits.proofs.Words.{Contains, slice_get, Each, cases_order, slice_get_within, Turn, Goes, System, IsClosedSet, IsIn, contains_at, Edge, Graph}
-use Rattle.cp_waits.proofs.Words.{Waiting, PassingSets, Came, IsChoice, IsNumber, keeps, ComesTo, choice_leg, WaitsForGood, Seen, HasTraps, IsStateLed}
+use Rattle.cp_waits.proofs.Words.{Waiting, PassingSets, Halt, IsChoice, IsNumber, keeps, ComesTo, choice_leg, WaitsForGood, Seen, HasTraps, IsStateLed}
 use Rattle.cp_waits.proofs.Words.{LeadsToTrap, IsEdge}
 use Rattle.cp_run.specs.Run.{Node, Halted, Choosing, may, chosen, settled_turn, turn_after}
+use Rattle.cp_run.specs.declared.outcome.Halt.TheVariants as halt
 use Rattle.cp_endless.specs.Fair.{IsEndless, IsFair, IsServed}
 use Rattle.cp_endless.specs.Moments.{Moment, moments, moments_by, stretch_moments}
 use Rattle.cp_endless.specs.Traps.{IsTrap}
 use Rattle.cp_endless.specs.WaitsForEver.{WaitsFrom}
 use Rattle.cp_endless.proofs.waiting.Traps.{trapped}
 use Rattle.cp_ends.proofs.named.Kinds.{contains_map}
-use Rattle.cp_waits.specs.declared.watching.Came.TheVariants as came
 use Rattle.cp_waits.specs.Ranks.{IsPassedOver, IsRanked}
 use Rattle.cp_waits.proofs.Falling.{AreApart, along, at_of, index_here, index_in, keeps_on, who, who_below, who_is}
 use Rattle.cp_waits.proofs.Runs.{edge_at}
@@ -71,12 +71,12 @@ module _ {S : Type 0} (sys : System S) (inside waiting : S → ℕ → Bool) (st
 
   -- who waits on all of an edge waits at its choice, and at each moment after it
   waits_on : (s : S) (e : Edge) → IsChoice sys inside waiting steps states s e → keeps (Waiting q) e.passing ≡ true → (waiting s q ≡ true) × Each M (moments sys steps s e.number)
-  waits_on s e c keep = by c.came c.seen
+  waits_on s e c keep = by c.halt c.seen
     where
-      by : (x : Came) → ComesTo sys inside waiting steps (choice_leg sys steps s e.number) (s ∷ []) e.passing x c.last → (waiting s q ≡ true) × Each M (moments sys steps s e.number)
-      by came.Choice h = let k = (h.1.wait q less).0 keep in (k.0.0, k.1)
-      by came.End h = let k = (h.1.wait q less).0 keep in (k.0.0, k.1)
-      by (came.Repeats again) h =
+      by : (x : Halt (Option PassingSets)) → ComesTo sys inside waiting steps (choice_leg sys steps s e.number) (s ∷ []) e.passing x c.last → (waiting s q ≡ true) × Each M (moments sys steps s e.number)
+      by halt.Choice h = let k = (h.1.wait q less).0 keep in (k.0.0, k.1)
+      by (halt.Ended None) h = let k = (h.1.wait q less).0 keep in (k.0.0, k.1)
+      by (halt.Ended (Some again)) h =
           let k = (h.1.wait q less).0 keep in
           (k.0.0, fewer_moments sys M steps (steps + suc h.0.repeats.after) (omega arith) s e.number k.1)
 

@@ -1,5 +1,5 @@
 -- The names that many proofs of this crate use, from one place.
-pub use Rattle.std.proofs.Common.{List, Option, Some, [], ap, arith, below_more, false, get_or, inl, inr, length, map, refl, subst, sym, take, true, ℕ, ◌+◌}
+pub use Rattle.std.proofs.Common.{List, None, Option, Some, [], ap, arith, below_more, false, get_or, inl, inr, length, map, refl, subst, sym, take, true, ℕ, ◌+◌}
 pub use Rattle.std.proofs.Common.{◌<◌, ◌^◌, ◌∙◌, ◌∷◌, ◌≡◌, ◌≤◌}
 pub use Rattle.std.proofs.lemmas.Bool.{cases_lt, cases_order, eq-eqb, eqb-true, lt-ltb}
 pub use Rattle.std.proofs.lemmas.List.{length-map}
@@ -30,6 +30,7 @@ pub use Rattle.cp_run.specs.Run.{Choosing, Halted, Node, those_below}
 unfoldable pub use Rattle.cp_run.specs.Run.{chosen, opened, stretch, may}
 pub use Rattle.cp_run.specs.Slots.{slots}
 pub use Rattle.cp_run.specs.System.{System}
+pub use Rattle.cp_run.specs.declared.outcome.Halt.{Halt}
 pub use Rattle.cp_run.specs.declared.outcome.Turn.{Turn}
 pub use Rattle.cp_run.specs.declared.outcome.Turn.TheVariants.{Due, Goes, Over}
 pub use Rattle.cp_slots.specs.Tables.{Tables}
@@ -51,4 +52,3 @@ pub use Rattle.cp_waits.specs.declared.passing.Keeping.TheVariants.{Waiting}
 pub use Rattle.cp_waits.specs.declared.passing.PassingSets.{PassingSets}
 pub use Rattle.cp_waits.specs.declared.set.Set.{Set}
 pub use Rattle.cp_waits.specs.declared.waiting.How.TheVariants.{ForGood}
-pub use Rattle.cp_waits.specs.declared.watching.Came.{Came}

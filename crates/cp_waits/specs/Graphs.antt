@@ -7,6 +7,7 @@ use Rattle.cp_machine.specs.declared.gates.Gates.{Gates}
 use Rattle.cp_run.specs.Run.{Node, Halted, Choosing, may, chosen, those_below}
 use Rattle.cp_run.specs.Slots.{slots}
 use Rattle.cp_run.specs.System.{System}
+use Rattle.cp_run.specs.declared.outcome.Halt.{Halt}
 use Rattle.cp_endless.specs.Repeats.{Repeats}
 use Rattle.cp_endless.specs.Silent.{without_output, silent_slots, in_call_on_slots, waits_on_slots}
 use Rattle.cp_endless.specs.Standstill.{IsStandstill}
@@ -21,7 +22,7 @@ use Rattle.cp_waits.specs.Walks.{first_edge, end_edge}
 use Rattle.cp_waits.specs.declared.graph.Edge.{Edge}
 use Rattle.cp_waits.specs.declared.graph.Graph.{Graph}
 use Rattle.cp_waits.specs.declared.graph.Standstill.{Standstill}
-use Rattle.cp_waits.specs.declared.watching.Came.{Came}
+use Rattle.cp_waits.specs.declared.passing.PassingSets.{PassingSets}
 
 -- ---- the choices of a state
 
@@ -33,9 +34,9 @@ IsNumber states (Choosing s) to = (j : ℕ) × (word : List ℕ) × (to ≡ Some
 -- the edge is the choice of its number in the state: it tells where that leads, and what is seen of it
 pub record IsChoice {S : Type 0} (sys : System S) (inside waiting : S → ℕ → Bool) (steps : ℕ) (states : List (S × List ℕ)) (s : S) (e : Edge) : Type 0 where
   pub to : IsNumber states (chosen sys steps s e.number) e.to
-  pub came : Came
+  pub halt : Halt (Option PassingSets)
   pub last : S
-  pub seen : ComesTo sys inside waiting steps (choice_leg sys steps s e.number) (s ∷ []) e.passing came last
+  pub seen : ComesTo sys inside waiting steps (choice_leg sys steps s e.number) (s ∷ []) e.passing halt last
 
 -- one for each number that may be chosen, in rising order
 pub record AreChoices {S : Type 0} (sys : System S) (inside waiting : S → ℕ → Bool) (steps : ℕ) (states : List (S × List ℕ)) (s : S) (edges : List Edge) : Type 0 where

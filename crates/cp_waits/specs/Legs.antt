@@ -1,18 +1,19 @@
 -- From one due choice to the next.
-use Rattle.std.specs.Prelude.{◌≡◌, ◌+◌, ℕ, suc, List, [], ◌∷◌, ◌<◌, Bool, false, Option, None, Some}
+use Rattle.std.specs.Prelude.{◌≡◌, ◌+◌, ℕ, suc, List, [], ◌<◌, Bool, false, Option, None, Some}
 use Rattle.cp_slots.specs.Tables.{Tables}
 use Rattle.cp_machine.specs.System.{Machine}
 use Rattle.cp_machine.specs.declared.gates.Gates.{Gates}
 use Rattle.cp_run.specs.System.{System}
-use Rattle.cp_run.specs.Run.{Node, Halted, Choosing, stretch, opened, chosen, turn_at}
+use Rattle.cp_run.specs.Run.{Node, Halted, Choosing, node_at, stretch, opened, chosen, turn_at}
+use Rattle.cp_run.specs.declared.outcome.Halt.{Halt}
+use Rattle.cp_run.specs.declared.outcome.Halt.TheVariants.{Choice, Ended}
+use Rattle.cp_run.specs.declared.outcome.Turn.{Turn}
 use Rattle.cp_endless.specs.Moments.{Moment, moments_by, stretch_moments, moments}
 use Rattle.cp_endless.specs.Repeats.{Repeats, repeated_part}
-use Rattle.cp_endless.specs.Rounds.{spot_after, opening_spot, chosen_spot}
+use Rattle.cp_endless.specs.Rounds.{spot_after, spot_by, opening_spot, chosen_spot}
 use Rattle.cp_endless.specs.Silent.{silent_slots, in_call_on_slots, waits_on_slots}
 use Rattle.cp_waits.specs.Passings.{Seen, HasSeen}
 use Rattle.cp_waits.specs.declared.passing.PassingSets.{PassingSets}
-use Rattle.cp_waits.specs.declared.watching.Came.{Came}
-use Rattle.cp_waits.specs.declared.watching.Came.TheVariants as came
 
 -- where it leads, where its stretch begins, if there is one, and its moments, of at most so many steps
 pub record Leg (S : Type 0) : Type 0 where
@@ -20,9 +21,9 @@ pub record Leg (S : Type 0) : Type 0 where
   pub spot : Option (S × ℕ)
   pub moments : ℕ → List (Moment S)
 
--- the stretch alone
-abbrev pub stretch_leg : {S : Type 0} → System S → ℕ → S → ℕ → Leg S
-stretch_leg sys steps s p = record { node = stretch sys steps s p; spot = Some (s, p); moments = λ n. stretch_moments sys n s p }
+-- from a state, where this comes next
+abbrev pub turn_leg : {S : Type 0} → System S → ℕ → S → Turn → Leg S
+turn_leg sys steps s turn = record { node = node_at s (stretch sys steps s) turn; spot = spot_by s (λ q. Some (s, q)) turn; moments = λ n. moments_by (stretch_moments sys n s) turn }
 
 -- from the start
 abbrev pub first_leg : {S : Type 0} → System S → ℕ → Leg S
@@ -56,12 +57,13 @@ HasRound r gates steps s p None = (k : ℕ) → k < steps → spot_after (silent
 HasRound r gates steps s p (Some again) =
     (k : ℕ) × (k < steps) × (spot_after (silent_slots r gates) (suc k) s p ≡ Some (s, p)) × HasSeen r gates [] (stretch_moments (silent_slots r gates) (suc k) s p) again
 
--- Where a leg came to, and what was seen of it, with the due choices before it: of as many steps as the limit, and once round if it repeats.
-abbrev pub ComesTo : {S : Type 0} → System S → (S → ℕ → Bool) → (S → ℕ → Bool) → ℕ → Leg S → List S → PassingSets → Came → S → Type 0
-ComesTo sys inside waiting steps leg due p came.Choice s = (leg.node ≡ Choosing s) × Seen sys inside waiting due (leg.moments steps) p
-ComesTo sys inside waiting steps leg due p came.End s = Ends sys steps leg × Seen sys inside waiting due (leg.moments steps) p
-ComesTo sys inside waiting steps leg due p (came.Repeats again) s = (x : GoesRound sys inside waiting steps leg again) × Seen sys inside waiting due (leg.moments (steps + suc x.repeats.after)) p
+-- Where a leg came to, and what was seen of it, with the due choices before it: of as many steps as the limit, and once round if it repeats. Where
+-- it ended, it says what was seen of the part that repeats.
+abbrev pub ComesTo : {S : Type 0} → System S → (S → ℕ → Bool) → (S → ℕ → Bool) → ℕ → Leg S → List S → PassingSets → Halt (Option PassingSets) → S → Type 0
+ComesTo sys inside waiting steps leg due p Choice s = (leg.node ≡ Choosing s) × Seen sys inside waiting due (leg.moments steps) p
+ComesTo sys inside waiting steps leg due p (Ended None) s = Ends sys steps leg × Seen sys inside waiting due (leg.moments steps) p
+ComesTo sys inside waiting steps leg due p (Ended (Some again)) s = (x : GoesRound sys inside waiting steps leg again) × Seen sys inside waiting due (leg.moments (steps + suc x.repeats.after)) p
 
 -- of the slot machine that shows nothing
-abbrev pub Comes : Tables → Gates → ℕ → Leg Machine → List Machine → PassingSets → Came → Machine → Type 0
-Comes r gates steps leg due p came m = ComesTo (silent_slots r gates) in_call_on_slots waits_on_slots steps leg due p came m
+abbrev pub Comes : Tables → Gates → ℕ → Leg Machine → List Machine → PassingSets → Halt (Option PassingSets) → Machine → Type 0
+Comes r gates steps leg due p halt m = ComesTo (silent_slots r gates) in_call_on_slots waits_on_slots steps leg due p halt m

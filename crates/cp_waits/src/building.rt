@@ -16,12 +16,12 @@ ghost use Rattle.cp_waits.specs.Legs.{Comes, Leg};
 
 use crate::graph::{Edge, Graph, Standstill};
 use crate::passing::PassingSets;
-use crate::watching::{Came, choose, open};
+use crate::watching::{choose, open};
 use cp_ends::Found;
 use cp_ends::origin::Origin;
 use cp_machine::{State, Ticks};
 use cp_progress::{ObserveProgress, Progress, STATES_BETWEEN};
-use cp_run::{Limits, candidates};
+use cp_run::{Halt, Limits, candidates};
 use cp_slots::Resolved;
 use std::alloc::{AllocError, Global};
 use std::marker::Brand;
@@ -94,8 +94,8 @@ impl Builder {
         ensures { IfOk result (λ _. IsGraphOfAll program.now limits.gates limits.steps found.now self.new.graph) }
     {
         let mut passing = PassingSets::new(self.graph.everybody());
-        let came = open(alloc, program, limits, state, &mut passing, steps)?;
-        self.note_standstill(came, Origin::Start)?;
+        let halt = open(alloc, program, limits, state, &mut passing, steps)?;
+        self.note_standstill(halt, Origin::Start)?;
         let mut next = state.copy(alloc)?;
         self.go_on(
             alloc, program, limits, found, observer, state, &mut next, steps,
@@ -182,13 +182,13 @@ impl Builder {
         ensures graph { IfOk result (λ _. (states : List (Machine × List ℕ)) (x : Machine × List ℕ) → AreAll program.now limits.gates limits.steps found.now states → self.old.graph.processes ≡ length program.now.processes → slice_get states number ≡ Some x → machine_of state.old ≡ x.0 → AddsChoicesOnSlots program.now limits.gates limits.steps states number x.0 (process ∷ []) self.old.graph self.new.graph) }
     {
         let mut passing = PassingSets::new(self.graph.everybody());
-        let came = choose(alloc, program, limits, state, process, &mut passing, steps)?;
-        let to = self.number_after(came, found, state)?;
+        let halt = choose(alloc, program, limits, state, process, &mut passing, steps)?;
+        let to = self.number_after(halt, found, state)?;
         let origin = Origin::Choice {
             state: number,
             number: process,
         };
-        self.note_standstill(came, origin)?;
+        self.note_standstill(halt, origin)?;
         self.graph.edges.push(Edge {
             number: process,
             to,
@@ -200,16 +200,16 @@ impl Builder {
     // The number of the state to which a stretch came, if a choice is due there.
     fn number_after(
         &mut self,
-        came: Came,
+        halt: Halt<Option<PassingSets>>,
         found: &Found,
         state: &State,
     ) -> Result<Option<u32>, AllocError>
         ensures graph { self.new.graph ≡ self.old.graph }
-        ensures number { IfOk result (λ to. (r : Tables) (gates : slot_gates.Gates) (steps : ℕ) (leg : Leg Machine) (due : List Machine) (seen : PassingSets) (states : List (Machine × List ℕ)) → AreAll r gates steps found.now states → IsIn (HasWord states) (λ kind. Unit {0}) leg.node → Comes r gates steps leg due seen came (machine_of state.now) → IsNumber states leg.node to) }
+        ensures number { IfOk result (λ to. (r : Tables) (gates : slot_gates.Gates) (steps : ℕ) (leg : Leg Machine) (due : List Machine) (seen : PassingSets) (states : List (Machine × List ℕ)) → AreAll r gates steps found.now states → IsIn (HasWord states) (λ kind. Unit {0}) leg.node → Comes r gates steps leg due seen halt (machine_of state.now) → IsNumber states leg.node to) }
     {
-        match came {
-            Came::Choice => self.number_of(found, state),
-            Came::End | Came::Repeats(_) => Ok(None),
+        match halt {
+            Halt::Choice => self.number_of(found, state),
+            Halt::Ended(_) => Ok(None),
         }
     }
 
@@ -228,13 +228,20 @@ impl Builder {
     }
 
     // A word leads to a stretch that may go on for ever without a choice.
-    fn note_standstill(&mut self, came: Came, origin: Origin) -> Result<(), AllocError>
+    fn note_standstill(
+        &mut self,
+        halt: Halt<Option<PassingSets>>,
+        origin: Origin,
+    ) -> Result<(), AllocError>
         ensures processes { self.new.graph.processes ≡ self.old.graph.processes }
         ensures edges { self.new.graph.edges.items ≡ self.old.graph.edges.items }
         ensures ends { self.new.graph.ends.items ≡ self.old.graph.ends.items }
-        ensures still { IfOk result (λ _. (r : Tables) (gates : slot_gates.Gates) (steps : ℕ) (leg : Leg Machine) (due : List Machine) (seen : PassingSets) (m : Machine) → length r.processes ≤ 16 → self.old.graph.processes ≡ length r.processes → IsOfStretch (silent_slots r gates) steps leg → Comes r gates steps leg due seen came m → AddsStill (silent_slots r gates) in_call_on_slots waits_on_slots steps leg origin self.old.graph self.new.graph) }
+        ensures still { IfOk result (λ _. (r : Tables) (gates : slot_gates.Gates) (steps : ℕ) (leg : Leg Machine) (due : List Machine) (seen : PassingSets) (m : Machine) → length r.processes ≤ 16 → self.old.graph.processes ≡ length r.processes → IsOfStretch (silent_slots r gates) steps leg → Comes r gates steps leg due seen halt m → AddsStill (silent_slots r gates) in_call_on_slots waits_on_slots steps leg origin self.old.graph self.new.graph) }
     {
-        let Came::Repeats(again) = came else {
+        let Halt::Ended(round) = halt else {
+            return Ok(());
+        };
+        let Some(again) = round else {
             return Ok(());
         };
         let is_fair = self.graph.everybody().but(again.served).is_empty();

@@ -37,7 +37,7 @@ one_behind word shown outcome old new lines (Err e) same is h = h
 one_behind word shown outcome old new lines (Ok x) same is h =
     h ∙ ap (λ w. old ++ record { word = w; outcome = outcome } ∷ []) (same ∙ sym (append_none word)) ∙ ap (λ l. old ++ map (behind word) l) (sym is)
 
-pub not_ended : (h : Halt) → ((kind : OutcomeKind) → h ≡ Ended kind → ⊥) → h ≡ Choice
+pub not_ended : (h : Halt OutcomeKind) → ((kind : OutcomeKind) → h ≡ Ended kind → ⊥) → h ≡ Choice
 not_ended Choice never = refl
 not_ended (Ended kind) never = absurd (never kind refl)
 

@@ -1,6 +1,6 @@
 -- Where a walk stands, some number may be taken.
 use Rattle.std.proofs.Common.{◌≡◌, ◌∙◌, ℕ, ◌<◌, Bool, true, false, ◌&&◌, if◌then◌else◌, length, Option, None, Some, refl, ap, subst, arith}
-use Rattle.cp_walk.proofs.Words.{lt-ltb, Tables, Halt, node_of, may, chosen, opened, slots, IsDue}
+use Rattle.cp_walk.proofs.Words.{lt-ltb, Tables, Halt, OutcomeKind, node_of, may, chosen, opened, slots, IsDue}
 use Rattle.cp_machine.specs.declared.gates.Gates.{Gates}
 use Rattle.cp_machine.specs.declared.state.State.{State}
 use Rattle.cp_machine.specs.System.{Machine, machine_of, is_pending, is_ready, in_line, IsStateOf}
@@ -21,7 +21,7 @@ in_some_line r s own e = by (machine_of s).pending refl e
     by None at h = absurd (cc)
     by (Some monitor) at h = let x = pending_waits r s monitor own at in (x.0, (x.1, ap (λ o. in_line_of o (thread_at (machine_of s).threads x.0).status) at ∙ x.2))
 
-due_at : (r : Tables) (gates : Gates) (h : Halt) (s : State) → IsStateOf r s → Stands (slots r gates) (node_of h (machine_of s)) → IsDue (slots r gates) (node_of h (machine_of s))
+due_at : (r : Tables) (gates : Gates) (h : Halt OutcomeKind) (s : State) → IsStateOf r s → Stands (slots r gates) (node_of h (machine_of s)) → IsDue (slots r gates) (node_of h (machine_of s))
 due_at r gates (Ended kind) s own stands = tt
 due_at r gates Choice s own stands = by (is_pending (machine_of s)) refl
   where
@@ -33,9 +33,9 @@ due_at r gates Choice s own stands = by (is_pending (machine_of s)) refl
     by false e = stands e
 
 -- after the opening stretch
-pub due_opened : (r : Tables) (gates : Gates) (steps : ℕ) (h : Halt) (s : State) → IsStateOf r s → opened (slots r gates) steps ≡ node_of h (machine_of s) → IsDue (slots r gates) (node_of h (machine_of s))
+pub due_opened : (r : Tables) (gates : Gates) (steps : ℕ) (h : Halt OutcomeKind) (s : State) → IsStateOf r s → opened (slots r gates) steps ≡ node_of h (machine_of s) → IsDue (slots r gates) (node_of h (machine_of s))
 due_opened r gates steps h s own e = due_at r gates h s own (subst (Stands (slots r gates)) e (opened_stands (slots r gates) steps))
 
 -- after a choice
-pub due_chosen : (r : Tables) (gates : Gates) (steps : ℕ) (m : Machine) (p : ℕ) (h : Halt) (s : State) → IsStateOf r s → chosen (slots r gates) steps m p ≡ node_of h (machine_of s) → IsDue (slots r gates) (node_of h (machine_of s))
+pub due_chosen : (r : Tables) (gates : Gates) (steps : ℕ) (m : Machine) (p : ℕ) (h : Halt OutcomeKind) (s : State) → IsStateOf r s → chosen (slots r gates) steps m p ≡ node_of h (machine_of s) → IsDue (slots r gates) (node_of h (machine_of s))
 due_chosen r gates steps m p h s own e = due_at r gates h s own (subst (Stands (slots r gates)) e (chosen_stands (slots r gates) steps m p))

@@ -1,6 +1,6 @@
 -- The rows that begin with a word, number by number.
 use Rattle.std.proofs.Common.{◌≡◌, ℕ, zero, suc, ◌+◌, ◌-◌, ◌<◌, true, false, if◌then◌else◌, List, [], ◌∷◌, ◌++◌, length, map, take, drop, get_or, refl, sym, ap, subst, ◌∙◌, arith, take-suc}
-use Rattle.cp_walk.proofs.Words.{append_assoc, Halt, System, Node, Halted, Choosing, may, chosen, opened, Line, behind, walk, rows_from, rows_behind}
+use Rattle.cp_walk.proofs.Words.{append_assoc, Halt, OutcomeKind, System, Node, Halted, Choosing, may, chosen, opened, Line, behind, walk, rows_from, rows_behind}
 use Rattle.cp_walk.proofs.Words.{eqb-true}
 use Rattle.cp_run.specs.declared.outcome.Halt.TheVariants.{Choice, Ended as HasEnded}
 use Rattle.cp_run.specs.Code.{node_of, is_over}
@@ -9,7 +9,7 @@ use Rattle.cp_run.proofs.TraceRuns.{not_over, some_left}
 use Rattle.cp_walk.proofs.Whole.{behind_none}
 use Rattle.cp_walk.proofs.Joining.{take_whole}
 
-pub none_over : {S : Type 0} (sys : System S) (steps k p : ℕ) (word rest : List ℕ) (h : Halt) (s : S) → word ≡ p ∷ rest → is_over k h ≡ true → rows_from sys steps k word (node_of h s) ≡ []
+pub none_over : {S : Type 0} (sys : System S) (steps k p : ℕ) (word rest : List ℕ) (h : Halt OutcomeKind) (s : S) → word ≡ p ∷ rest → is_over k h ≡ true → rows_from sys steps k word (node_of h s) ≡ []
 unfolding rows_from
 none_over sys steps zero p word rest Choice s e o = ap (λ w. rows_from sys steps zero w (Choosing s)) e
 none_over sys steps (suc k) p word rest Choice s e o = absurd (omega (arith, eqb-true (suc k) 0 o))
@@ -20,7 +20,7 @@ none_refused : {S : Type 0} (sys : System S) (steps j p : ℕ) (rest : List ℕ)
 unfolding rows_from
 none_refused sys steps j p rest s off = ap (λ b. if b then map (behind (p ∷ [])) (rows_from sys steps j rest (chosen sys steps s p)) else []) off
 
-pub refused_rows : {S : Type 0} (sys : System S) (steps k p : ℕ) (word rest : List ℕ) (h : Halt) (s : S) → word ≡ p ∷ rest → is_over k h ≡ false → may sys s p ≡ false → rows_from sys steps k word (node_of h s) ≡ []
+pub refused_rows : {S : Type 0} (sys : System S) (steps k p : ℕ) (word rest : List ℕ) (h : Halt OutcomeKind) (s : S) → word ≡ p ∷ rest → is_over k h ≡ false → may sys s p ≡ false → rows_from sys steps k word (node_of h s) ≡ []
 refused_rows sys steps k p word rest h s e o off =
     let more = some_left k h o in
     let m : k ≡ suc (k - 1) = omega (arith, more) in
@@ -35,7 +35,7 @@ behind_twice word p [] = refl
 behind_twice word p (l ∷ ls) = ap (λ w. record { word = w; outcome = l.outcome } ∷ map (behind word) (map (behind (p ∷ [])) ls)) (sym (append_assoc word (p ∷ []) l.word)) ∙ ap (λ m. behind (word ++ p ∷ []) l ∷ m) (behind_twice word p ls)
 
 -- one number of the word further
-pub replayed : {S : Type 0} (sys : System S) (steps choices n : ℕ) (word : List ℕ) (h : Halt) (s : S) (node : Node S) → n < length word → is_over (choices - n) h ≡ false → may sys s (get_or word n 0) ≡ true → chosen sys steps s (get_or word n 0) ≡ node → map (behind (take n word)) (rows_from sys steps (choices - n) (drop n word) (node_of h s)) ≡ map (behind (take (n + 1) word)) (rows_from sys steps (choices - (n + 1)) (drop (n + 1) word) node)
+pub replayed : {S : Type 0} (sys : System S) (steps choices n : ℕ) (word : List ℕ) (h : Halt OutcomeKind) (s : S) (node : Node S) → n < length word → is_over (choices - n) h ≡ false → may sys s (get_or word n 0) ≡ true → chosen sys steps s (get_or word n 0) ≡ node → map (behind (take n word)) (rows_from sys steps (choices - n) (drop n word) (node_of h s)) ≡ map (behind (take (n + 1) word)) (rows_from sys steps (choices - (n + 1)) (drop (n + 1) word) node)
 replayed sys steps choices n word h s node lt o on at =
     let p = get_or word n 0 in
     let rest = drop (n + 1) word in

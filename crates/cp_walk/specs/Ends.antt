@@ -1,13 +1,19 @@
 -- What a worker leaves.
 use Rattle.cp_walk.specs.declared.row.Row.{Row}
-use Rattle.std.specs.Prelude.{◌≡◌, ℕ, ◌<◌, ◌≤◌, List, length, map, take, All, Any}
+use Rattle.std.specs.Prelude.{◌≡◌, ℕ, ◌<◌, ◌≤◌, List, [], length, map, take, All, Any}
 use Rattle.cp_board.specs.declared.views.View.{View}
 use Rattle.cp_board.specs.declared.seats.Board.{Board}
-use Rattle.cp_board.specs.Seats.{IsSeatOf, view_of}
+use Rattle.cp_board.specs.Seats.{IsSeatOf, view_of, tasks_of}
+use Rattle.cp_board.specs.Views.{view}
+use Rattle.cp_board.specs.declared.seats.Seat.{Seat}
 use Rattle.cp_walk.specs.declared.worker.TaskRows.{TaskRows}
 use Rattle.cp_walk.specs.declared.worker.Worked.{Worked}
 use Rattle.cp_walk.specs.declared.worker.WorkerEnd.{WorkerEnd}
 use Rattle.cp_walk.specs.declared.worker.WorkerEnd.TheVariants.{Dry, Excess, Refused}
+
+-- the seat is this board's, and has drawn and noted nothing
+abbrev pub IsFresh : Board → Seat → Type 0
+IsFresh b s = IsSeatOf b s × (view_of s ≡ view 1 (tasks_of b) [] [] 0)
 
 -- each draw has its piece and its note, in order, with the rows of its task, of which those past the 50,001st are left out
 pub record IsDone (rows : ℕ → List Row) (v : View) (ps : List TaskRows) : Type 0 where

@@ -12,7 +12,7 @@ use crate::fault::SplitFault;
 use crate::job::Job;
 use crate::wanting::numbers_wanted_after;
 use arrayvec::ArrayVec;
-use cp_progress::{ObserveProgress, WalkProgress};
+use cp_progress::{ObserveProgress, Unobserved, WalkProgress};
 use std::alloc::{AllocError, Global};
 
 /// The most members of a cutting.
@@ -70,8 +70,17 @@ impl<'a> Cutting<'a> {
     }
 
     /// Splits, again and again, the leftmost member that is shorter than `depth` and no leaf, until there is none or a split would be
-    /// Full. An observer is told how many there are.
-    pub fn to_depth<O: ObserveProgress>(
+    /// Full.
+    pub fn to_depth(&mut self, alloc: Global, depth: u8) -> Result<(), AllocError>
+        ensures job { self.new.job ≡ self.old.job }
+        ensures splits { (n : ℕ) × (deepened (slots self.old.job.program.now self.old.job.limits.gates) self.old.job.limits.choices self.old.job.limits.steps depth n (words_of self.old.words.items) ≡ Some (words_of self.new.words.items)) }
+        ensures done { OnOk result (deeper (slots self.old.job.program.now self.old.job.limits.gates) self.old.job.limits.choices self.old.job.limits.steps depth (words_of self.new.words.items) ≡ None) }
+    {
+        self.to_depth_observed(alloc, depth, &mut Unobserved)
+    }
+
+    /// The same. An observer is told how many members there are.
+    pub fn to_depth_observed<O: ObserveProgress>(
         &mut self,
         alloc: Global,
         depth: u8,

@@ -23,7 +23,7 @@ pub fn member_rows<S: Ledger, C: Ledger, N: ObserveWalk>(
     word: &[u8],
     blank: Blank,
     other: Blank,
-    observer: &N,
+    observer: &mut N,
 ) -> Result<Vec<Row>, ExploreFault>
     requires name { blank.name ≡ S.name }
     requires parts { blank.parts ≡ S.parts }

@@ -1,81 +1,90 @@
-//! Whoever is told how far a walk has come, by all its threads.
+//! Whoever is told how far a walk has come. One worker tells, and it alone has him: nothing of him is shared.
 
 use cp_progress::{ObserveProgress, Unobserved, WalkProgress};
-use std::sync::Mutex;
-use std::sync::atomic::{AtomicU32, AtomicUsize, Ordering};
 
 /// A walk goes on to so many more rows before it tells how far it has come.
 const ROWS_BETWEEN: usize = 16;
 
-/// Whoever is told, by any thread, what a walk has come to. What it does changes nothing in the walk.
+/// Whoever is told what one worker has come to. What it does changes nothing in the walk.
 pub trait ObserveWalk {
-    /// So many rows more were found.
-    fn observe_rows(&self, count: usize);
+    /// The worker begins with this task. All tasks before it were drawn.
+    fn observe_task(&mut self, task: u32);
 
-    /// All rows of one more task were found.
-    fn observe_task(&self);
+    /// So many rows more of its task were found.
+    fn observe_rows(&mut self, count: usize);
+
+    /// Its task is done. So many rows were noted by all workers.
+    fn observe_noted(&mut self, total: u64);
 }
 
 impl ObserveWalk for Unobserved {
     #[inline(always)]
-    fn observe_rows(&self, count: usize) {
+    fn observe_task(&mut self, task: u32) {
+        let _ = task;
+    }
+
+    #[inline(always)]
+    fn observe_rows(&mut self, count: usize) {
         let _ = count;
     }
 
     #[inline(always)]
-    fn observe_task(&self) {}
+    fn observe_noted(&mut self, total: u64) {
+        let _ = total;
+    }
 }
 
-/// One observer for all threads. It is told by that thread which has found rows, unless another one is telling it.
+/// What one worker knows of the walk, and whoever it tells of it.
 #[derive(Drop)]
-pub struct SharedObserver<'a, O: ObserveProgress> {
-    observer: Mutex<&'a mut O>,
-    is_listening: bool,
+pub struct Teller<'a, O: ObserveProgress> {
+    observer: &'a mut O,
     tasks: u32,
-    rows: AtomicUsize,
-    done: AtomicU32,
+    others: u32,
+    done: u32,
+    noted: u64,
+    rows: usize,
 }
 
-impl<'a, O: ObserveProgress> SharedObserver<'a, O> {
-    /// Nothing is found yet, of so many tasks.
-    pub fn new(observer: &'a mut O, tasks: u32) -> SharedObserver<'a, O> {
-        let is_listening = observer.is_listening();
-        SharedObserver {
-            observer: Mutex::new(observer),
-            is_listening,
+impl<'a, O: ObserveProgress> Teller<'a, O> {
+    /// Tells of a walk over so many tasks, beside so many other workers.
+    pub fn new(observer: &'a mut O, tasks: u32, others: u32) -> Teller<'a, O> {
+        Teller {
+            observer,
             tasks,
-            rows: AtomicUsize::new(0),
-            done: AtomicU32::new(0),
+            others,
+            done: 0,
+            noted: 0,
+            rows: 0,
         }
     }
 
-    fn count_rows(&self, count: usize) {
-        let before = self.rows.fetch_add(count, Ordering::SeqCst);
-        if before / ROWS_BETWEEN != before.wrapping_add(count) / ROWS_BETWEEN {
+    fn tell(&mut self) {
+        let schedules = (self.noted as usize).saturating_add(self.rows);
+        self.observer.observe_walk(WalkProgress {
+            schedules,
+            done: self.done,
+            beginnings: self.tasks,
+        });
+    }
+}
+
+impl<'a, O: ObserveProgress> ObserveWalk for Teller<'a, O> {
+    // Of the tasks before it each other worker can be at one.
+    fn observe_task(&mut self, task: u32) {
+        self.done = task.saturating_sub(self.others);
+    }
+
+    #[inline(always)]
+    fn observe_rows(&mut self, count: usize) {
+        let before = self.rows;
+        self.rows = before.saturating_add(count);
+        if before / ROWS_BETWEEN != self.rows / ROWS_BETWEEN {
             self.tell();
         }
     }
 
-    fn tell(&self) {
-        if let Some(mut observer) = self.observer.try_lock() {
-            observer.observe_walk(WalkProgress {
-                schedules: self.rows.load(Ordering::SeqCst),
-                done: self.done.load(Ordering::SeqCst),
-                beginnings: self.tasks,
-            });
-        }
-    }
-}
-
-impl<'a, O: ObserveProgress> ObserveWalk for SharedObserver<'a, O> {
-    #[inline(always)]
-    fn observe_rows(&self, count: usize) {
-        if self.is_listening {
-            self.count_rows(count);
-        }
-    }
-
-    fn observe_task(&self) {
-        let _ = self.done.fetch_add(1, Ordering::SeqCst);
+    fn observe_noted(&mut self, total: u64) {
+        self.noted = total;
+        self.rows = 0;
     }
 }

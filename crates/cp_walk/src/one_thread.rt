@@ -18,7 +18,7 @@ use crate::walk::walk_from;
 use crate::word::word_of;
 use cp_machine::{State, Ticks};
 use cp_progress::Unobserved;
-use cp_run::{Halt, Limits, open};
+use cp_run::{Halt, Limits, OutcomeKind, open};
 use cp_slots::Resolved;
 use std::alloc::{AllocError, Global};
 use std::marker::Brand;
@@ -72,7 +72,7 @@ fn explore_counted<S: Ledger, C: Ledger>(
         &mut rows,
         &mut steps,
         calls,
-        &Unobserved,
+        &mut Unobserved,
     )?;
     Ok(Table {
         rows: Rows::new(rows),
@@ -85,13 +85,13 @@ pub fn walk_on<S: Ledger, C: Ledger, N: ObserveWalk>(
     program: &Resolved,
     limits: Limits,
     state: &mut State,
-    halt: Halt,
+    halt: Halt<OutcomeKind>,
     word: &[u8],
     left: u8,
     rows: &mut Vec<Row>,
     steps: &mut Ticks<S>,
     calls: &mut Ticks<C>,
-    observer: &N,
+    observer: &mut N,
 ) -> Result<(), ExploreFault>
     requires own { IsStateOf program.now state.old }
     requires room { length word.now + left ≤ 20 }

@@ -1,9 +1,6 @@
 //! The loop of one worker.
 
-ghost use Rattle.std.specs.Prelude.{◌≡◌, []};
-ghost use Rattle.cp_board.specs.Views.{view};
-ghost use Rattle.cp_board.specs.Seats.{IsSeatOf, view_of, tasks_of};
-ghost use Rattle.cp_walk.specs.Ends.{HasWorked};
+ghost use Rattle.cp_walk.specs.Ends.{HasWorked, IsFresh};
 
 use crate::fault::ExploreFault;
 use crate::observer::ObserveWalk;
@@ -17,15 +14,16 @@ pub fn draw_tasks<W: Work, G: StartGate, N: ObserveWalk>(
     board: &Board,
     work: &W,
     gate: &G,
-    observer: &N,
+    observer: &mut N,
     mut seat: Seat,
 ) -> Worked
-    requires { IsSeatOf board.now seat × (view_of seat ≡ view 1 (tasks_of board.now) [] [] 0) }
+    requires { IsFresh board.now seat }
     ensures { HasWorked (W.rows work.now) board.now result }
 {
     let mut parts = Vec::new(alloc);
     while let Some(task) = board.claim(&mut seat) {
         gate.pass(task);
+        observer.observe_task(task);
         let rows = match work.rows_of(alloc, task, observer) {
             Ok(rows) => rows,
             Err(ExploreFault::TooManyRows) => {
@@ -44,7 +42,6 @@ pub fn draw_tasks<W: Work, G: StartGate, N: ObserveWalk>(
                 };
             }
         };
-        observer.observe_task();
         let count = rows.len() as u32;
         if parts.push(TaskRows { task, rows }).is_err() {
             return Worked {
@@ -53,7 +50,9 @@ pub fn draw_tasks<W: Work, G: StartGate, N: ObserveWalk>(
                 end: WorkerEnd::Refused,
             };
         }
-        if board.note(&mut seat, count) > MOST_NOTED {
+        let total = board.note(&mut seat, count);
+        observer.observe_noted(total);
+        if total > MOST_NOTED {
             return Worked {
                 seat,
                 parts,

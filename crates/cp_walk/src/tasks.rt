@@ -19,7 +19,7 @@ impl Work for Cutting<'_> {
         &self,
         alloc: Global,
         task: u32,
-        observer: &N,
+        observer: &mut N,
     ) -> Result<Vec<Row>, ExploreFault> {
         let Some(word) = self.words.get(task as usize) else {
             return Ok(Vec::new(alloc));

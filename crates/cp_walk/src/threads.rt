@@ -7,7 +7,6 @@ ghost use Rattle.cp_walk.specs.Rows.{line_of};
 
 use crate::cutting::Cutting;
 use crate::fault::ExploreFault;
-use crate::observer::{ObserveWalk, SharedObserver};
 use crate::row::{Rows, Table};
 use crate::worker::StartGate;
 use crate::workers::explore_tasks;
@@ -17,31 +16,13 @@ use std::thread::Threads;
 
 /// The table of a cutting's job, by workers that draw its members. Each worker calls `gate` after it drew a member and before its runs. An observer
 /// is told how far they have come.
-pub fn walk_on_threads<X: Threads + Sync, G: StartGate + Sync, O: ObserveProgress + Send>(
+pub fn walk_on_threads<X: Threads + Sync, G: StartGate + Sync, O: ObserveProgress>(
     rt: &X,
     alloc: Global,
     cutting: &Cutting,
     workers: u8,
     gate: &G,
     observer: &mut O,
-) -> Result<Table, ExploreFault>
-    requires workers { (0 < workers) × (workers ≤ 16) }
-    ensures table { IfOk result (λ t. map line_of t.rows ≡ table (slots cutting.now.job.program.now cutting.now.job.limits.gates) cutting.now.job.limits.choices cutting.now.job.limits.steps) }
-    ensures few { IfOk result (λ t. length t.rows ≤ 50000) }
-    ensures many { result ≡ Err ExploreFault.TooManyRows → 50000 < length (table (slots cutting.now.job.program.now cutting.now.job.limits.gates) cutting.now.job.limits.choices cutting.now.job.limits.steps) }
-{
-    let shared = SharedObserver::new(observer, cutting.words.len() as u32);
-    walk_observed(rt, alloc, cutting, workers, gate, &shared)
-}
-
-// The same, where any thread may tell the observer.
-fn walk_observed<X: Threads + Sync, G: StartGate + Sync, N: ObserveWalk + Sync>(
-    rt: &X,
-    alloc: Global,
-    cutting: &Cutting,
-    workers: u8,
-    gate: &G,
-    observer: &N,
 ) -> Result<Table, ExploreFault>
     requires workers { (0 < workers) × (workers ≤ 16) }
     ensures table { IfOk result (λ t. map line_of t.rows ≡ table (slots cutting.now.job.program.now cutting.now.job.limits.gates) cutting.now.job.limits.choices cutting.now.job.limits.steps) }

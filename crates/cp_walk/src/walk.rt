@@ -33,7 +33,7 @@ fn add_row<N: ObserveWalk>(
     kind: OutcomeKind,
     word: &ArrayVec<u8, 20>,
     rows: &mut Vec<Row>,
-    observer: &N,
+    observer: &mut N,
 ) -> Result<(), ExploreFault>
     ensures row { IfOk result (λ _. map line_of rows.new.items ≡ map line_of rows.old.items ++ record { word = word.now.items; outcome = record { kind = kind; output = output_of (machine_of state.now) } } ∷ []) }
     ensures few { IfOk result (λ _. length rows.new.items ≤ 50000) }
@@ -64,14 +64,14 @@ pub fn walk_from<S: Ledger, C: Ledger, N: ObserveWalk>(
     program: &Resolved,
     limits: Limits,
     state: &mut State,
-    halt: Halt,
+    halt: Halt<OutcomeKind>,
     kept: &mut [State],
     word: &mut ArrayVec<u8, 20>,
     rows: &mut Vec<Row>,
     walked: &mut Walked,
     steps: &mut Ticks<S>,
     calls: &mut Ticks<C>,
-    observer: &N,
+    observer: &mut N,
 ) -> Result<(), ExploreFault>
     requires own { IsStateOf program.now state.old }
     requires kept { All (IsStateOf program.now) kept.old }
@@ -119,14 +119,14 @@ fn walk_once<S: Ledger, C: Ledger, N: ObserveWalk>(
     program: &Resolved,
     limits: Limits,
     state: &mut State,
-    halt: Halt,
+    halt: Halt<OutcomeKind>,
     kept: &mut [State],
     word: &mut ArrayVec<u8, 20>,
     rows: &mut Vec<Row>,
     walked: &mut Walked,
     steps: &mut Ticks<S>,
     calls: &mut Ticks<C>,
-    observer: &N,
+    observer: &mut N,
 ) -> Result<(), ExploreFault>
     requires own { IsStateOf program.now state.old }
     requires kept { All (IsStateOf program.now) kept.old }
@@ -190,7 +190,7 @@ fn walk_child<S: Ledger, C: Ledger, N: ObserveWalk>(
     walked: &mut Walked,
     steps: &mut Ticks<S>,
     calls: &mut Ticks<C>,
-    observer: &N,
+    observer: &mut N,
 ) -> Result<(), ExploreFault>
     requires own { IsStateOf program.now state.old }
     requires may { may (slots program.now limits.gates) (machine_of state.old) process ≡ true }

@@ -28,7 +28,7 @@ pub trait Work {
         &self,
         alloc: Global,
         task: u32,
-        observer: &N,
+        observer: &mut N,
     ) -> Result<Vec<Row>, ExploreFault>
         ensures rows { IfOk result (λ v. v.items ≡ take 50001 (rows self.now task)) }
         ensures many { IfErr result (λ e. IsTooMany e → 50000 < length (rows self.now task)) };

@@ -5,9 +5,7 @@ ghost use Rattle.std.specs.Prelude.{◌≡◌};
 
 use cp_ends_tool::answer_stream;
 use cp_progress_line::{ObserveWork, ProgressLine, terminal_of};
-use cp_tool::{
-    OptionFault, Options, SourceReading, VERSION, Wrapped, asks_version, read_options, reason_for,
-};
+use cp_tool::{OptionFault, Options, SourceReading, VERSION, Wrapped, read_options, reason_for};
 use std::alloc::{AllocError, Global};
 use std::env;
 use std::io::{ErrorKind, Stderr, Stdin, Stdout};
@@ -88,14 +86,12 @@ fn read_words(rt: &HostRuntime) -> Result<RequestedWork, AllocError> {
 
 // What the words ask for, of which the first is the program's name.
 fn read<'a>(alloc: Global, words: &'a [&'a str]) -> Result<RequestedWork, AllocError> {
-    if asks_version(words) {
-        return Ok(RequestedWork::Version);
-    }
     match read_options(alloc, words) {
         Ok(options) => Ok(RequestedWork::Options(options)),
         Err(OptionFault::Refused) => Ok(RequestedWork::Refused(reason_for(alloc, words, READING)?)),
         Err(OptionFault::Memory) => Err(AllocError),
         Err(OptionFault::Help(text)) => Ok(RequestedWork::Help(text)),
+        Err(OptionFault::Version) => Ok(RequestedWork::Version),
     }
 }
 
@@ -116,7 +112,7 @@ fn explore_input<X: Threads + Sync>(threads: &X, rt: &HostRuntime, options: &Opt
 }
 
 /// The status of answering what standard input has; the blanks are for the counts of the streams' calls.
-fn exploration_status<X: Threads + Sync, O: ObserveWork + Send, A: Ledger, B: Ledger>(
+fn exploration_status<X: Threads + Sync, O: ObserveWork, A: Ledger, B: Ledger>(
     rt: &X,
     alloc: Global,
     options: &Options,

@@ -9,7 +9,6 @@ use cp_front::Loaded;
 use cp_legend::Legend;
 use cp_progress::ObserveProgress;
 use cp_show_mark::ShowAnswer;
-use cp_show_options::limits_of;
 use cp_tool::Options;
 use std::alloc::{AllocError, Global};
 
@@ -71,7 +70,7 @@ fn gaps_within<O: ObserveProgress>(
     legend: &Legend,
 ) -> Result<Gaps, AllocError> {
     let program = &loaded.program;
-    let limits = limits_of(options);
+    let limits = options.limits();
     let coverage = find_coverage(alloc, program, limits, options.states, observer)?;
     let entries = entries_of(alloc, loaded.checked.tree())?;
     gaps_of(alloc, program, legend, &entries, &coverage)

@@ -14,7 +14,7 @@ ghost use Rattle.std.specs.Prelude.{◌≡◌};
 use crate::answering::show_stream;
 use cp_progress_line::{ObserveWork, ProgressLine, terminal_of};
 use cp_show_options::{Asked, read_parts, refused_part};
-use cp_tool::{OptionFault, VERSION, Wrapped, asks_version};
+use cp_tool::{OptionFault, VERSION, Wrapped};
 use std::alloc::{AllocError, Global};
 use std::env;
 use std::io::{ErrorKind, Stderr, Stdin, Stdout};
@@ -92,14 +92,12 @@ fn read_words(rt: &HostRuntime) -> Result<Wish, AllocError> {
 
 // What the words ask for, of which the first is the program's name.
 fn wish_of<'a>(alloc: Global, words: &'a [&'a str]) -> Result<Wish, AllocError> {
-    if asks_version(words) {
-        return Ok(Wish::Version);
-    }
     match read_parts(alloc, words) {
         Ok(asked) => Ok(Wish::Part(asked)),
         Err(OptionFault::Refused) => Ok(Wish::Refused(refused_part(alloc, words)?)),
         Err(OptionFault::Memory) => Err(AllocError),
         Err(OptionFault::Help(text)) => Ok(Wish::Help(text)),
+        Err(OptionFault::Version) => Ok(Wish::Version),
     }
 }
 

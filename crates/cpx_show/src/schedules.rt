@@ -18,7 +18,7 @@ use cp_outcomes::{First, first_of_outcome, simplest_of_outcome};
 use cp_progress::ObserveProgress;
 use cp_prose::Prose;
 use cp_show_mark::{ShowAnswer, ShowVerdict, story_of};
-use cp_show_options::{Asked, limits_of};
+use cp_show_options::Asked;
 use cp_slots::Resolved;
 use cp_story::{Story, json, text};
 use cp_tool::Options;
@@ -95,7 +95,7 @@ pub fn schedule_asked<O: ObserveProgress>(
     };
     let job = Job {
         program,
-        limits: limits_of(options),
+        limits: options.limits(),
     };
     if asked.simplest {
         simplest_of_outcome(alloc, job, options.states, number, observer)

@@ -10,7 +10,7 @@ use cp_outcomes::{First, Format, Subject, outcomes};
 use cp_page::{Length, PageSubject, page};
 use cp_progress::ObserveProgress;
 use cp_show_mark::{ShowAnswer, ShowVerdict};
-use cp_show_options::{Asked, limits_of, longest_limits_of};
+use cp_show_options::Asked;
 use cp_slots::Resolved;
 use cp_tool::Options;
 use std::alloc::{AllocError, Global};
@@ -30,7 +30,7 @@ pub fn page_answer<O: ObserveProgress>(
             let subject = PageSubject {
                 program,
                 legend,
-                limits: limits_of(&asked.options),
+                limits: asked.options.limits(),
                 length: length_of(&asked.options),
                 states,
                 source,
@@ -67,7 +67,7 @@ pub fn outcomes_answer<O: ObserveProgress>(
     let subject = Subject {
         program,
         legend,
-        limits: limits_of(options),
+        limits: options.limits(),
         states: options.states,
         source,
     };
@@ -107,7 +107,7 @@ pub fn ends_answer<O: ObserveProgress>(
     let subject = EndsSubject {
         program,
         legend,
-        limits: longest_limits_of(options),
+        limits: options.longest_limits(),
         most: options.states,
         waits: options.waits,
         at_once: options.at_once,

@@ -46,7 +46,7 @@ module _ (p : Program) (s : State) (pid : ℕ) where
 
   pub record Facts (d : Doing) : Type 0 where
     pub good : Good s.components (frames me.calls) (frames d.calls) d.components d.items d.move
-    pub owned : Owned p (first_components p) me.component (frames me.calls) s.components d.calls d.components d.move
+    pub owned : Owned (first_components p) me.component d.calls d.components d.move
     pub begins : (n : ℕ) → (status_at d.components n ≡ status_at s.components n) ⊎ ((frames d.calls ≡ (initial_statement, n) ∷ frames me.calls) ⊎ (status_at d.components n ≡ initialised))
     pub keeps : (n : ℕ) → IsMonitor s.components n → entry_in n (frames me.calls) ≡ true → (entry_in n (frames d.calls) ≡ true) ⊎ GoesFrom d.move n
     pub from : (n : ℕ) → GoesFrom d.move n → HeldBy (first_components p) me.component (frames me.calls) n
@@ -164,12 +164,12 @@ module _ (p : Program) (s : State) (pid : ℕ) where
           let there = subst (FromHere p c calls s.components pid NoProcess gs) is h in
           near_own d l process (by_near there.0.0 there.0.0.holder refl d there.0.1 l process)
 
-    facts_at : (c : Call) (calls : List Call) (e : me.calls ≡ c ∷ calls) (o : Outcome Doing) → GoodOutcome s.components (frames (c ∷ calls)) o → OwnedBy p (first_components p) me.component (frames (c ∷ calls)) s.components o → AllBegin p c calls s.components pid o → AllKeep p c calls s.components pid o →
+    facts_at : (c : Call) (calls : List Call) (e : me.calls ≡ c ∷ calls) (o : Outcome Doing) → GoodOutcome s.components (frames (c ∷ calls)) o → OwnedBy (first_components p) me.component o → AllBegin p c calls s.components pid o → AllKeep p c calls s.components pid o →
         AllCome p c calls s.components pid NoProcess unknown (given c calls e) o → AllFacts o
     facts_at c calls e (Ok d) good own begins keeps come =
         record {
           good = subst (λ k. Good s.components (frames k) (frames d.calls) d.components d.items d.move) (sym e) good;
-          owned = subst (λ k. Owned p (first_components p) me.component (frames k) s.components d.calls d.components d.move) (sym e) own;
+          owned = own;
           begins = λ n. subst (λ k. (status_at d.components n ≡ status_at s.components n) ⊎ ((frames d.calls ≡ (initial_statement, n) ∷ frames k) ⊎ (status_at d.components n ≡ initialised))) (sym e) (begins n);
           keeps = λ n mon h. stays_or_goes n d.move (keeps n mon (ap (λ k. entry_in n (frames k)) (sym e) ∙ h));
           from = λ n g. subst (λ k. HeldBy (first_components p) me.component (frames k) n) (sym e) (from_held c calls e (frames d.calls) d.move come.from n g);

@@ -290,7 +290,7 @@ module _ (p : Program) (ok : IsWellFormed p) (rules : StartsKnown p) (s : State)
 
           go : (of n ≡ true) ⊎ (starts_at da.move n ≡ true) → status_at db.components n ≡ status_at s.components n
           go (inl k) =
-              statuses_left base s f.owned.tree f.orderly.orderly a b ne (in_range a ra) (in_range b rb) ra rb others (f.kinds a (in_range a ra)) (f.kinds b (in_range b rb)) p db (f.owned.processes b (in_range b rb)).held fb.good fb.owned fb.begins n
+              statuses_left base s f.owned.tree f.orderly.orderly a b ne (in_range a ra) (in_range b rb) ra rb others (f.kinds a (in_range a ra)) (f.kinds b (in_range b rb)) db (f.owned.processes b (in_range b rb)).held fb.good fb.owned fb.begins n
               (held_told base x.component (frames x.calls) n k)
           go (inr k) = let t = starts_told da.move n k in of_started t.0 t.1.0 t.1.1.0 t.1.1.1 (fb.good.status n) (fb.begins n)
 

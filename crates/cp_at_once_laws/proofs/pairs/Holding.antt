@@ -1,6 +1,6 @@
 -- What a process holds can be told, and of two that are ready neither holds what the other one does.
 use Rattle.std.proofs.Common.{◌≡◌, ◌≢◌, ℕ, ◌<◌, ◌==◌, ◌∙◌, ◌⊎◌, inl, inr, Bool, true, false, ◌||◌, ◌&&◌, List, [], ◌∷◌, length, ap, sym, refl, subst, eqb-true, eq-eqb}
-use Rattle.cp_at_once_laws.proofs.Words.{SystemKind, Program, Doing, owner_of, Owned, or_left, inside_from, Orderly, kind_at, SameTree}
+use Rattle.cp_at_once_laws.proofs.Words.{SystemKind, Doing, owner_of, Owned, or_left, inside_from, Orderly, kind_at, SameTree}
 use Rattle.cp_tree.specs.declared.declaration.SystemKind.TheVariants as system_kind
 use Rattle.cp_meaning.specs.State.{initial_statement, uninitialised, Holder, in_call, in_component, initialising, initialised, Component, Call, ready, Process, process_at, State, waits_at}
 use Rattle.cp_meaning.proofs.Frames.{Frame, frames, is_initial_kind, entry_in, initial_in}
@@ -117,10 +117,10 @@ module _ (base : List Component) (s : State) (tree : SameTree base s.components)
       first_of [] = 0
       first_of (f ∷ fs) = f.1
 
-  pub statuses_left : (p : Program) (d : Doing) → HeldCalls base y.component y.calls → GoodDoing s.components (frames y.calls) d → Owned p base y.component (frames y.calls) s.components d.calls d.components d.move →
+  pub statuses_left : (d : Doing) → HeldCalls base y.component y.calls → GoodDoing s.components (frames y.calls) d → Owned base y.component d.calls d.components d.move →
       ((n : ℕ) → (status_at d.components n ≡ status_at s.components n) ⊎ ((frames d.calls ≡ (initial_statement, n) ∷ frames y.calls) ⊎ (status_at d.components n ≡ initialised))) →
       (n : ℕ) → HeldBy base x.component (frames x.calls) n → status_at d.components n ≡ status_at s.components n
-  statuses_left p d held good owned begins n h = go (good.status n) (begins n)
+  statuses_left d held good owned begins n h = go (good.status n) (begins n)
     where
       go : StatusMoves s.components d.components (frames y.calls) n → (status_at d.components n ≡ status_at s.components n) ⊎ ((frames d.calls ≡ (initial_statement, n) ∷ frames y.calls) ⊎ (status_at d.components n ≡ initialised)) → status_at d.components n ≡ status_at s.components n
       go (inl e) k = e

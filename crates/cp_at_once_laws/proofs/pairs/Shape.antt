@@ -195,7 +195,7 @@ module _ (p : Program) (ok : IsWellFormed p) (s : State) (pid : ℕ) (first : s.
       }
   settled_stands (Ok d) f =
       let h = kernel_shape p s pid d d.move first in
-      let k = (kernel_step_owned p s pid (first_components p) owned lt is_ready d d.move f.owned (starts_process p ok s pid owned orderly lt is_ready d d.move f.good)).owned in
+      let k = kernel_step_owned p s pid (first_components p) owned lt is_ready d d.move f.owned (starts_process p ok s pid owned orderly lt is_ready d d.move f.good) in
       let size : length s.components ≡ length (kernel_step p s pid d d.move).state.components = owned.tree.size ∙ sym k.tree.size in
       record {
         shape = record { many = h.many; size = size; static = static_of (first_components p) s.components (kernel_step p s pid d d.move).state.components owned.tree k.tree; gates = h.gates; pending = h.pending };

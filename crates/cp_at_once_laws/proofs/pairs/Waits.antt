@@ -94,19 +94,19 @@ module _ (p : Program) (ok : IsWellFormed p) (s : State) (pid : ℕ) (owned : Ow
   -- what is known of what the item does
   record Known (d : Doing) : Type 0 where
     good : Good s.components (frames x.calls) (frames d.calls) d.components d.items d.move
-    own : Owned p (first_components p) x.component (frames x.calls) s.components d.calls d.components d.move
+    own : Owned (first_components p) x.component d.calls d.components d.move
     delaying : (m : ℕ) → d.move ≡ delays m → frames d.calls ≡ frames x.calls
 
   abbrev AllKnown : Outcome Doing → Type 0
   AllKnown (Ok d) = Known d
   AllKnown (Err e) = Unit {0}
 
-  known_at : (c : Call) (calls : List Call) → x.calls ≡ c ∷ calls → (o : Outcome Doing) → GoodOutcome s.components (frames (c ∷ calls)) o → OwnedBy p (first_components p) x.component (frames (c ∷ calls)) s.components o →
+  known_at : (c : Call) (calls : List Call) → x.calls ≡ c ∷ calls → (o : Outcome Doing) → GoodOutcome s.components (frames (c ∷ calls)) o → OwnedBy (first_components p) x.component o →
       AllCome p c calls s.components pid Any (λ n d y e. tt) (λ k es. any_known p c calls s.components pid (bound (let v : View = record { program = p; calls = c ∷ calls; components = s.components } in v) (system_of p k).parameters es)) o → AllKnown o
   known_at c calls e (Ok d) g o h =
       record {
         good = subst (λ k. Good s.components (frames k) (frames d.calls) d.components d.items d.move) (sym e) g;
-        own = subst (λ k. Owned p (first_components p) x.component (frames k) s.components d.calls d.components d.move) (sym e) o;
+        own = o;
         delaying = λ m is. (subst (FromHere p c calls s.components pid Any (frames d.calls)) is h.from).1 ∙ ap frames (sym e);
       }
   known_at c calls e (Err y) g o h = tt
@@ -139,7 +139,7 @@ module _ (p : Program) (ok : IsWellFormed p) (s : State) (pid : ℕ) (owned : Ow
   settled_waits : (o : Outcome Doing) → AllKnown o → Waiting (settled p s pid o).state
   settled_waits (Err e) k n = old n
   settled_waits (Ok d) k n =
-      let t = (kernel_step_owned p s pid (first_components p) owned lt is_ready d d.move k.own (starts_process p ok s pid owned orderly lt is_ready d d.move k.good)).owned in
+      let t = kernel_step_owned p s pid (first_components p) owned lt is_ready d d.move k.own (starts_process p ok s pid owned orderly lt is_ready d d.move k.good) in
       kept_kinds s.components (kernel_step p s pid d d.move).state.components _ (λ j. t.tree.kind j ∙ sym (owned.tree.kind j))
       (changed_waits d k n _ (kernel_changes p s pid d is_ready orderly.orderly.lines (λ m. k.good.layout.line m) d.move first n))
 

@@ -94,7 +94,7 @@ module _ (p : Program) (c : Call) (calls : List Call) (cs : List Component) (pid
     continue_comes entry_routine items q = record { from = refl; known = kept_stored q (queue_value None) }
     continue_comes _ items q = stays_here v items old
 
-    rules : Rules p c calls cs pid Comes Kept (λ items. Unit {0}) (λ q. Unit {0}) (λ e. Unit {0}) (λ k e. Knows Good e)
+    rules : Rules p (c ∷ calls) cs pid Comes Kept (λ items. Unit {0}) (λ q. Unit {0}) (λ e. Unit {0}) (λ k e. Knows Good e)
     rules =
         record {
           near = λ d. whatever (target_value v d);
@@ -118,4 +118,4 @@ module _ (p : Program) (c : Call) (calls : List Call) (cs : List Component) (pid
         }
 
     pub takes_comes : (items : List Item) → AllCome (takes v pid items)
-    takes_comes items = takes_all p c calls cs pid Comes Kept (λ items. Unit {0}) (λ q. Unit {0}) (λ e. Unit {0}) (λ k e. Knows Good e) rules items tt
+    takes_comes items = takes_all p (c ∷ calls) cs pid Comes Kept (λ items. Unit {0}) (λ q. Unit {0}) (λ e. Unit {0}) (λ k e. Knows Good e) rules items tt

@@ -77,11 +77,11 @@ module _ {S : Type 0} (sys : System S) where
     abbrev Returns : ℕ → Type 0
     Returns n = spot_after sys (suc n) s p ≡ Some (s, p)
 
-    abbrev IsFound : ℕ → Option ℕ → Type 0
+    abbrev pub IsFound : ℕ → Option ℕ → Type 0
     IsFound m None = (k : ℕ) → k < m → Returns k → ⊥
     IsFound m (Some n) = (n < m) × Returns n
 
-    return_found : (m : ℕ) → IsFound m (return_within sys eq s p m)
+    pub return_found : (m : ℕ) → IsFound m (return_within sys eq s p m)
     unfolding return_within
     return_found zero = λ k less r. omega (arith, less)
     return_found (suc m) = by (return_within sys eq s p m) (return_found m) (return_at eq s p (spot_after sys (suc m) s p)) refl

@@ -3,7 +3,8 @@ use Rattle.cp_refine.proofs.Words.{◌≡◌, ◌∙◌, ℕ, ◌<◌, List, sub
 use Rattle.cp_refine.proofs.Words.{Machine, slots, System, Layouts, AreTablesOf, layouts_of, CanGo, CanEnter, GoInStep, Simulates, named, gates_of, AllKnown}
 use Rattle.cp_meaning.proofs.OwnershipLemmas.{exclusive, ownership}
 use Rattle.cp_refine.specs.Running.{Happening, IsMet, met_first, met_by_step, met_by_admission, StepsAsMeant, RunsAsMeant}
-use Rattle.cp_refine.proofs.steps.GoingInStep.{there, goes_now, still}
+use Rattle.cp_refine.proofs.steps.Beginning.{waiting_same}
+use Rattle.cp_refine.proofs.steps.GoingInStep.{there, goes_now, still, prepared}
 use Rattle.cp_refine.proofs.HoldsInReached.{reached_lawful}
 use Rattle.cp_refine.proofs.Meaning.{it, known, goes_in_step}
 
@@ -65,8 +66,8 @@ module _ (t : Tree) (r : Tables) (g : Gates) (read : IsRead t.program) (ok : IsA
       record {
         event = go.event s m p sim goes;
         simulates = go.step s m p sim goes;
-        held = own.changes_held s p sim.reached lawful none less was;
-        others = own.others_kept s p sim.reached lawful none less was;
+        held = own.changes_held s p lawful none less was;
+        others = own.others_kept s p lawful none less was;
       }
 
   pub running_law : (hs : List Happening) (m : Machine) → IsMet (slots r (gates_of g)) hs m → RunsAsMeant t r g hs m
@@ -77,6 +78,7 @@ module _ (t : Tree) (r : Tables) (g : Gates) (read : IsRead t.program) (ok : IsA
         met = x.1;
         simulates = x.2;
         alike = go.alike x.0 m x.2;
+        waiting = waiting_same t r l g (prepared t r l g ok tables.stands tables.sound asked) x.0 m x.2;
         exclusive = exclusive t.program well g x.0 x.2.reached;
         steps = λ p may. steps_so x.0 m p x.2 may;
       }

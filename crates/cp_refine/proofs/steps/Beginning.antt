@@ -7,6 +7,7 @@ use Rattle.cp_tree.specs.declared.declaration.SystemKind.TheVariants as system_k
 use Rattle.cp_slots.specs.declared.tables.ComponentKind.TheVariants as kind
 use Rattle.cp_slots.specs.Fits.{KindFits}
 use Rattle.cp_machine.specs.declared.process.Status.TheVariants as status
+use Rattle.cp_machine.specs.Machine.{waiting_of}
 use Rattle.cp_machine.specs.Opening as machine
 use Rattle.cp_machine.proofs.rooms.OpeningFits.{still_fits, restatused}
 use Rattle.cp_machine.proofs.lines.OpeningLines.{opening_lines}
@@ -18,7 +19,7 @@ use Rattle.cp_resolved.specs.Resolved as resolved
 use Rattle.cp_refine.specs.Named as own
 use Rattle.cp_refine.specs.Named.{gates_of, monitor_number}
 use Rattle.cp_refine.proofs.gates.MonitorNumbers.{is_a_monitor, one_number}
-use Rattle.cp_refine.proofs.steps.Observed.{is_ready_alike, waits_alike, pending_alike, output_alike, holder_alike, in_line_alike}
+use Rattle.cp_refine.proofs.steps.Observed.{is_ready_alike, waits_alike, pending_alike, output_alike, holder_alike, waiting_alike, in_line_alike}
 use Rattle.cp_refine.proofs.steps.OpeningState.{processes_are, opens}
 use Rattle.cp_refine.proofs.ReachedKinds.{monitor_there}
 use Rattle.cp_resolved.proofs.names.Entries.{past_there as past}
@@ -94,8 +95,8 @@ module _ (t : Tree) (r : Tables) (l : Layouts) (g : Gates) (prepared : Prepared 
         go (Some j) h = let a = monitor_there t r l prepared.stands n j h in let b = sim.represents.component_count in omega (arith, a, b)
 
     -- the monitor of a number is on names the component that has the number in the tables
-    holder_same : (k : ℕ) → k < length (monitors_of (opening p g)) → readings.holder_of s (monitor_number p g k) ≡ (on_slots.holder m k)
-    holder_same k less =
+    its_monitor : (k : ℕ) → k < length (monitors_of (opening p g)) → (n : ℕ) × (monitor_number p g k ≡ n) × (n < length s.components) × ((component_at r n).kind ≡ kind.Monitor k)
+    its_monitor k less =
         let w = is_a_monitor (first_components p) 0 k (length (first_components p)) less in
         let number : monitor_number p g k ≡ w.place = w.is ∙ (let z : 0 + w.place ≡ w.place = omega arith in z) in
         let there : w.place < length r.components = (let a = w.there in let b = prepared.stands.count in omega (arith, a, b)) in
@@ -103,7 +104,13 @@ module _ (t : Tree) (r : Tables) (l : Layouts) (g : Gates) (prepared : Prepared 
         let found : slice_index_or (monitors_from 0 (first_components p)) told.0 (length (first_components p)) ≡ w.place = subst (λ n. slice_index_or (monitors_from 0 (first_components p)) told.0 n ≡ w.place) prepared.stands.count told.2 in
         let small : told.0 < length (monitors_from 0 (first_components p)) = (let a = subst (KindFits r) told.1 (prepared.sound.components w.place there) in let b = prepared.stands.monitor_count in omega (arith, a, b)) in
         let same : told.0 ≡ k = one_number (first_components p) 0 told.0 k (length (first_components p)) small less (found ∙ sym number) in
-        ap (readings.holder_of s) number ∙ holder_alike ground p l s m sim.represents sim.lines w.place k (let b = sim.represents.component_count in omega (arith, there, b)) (told.1 ∙ ap kind.Monitor same)
+        (w.place, number, (let b = sim.represents.component_count in omega (arith, there, b)), told.1 ∙ ap kind.Monitor same)
+
+    holder_same : (k : ℕ) → k < length (monitors_of (opening p g)) → readings.holder_of s (monitor_number p g k) ≡ (on_slots.holder m k)
+    holder_same k less = let n = its_monitor k less in ap (readings.holder_of s) n.1 ∙ holder_alike ground p l s m sim.represents sim.lines n.0 k n.2 n.3
+
+    pub waiting_same : (k : ℕ) → k < length (monitors_of (opening p g)) → readings.rising_line s (monitor_number p g k) ≡ waiting_of m k
+    waiting_same k less = let n = its_monitor k less in ap (readings.rising_line s) n.1 ∙ waiting_alike ground p l s m sim.represents sim.lines n.0 k n.2 n.3
 
     pub looks_alike : LooksAlike on_names on_slots s m
     looks_alike =

@@ -41,7 +41,7 @@ module _ (t : Tree) (r : Tables) (l : Layouts) (g : Gates) (ok : IsAccepted t) (
   abbrev on_slots : System Machine
   on_slots = slots r (gates_of g)
 
-  prepared : Prepared t r l
+  pub prepared : Prepared t r l
   prepared = record { stands = stands; sound = sound; program = asked.program }
 
   -- ---- a step

@@ -1,7 +1,7 @@
 -- What is read of a state and of the machine that stands for it is the same.
-use Rattle.std.proofs.Common.{◌≡◌, ◌∙◌, ℕ, suc, ◌<◌, ◌==◌, List, [], ◌∷◌, Option, Some, None, ap, sym, refl, subst, arith, length}
-use Rattle.std.specs.Prelude.{◌||◌, eqb, map}
-use Rattle.std.specs.List.{list_any}
+use Rattle.std.proofs.Common.{◌≡◌, ◌∙◌, ℕ, zero, suc, ◌+◌, ◌<◌, ◌==◌, Bool, if◌then◌else◌, List, [], ◌∷◌, Option, Some, None, ap, sym, refl, subst, arith, length}
+use Rattle.std.specs.Prelude.{◌||◌, eqb, map, filter}
+use Rattle.std.specs.List.{list_any, range_with_len}
 use Rattle.cp_refine.proofs.Words.{Program, component_at, unstarted, ready, at_gate, delayed, ended, Status, Process, State, is_member, line_of, Layouts, Ground}
 use Rattle.cp_refine.proofs.Words.{StatusIs, MonitorIs, PendingIs, Represents, LinesFit}
 use Rattle.cp_slots.specs.declared.tables.ComponentKind.TheVariants as kind
@@ -10,8 +10,16 @@ use Rattle.cp_machine.specs.declared.process.Status.TheVariants as status
 use Rattle.cp_machine.specs.Machine as slot_machine
 use Rattle.cp_machine.specs.Machine.{Machine, Thread, thread_at, monitor_at, is_ready_status, is_at_gate, in_line_of}
 use Rattle.cp_meaning.specs.State as named
+use Rattle.cp_meaning.specs.Values.{counted_from}
 use Rattle.cp_meaning.specs.Readings as readings
 use Rattle.cp_refine.specs.Named as own
+
+-- the numbers that pass two tests, where the tests are the same
+those_alike : (a b : ℕ → Bool) → ((q : ℕ) → a q ≡ b q) → (k n : ℕ) → filter a (counted_from k n) ≡ filter b (range_with_len n k)
+those_alike a b same zero n = refl
+those_alike a b same (suc k) n =
+    ap (λ c. if c then n ∷ filter a (counted_from k (suc n)) else filter a (counted_from k (suc n))) (same n)
+    ∙ ap (λ us. if b n then n ∷ us else us) (those_alike a b same k (suc n) ∙ ap (λ j. filter b (range_with_len j k)) (let e : suc n ≡ n + 1 = omega arith in e))
 
 module _ (g : Ground) (p : Program) (l : Layouts) where
   ready_same : (q : ℕ) (x : Process) (t : Thread) (u : Status) (w : slot_status.Status) → StatusIs g p l q x t u w → readings.is_ready u ≡ is_ready_status w
@@ -68,6 +76,11 @@ module _ (g : Ground) (p : Program) (l : Layouts) where
 
     pub line_alike : (n k q : ℕ) → n < length s.components → (component_at g.tables n).kind ≡ kind.Monitor k → is_member q (line_of s n) ≡ is_at_gate k (thread_at m.threads q).status
     line_alike n k q h e = member_same q (line_of s n) ∙ (ap (list_any (eqb q)) (sym (subst (MonitorIs s m n) e (rep.monitors n h)).0) ∙ sym (fits.gate k q))
+
+    pub waiting_alike : (n k : ℕ) → n < length s.components → (component_at g.tables n).kind ≡ kind.Monitor k → readings.rising_line s n ≡ slot_machine.waiting_of m k
+    waiting_alike n k h e =
+        those_alike (λ q. is_member q (line_of s n)) (λ q. is_at_gate k (thread_at m.threads q).status) (λ q. line_alike n k q h e) (length s.processes) 0
+        ∙ ap (λ count. filter (λ q. is_at_gate k (thread_at m.threads q).status) (range_with_len 0 count)) rep.process_count
 
     pub in_line_alike : ((n : ℕ) → s.pending ≡ Some n → n < length s.components) → (q : ℕ) → own.in_line_of s.pending s q ≡ in_line_of m.pending (thread_at m.threads q).status
     in_line_alike there q = go s.pending m.pending refl rep.pending

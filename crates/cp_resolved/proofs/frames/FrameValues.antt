@@ -20,7 +20,7 @@ use Rattle.cp_resolved.proofs.agreeing.ScopeVariables.{Among, among_left, among_
 use Rattle.cp_resolved.proofs.systems.SystemKnown.{found_among, among_either, content_left, least_none, least_some}
 use Rattle.cp_resolved.proofs.laid.ZeroCells.{AreZeros}
 use Rattle.cp_resolved.proofs.frames.FrameKnown.{word_found, no_word, by_all, either_by, missing_all, IsTemporary, zero_stands}
-use Rattle.cp_meaning.proofs.OwnLocal.{nothing_append as content_right}
+use Rattle.cp_meaning.proofs.Held.{nothing_append as content_right}
 use Rattle.cp_resolved.proofs.agreeing.AgreeingWritten.{each_right}
 
 free_plain : (t : Ty) → is_free t ≡ true → has_components t ≡ false

@@ -15,7 +15,7 @@ use Rattle.cp_resolved.proofs.frames.LeastCells.{standing_typed}
 use Rattle.cp_resolved.proofs.systems.PermanentCells.{width, width_plain, taken, taken_before, Holds, Owns, Follow, Firsts}
 use Rattle.cp_resolved.proofs.agreeing.ScopeVariables.{Among, among_left, among_right, look_among, never_missing, among_look, components_append, among_all, among_some}
 use Rattle.cp_resolved.proofs.names.Steps.{found_in}
-use Rattle.cp_meaning.proofs.OwnLocal.{nothing_append as content_right}
+use Rattle.cp_meaning.proofs.Held.{nothing_append as content_right}
 
 -- ---- what a variable has at first
 

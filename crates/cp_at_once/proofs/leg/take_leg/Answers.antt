@@ -2,7 +2,7 @@ use Rattle.cp_at_once.proofs.Words.{◌≡◌, ◌∙◌, [], true, false, refl,
 use Rattle.cp_machine.specs.System.{Machine, machine_of, is_ready, is_pending, output_of, step_at, IsStateOf}
 use Rattle.cp_machine.specs.declared.event.Event.TheVariants.{Local}
 use Rattle.cp_machine.proofs.CallerLemmas.{local_ready, pending_is, ready_thread}
-use Rattle.cp_ends.proofs.LocalOutput.{local_output}
+use Rattle.cp_run.proofs.LocalOutput.{local_output}
 use Rattle.cp_at_once.proofs.Legs.{ends_here, ends_later, kept_by}
 use Rattle.std.proofs.lemmas.Bool.{false≢true}
 use Rattle.cp_at_once.proofs.leg.take_leg.Goals as goal

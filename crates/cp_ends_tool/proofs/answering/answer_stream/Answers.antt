@@ -10,5 +10,5 @@ returns-then-asks_ends-clause-told g c =
 
 pub returns-else-asks_ends-clause-told : goal.returns-else-asks_ends-clause-told
 returns-else-asks_ends-clause-told g c =
-    let h = c.explore_stream.ensures.told in
-    (h.0, h.1, without_ends c.args.options.now (λ (P : Answering). Tells P (g.R.Source.remaining c.args.source.now) (g.W.Sink.contents c.args.sink.now) (g.W.Sink.contents c.explore_stream.new.sink) h.0) (sym c.asks_ends.ensures ∙ c.if-asks_ends.false) h.2, h.3)
+    let h = c.explore_stream_observed.ensures.told in
+    (h.0, h.1, without_ends c.args.options.now (λ (P : Answering). Tells P (g.R.Source.remaining c.args.source.now) (g.W.Sink.contents c.args.sink.now) (g.W.Sink.contents c.explore_stream_observed.new.sink) h.0) (sym c.asks_ends.ensures ∙ c.if-asks_ends.false) h.2, h.3)

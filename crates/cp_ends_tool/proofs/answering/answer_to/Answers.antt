@@ -1,12 +1,11 @@
-use Rattle.std.proofs.Common.{ℕ, inl, inr, subst, sym}
+use Rattle.std.proofs.Common.{inl, inr, subst, sym}
 use Rattle.std.proofs.lemmas.Result.{IfOk-weaker}
 use Rattle.cp_tree.specs.TreeView.{tree_view}
 use Rattle.cp_slots.specs.Tables.{Tables}
 use Rattle.cp_resolved.specs.Resolving.{IsProgramOf}
 use Rattle.cp_front.proofs.Loads.{read_by}
-use Rattle.cp_refine.proofs.Excluding.{runs_exclude}
-use Rattle.cp_refine.specs.Excluding.{RunsExclude}
-use Rattle.cp_refine.specs.Named.{named, named_gates}
+use Rattle.cp_lawful.proofs.Accepting.{keeps_exclusion}
+use Rattle.cp_refine.specs.Named.{named_gates}
 use Rattle.cp_ends_tool.proofs.answering.answer_to.Goals as goal
 
 pub returns-in-Ok : goal.returns-in-Ok
@@ -17,8 +16,7 @@ returns-in-Ok g c =
     let program = c.into_program-program.result in
     let loads = c.in-Ok.ensures.loaded in
     let is : IsProgramOf t program = subst (λ (r : Tables). IsProgramOf t r) (sym c.into_program-program.ensures) c.in-Ok.ensures.stands in
-    let alone : (choices : ℕ) → RunsExclude (named t (named_gates o.gates)) choices o.steps = λ choices. runs_exclude t program (named_gates o.gates) l.checked.tree.read loads.accepted is.laid choices o.steps in
-    IfOk-weaker c.answer_for-answer.result _ _ (λ a h. inl (l.tokens, t, loads, ((program, is, h t (read_by c.args.source.now l.tokens t loads) loads.accepted is), alone))) c.answer_for-answer.ensures
+    IfOk-weaker c.answer_for-answer.result _ _ (λ a h. inl (l.tokens, t, loads, ((program, is, h t (read_by c.args.source.now l.tokens t loads) loads.accepted is), keeps_exclusion t loads.accepted (named_gates o.gates)))) c.answer_for-answer.ensures
 
 pub returns-in-Err : goal.returns-in-Err
 returns-in-Err g c = IfOk-weaker c.answer_refusal.result _ _ (λ a h. inr (h.0, (c.in-Err.refusal, c.in-Err.ensures.refused, h.1))) c.answer_refusal.ensures

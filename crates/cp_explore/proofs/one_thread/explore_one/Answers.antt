@@ -5,4 +5,4 @@ pub returns-clause-meaning : goal.returns-clause-meaning
 returns-clause-meaning g c = (let job = c.args.job in meant_rows c.walk_on_one_thread.result job.program.now job.limits.gates job.limits.choices job.limits.steps c.walk_on_one_thread.ensures.table)
 
 pub returns-clause-exclusive : goal.returns-clause-exclusive
-returns-clause-exclusive g c = (let job = c.args.job in are_exclusive job.program.now job.limits.gates job.limits.choices job.limits.steps)
+returns-clause-exclusive g c = (let job = c.args.job in are_exclusive job.program.now job.limits.gates)

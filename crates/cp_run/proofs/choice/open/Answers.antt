@@ -1,40 +1,13 @@
-use Rattle.cp_run.proofs.Words.{◌∙◌, machine_of, Over, Due, Goes, slots}
-use Rattle.cp_run.proofs.Choosing.{opened_at}
-use Rattle.cp_machine.proofs.CallerLemmas.{opening_ready}
+use Rattle.cp_run.proofs.Words.{◌∙◌, ap, sym, machine_of, node_of, arith}
 use Rattle.cp_run.proofs.choice.open.Goals as goal
 
-pub returns-in-Over-clause-node : goal.returns-in-Over-clause-node
-returns-in-Over-clause-node g c = opened_at (slots c.args.program.now c.args.limits.gates) c.args.limits.steps (machine_of c.args.state.now) (Over c.in-Over.kind) c.requires.start c.in-Over.ensures.turn
-
-pub returns-in-Due-clause-node : goal.returns-in-Due-clause-node
-returns-in-Due-clause-node g c = opened_at (slots c.args.program.now c.args.limits.gates) c.args.limits.steps (machine_of c.args.state.now) Due c.requires.start c.in-Due.ensures.turn
-
-pub returns-in-Goes-clause-node : goal.returns-in-Goes-clause-node
-returns-in-Goes-clause-node g c = opened_at (slots c.args.program.now c.args.limits.gates) c.args.limits.steps (machine_of c.args.state.now) (Goes c.in-Goes.next) c.requires.start c.in-Goes.ensures.turn ∙ c.stretch.ensures.node
-
-pub turn_at-requires-clause-goes_on : goal.turn_at-requires-clause-goes_on
-turn_at-requires-clause-goes_on g c = λ e. opening_ready c.args.program.now c.args.limits.gates (machine_of c.args.state.now) c.processes-processes.ensures.sound.some c.requires.start
-
-pub turn_at-requires-clause-own : goal.turn_at-requires-clause-own
-turn_at-requires-clause-own g c = c.requires.own
-
-pub stretch-requires-clause-own : goal.stretch-requires-clause-own
-stretch-requires-clause-own g c = c.requires.own
-
-pub stretch-requires-clause-ready : goal.stretch-requires-clause-ready
-stretch-requires-clause-ready g c = c.in-Goes.ensures.ready
-
-pub stretch-requires-clause-free : goal.stretch-requires-clause-free
-stretch-requires-clause-free g c = c.in-Goes.ensures.free
-
-pub returns-in-Over-clause-own : goal.returns-in-Over-clause-own
-returns-in-Over-clause-own g c = c.requires.own
-
-pub returns-in-Due-clause-own : goal.returns-in-Due-clause-own
-returns-in-Due-clause-own g c = c.requires.own
-
-pub returns-in-Goes-clause-own : goal.returns-in-Goes-clause-own
-returns-in-Goes-clause-own g c = c.stretch.ensures.own
-
-pub returns-in-Goes-clause-steps : goal.returns-in-Goes-clause-steps
-returns-in-Goes-clause-steps g c = c.stretch.ensures.steps
+pub returns : goal.returns
+returns g c =
+    let one = c.tick.ensures in
+    let moved = c.in-Ok.ensures in
+    record {
+      node = moved.node ∙ ap (λ h. node_of h (machine_of c.observe_opening.new.state)) (sym c.halt_at.ensures);
+      own = moved.own;
+      steps = moved.steps;
+      calls = omega (arith, one);
+    }

@@ -1,8 +1,11 @@
-use Rattle.cp_run.proofs.Words.{◌≡◌, ◌≤◌, ◌-◌, ◌+◌, ◌∙◌, sym, arith, length, machine_of, node_of, slots}
+use Rattle.std.proofs.Common.{get_or, subst}
+use Rattle.cp_run.proofs.Words.{◌≡◌, ◌≤◌, ◌-◌, ◌+◌, ◌∙◌, ap, sym, refl, arith, length, machine_of, node_of, slots}
 use Rattle.std.proofs.Math.Nat.{mul-le-mul_right}
-use Rattle.cp_run.proofs.Choosing.{opened_at}
-use Rattle.cp_run.proofs.Folding.{fold_opened_at}
-use Rattle.cp_run.proofs.Observed.{reached_first, reached_further, stopped_behind, stopped_refused, stopped_there}
+use Rattle.cp_run.specs.Code.{halt_at}
+use Rattle.cp_run.specs.Fold.{fold_chosen, fold_opened}
+use Rattle.cp_run.specs.Run.{chosen, opened}
+use Rattle.cp_run.specs.Silent.{slots_by}
+use Rattle.cp_run.proofs.Observed.{reached_first, reached_further, stopped_behind, stopped_refused, stopped_there, unseen}
 use Rattle.cp_run.proofs.TraceBounds.{ticks_within}
 use Rattle.cp_run.proofs.TraceRuns.{some_left}
 use Rattle.cp_run.proofs.Tracing.{ok_always, ok_as}
@@ -10,36 +13,46 @@ use Rattle.cp_run.proofs.observing.observe_run.Goals as goal
 
 pub loop-place-init : goal.loop-place-init
 loop-place-init g c =
-    let sys = slots c.args.program.now c.args.limits.gates in
-    let fold = g.O.Observe.fold c.args.program.now c.args.limits.gates in
-    let s = machine_of c.args.state.now in
-    let turn = c.turn_at-first.result in
-    let start = g.O.Observe.seen c.args.observer.now in
-    let added = c.in_ok-halt.ensures.steps in
+    let r = c.args.program.now in
+    let gates = c.args.limits.gates in
+    let steps = c.args.limits.steps in
+    let sys = slots r gates in
+    let fold = g.O.Observe.fold r gates in
+    let s = machine_of c.observe_opening.new.state in
+    let node = node_of c.halt_at-halt.result s in
+    let comes : opened sys steps ≡ node = subst (λ b. opened (slots_by b r gates) steps ≡ node_of (halt_at c.in_ok-first.first) s) c.requires.loud c.in_ok-first.ensures.node ∙ ap (λ h. node_of h s) (sym c.halt_at-halt.ensures) in
+    let added = c.in_ok-first.ensures.steps in
     record {
-      own = c.in_ok-halt.ensures.own;
+      own = c.in_ok-first.ensures.own;
       within = omega arith;
-      reached = reached_first sys fold c.args.limits.choices c.args.limits.steps c.args.word.now start (node_of c.in_ok-halt.halt (machine_of c.observe_stretch.new.state)) (g.O.Observe.seen c.observe_stretch.new.observer) (opened_at sys c.args.limits.steps s turn c.requires.start c.turn_at-first.ensures.turn ∙ c.in_ok-halt.ensures.node) (c.in_ok-halt.ensures.seen ∙ sym (fold_opened_at sys fold c.args.limits.steps s turn start c.requires.start c.turn_at-first.ensures.turn));
+      reached = reached_first sys unseen c.args.limits.choices steps c.args.word.now tt node tt comes refl;
+      seen = λ x h. (fold_opened sys fold steps x, subst (λ b. g.O.Observe.holds c.observe_opening.new.observer r gates s (fold_opened (slots_by b r gates) fold steps x)) c.requires.loud (c.in_ok-first.ensures.seen x h), reached_first sys fold c.args.limits.choices steps c.args.word.now x node (fold_opened sys fold steps x) comes refl);
       ticks = omega (arith, added);
     }
 
-pub returns-in_err-halt-2-clause-ticks : goal.returns-in_err-halt-2-clause-ticks
-returns-in_err-halt-2-clause-ticks g c =
+pub returns-in_err-next-clause-ticks : goal.returns-in_err-next-clause-ticks
+returns-in_err-next-clause-ticks g c =
     let more = some_left (c.args.limits.choices - c.loop-place.place) c.loop-place.halt (sym c.is_over.ensures ∙ c.if-is_over.false) in
     let so_far = c.loop-place.invariant.ticks in
-    let added = c.observe_stretch-in-loop-place.ensures.steps in
+    let added = c.observe_choice.ensures.steps in
     let within : c.loop-place.place + 2 ≤ c.args.limits.choices + 1 = omega (arith, more) in
     omega (arith, so_far, added, mul-le-mul_right c.args.limits.steps within)
 
 pub returns-then-is_over : goal.returns-then-is_over
 returns-then-is_over g c =
-    let sys = slots c.args.program.now c.args.limits.gates in
-    let fold = g.O.Observe.fold c.args.program.now c.args.limits.gates in
+    let r = c.args.program.now in
+    let gates = c.args.limits.gates in
+    let sys = slots r gates in
     let over = sym c.is_over.ensures ∙ c.if-is_over.true in
-    let stopped = stopped_there sys fold c.args.limits.choices c.args.limits.steps c.args.word.now (g.O.Observe.seen c.args.observer.now) c.loop-place.place c.loop-place.halt (machine_of c.loop-place.state) (g.O.Observe.seen c.loop-place.observer) over c.loop-place.invariant.reached in
+    let n = c.loop-place.place in
+    let s = machine_of c.loop-place.state in
+    let stopped = stopped_there sys unseen c.args.limits.choices c.args.limits.steps c.args.word.now tt n c.loop-place.halt s tt over c.loop-place.invariant.reached in
     record {
       answer = ok_as c.end_of_word.result _ _ c.end_of_word.ensures (λ end is. is ∙ stopped.answer);
-      seen = ok_always c.end_of_word.result _ stopped.seen;
+      seen = ok_always c.end_of_word.result _ (λ x h.
+          (let so_far = c.loop-place.invariant.seen x h in
+          let there = stopped_there sys (g.O.Observe.fold r gates) c.args.limits.choices c.args.limits.steps c.args.word.now x n c.loop-place.halt s so_far.0 over so_far.2 in
+          subst (g.O.Observe.holds c.loop-place.observer r gates s) there.seen so_far.1));
       stop = ok_always c.end_of_word.result _ stopped.stop;
       own = c.loop-place.invariant.own;
       ticks = ticks_within _ _ _ _ _ c.loop-place.invariant.ticks c.loop-place.invariant.within;
@@ -47,13 +60,22 @@ returns-then-is_over g c =
 
 pub returns-then-not-may : goal.returns-then-not-may
 returns-then-not-may g c =
-    let sys = slots c.args.program.now c.args.limits.gates in
-    let fold = g.O.Observe.fold c.args.program.now c.args.limits.gates in
+    let r = c.args.program.now in
+    let gates = c.args.limits.gates in
+    let sys = slots r gates in
+    let fold = g.O.Observe.fold r gates in
     let going = sym c.is_over.ensures ∙ c.if-is_over.false in
-    let stopped = stopped_refused sys fold c.args.limits.choices c.args.limits.steps c.args.word.now (g.O.Observe.seen c.args.observer.now) c.loop-place.place c.loop-place.halt (machine_of c.loop-place.state) (g.O.Observe.seen c.loop-place.observer) going (omega arith) (g.O.Observe.seen c.see_choice.new.self) (sym c.may.ensures ∙ c.if-not-may.true) c.see_choice.ensures c.loop-place.invariant.reached in
+    let n = c.loop-place.place in
+    let s = machine_of c.loop-place.state in
+    let off = sym c.may.ensures ∙ c.if-not-may.true in
+    let stopped = stopped_refused sys unseen c.args.limits.choices c.args.limits.steps c.args.word.now tt n c.loop-place.halt s tt going (omega arith) tt off refl c.loop-place.invariant.reached in
     record {
       answer = stopped.answer;
-      seen = stopped.seen;
+      seen = λ x h.
+          (let so_far = c.loop-place.invariant.seen x h in
+          let y = fold.on_choice s _ so_far.0 in
+          let there = stopped_refused sys fold c.args.limits.choices c.args.limits.steps c.args.word.now x n c.loop-place.halt s so_far.0 going (omega arith) y off refl so_far.2 in
+          subst (g.O.Observe.holds c.see_choice.new.self r gates s) there.seen (c.see_choice.ensures so_far.0 so_far.1));
       stop = stopped.stop;
       own = c.loop-place.invariant.own;
       ticks = ticks_within _ _ _ _ _ c.loop-place.invariant.ticks c.loop-place.invariant.within;
@@ -61,28 +83,50 @@ returns-then-not-may g c =
 
 pub loop-place-preserved : goal.loop-place-preserved
 loop-place-preserved g c =
-    let sys = slots c.args.program.now c.args.limits.gates in
-    let fold = g.O.Observe.fold c.args.program.now c.args.limits.gates in
+    let r = c.args.program.now in
+    let gates = c.args.limits.gates in
+    let steps = c.args.limits.steps in
+    let sys = slots r gates in
+    let fold = g.O.Observe.fold r gates in
     let going = sym c.is_over.ensures ∙ c.if-is_over.false in
-    let more = some_left (c.args.limits.choices - c.loop-place.place) c.loop-place.halt going in
+    let n = c.loop-place.place in
+    let s = machine_of c.loop-place.state in
+    let p = get_or c.args.word.now n 0 in
+    let t = machine_of c.observe_choice.new.state in
+    let node = node_of c.halt_at-halt-in-loop-place.result t in
+    let on = sym c.may.ensures ∙ c.if-not-may.false in
+    let comes : chosen sys steps s p ≡ node = subst (λ b. chosen (slots_by b r gates) steps s p ≡ node_of (halt_at c.in_ok-next.next) t) c.requires.loud c.in_ok-next.ensures.node ∙ ap (λ h. node_of h t) (sym c.halt_at-halt-in-loop-place.ensures) in
+    let more = some_left (c.args.limits.choices - n) c.loop-place.halt going in
     let so_far = c.loop-place.invariant.ticks in
-    let added = c.in_ok-halt-2.ensures.steps in
+    let added = c.in_ok-next.ensures.steps in
     record {
-      own = c.in_ok-halt-2.ensures.own;
+      own = c.in_ok-next.ensures.own;
       within = omega (arith, more);
-      reached = reached_further sys fold c.args.limits.choices c.args.limits.steps c.args.word.now (g.O.Observe.seen c.args.observer.now) c.loop-place.place c.loop-place.halt (machine_of c.loop-place.state) (g.O.Observe.seen c.loop-place.observer) going (omega arith) (node_of c.in_ok-halt-2.halt (machine_of c.observe_stretch-in-loop-place.new.state)) (g.O.Observe.seen c.see_choice.new.self) (g.O.Observe.seen c.observe_stretch-in-loop-place.new.observer) (sym c.may.ensures ∙ c.if-not-may.false) c.see_choice.ensures (c.in_ok-turn.ensures.node ∙ c.in_ok-halt-2.ensures.node) (c.in_ok-halt-2.ensures.seen ∙ sym c.in_ok-turn.ensures.seen) c.loop-place.invariant.reached;
+      reached = reached_further sys unseen c.args.limits.choices steps c.args.word.now tt n c.loop-place.halt s tt going (omega arith) node tt tt on refl comes refl c.loop-place.invariant.reached;
+      seen = λ x h.
+          (let known = c.loop-place.invariant.seen x h in
+          let y = fold.on_choice s p known.0 in
+          let z = fold_chosen sys fold steps s p y in
+          let now = subst (λ b. g.O.Observe.holds c.observe_choice.new.observer r gates t (fold_chosen (slots_by b r gates) fold steps s p y)) c.requires.loud (c.in_ok-next.ensures.seen y (c.see_choice.ensures known.0 known.1)) in
+          (z, now, reached_further sys fold c.args.limits.choices steps c.args.word.now x n c.loop-place.halt s known.0 going (omega arith) node y z on refl comes refl known.2));
       ticks = omega (arith, so_far, added);
     }
 
 pub returns : goal.returns
 returns g c =
-    let sys = slots c.args.program.now c.args.limits.gates in
-    let fold = g.O.Observe.fold c.args.program.now c.args.limits.gates in
-    let all : c.loop-place.place ≡ length c.args.word.now = omega arith in
-    let stopped = stopped_behind sys fold c.args.limits.choices c.args.limits.steps c.args.word.now (g.O.Observe.seen c.args.observer.now) c.loop-place.place c.loop-place.halt (machine_of c.loop-place.state) (g.O.Observe.seen c.loop-place.observer) all c.loop-place.invariant.reached in
+    let r = c.args.program.now in
+    let gates = c.args.limits.gates in
+    let sys = slots r gates in
+    let n = c.loop-place.place in
+    let s = machine_of c.loop-place.state in
+    let all : n ≡ length c.args.word.now = omega arith in
+    let stopped = stopped_behind sys unseen c.args.limits.choices c.args.limits.steps c.args.word.now tt n c.loop-place.halt s tt all c.loop-place.invariant.reached in
     record {
       answer = ok_as c.end_of_word-2.result _ _ c.end_of_word-2.ensures (λ end is. is ∙ stopped.answer);
-      seen = ok_always c.end_of_word-2.result _ stopped.seen;
+      seen = ok_always c.end_of_word-2.result _ (λ x h.
+          (let so_far = c.loop-place.invariant.seen x h in
+          let there = stopped_behind sys (g.O.Observe.fold r gates) c.args.limits.choices c.args.limits.steps c.args.word.now x n c.loop-place.halt s so_far.0 all so_far.2 in
+          subst (g.O.Observe.holds c.loop-place.observer r gates s) there.seen so_far.1));
       stop = ok_always c.end_of_word-2.result _ stopped.stop;
       own = c.loop-place.invariant.own;
       ticks = ticks_within _ _ _ _ _ c.loop-place.invariant.ticks c.loop-place.invariant.within;

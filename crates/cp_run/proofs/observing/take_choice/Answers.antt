@@ -1,8 +1,12 @@
-use Rattle.cp_run.proofs.Words.{◌≡◌, true, false, machine_of, is_pending, slots, pending_is}
-use Rattle.cp_run.proofs.DueChoices.{chosen_goes, goes_to, chosen_comes, free_behind, comes_to}
+use Rattle.cp_run.proofs.Words.{◌≡◌, ◌∙◌, true, false, refl, machine_of, is_pending, pending_is}
+use Rattle.cp_run.specs.Silent.{slots_by}
+use Rattle.cp_run.proofs.Choosing.{chosen_at_gate, chosen_free}
+use Rattle.cp_run.proofs.DueChoices.{chosen_goes, chosen_comes, free_behind}
 use Rattle.cp_run.proofs.Failing.{none_well}
 use Rattle.cp_run.proofs.Folding.{fold_chosen_free, fold_chosen_gate}
 use Rattle.cp_run.proofs.Observed.{goes_always}
+use Rattle.cp_run.proofs.Silently.{settled_by}
+use Rattle.cp_run.proofs.Walking.{walked_chosen_free, walked_chosen_gate}
 use Rattle.cp_run.proofs.observing.take_choice.Goals as goal
 
 pub returns-then-is_none : goal.returns-then-is_none
@@ -12,8 +16,9 @@ returns-then-is_none g c =
     let s = c.args.state.now in
     let goes = chosen_goes r gates s c.args.process c.pending.result c.pending.ensures c.if-is_none.ensures c.requires.own c.requires.may in
     record {
-      node = goes_to r gates s c.args.process c.pending.result c.pending.ensures c.args.limits.steps c.if-is_none.ensures;
-      seen = fold_chosen_free (slots r gates) (g.O.Observe.fold r gates) c.args.limits.steps (machine_of s) c.args.process (g.O.Observe.seen c.args.observer.now) goes.free;
+      node = λ b. chosen_free (slots_by b r gates) c.args.limits.steps (machine_of s) c.args.process goes.free;
+      walked = λ b. walked_chosen_free (slots_by b r gates) c.args.limits.steps (machine_of s) c.args.process goes.free;
+      seen = λ b x h. (x, h, fold_chosen_free (slots_by b r gates) (g.O.Observe.fold r gates) c.args.limits.steps (machine_of s) c.args.process x goes.free);
       ready = goes.ready;
       free = goes.free;
       own = goes.own;
@@ -37,8 +42,9 @@ returns g c =
     let turn = c.settled_turn.result in
     let pending = pending_is (machine_of s) c.pending.result true c.pending.ensures c.if-is_none.ensures in
     record {
-      node = comes_to r gates s c.args.process c.pending.result c.pending.ensures c.args.limits.steps c.if-is_none.ensures n turn c.admit.ensures.after c.settled_turn.ensures.turn;
-      seen = fold_chosen_gate (slots r gates) (g.O.Observe.fold r gates) c.args.limits.steps (machine_of s) n c.args.process turn (g.O.Observe.seen c.args.observer.now) (g.O.Observe.seen c.see_admission.new.self) pending c.admit.ensures.after c.settled_turn.ensures.turn c.in_ok-see_admission.ensures;
+      node = λ b. chosen_at_gate (slots_by b r gates) c.args.limits.steps (machine_of s) n c.args.process turn pending c.admit.ensures.after (c.settled_turn.ensures.turn ∙ settled_by b r gates n true c.args.process);
+      walked = λ b. walked_chosen_gate (slots_by b r gates) c.args.limits.steps (machine_of s) n c.args.process turn pending c.admit.ensures.after (c.settled_turn.ensures.turn ∙ settled_by b r gates n true c.args.process);
+      seen = λ b x h. ((g.O.Observe.fold r gates).on_admission c.args.process n x, c.in_ok-see_admission.ensures (machine_of s) x c.admit.ensures.after h, fold_chosen_gate (slots_by b r gates) (g.O.Observe.fold r gates) c.args.limits.steps (machine_of s) n c.args.process turn x ((g.O.Observe.fold r gates).on_admission c.args.process n x) pending c.admit.ensures.after (c.settled_turn.ensures.turn ∙ settled_by b r gates n true c.args.process) refl);
       ready = c.settled_turn.ensures.ready;
       free = goes_always turn (is_pending n ≡ false) (free_behind r gates s c.args.process c.pending.result c.pending.ensures c.if-is_none.ensures c.requires.may n c.admit.ensures.after);
       own = c.admit.ensures.own r c.requires.own;
@@ -49,6 +55,7 @@ returns-in_err-see_admission g c =
     let failed = c.from_residual.ensures.1 in
     record {
       node = none_well c.from_residual.result _ _ failed;
+      walked = none_well c.from_residual.result _ _ failed;
       seen = none_well c.from_residual.result _ _ failed;
       ready = none_well c.from_residual.result _ _ failed;
       free = none_well c.from_residual.result _ _ failed;

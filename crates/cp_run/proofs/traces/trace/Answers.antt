@@ -1,7 +1,5 @@
-use Rattle.std.proofs.Common.{◌∙◌, ap}
-use Rattle.cp_run.specs.Fold.{fold_run}
+use Rattle.std.proofs.Common.{◌∙◌, []}
 use Rattle.cp_run.specs.Slots.{slots}
-use Rattle.cp_run.specs.Trace.{tracer}
 use Rattle.cp_run.proofs.TraceBounds.{few_lines}
 use Rattle.cp_run.proofs.TraceFold.{is_traced}
 use Rattle.cp_run.proofs.traces.trace.Goals as goal
@@ -9,7 +7,7 @@ use Rattle.cp_run.proofs.traces.trace.Goals as goal
 pub returns : goal.returns
 returns g c =
     let sys = slots c.args.program.now c.args.limits.gates in
-    let lines = c.in_ok-end.ensures.seen ∙ ap (fold_run sys (tracer sys) c.args.limits.choices c.args.limits.steps c.args.word.now) c.new.ensures.items ∙ is_traced sys c.args.limits.choices c.args.limits.steps c.args.word.now in
+    let lines = c.in_ok-end.ensures.seen [] c.new.ensures.items ∙ is_traced sys c.args.limits.choices c.args.limits.steps c.args.word.now in
     record {
       lines = lines;
       answer = c.in_ok-end.ensures.answer;

@@ -17,15 +17,15 @@ use Rattle.cp_show_mark.proofs.marks.mark_of.Goals as goal
 
 pub returns-in-Ok-clause-mark : goal.returns-in-Ok-clause-mark
 returns-in-Ok-clause-mark g c =
-    let limits = c.limits_of-limits.result in
+    let limits = c.limits-limits.result in
     let program = c.args.examinee.program.now in
     let mark = c.in-Ok.marked.mark in
     let is_mark = subst (λ es. IsMarkOf program.names es (table (slots program limits.gates) limits.choices limits.steps) mark) c.as_slice-list.ensures.value c.in-Ok.ensures.mark.together in
-    IfOk-weaker c.told_answer.result _ _ (λ a e. told_within c.args.examinee.options.now limits program c.args.reading.now.expectations.items _ c.limits_of-limits.ensures (inr (mark, e, is_mark))) c.told_answer.ensures.verdict
+    IfOk-weaker c.told_answer.result _ _ (λ a e. told_within c.args.examinee.options.now limits program c.args.reading.now.expectations.items _ c.limits-limits.ensures (inr (mark, e, is_mark))) c.told_answer.ensures.verdict
 
 pub returns-in-Ok-clause-meaning : goal.returns-in-Ok-clause-meaning
 returns-in-Ok-clause-meaning g c = λ t read ok is.
-    (let limits = c.limits_of-limits.result in
+    (let limits = c.limits-limits.result in
     let program = c.args.examinee.program.now in
     let mark = c.in-Ok.marked.mark in
     let meant = c.in-Ok.ensures.meaning t read ok is.laid in
@@ -34,7 +34,7 @@ returns-in-Ok-clause-meaning g c = λ t read ok is.
     let o = c.args.examinee.options.now in
     let es = c.args.reading.now.expectations.items in
     let names : Spellings = constant_names t.program in
-    IfOk-weaker c.told_answer.result (λ a. a.verdict ≡ verdict_of mark) (λ a. MeansWithin o.choices o.steps o.gates t names es a.verdict) (λ a e. meant_within o limits t names es a.verdict c.limits_of-limits.ensures (inr (mark, e, by_names))) c.told_answer.ensures.verdict)
+    IfOk-weaker c.told_answer.result (λ a. a.verdict ≡ verdict_of mark) (λ a. MeansWithin o.choices o.steps o.gates t names es a.verdict) (λ a e. meant_within o limits t names es a.verdict c.limits-limits.ensures (inr (mark, e, by_names))) c.told_answer.ensures.verdict)
 
 pub returns-in-Err-TooManyStates-clause-meaning : goal.returns-in-Err-TooManyStates-clause-meaning
 returns-in-Err-TooManyStates-clause-meaning g c = λ t read ok is. IfOk-weaker c.too_many.result _ _ (λ a e. inl e) c.too_many.ensures.verdict
@@ -44,7 +44,7 @@ returns-in-Err-TooManyOutcomes-clause-meaning g c = λ t read ok is. IfOk-weaker
 
 pub returns-in-Ok-clause-text : goal.returns-in-Ok-clause-text
 returns-in-Ok-clause-text g c =
-    let limits = c.limits_of-limits.result in
+    let limits = c.limits-limits.result in
     let x = c.args.examinee in
     let program = x.program.now in
     let m = c.in-Ok.marked in
@@ -53,7 +53,7 @@ returns-in-Ok-clause-text g c =
     let marked = subst (λ es. IsMarked program.names es (table (slots program limits.gates) limits.choices limits.steps) m) c.as_slice-list.ensures.value c.in-Ok.ensures.mark in
     let meaning = subst (λ es. IsMeantMark program limits.gates limits.choices limits.steps es m) c.as_slice-list.ensures.value c.in-Ok.ensures.meaning in
     let said = saying (setting_of x) es doubtful m in
-    ok_with c.told_answer.result (λ a. a.verdict ≡ verdict_of m.mark) (λ a. string_bytes a.text ≡ ended x.as_json said) (λ a. TellsText (setting_of x) es doubtful a.verdict (string_bytes a.text)) (λ a v t. (said, inl (m, mark_told x limits es doubtful a.verdict said m c.limits_of-limits.ensures v refl marked meaning), t)) c.told_answer.ensures.verdict c.told_answer.ensures.text
+    ok_with c.told_answer.result (λ a. a.verdict ≡ verdict_of m.mark) (λ a. string_bytes a.text ≡ ended x.as_json said) (λ a. TellsText (setting_of x) es doubtful a.verdict (string_bytes a.text)) (λ a v t. (said, inl (m, mark_told x limits es doubtful a.verdict said m c.limits-limits.ensures v refl marked meaning), t)) c.told_answer.ensures.verdict c.told_answer.ensures.text
 
 pub returns-in-Err-TooManyStates-clause-text : goal.returns-in-Err-TooManyStates-clause-text
 returns-in-Err-TooManyStates-clause-text g c =

@@ -10,4 +10,4 @@ returns-clause-used g c = ok_as c.tell.result _ _ c.tell.ensures.answer (λ s is
 pub returns-clause-so : goal.returns-clause-so
 returns-clause-so g c =
     let told = c.tell.ensures in
-    story_within c.args.options.now c.limits_of.result _ _ _ c.tell.result c.limits_of.ensures told.lines told.told told.choice told.waits told.answer told.stop told.left
+    story_within c.args.options.now c.limits.result _ _ _ c.tell.result c.limits.ensures told.lines told.told told.choice told.waits told.answer told.stop told.left

@@ -1,4 +1,4 @@
-use Rattle.std.proofs.Common.{◌∙◌, ap, map}
+use Rattle.std.proofs.Common.{◌∙◌, ap, map, refl}
 use Rattle.cp_run.specs.Code.{answer_of}
 use Rattle.cp_legend.specs.Names.{legend_seen}
 use Rattle.cp_machine.specs.Machine.{Machine, machine_of}
@@ -28,7 +28,9 @@ returns g c =
     let answer = run sys choices steps word in
     let last = last_state sys choices steps word in
     let ran = c.in_ok-end.ensures in
-    let whole = run_told r gates choices steps word l c.in_ok-observer.observer c.new-events.result.items (machine_of c.in_ok-state.state) (telling_of teller.observer teller.events.items, lines_of teller.events.items) c.new-events.ensures.items c.in_ok-state.ensures.opening c.in_ok-observer.ensures ran.seen in
+    let begun = c.in_ok-observer.observer in
+    let items = c.new-events.result.items in
+    let whole = run_told r gates choices steps word l begun items (machine_of c.in_ok-state.state) (telling_of teller.observer teller.events.items, lines_of teller.events.items) c.new-events.ensures.items c.in_ok-state.ensures.opening c.in_ok-observer.ensures (ran.seen (telling_of begun items, lines_of items) refl) in
     record {
       lines = whole.lines;
       told = ap (λ (t : Telling). t.events) whole.told;

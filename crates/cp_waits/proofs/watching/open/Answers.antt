@@ -1,38 +1,19 @@
-use Rattle.cp_waits.proofs.Words.{[], ◌∙◌, false, refl, machine_of, slots, Over, Due, Goes, silent_slots, without_output, in_call_on_slots, waits_on_slots}
-use Rattle.cp_waits.proofs.Words.{first_leg, ok_to}
-use Rattle.cp_machine.proofs.CallerLemmas.{opening_ready}
-use Rattle.cp_ends.proofs.Arriving.{turn_alike}
-use Rattle.cp_waits.specs.declared.watching.Came.TheVariants as came
-use Rattle.cp_waits.proofs.Legs.{comes_same, first_at, leg_by, over_at_once}
+use Rattle.cp_waits.proofs.Words.{◌∙◌, [], List, ap, subst, sym, Machine, Moment, Turn, machine_of, output_of, silent_slots, Comes, Leg, ok_to}
+use Rattle.cp_waits.specs.Passings.{HasSeen}
+use Rattle.cp_waits.proofs.Legs.{first_sets_out, quiet_opened, sees_opening}
 use Rattle.cp_waits.proofs.watching.open.Goals as goal
 
-pub turn_at-requires-clause-goes_on : goal.turn_at-requires-clause-goes_on
-turn_at-requires-clause-goes_on g c = λ e. opening_ready c.args.program.now c.args.limits.gates (machine_of c.args.state.now) c.processes-processes.ensures.sound.some c.requires.start
+pub watch_halt-requires-clause-quiet : goal.watch_halt-requires-clause-quiet
+watch_halt-requires-clause-quiet g c = ap (λ (w : Machine × Turn). output_of w.0) (sym c.in_ok-turn.ensures.walked) ∙ quiet_opened c.args.program.now c.args.limits.gates c.args.limits.steps
 
-pub returns-in-Over-clause-comes : goal.returns-in-Over-clause-comes
-returns-in-Over-clause-comes g c = λ h.
-    (let sys = slots c.args.program.now c.args.limits.gates in
-    let quiet = silent_slots c.args.program.now c.args.limits.gates in
-    let s = machine_of c.args.state.now in
-    comes_same quiet in_call_on_slots waits_on_slots c.args.limits.steps (first_leg quiet c.args.limits.steps) (leg_by quiet c.args.limits.steps s (Over c.in-Over.field-0)) [] c.args.passing.now came.End s
-    (first_at quiet c.args.limits.steps s (Over c.in-Over.field-0) c.requires.start (c.in-Over.ensures.turn ∙ turn_alike sys without_output s false 0))
-    (over_at_once quiet in_call_on_slots waits_on_slots c.args.limits.steps s c.in-Over.field-0 [] c.args.passing.now s h))
-
-pub returns-in-Due-clause-comes : goal.returns-in-Due-clause-comes
-returns-in-Due-clause-comes g c = λ h.
-    (let sys = slots c.args.program.now c.args.limits.gates in
-    let quiet = silent_slots c.args.program.now c.args.limits.gates in
-    let s = machine_of c.args.state.now in
-    comes_same quiet in_call_on_slots waits_on_slots c.args.limits.steps (first_leg quiet c.args.limits.steps) (leg_by quiet c.args.limits.steps s Due) [] c.args.passing.now came.Choice s
-    (first_at quiet c.args.limits.steps s Due c.requires.start (c.in-Due.ensures.turn ∙ turn_alike sys without_output s false 0))
-    (refl, h))
-
-pub returns-in-Goes-clause-comes : goal.returns-in-Goes-clause-comes
-returns-in-Goes-clause-comes g c =
-    let sys = slots c.args.program.now c.args.limits.gates in
-    let quiet = silent_slots c.args.program.now c.args.limits.gates in
-    let s = machine_of c.args.state.now in
-    ok_to c.stretch.result _ _ c.stretch.ensures.comes (λ came comes h.
-    comes_same quiet in_call_on_slots waits_on_slots c.args.limits.steps (first_leg quiet c.args.limits.steps) _ [] c.stretch.new.passing came (machine_of c.stretch.new.state)
-    (first_at quiet c.args.limits.steps s (Goes c.in-Goes.next) c.requires.start (c.in-Goes.ensures.turn ∙ turn_alike sys without_output s false 0))
-    (comes [] h))
+pub returns-clause-comes : goal.returns-clause-comes
+returns-clause-comes g c =
+    let r = c.args.program.now in
+    let gates = c.args.limits.gates in
+    let steps = c.args.limits.steps in
+    let quiet = silent_slots r gates in
+    let out = first_sets_out quiet steps in
+    ok_to c.watch_halt.result _ _ c.watch_halt.ensures.comes (λ halt comes h.
+    (let seen = subst (λ (x : List Machine × List (Moment Machine)). HasSeen r gates x.0 x.1 c.observe_opening.new.observer) (sees_opening quiet steps ([], [])) (c.in_ok-turn.ensures.seen ([], []) h) in
+    subst (λ (leg : Leg Machine). Comes r gates steps leg [] c.watch_halt.new.passing halt (machine_of c.watch_halt.new.state)) (sym out.2)
+    (comes out.0 out.1 [] (sym out.3 ∙ c.in_ok-turn.ensures.walked) (subst (λ (leg : Leg Machine). HasSeen r gates [] (leg.moments steps) c.observe_opening.new.observer) out.2 seen))))

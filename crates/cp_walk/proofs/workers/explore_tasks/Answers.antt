@@ -11,19 +11,17 @@ use Rattle.cp_walk.proofs.workers.explore_tasks.Goals as goal
 pub close-closed-requires-clause-own : goal.close-closed-requires-clause-own
 close-closed-requires-clause-own g c =
     let P : Seat → Type 0 = IsSeatOf c.in-Ok.made.0 in
-    let ended = c.in-Ok-map_vec.ended.items in
-    let calls = c.in-Ok-map_vec.ensures in
-    subst (All P) (sym c.in-Ok-collect_parts.ensures.seats) (All-map P (λ (w : Worked). w.seat) ended (λ k d h. (calls.each k d (omega (arith, h, calls.len))).1.call.met.0))
+    let ended = c.in-Ok-run_workers.ended.items in
+    subst (All P) (sym c.in-Ok-collect_parts.ensures.seats) (All-map P (λ (w : Worked). w.seat) ended (λ k d h. (c.in-Ok-run_workers.ensures.each k d h).0))
 
 pub returns-then-closed-gt-MOST_NOTED-clause-many : goal.returns-then-closed-gt-MOST_NOTED-clause-many
 returns-then-closed-gt-MOST_NOTED-clause-many g c _ =
     let rows = g.W.Work.rows c.args.work.now in
     let b = c.in-Ok.made.0 in
-    let ended = c.in-Ok-map_vec.ended.items in
-    let calls = c.in-Ok-map_vec.ensures in
+    let ended = c.in-Ok-run_workers.ended.items in
     let claimed = c.close-closed.result.claimed in
     let total = c.close-closed.result.total in
-    let met : All (HasWorked rows b) ended = λ k d h. (calls.each k d (omega (arith, h, calls.len))).1.call.met in
+    let met : All (HasWorked rows b) ended = c.in-Ok-run_workers.ensures.each in
     let settled : Settles c.args.tasks claimed total (map view_of (map (λ (w : Worked). w.seat) ended)) =
     subst (λ n. Settles n claimed total (map view_of (map (λ (w : Worked). w.seat) ended))) c.in-Ok.ensures.made.tasks_are
     (subst (λ (l : List Seat). Settles (tasks_of b) claimed total (map view_of l)) c.in-Ok-collect_parts.ensures.seats c.close-closed.ensures.settled) in
@@ -33,11 +31,10 @@ pub gather_rows-requires : goal.gather_rows-requires
 gather_rows-requires g c =
     let rows = g.W.Work.rows c.args.work.now in
     let b = c.in-Ok.made.0 in
-    let ended = c.in-Ok-map_vec.ended.items in
-    let calls = c.in-Ok-map_vec.ensures in
+    let ended = c.in-Ok-run_workers.ended.items in
     let claimed = c.close-closed.result.claimed in
     let total = c.close-closed.result.total in
-    let met : All (HasWorked rows b) ended = λ k d h. (calls.each k d (omega (arith, h, calls.len))).1.call.met in
+    let met : All (HasWorked rows b) ended = c.in-Ok-run_workers.ensures.each in
     let settled : Settles c.args.tasks claimed total (map view_of (map (λ (w : Worked). w.seat) ended)) =
     subst (λ n. Settles n claimed total (map view_of (map (λ (w : Worked). w.seat) ended))) c.in-Ok.ensures.made.tasks_are
     (subst (λ (l : List Seat). Settles (tasks_of b) claimed total (map view_of l)) c.in-Ok-collect_parts.ensures.seats c.close-closed.ensures.settled) in
@@ -49,16 +46,15 @@ pub returns-clause-table : goal.returns-clause-table
 returns-clause-table g c =
     let rows = g.W.Work.rows c.args.work.now in
     let b = c.in-Ok.made.0 in
-    let ended = c.in-Ok-map_vec.ended.items in
-    let calls = c.in-Ok-map_vec.ensures in
+    let ended = c.in-Ok-run_workers.ended.items in
     let claimed = c.close-closed.result.claimed in
     let total = c.close-closed.result.total in
-    let met : All (HasWorked rows b) ended = λ k d h. (calls.each k d (omega (arith, h, calls.len))).1.call.met in
+    let met : All (HasWorked rows b) ended = c.in-Ok-run_workers.ensures.each in
     let settled : Settles c.args.tasks claimed total (map view_of (map (λ (w : Worked). w.seat) ended)) =
     subst (λ n. Settles n claimed total (map view_of (map (λ (w : Worked). w.seat) ended))) c.in-Ok.ensures.made.tasks_are
     (subst (λ (l : List Seat). Settles (tasks_of b) claimed total (map view_of l)) c.in-Ok-collect_parts.ensures.seats c.close-closed.ensures.settled) in
     let few : total ≤ 50000 = c.if-closed-gt-MOST_NOTED.false in
-    let one : 0 < length ended = omega (arith, calls.len, c.in-Ok.ensures.made.many, c.requires.workers.0) in
+    let one : 0 < length ended = omega (arith, c.in-Ok-run_workers.ensures.count, c.in-Ok.ensures.made.many, c.requires.workers.0) in
     c.in-Ok-gather_rows.ensures ∙ ap (λ (ps : List TaskRows). table_of (rows_at ps) c.args.tasks) c.in-Ok-collect_parts.ensures.parts
     ∙ table-from_parts rows b c.args.tasks ended claimed total settled met c.in-Ok-collect_parts.ensures.kept few one
 
@@ -66,14 +62,13 @@ pub returns-clause-few : goal.returns-clause-few
 returns-clause-few g c _ =
     let rows = g.W.Work.rows c.args.work.now in
     let b = c.in-Ok.made.0 in
-    let ended = c.in-Ok-map_vec.ended.items in
-    let calls = c.in-Ok-map_vec.ensures in
+    let ended = c.in-Ok-run_workers.ended.items in
     let claimed = c.close-closed.result.claimed in
     let total = c.close-closed.result.total in
-    let met : All (HasWorked rows b) ended = λ k d h. (calls.each k d (omega (arith, h, calls.len))).1.call.met in
+    let met : All (HasWorked rows b) ended = c.in-Ok-run_workers.ensures.each in
     let settled : Settles c.args.tasks claimed total (map view_of (map (λ (w : Worked). w.seat) ended)) =
     subst (λ n. Settles n claimed total (map view_of (map (λ (w : Worked). w.seat) ended))) c.in-Ok.ensures.made.tasks_are
     (subst (λ (l : List Seat). Settles (tasks_of b) claimed total (map view_of l)) c.in-Ok-collect_parts.ensures.seats c.close-closed.ensures.settled) in
     let few : total ≤ 50000 = c.if-closed-gt-MOST_NOTED.false in
-    let one : 0 < length ended = omega (arith, calls.len, c.in-Ok.ensures.made.many, c.requires.workers.0) in
+    let one : 0 < length ended = omega (arith, c.in-Ok-run_workers.ensures.count, c.in-Ok.ensures.made.many, c.requires.workers.0) in
     omega (arith, few, length-table rows b c.args.tasks ended claimed total settled met c.in-Ok-collect_parts.ensures.kept few one)

@@ -8,9 +8,9 @@ use Rattle.cpx_show.proofs.schedules.schedule_asked.Goals as goal
 pub returns-then-asked : goal.returns-then-asked
 returns-then-asked g c =
     let asked = c.args.asked.now in
-    let limits = c.limits_of.ensures in
+    let limits = c.limits.ensures in
     let number = c.in-Some.number in
-    let job : Job = record { program = c.args.program; limits = c.limits_of.result } in
+    let job : Job = record { program = c.args.program; limits = c.limits.result } in
     IfOk-weaker c.simplest_of_outcome.result _ _
     (λ chosen h. outcome_asked asked c.args.program.now number chosen job c.in-Some.is (record { program = refl; choices = limits.0; steps = limits.1; gates = limits.2 }) (subst (λ (simplest : Bool). IsOfOutcome simplest job number chosen) (sym c.if-asked.true) h))
     c.simplest_of_outcome.ensures
@@ -18,9 +18,9 @@ returns-then-asked g c =
 pub returns-else-asked : goal.returns-else-asked
 returns-else-asked g c =
     let asked = c.args.asked.now in
-    let limits = c.limits_of.ensures in
+    let limits = c.limits.ensures in
     let number = c.in-Some.number in
-    let job : Job = record { program = c.args.program; limits = c.limits_of.result } in
+    let job : Job = record { program = c.args.program; limits = c.limits.result } in
     IfOk-weaker c.first_of_outcome.result _ _
     (λ chosen h. outcome_asked asked c.args.program.now number chosen job c.in-Some.is (record { program = refl; choices = limits.0; steps = limits.1; gates = limits.2 }) (subst (λ (simplest : Bool). IsOfOutcome simplest job number chosen) (sym c.if-asked.false) h))
     c.first_of_outcome.ensures

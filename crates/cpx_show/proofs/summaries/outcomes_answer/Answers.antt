@@ -6,8 +6,8 @@ use Rattle.cpx_show.proofs.summaries.outcomes_answer.Goals as goal
 
 pub returns : goal.returns
 returns g c =
-    let subject : Subject = record { program = c.args.program; legend = c.args.legend; limits = c.limits_of.result; states = c.args.options.now.states; source = c.args.source } in
-    let limits = c.limits_of.ensures in
+    let subject : Subject = record { program = c.args.program; legend = c.args.legend; limits = c.limits.result; states = c.args.options.now.states; source = c.args.source } in
+    let limits = c.limits.ensures in
     record {
       subject = subject;
       asked = record { program = refl; legend = refl; choices = limits.0; steps = limits.1; gates = limits.2; states = refl };

@@ -13,7 +13,7 @@ loop-made-init g c =
       quiet = c.requires.quiet;
       ahead = c.requires.ahead;
       numbers = c.requires.numbers;
-      found = λ states word a h is arrives to shown. going_first r gr (HasLeg r c.args.limits.gates) c.args.most c.args.self.now.found states a (goal_at c.args.arrival (machine_of c.args.state.now)) c.args.self.now.told.items c.args.origin word h is arrives to shown;
+      found = λ states word a h is arrives to shown. going_first r gr (HasLeg r c.args.limits.gates) c.args.most c.args.self.now.found states a (goal_at c.args.arrival (machine_of c.args.state.now)) c.args.self.now.told.values.items c.args.origin word h is arrives to shown;
     }
 
 pub push-requires : goal.push-requires
@@ -34,19 +34,19 @@ loop-made-preserved g c =
       found = λ states word a h is arrives to shown.
           (let x = c.loop-made.invariant.found states word a h is arrives to shown in
           let n = c.in_ok-note.ensures.found r gr c.args.most x.more x.word x.here m x.holds x.is_word x.arrives x.to x.shows in
-          at_leg r gr Leg c.args.most c.args.self.now.found states c.loop-made.self.found c.note.new.self.found a (goal_at c.loop-made.arrival m) c.loop-made.self.told.items c.loop-made.origin c.loop-made.made x n m (ap (λ v. goal_at v m) c.in-Choice.is) p c.in-Some.ensures.may c.in-Some.ensures.leg (omega arith)
+          at_leg r gr Leg c.args.most c.args.self.now.found states c.loop-made.self.found c.note.new.self.found a (goal_at c.loop-made.arrival m) c.loop-made.self.told.values.items c.loop-made.origin c.loop-made.made x n m (ap (λ v. goal_at v m) c.in-Choice.is) p c.in-Some.ensures.may c.in-Some.ensures.leg (omega arith)
           (record { state = c.loop-made.origin.state; numbers = c.push.new.self }) _ _ (word_longer x.more c.loop-made.origin (record { state = c.loop-made.origin.state; numbers = c.push.new.self }) p x.word x.is_word refl c.push.ensures.items)
           c.in_ok-arrival.ensures.goal (c.in_ok-arrival.ensures.shown ∙ ap (λ l. l ++ (gr.on m p).shown) c.clear.ensures.items));
     }
 
-pub returns-in-End-clause-found : goal.returns-in-End-clause-found
-returns-in-End-clause-found g c = λ states word a h is arrives to shown.
+pub returns-in-Ended-clause-found : goal.returns-in-Ended-clause-found
+returns-in-Ended-clause-found g c = λ states word a h is arrives to shown.
     (let r = c.args.program.now in
     let gr = slot_graph r c.args.limits.gates c.args.limits.steps in
     let m = machine_of c.loop-made.state in
     let x = c.loop-made.invariant.found states word a h is arrives to shown in
     let n = c.in_ok-note.ensures.found r gr c.args.most x.more x.word x.here m x.holds x.is_word x.arrives x.to x.shows in
-    at_end r gr (HasLeg r c.args.limits.gates) c.args.most c.args.self.now.found states c.loop-made.self.found c.note.new.self.found a (goal_at c.loop-made.arrival m) c.loop-made.self.told.items c.loop-made.origin c.loop-made.made x n _ (ap (λ v. goal_at v m) c.in-End.is))
+    at_end r gr (HasLeg r c.args.limits.gates) c.args.most c.args.self.now.found states c.loop-made.self.found c.note.new.self.found a (goal_at c.loop-made.arrival m) c.loop-made.self.told.values.items c.loop-made.origin c.loop-made.made x n _ (ap (λ v. goal_at v m) c.in-Ended.is))
 
 pub returns-in_default-clause-found : goal.returns-in_default-clause-found
 returns-in_default-clause-found g c =
@@ -57,8 +57,8 @@ returns-in_default-clause-found g c =
     let x = c.loop-made.invariant.found states word a h is arrives to shown in
     let n = c.in_ok-note.ensures.found r gr c.args.most x.more x.word x.here m x.holds x.is_word x.arrives x.to x.shows in
     let place = ap (λ v. goal_at v m) c.in-Choice.is in
-    at_kept r gr (HasLeg r c.args.limits.gates) c.args.most c.args.self.now.found states c.loop-made.self.found c.note.new.self.found a (goal_at c.loop-made.arrival m) c.loop-made.self.told.items c.loop-made.origin c.loop-made.made x n m place c.keep.new.self.found is_room
-    (on gr x.more x.word n.0 x.is_word (leads_to r gr (HasLeg r c.args.limits.gates) c.args.most c.args.self.now.found states c.loop-made.self.found a (goal_at c.loop-made.arrival m) c.loop-made.self.told.items c.loop-made.origin c.loop-made.made x m place))))
+    at_kept r gr (HasLeg r c.args.limits.gates) c.args.most c.args.self.now.found states c.loop-made.self.found c.note.new.self.found a (goal_at c.loop-made.arrival m) c.loop-made.self.told.values.items c.loop-made.origin c.loop-made.made x n m place c.keep.new.self.found is_room
+    (on gr x.more x.word n.0 x.is_word (leads_to r gr (HasLeg r c.args.limits.gates) c.args.most c.args.self.now.found states c.loop-made.self.found a (goal_at c.loop-made.arrival m) c.loop-made.self.told.values.items c.loop-made.origin c.loop-made.made x m place))))
 
 pub returns-in-Choice-arrival-clause-found : goal.returns-in-Choice-arrival-clause-found
 returns-in-Choice-arrival-clause-found g c =
@@ -69,17 +69,17 @@ returns-in-Choice-arrival-clause-found g c =
     let x = c.loop-made.invariant.found states word a h is arrives to shown in
     let n = c.in_ok-note-2.ensures.found r gr c.args.most x.more x.word x.here m x.holds x.is_word x.arrives x.to x.shows in
     let place = ap (λ v. goal_at v m) c.in-Choice-arrival.is in
-    at_kept r gr (HasLeg r c.args.limits.gates) c.args.most c.args.self.now.found states c.loop-made.self.found c.note-2.new.self.found a (goal_at c.loop-made.arrival m) c.loop-made.self.told.items c.loop-made.origin c.loop-made.made x n m place c.keep-in-Choice-arrival.new.self.found is_room
-    (on gr x.more x.word n.0 x.is_word (leads_to r gr (HasLeg r c.args.limits.gates) c.args.most c.args.self.now.found states c.loop-made.self.found a (goal_at c.loop-made.arrival m) c.loop-made.self.told.items c.loop-made.origin c.loop-made.made x m place))))
+    at_kept r gr (HasLeg r c.args.limits.gates) c.args.most c.args.self.now.found states c.loop-made.self.found c.note-2.new.self.found a (goal_at c.loop-made.arrival m) c.loop-made.self.told.values.items c.loop-made.origin c.loop-made.made x n m place c.keep-in-Choice-arrival.new.self.found is_room
+    (on gr x.more x.word n.0 x.is_word (leads_to r gr (HasLeg r c.args.limits.gates) c.args.most c.args.self.now.found states c.loop-made.self.found a (goal_at c.loop-made.arrival m) c.loop-made.self.told.values.items c.loop-made.origin c.loop-made.made x m place))))
 
-pub returns-in-End-arrival-clause-found : goal.returns-in-End-arrival-clause-found
-returns-in-End-arrival-clause-found g c = λ states word a h is arrives to shown.
+pub returns-in-Ended-arrival-clause-found : goal.returns-in-Ended-arrival-clause-found
+returns-in-Ended-arrival-clause-found g c = λ states word a h is arrives to shown.
     (let r = c.args.program.now in
     let gr = slot_graph r c.args.limits.gates c.args.limits.steps in
     let m = machine_of c.loop-made.state in
     let x = c.loop-made.invariant.found states word a h is arrives to shown in
     let n = c.in_ok-note-2.ensures.found r gr c.args.most x.more x.word x.here m x.holds x.is_word x.arrives x.to x.shows in
-    at_end r gr (HasLeg r c.args.limits.gates) c.args.most c.args.self.now.found states c.loop-made.self.found c.note-2.new.self.found a (goal_at c.loop-made.arrival m) c.loop-made.self.told.items c.loop-made.origin c.loop-made.made x n _ (ap (λ v. goal_at v m) c.in-End-arrival.is))
+    at_end r gr (HasLeg r c.args.limits.gates) c.args.most c.args.self.now.found states c.loop-made.self.found c.note-2.new.self.found a (goal_at c.loop-made.arrival m) c.loop-made.self.told.values.items c.loop-made.origin c.loop-made.made x n _ (ap (λ v. goal_at v m) c.in-Ended-arrival.is))
 
 pub returns-in_err-note-clause-own : goal.returns-in_err-note-clause-own
 returns-in_err-note-clause-own g c = c.loop-made.invariant.own
@@ -90,11 +90,11 @@ returns-in_err-note-clause-found g c = none_well c.from_residual.result _ _ c.fr
 pub returns-in_err-note-clause-ahead : goal.returns-in_err-note-clause-ahead
 returns-in_err-note-clause-ahead g c = subst (IsStateOf c.args.program.now) (sym c.note.ensures.ahead) c.loop-made.invariant.ahead
 
-pub returns-in-End-clause-own : goal.returns-in-End-clause-own
-returns-in-End-clause-own g c = c.loop-made.invariant.own
+pub returns-in-Ended-clause-own : goal.returns-in-Ended-clause-own
+returns-in-Ended-clause-own g c = c.loop-made.invariant.own
 
-pub returns-in-End-clause-ahead : goal.returns-in-End-clause-ahead
-returns-in-End-clause-ahead g c = subst (IsStateOf c.args.program.now) (sym c.note.ensures.ahead) c.loop-made.invariant.ahead
+pub returns-in-Ended-clause-ahead : goal.returns-in-Ended-clause-ahead
+returns-in-Ended-clause-ahead g c = subst (IsStateOf c.args.program.now) (sym c.note.ensures.ahead) c.loop-made.invariant.ahead
 
 pub process_at_once-requires-clause-own : goal.process_at_once-requires-clause-own
 process_at_once-requires-clause-own g c = c.loop-made.invariant.own
@@ -144,8 +144,8 @@ keep-requires-in-Choice-arrival-clause-own g c = c.loop-made.invariant.own
 pub keep-requires-in-Choice-arrival-clause-quiet : goal.keep-requires-in-Choice-arrival-clause-quiet
 keep-requires-in-Choice-arrival-clause-quiet g c = c.loop-made.invariant.quiet
 
-pub returns-in-End-arrival-clause-own : goal.returns-in-End-arrival-clause-own
-returns-in-End-arrival-clause-own g c = c.loop-made.invariant.own
+pub returns-in-Ended-arrival-clause-own : goal.returns-in-Ended-arrival-clause-own
+returns-in-Ended-arrival-clause-own g c = c.loop-made.invariant.own
 
 pub returns-in-Choice-arrival-clause-own : goal.returns-in-Choice-arrival-clause-own
 returns-in-Choice-arrival-clause-own g c = c.loop-made.invariant.own
@@ -153,5 +153,5 @@ returns-in-Choice-arrival-clause-own g c = c.loop-made.invariant.own
 pub returns-in_err-note-2-clause-ahead : goal.returns-in_err-note-2-clause-ahead
 returns-in_err-note-2-clause-ahead g c = subst (IsStateOf c.args.program.now) (sym c.note-2.ensures.ahead) c.loop-made.invariant.ahead
 
-pub returns-in-End-arrival-clause-ahead : goal.returns-in-End-arrival-clause-ahead
-returns-in-End-arrival-clause-ahead g c = subst (IsStateOf c.args.program.now) (sym c.note-2.ensures.ahead) c.loop-made.invariant.ahead
+pub returns-in-Ended-arrival-clause-ahead : goal.returns-in-Ended-arrival-clause-ahead
+returns-in-Ended-arrival-clause-ahead g c = subst (IsStateOf c.args.program.now) (sym c.note-2.ensures.ahead) c.loop-made.invariant.ahead

@@ -3,6 +3,7 @@ use Rattle.std.specs.Prelude.{IfOk}
 use Rattle.cp_key.proofs.Owned.{machine_own}
 use Rattle.cp_run.specs.Code.{node_of}
 use Rattle.cp_run.specs.declared.outcome.Halt.{Halt}
+use Rattle.cp_run.specs.declared.outcome.OutcomeKind.{OutcomeKind}
 use Rattle.cp_cover.proofs.FromState.{node_choosing, node_halted}
 use Rattle.cp_cover.proofs.search.CoverSearch.arrive.Goals as goal
 
@@ -11,18 +12,18 @@ returns-in-Choice-clause-layer c =
     let r = c.args.program.now in
     let m = machine_of c.args.state.now in
     let keys = c.args.self.now.layer.known.keys in
-    subst (λ (h : Halt). IfOk c.add.result (λ _. AddsNode r keys (node_of h m) c.add.new.self.known.keys)) (sym c.in-Choice.is) (ok_as c.add.result _ _ c.add.ensures (λ u h. node_choosing r keys c.add.new.self.known.keys m (machine_own r c.args.state.now c.requires.own) h))
+    subst (λ (h : Halt OutcomeKind). IfOk c.add.result (λ _. AddsNode r keys (node_of h m) c.add.new.self.known.keys)) (sym c.in-Choice.is) (ok_as c.add.result _ _ c.add.ensures (λ u h. node_choosing r keys c.add.new.self.known.keys m (machine_own r c.args.state.now c.requires.own) h))
 
 pub returns-then-is_limit-clause-layer : goal.returns-then-is_limit-clause-layer
 returns-then-is_limit-clause-layer c =
     let r = c.args.program.now in
     let m = machine_of c.args.state.now in
     let keys = c.args.self.now.layer.known.keys in
-    subst (λ (h : Halt). AddsNode r keys (node_of h m) keys) (sym c.in-Ended.is) (node_halted r keys c.in-Ended.kind m)
+    subst (λ (h : Halt OutcomeKind). AddsNode r keys (node_of h m) keys) (sym c.in-Ended.is) (node_halted r keys c.in-Ended.kind m)
 
 pub returns-else-is_limit-clause-layer : goal.returns-else-is_limit-clause-layer
 returns-else-is_limit-clause-layer c =
     let r = c.args.program.now in
     let m = machine_of c.args.state.now in
     let keys = c.args.self.now.layer.known.keys in
-    subst (λ (h : Halt). AddsNode r keys (node_of h m) keys) (sym c.in-Ended.is) (node_halted r keys c.in-Ended.kind m)
+    subst (λ (h : Halt OutcomeKind). AddsNode r keys (node_of h m) keys) (sym c.in-Ended.is) (node_halted r keys c.in-Ended.kind m)

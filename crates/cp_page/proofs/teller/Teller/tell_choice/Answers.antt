@@ -1,50 +1,21 @@
-use Rattle.std.proofs.Common.{◌≡◌, ◌∙◌, true, false}
-use Rattle.cp_machine.specs.System.{machine_of, is_pending}
-use Rattle.cp_run.specs.declared.outcome.Turn.TheVariants.{Over, Due, Goes}
-use Rattle.cp_run.specs.Slots.{slots}
-use Rattle.cp_run.proofs.Choosing.{may_in_line, may_be_ready, chosen_free, chosen_at_gate}
-use Rattle.cp_machine.proofs.CallerLemmas.{pending_is, line_within, admitted_free}
+use Rattle.std.proofs.Common.{◌∙◌, ap}
+use Rattle.cp_machine.specs.System.{machine_of, output_of}
+use Rattle.cp_run.specs.Code.{halt_at, node_of}
+use Rattle.cp_run.proofs.Tracing.{ok_as}
+use Rattle.cp_ends.specs.Arrivals.{goal_at}
+use Rattle.cp_page.proofs.Leading.{choice_halts, choice_leads, may_left, quiet_left}
 use Rattle.cp_page.proofs.teller.Teller.tell_choice.Goals as goal
 
-pub tell_stretch-requires-clause-ready : goal.tell_stretch-requires-clause-ready
-tell_stretch-requires-clause-ready g c =
-    let e : is_pending (machine_of c.args.state.now) ≡ false = pending_is (machine_of c.args.state.now) c.pending.result false c.pending.ensures c.if-is_none.ensures in
-    may_be_ready (slots c.args.program.now c.args.limits.gates) (machine_of c.args.state.now) c.args.process e c.requires.may
+pub observe_choice-requires-clause-may : goal.observe_choice-requires-clause-may
+observe_choice-requires-clause-may g c = may_left g.K.Schedules.IS_SILENT c.args.program.now c.args.limits.gates (machine_of c.args.state.now) (machine_of c.forget.new.state) c.args.process c.forget.ensures.state c.requires.may
 
-pub returns-then-is_none-clause-node : goal.returns-then-is_none-clause-node
-returns-then-is_none-clause-node g c =
-    let e : is_pending (machine_of c.args.state.now) ≡ false = pending_is (machine_of c.args.state.now) c.pending.result false c.pending.ensures c.if-is_none.ensures in
-    chosen_free (slots c.args.program.now c.args.limits.gates) c.args.limits.steps (machine_of c.args.state.now) c.args.process e ∙ c.tell_stretch.ensures.node
+pub arrive-requires-clause-quiet : goal.arrive-requires-clause-quiet
+arrive-requires-clause-quiet g c = c.in_ok-turn.ensures.seen tt (λ on. ap output_of c.forget.ensures.state ∙ quiet_left g.K.Schedules.IS_SILENT (machine_of c.args.state.now) on)
 
-pub admit-requires-clause-own : goal.admit-requires-clause-own
-admit-requires-clause-own g c = (c.args.program.now, c.requires.own)
+pub returns-clause-node : goal.returns-clause-node
+returns-clause-node g c =
+    ok_as c.arrive.result _ _ c.arrive.ensures.node (λ h halts. choice_halts g.K.Schedules.IS_SILENT c.args.program.now c.args.limits.gates c.args.limits.steps (machine_of c.args.state.now) (machine_of c.forget.new.state) c.args.process h (machine_of c.arrive.new.state) (node_of (halt_at c.in_ok-turn.turn) (machine_of c.observe_choice.new.state)) c.forget.ensures.state c.in_ok-turn.ensures.node halts)
 
-pub admit-requires-clause-pid : goal.admit-requires-clause-pid
-admit-requires-clause-pid g c =
-    let e : is_pending (machine_of c.args.state.now) ≡ true = pending_is (machine_of c.args.state.now) c.pending.result true c.pending.ensures c.if-is_none.ensures in
-    line_within c.args.state.now c.args.process (may_in_line (slots c.args.program.now c.args.limits.gates) (machine_of c.args.state.now) c.args.process e c.requires.may)
-
-pub admit-requires-clause-line : goal.admit-requires-clause-line
-admit-requires-clause-line g c =
-    let e : is_pending (machine_of c.args.state.now) ≡ true = pending_is (machine_of c.args.state.now) c.pending.result true c.pending.ensures c.if-is_none.ensures in
-    may_in_line (slots c.args.program.now c.args.limits.gates) (machine_of c.args.state.now) c.args.process e c.requires.may
-
-pub tell_stretch-requires-in-Goes-clause-free : goal.tell_stretch-requires-in-Goes-clause-free
-tell_stretch-requires-in-Goes-clause-free g c =
-    let e : is_pending (machine_of c.args.state.now) ≡ true = pending_is (machine_of c.args.state.now) c.pending.result true c.pending.ensures c.if-is_none.ensures in
-    admitted_free (machine_of c.args.state.now) (machine_of c.admit.new.self) c.args.process (may_in_line (slots c.args.program.now c.args.limits.gates) (machine_of c.args.state.now) c.args.process e c.requires.may) c.admit.ensures.after
-
-pub returns-in-Over-clause-node : goal.returns-in-Over-clause-node
-returns-in-Over-clause-node g c =
-    let e : is_pending (machine_of c.args.state.now) ≡ true = pending_is (machine_of c.args.state.now) c.pending.result true c.pending.ensures c.if-is_none.ensures in
-    chosen_at_gate (slots c.args.program.now c.args.limits.gates) c.args.limits.steps (machine_of c.args.state.now) (machine_of c.admit.new.self) c.args.process (Over c.in-Over.kind) e c.admit.ensures.after c.in-Over.ensures.turn
-
-pub returns-in-Due-clause-node : goal.returns-in-Due-clause-node
-returns-in-Due-clause-node g c =
-    let e : is_pending (machine_of c.args.state.now) ≡ true = pending_is (machine_of c.args.state.now) c.pending.result true c.pending.ensures c.if-is_none.ensures in
-    chosen_at_gate (slots c.args.program.now c.args.limits.gates) c.args.limits.steps (machine_of c.args.state.now) (machine_of c.admit.new.self) c.args.process Due e c.admit.ensures.after c.in-Due.ensures.turn
-
-pub returns-in-Goes-clause-node : goal.returns-in-Goes-clause-node
-returns-in-Goes-clause-node g c =
-    let e : is_pending (machine_of c.args.state.now) ≡ true = pending_is (machine_of c.args.state.now) c.pending.result true c.pending.ensures c.if-is_none.ensures in
-    chosen_at_gate (slots c.args.program.now c.args.limits.gates) c.args.limits.steps (machine_of c.args.state.now) (machine_of c.admit.new.self) c.args.process (Goes c.in-Goes.next) e c.admit.ensures.after c.in-Goes.ensures.turn ∙ c.tell_stretch-in-Goes.ensures.node
+pub returns-clause-goal : goal.returns-clause-goal
+returns-clause-goal g c =
+    ok_as c.arrive.result _ _ c.arrive.ensures.goal (λ h leads. choice_leads g.K.Schedules.IS_SILENT c.args.program.now c.args.limits.gates c.args.limits.steps (machine_of c.args.state.now) (machine_of c.forget.new.state) c.args.process (goal_at h (machine_of c.arrive.new.state)) (machine_of c.observe_choice.new.state) c.in_ok-turn.turn c.forget.ensures.state c.in_ok-turn.ensures.walked leads)

@@ -1,19 +1,18 @@
-use Rattle.std.proofs.Common.{◌∙◌}
-use Rattle.cp_machine.specs.System.{machine_of}
-use Rattle.cp_run.specs.declared.outcome.Turn.TheVariants.{Over, Due, Goes}
-use Rattle.cp_run.specs.Slots.{slots}
-use Rattle.cp_run.proofs.Choosing.{opened_at}
-use Rattle.cp_machine.proofs.CallerLemmas.{opening_ready}
+use Rattle.std.proofs.Common.{ap}
+use Rattle.cp_machine.specs.System.{machine_of, output_of}
+use Rattle.cp_run.specs.Code.{halt_at, node_of}
+use Rattle.cp_run.proofs.Tracing.{ok_as}
+use Rattle.cp_ends.specs.Arrivals.{goal_at}
+use Rattle.cp_page.proofs.Leading.{opening_halts, opening_leads}
 use Rattle.cp_page.proofs.teller.Teller.tell_opening.Goals as goal
 
-pub returns-in-Over-clause-node : goal.returns-in-Over-clause-node
-returns-in-Over-clause-node g c = opened_at (slots c.args.program.now c.args.limits.gates) c.args.limits.steps (machine_of c.args.state.now) (Over c.in-Over.kind) c.requires.start c.in-Over.ensures.turn
+pub arrive-requires-clause-quiet : goal.arrive-requires-clause-quiet
+arrive-requires-clause-quiet g c = c.in_ok-turn.ensures.seen tt (λ on. ap output_of c.requires.start)
 
-pub returns-in-Due-clause-node : goal.returns-in-Due-clause-node
-returns-in-Due-clause-node g c = opened_at (slots c.args.program.now c.args.limits.gates) c.args.limits.steps (machine_of c.args.state.now) Due c.requires.start c.in-Due.ensures.turn
+pub returns-clause-node : goal.returns-clause-node
+returns-clause-node g c =
+    ok_as c.arrive.result _ _ c.arrive.ensures.node (λ h halts. opening_halts g.K.Schedules.IS_SILENT c.args.program.now c.args.limits.gates c.args.limits.steps h (machine_of c.arrive.new.state) (node_of (halt_at c.in_ok-turn.turn) (machine_of c.observe_opening.new.state)) c.in_ok-turn.ensures.node halts)
 
-pub returns-in-Goes-clause-node : goal.returns-in-Goes-clause-node
-returns-in-Goes-clause-node g c = opened_at (slots c.args.program.now c.args.limits.gates) c.args.limits.steps (machine_of c.args.state.now) (Goes c.in-Goes.next) c.requires.start c.in-Goes.ensures.turn ∙ c.tell_stretch.ensures.node
-
-pub turn_at-requires-clause-goes_on : goal.turn_at-requires-clause-goes_on
-turn_at-requires-clause-goes_on g c = λ e. opening_ready c.args.program.now c.args.limits.gates (machine_of c.args.state.now) c.processes-processes.ensures.sound.some c.requires.start
+pub returns-clause-goal : goal.returns-clause-goal
+returns-clause-goal g c =
+    ok_as c.arrive.result _ _ c.arrive.ensures.goal (λ h leads. opening_leads g.K.Schedules.IS_SILENT c.args.program.now c.args.limits.gates c.args.limits.steps (goal_at h (machine_of c.arrive.new.state)) (machine_of c.observe_opening.new.state) c.in_ok-turn.turn c.in_ok-turn.ensures.walked leads)
