@@ -1,0 +1,1 @@
+"""What ./class is made of: it marks solutions, and looks which mistakes in a model no expectation notices."""
