@@ -1,4 +1,4 @@
-"""A browser that is driven by its pipe: no port is opened, and no package is wanted."""
+"""A browser that is driven by its pipe: no port is opened, and no package is wanted. Without one, a small document in node."""
 import base64
 import json
 import os
@@ -6,6 +6,7 @@ import shutil
 import subprocess
 import tempfile
 import time
+from pathlib import Path
 
 NAMES = ("chromium", "chromium-browser", "google-chrome")
 
@@ -15,8 +16,72 @@ def browser_path():
     return next((path for path in map(shutil.which, NAMES) if path), None)
 
 
+# What a browser does by itself with a key is asked for by its number.
+CODES = {"ArrowLeft": 37, "ArrowRight": 39, "Home": 36, "End": 35, "Enter": 13}
+
+
+def open_browser():
+    """A browser, or else a small document in node, or None."""
+    if path := browser_path():
+        return Browser(path)
+    return SmallBrowser(node) if (node := shutil.which("node")) else None
+
+
+class SmallBrowser:
+    """A page in node: as much of a document as its script uses. Nothing is laid out."""
+
+    has_layout = False
+
+    def __init__(self, program):
+        self.faults, self.asked = [], []
+        words = [program, str(Path(__file__).with_name("page_dom.js"))]
+        self.process = subprocess.Popen(words, stdin=subprocess.PIPE, stdout=subprocess.PIPE, text=True, encoding="utf-8")
+
+    def ask(self, *words):
+        self.process.stdin.write(json.dumps(words) + "\n")
+        self.process.stdin.flush()
+        answer = json.loads(self.process.stdout.readline() or '{"fault": "node ended"}')
+        if "fault" in answer:
+            self.faults.append(answer["fault"])
+        return answer.get("value")
+
+    def load(self, path, place=""):
+        self.faults = []
+        self.ask("load", str(path), place)
+        self.faults += self.ask("faults")
+
+    def do(self, expression):
+        value = self.ask("do", expression)
+        self.faults += self.ask("faults")
+        return value
+
+    def press(self, key):
+        self.ask("press", key)
+
+    def click(self, selector, number=0):
+        self.ask("click", selector, number)
+
+    def back(self):
+        self.ask("back")
+
+    def print(self):
+        self.ask("print")
+
+    def text(self, selector):
+        return self.do(f"(document.querySelector({json.dumps(selector)}) || {{ textContent: '' }}).textContent")
+
+    def word(self):
+        return self.do("document.getElementById('word').value")
+
+    def close(self):
+        self.process.stdin.close()
+        self.process.wait(20)
+
+
 class Browser:
     """One page at a time, with what went wrong in it and what it asked for."""
+
+    has_layout = True
 
     def __init__(self, program, width=1600, height=900):
         self.folder = tempfile.mkdtemp()
@@ -91,9 +156,10 @@ class Browser:
         return answer["result"].get("value")
 
     def press(self, key):
-        text = {"text": key} if len(key) == 1 else {}
-        self.call("Input.dispatchKeyEvent", type="keyDown", key=key, **text)
-        self.call("Input.dispatchKeyEvent", type="keyUp", key=key)
+        text = {"text": key} if len(key) == 1 else {"text": "\r"} if key == "Enter" else {}
+        code = {"windowsVirtualKeyCode": CODES[key], "code": key} if key in CODES else {}
+        self.call("Input.dispatchKeyEvent", type="keyDown", key=key, **text, **code)
+        self.call("Input.dispatchKeyEvent", type="keyUp", key=key, **code)
 
     def click(self, selector, number=0):
         box = self.do(f"""(() => {{
@@ -104,6 +170,14 @@ class Browser:
         }})()""")
         for kind in ("mousePressed", "mouseReleased"):
             self.call("Input.dispatchMouseEvent", type=kind, x=box[0], y=box[1], button="left", clickCount=1)
+
+    def back(self):
+        history = self.call("Page.getNavigationHistory")
+        self.call("Page.navigateToHistoryEntry", entryId=history["entries"][history["currentIndex"] - 1]["id"])
+        time.sleep(0.1)
+
+    def print(self):
+        self.do("dispatchEvent(new Event('beforeprint'))")
 
     def text(self, selector):
         return self.do(f"(document.querySelector({json.dumps(selector)}) || {{ textContent: '' }}).textContent")

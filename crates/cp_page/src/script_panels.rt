@@ -108,7 +108,7 @@ function outlook(counts, output) {
   const sum = total(counts.map(([, n]) => n));
   const parts = new Map();
   for (const [outcome, n] of counts.sort((a, b) => byKind(a[0], b[0]))) {
-    const isNamed = outcomes.length <= 6 && !isBrief && kindOf(outcome) !== "beyond";
+    const isNamed = outcomes.length > 1 && outcomes.length <= 6 && !isBrief && kindOf(outcome) !== "beyond";
     const label = kindOf(outcome) + "\t" + (isNamed ? joined(output, outcome.split("\t")[1]) : "");
     parts.set(label, (parts.get(label) || 0n) + n);
   }
@@ -141,13 +141,14 @@ function processCard(s, old, p) {
   return el("div", { class: "card" + look }, el("p", {}, head), own.length > 0 && el("p", {}, values), options.includes(p) && choiceButton(s, p));
 }
 
-// What happens up to the next choice if this process is chosen, and what can still come of it.
+// What happens up to the next choice if this process is chosen, and what can still come of it, where that is not to be predicted.
 function choiceButton(s, p) {
   const edge = edgeOf(s.node, p);
-  const does = EDGES[edge].events.map(e => (e.p === p ? "" : e.p + " ") + wordsOf(e)).join("; ") || "goes on";
+  const does = briefly(EDGES[edge].events, e => (e.p === p ? "" : e.p + " ") + wordsOf(e)) || "goes on";
+  const then = () => isEndless ? lossShown(s, edge) : [outlook(through(edge, K - s.used), s.output.join(" ")), takenAway(s, edge)];
   const look = word[at] === p ? "go next" : "go";
   return el("button", { class: look, id: "go" + p, onclick: () => choose(p) },
-    el("kbd", {}, keyOf(p)), " ", does, isEndless ? lossShown(s, edge) : outlook(through(edge, K - s.used), s.output.join(" ")));
+    el("kbd", {}, keyOf(p)), " ", does, !predicts && then());
 }
 
 function monitorCard(s, old, m) {
@@ -173,7 +174,7 @@ function showPlay(s, old) {
   const gate = s.end ? -1 : NODES[s.node].gate;
   const question = gate < 0 ? "Who goes on?" : `Who is let in to ${monitor(gate)}?`;
   $("play").replaceChildren(
-    ...(isEndless ? [roundShown(s), !s.end && prospectsLine(s)] : []).filter(part => part),
+    ...[reviewShown(s, old), ...(isEndless ? [roundShown(s), !s.end && !predicts && prospectsLine(s)] : [])].filter(part => part),
     s.end ? endCard(s) : el("h2", {}, question),
     ...PROCESSES.map(p => processCard(s, old, p)),
     ...(MONITORS.length ? [el("h2", {}, "Monitors")] : []),
@@ -198,7 +199,7 @@ function layButton(text, numbers, title, outcome) {
     [word, at] = [numbers, 0];
     show();
   };
-  return numbers && el("button", { title, "aria-label": `${text}: ${outcome.key.replace("\t", " ")}`, onclick: lays }, text);
+  return numbers && el("button", { id: text + outcomes.indexOf(outcome), title, "aria-label": `${text}: ${outcome.key.replace("\t", " ")}`, onclick: lays }, text);
 }
 
 // A first schedule is laid out where the page has all states along it.
@@ -209,13 +210,15 @@ function outcomeChip(s, here, isPart, outcome) {
   const left = leftOf(here, outcome, s.output.join(" "));
   const of = outcome.count === null ? "" : number(outcome.count);
   const rest = left ? (isPart ? "at least " : "") + number(left) : isPart ? "?" : "none";
-  const says = s.end ? (left ? "here" : "") : s.used && of ? `${rest} of ${of} left` : of;
+  const isHidden = predicts && !s.end;
+  const says = s.end ? (left ? "here" : "") : s.used && of && !isHidden ? `${rest} of ${of} left` : of;
   if (outcome.playable === undefined) outcome.playable = playable(outcome.first);
-  return el("li", { class: kind + (left || isPart ? "" : " gone") },
+  return el("li", { class: kind + (left || isPart || isHidden ? "" : " gone") },
     mark(kind), error && ` ${error}: ${person(p)}, line ${line}`, outcome.output && " \u00b7 displays " + outcome.output, " ",
     el("small", { title: of && outcome.count + " schedules" }, says),
     layButton("simplest", simplest(outcome), "Lay out its schedule with the fewest switches", outcome),
-    layButton("first", outcome.playable, "Lay out its first schedule", outcome));
+    layButton("first", outcome.playable, "Lay out its first schedule", outcome),
+    anotherButton(outcome));
 }
 
 const showEveryChip = () => {
@@ -228,7 +231,7 @@ function showOutcomes(s) {
   const here = s.end ? new Map([[endText(s.end) + "\t", 1n]]) : ways(s.node, K - s.used);
   const isPart = [...here.keys()].some(outcome => kindOf(outcome) === "beyond");
   const chips = outcomes.slice(0, showsAll ? outcomes.length : MOST_CHIPS).map(o => outcomeChip(s, here, isPart, o));
-  if (chips.length < outcomes.length) chips.push(el("li", {}, el("button", { onclick: showEveryChip }, `all ${outcomes.length} outcomes`)));
+  if (chips.length < outcomes.length) chips.push(el("li", {}, el("button", { id: "all", onclick: showEveryChip }, `all ${outcomes.length} outcomes`)));
   if (D.more) chips.push(el("li", { class: "sum" }, `and ${D.more} outcomes more`));
   const all = () => (D.more ? "more than " : "") + schedules(total(outcomes.map(o => o.count)));
   const head = D.isWhole ? all() : "too many schedules to count; " + (outcomes.length ? "found:" : "no end was found");

@@ -146,7 +146,7 @@ function roundCard(s, round) {
     el("p", {}, "The round ", el("span", { class: "word" }, numbers.join(".")), " can be gone again and again, for ever:"),
     el("ul", {}, roundSentences(round).map(sentence => el("li", {}, sentence))),
     el("p", {}, el("button", { id: "again", onclick: () => move("forward") }, "once more \u2192"), " ",
-      el("button", { onclick: goes(back) }, "to its beginning"), el("small", {}, " any other choice leaves it")));
+      el("button", { id: "begin", onclick: goes(back) }, "to its beginning"), el("small", {}, " any other choice leaves it")));
 }
 
 // The word with the round at its end once more.
@@ -163,10 +163,12 @@ function endChip(s, outcome) {
   const can = s.end ? endText(s.end) === key : prospectsAt(s.node).some(each => each.key === key);
   const isPart = !s.end && prospectsAt(s.node).some(each => each.key === "beyond");
   if (outcome.playable === undefined) outcome.playable = playable(outcome.first);
-  const says = s.end ? can && "here" : s.used > 0 && (can ? "can still come" : isPart ? "?" : "no more");
-  return el("li", { class: kind + (can || isPart ? "" : " gone") },
+  const isHidden = predicts && !s.end;
+  const says = s.end ? can && "here" : s.used > 0 && !isHidden && (can ? "can still come" : isPart ? "?" : "no more");
+  return el("li", { class: kind + (can || isPart || isHidden ? "" : " gone") },
     mark(kind), error && ` ${error}: ${person(p)}, line ${line}`, isAlone(kind) && ` ${person(p)}`, " ", el("small", {}, says),
-    layButton("first", outcome.playable, "Lay out the shortest schedule that ends so", outcome));
+    layButton("first", outcome.playable, "Lay out the shortest schedule that ends so", outcome),
+    anotherButton(outcome));
 }
 
 function waitChip(s, wait) {
@@ -177,7 +179,7 @@ function waitChip(s, wait) {
     [word, at] = [[...first, ...again], place];
     show();
   };
-  const button = (text, place, title) => wait.playable && el("button", { title, "aria-label": `${text}: ${person(process)} waits for ever`, onclick: lays(place) }, text);
+  const button = (text, place, title) => wait.playable && el("button", { id: text + WAITS.indexOf(wait), title, "aria-label": `${text}: ${person(process)} waits for ever`, onclick: lays(place) }, text);
   return el("li", { class: "waits" },
     el("span", { class: "kind" }, KINDS.waits[0]), ` ${person(process)} may wait ${manner} `,
     others.length > 0 && el("small", {}, `while ${people(others)} ${others.length === 1 ? "goes" : "go"} on`),
@@ -185,14 +187,19 @@ function waitChip(s, wait) {
     again.length > 0 && button("round", first.length, "Lay out the round, at its beginning"));
 }
 
+// Whether a schedule of this page can go on for ever.
+const goesOnForEver = () => WAITS.length > 0 || NODES.some((_, n) => HEIGHTS[n] === Infinity);
+
 function showEnds(s) {
   const chips = outcomes.slice(0, showsAll ? outcomes.length : MOST_CHIPS).map(o => endChip(s, o));
-  if (chips.length < outcomes.length) chips.push(el("li", {}, el("button", { onclick: showEveryChip }, `all ${outcomes.length} ends`)));
+  if (chips.length < outcomes.length) chips.push(el("li", {}, el("button", { id: "all", onclick: showEveryChip }, `all ${outcomes.length} ends`)));
   const sum = says => el("li", { class: "sum" }, says);
-  const head = D.isWhole ? number(D.found) + " states: " + (outcomes.length ? "schedules of any length end so or go on for ever" : "no schedule of any length ends")
+  const ending = goesOnForEver() ? "schedules of any length end so or go on for ever" : isWholeGraph ? "every schedule ends so" : "so end schedules of any length";
+  const head = D.isWhole ? number(D.found) + " states: " + (outcomes.length ? ending : "no schedule of any length ends")
     : `more than ${number(D.found)} states: so end schedules of up to ${D.within} choices`;
   const waits = D.waits === null ? [sum("who may wait for ever is not known")]
-    : WAITS.length ? WAITS.map(wait => waitChip(s, wait)) : [sum("nobody may wait for ever while others go on")];
+    : WAITS.length ? WAITS.map(wait => waitChip(s, wait))
+      : goesOnForEver() || !isWholeGraph ? [sum("nobody may wait for ever while others go on")] : [];
   const cut = isWholeGraph ? [] : [sum(`this page goes on from ${number(D.states)} states, not from all`)];
   $("outcomes").replaceChildren(sum(head), ...chips, ...waits, ...cut);
 }

@@ -2,7 +2,7 @@
 
 /// The style sheet.
 pub const STYLE: &str = r##"
-:root { color-scheme: light dark; --ink: #1f2933; --grey: #5a6672; --pale: #98a2ad; --ground: #ffffff; --band: #f4f6fa; --line: #d5dae1; --red: #b3261e; --green: #2e7d32; --limit: #6a7580; --ever: #8a5a00; --mark: #fff3bf; --soft: 18%; --focus: #1a5fb4 }
+:root { color-scheme: light dark; --ink: #1f2933; --grey: #505c68; --pale: #98a2ad; --ground: #ffffff; --band: #f4f6fa; --line: #d5dae1; --red: #b3261e; --green: #2e7d32; --limit: #5c6772; --ever: #8a5a00; --mark: #fff3bf; --soft: 18%; --focus: #1a5fb4 }
 @media screen and (prefers-color-scheme: dark) {
   :root { --ink: #e6eaee; --grey: #a3aeb9; --pale: #75808b; --ground: #14181d; --band: #1c2229; --line: #36404a; --red: #ff8a80; --green: #7ccb80; --limit: #98a2ad; --ever: #e6b450; --mark: #4a4012; --soft: 24%; --focus: #8ab4f8 }
 }
@@ -25,36 +25,49 @@ pub const STYLE: &str = r##"
   .m7 { --c: #b7b54f }
 }
 * { box-sizing: border-box }
-body { margin: 0; background: var(--ground); color: var(--ink); font: clamp(14px, 5px + .62vw, 21px)/1.4 system-ui, "DejaVu Sans", "Segoe UI", sans-serif; display: flex; flex-direction: column; height: 100vh }
+@keyframes late { from { visibility: hidden } }
+body { margin: 0; background: var(--ground); color: var(--ink); font: clamp(14px, 5px + .62vw, 21px)/1.4 system-ui, "DejaVu Sans", "Segoe UI", sans-serif; display: flex; flex-direction: column; height: max(100vh, 620px) }
 header { padding: .5em 1em .4em; border-bottom: 1px solid var(--line); display: flex; flex-wrap: wrap; gap: .3em 1em; align-items: center }
 h1, .card, #outcomes, footer { overflow-wrap: anywhere }
-h1 { font-size: 1.25em; margin: 0; flex: 1 1 16em }
+h1 { font-size: 1.25em; margin: 0; flex: 1 1 16em; display: -webkit-box; -webkit-box-orient: vertical; -webkit-line-clamp: 2; overflow: hidden }
 h2 { font-size: 1em; margin: 0 0 .4em; color: var(--grey); font-weight: 600 }
 button, input, summary { font: inherit; color: inherit }
-button { background: var(--ground); border: 1px solid var(--pale); border-radius: .4em; padding: .12em .6em; cursor: pointer }
-button:hover:enabled { border-color: var(--ink); background: var(--band) }
-button:disabled { opacity: .4; cursor: default }
+button, input, summary { min-height: 24px }
+button { background: var(--ground); border: 1px solid var(--pale); border-radius: .4em; padding: .12em .6em; min-width: 24px; cursor: pointer }
+button:hover { border-color: var(--ink); background: var(--band) }
+button[aria-disabled=true] { color: var(--grey); border-color: var(--line); background: var(--ground); cursor: default }
+button[aria-pressed=true], button[aria-expanded=true] { background: var(--ink); color: var(--ground) }
 :focus-visible { outline: 3px solid var(--focus); outline-offset: 1px }
 #word { font-family: ui-monospace, "DejaVu Sans Mono", monospace; background: var(--band); border: 1px solid var(--line); border-radius: .4em; padding: .12em .5em; width: 17em; max-width: 60vw }
+#word[aria-invalid=true] { border: 2px solid var(--red) }
+#refused { color: var(--red); font-weight: 600 }
+#blocked { margin: 1em; animation: late 0s 3s backwards }
+#whole { display: none; overflow-wrap: anywhere }
 main { display: grid; grid-template-columns: minmax(0, 28fr) minmax(0, 28fr) minmax(0, 44fr); gap: 0 1em; padding: .6em 1em; flex: 1; min-height: 0 }
 main > section { overflow: auto; min-height: 0; padding: 2px }
 @media (max-width: 1150px) {
-  body { display: block; height: auto }
-  main { grid-template-columns: minmax(0, 1fr) minmax(0, 1fr); }
-  #picture { grid-column: 1 / 3 }
-  #text { max-height: 80vh }
+  main { grid-template: minmax(0, 1fr) minmax(0, 1fr) / minmax(0, 43fr) minmax(0, 57fr) }
+  #play { grid-area: 1 / 1 }
+  #text { grid-area: 2 / 1 }
+  #picture { grid-area: 1 / 2 / 3 / 3 }
 }
 @media (max-width: 720px) {
+  body { display: block; height: auto }
   main { display: flex; flex-direction: column }
   main > section { margin-bottom: 1em }
   #play { order: -1 }
   #text { max-height: 40vh }
+  #picture { max-height: 85vh }
+  footer { position: sticky; bottom: 0; background: var(--ground) }
 }
 #outcomes { list-style: none; margin: 0; padding: 0; display: flex; flex-wrap: wrap; gap: .35em; flex: 1 1 100%; max-height: 5.6em; overflow: auto }
+@media (max-width: 720px) {
+  #outcomes { max-height: none }
+}
 #outcomes li { border: 1px solid var(--line); border-left: .35em solid var(--k); border-radius: .4em; padding: .1em .5em }
 #outcomes li.sum { border: 0; padding-left: 0 }
-#outcomes li.gone { opacity: .62; border-style: dashed }
-#outcomes button { padding: 0 .4em; margin-left: .35em; font-size: .9em }
+#outcomes li.gone { color: var(--grey); border-style: dashed }
+#outcomes button { padding: 0 .4em; min-height: 24px; margin-left: .35em; font-size: .9em }
 .finished { --k: var(--green) }
 .all-waiting, .run-error { --k: var(--red) }
 .choice-limit, .step-limit, .output-limit, .beyond { --k: var(--limit) }
@@ -74,10 +87,10 @@ small, .quiet { color: var(--grey); font-size: .88em }
 .num.gate, .num.delayed { background: var(--ground); color: var(--ink) }
 .num.gate { border-style: dashed }
 .num.delayed { border-style: dotted }
-.num.ended, .num.unstarted { background: var(--ground); color: var(--pale); border-color: var(--pale) }
+.num.ended, .num.unstarted { background: var(--ground); color: var(--grey); border-color: var(--pale) }
 .card { border: 1px solid var(--line); border-radius: .5em; padding: .4em .6em; margin-bottom: .5em }
 .card.now { border-color: var(--ink) }
-.card.off { opacity: .62 }
+.card.off { color: var(--grey); border-style: dashed }
 .card p { margin: .12em 0 }
 .card .num.big { font-size: 1.15em }
 .go { display: block; width: 100%; text-align: left; margin: .25em 0 .1em; padding: .3em .6em; border-width: 2px; border-color: var(--ink) }
@@ -101,14 +114,27 @@ h3 { margin: 0; font-size: 1em; display: inline }
 .word { font-family: ui-monospace, "DejaVu Sans Mono", monospace }
 #can { margin: 0 0 .4em }
 .bar { width: 100% }
-footer { padding: .2em 1em; border-top: 1px solid var(--line); display: flex; gap: 1em; justify-content: space-between }
+footer { padding: .2em 1em; border-top: 1px solid var(--line); display: flex; gap: 1em; align-items: start; justify-content: space-between }
+#said { flex: 1; display: -webkit-box; -webkit-box-orient: vertical; -webkit-line-clamp: 2; max-height: 2.8em; overflow: hidden }
+.open #said { display: block; max-height: 40vh; overflow: auto }
 #keys { white-space: nowrap }
+@media (max-width: 720px) {
+  #keys { display: none }
+}
 #warn { color: var(--red); font-weight: 600; flex: 1 1 100% }
 #warn:empty { display: none }
 svg { display: block; max-width: none }
 svg text { fill: var(--ink); font: 13px system-ui, "DejaVu Sans", sans-serif }
 svg .dim, svg text.dim { fill: var(--grey) }
 svg .ahead { fill: var(--ground); opacity: .66 }
+.heads { position: sticky; top: 0; z-index: 1; background: var(--ground); width: max-content; min-width: 100% }
+.heads p { margin: 0; position: sticky; left: 0; display: flex; gap: .4em; max-width: 100% }
+#signs { list-style: none; margin: .4em 0; padding: .3em .6em; border: 1px solid var(--line); border-radius: .4em; columns: 17em }
+#signs li { display: flex; gap: .5em; align-items: center; break-inside: avoid }
+#signs svg { flex: none }
+svg .point { stroke: var(--k); stroke-width: 3; stroke-dasharray: 9 4 }
+svg text.point { fill: var(--k); stroke: none; font-weight: 700 }
+svg .folded { fill: var(--band); stroke: var(--pale) }
 svg .band { fill: var(--band) }
 svg .band.at { fill: var(--mark) }
 svg .round { stroke: var(--ever); stroke-width: 2; fill: none }
@@ -118,7 +144,7 @@ svg .dot { fill: var(--ink) }
 svg .arrow { stroke: var(--ink); stroke-width: 1.5; fill: none }
 svg .arrow.in { stroke-dasharray: 5 3 }
 svg .box { fill: color-mix(in srgb, var(--c) var(--soft), var(--ground)); stroke: var(--c); stroke-width: 1.6 }
-svg .hold { fill: var(--c) }
+svg .hold { fill: color-mix(in srgb, var(--c) 80%, var(--ink)) }
 svg text.lab { font-size: 12.5px }
 svg text.inv { fill: var(--ground); font-weight: 700; font-size: 12px; text-anchor: middle }
 svg .wait { stroke: var(--c); stroke-width: 1.8 }
@@ -128,20 +154,31 @@ svg .opt { fill: var(--ground); stroke: var(--pale) }
 svg .taken .opt { fill: var(--ink); stroke: var(--ink) }
 svg .pick { cursor: pointer }
 svg .pick:hover .opt { stroke: var(--ink); stroke-width: 2 }
-svg text.on { fill: var(--pale); font-size: 11px; text-anchor: middle }
+svg text.on { fill: var(--grey); font-size: 11px; text-anchor: middle }
+svg text.sign { fill: var(--ink); font-size: 14px }
 svg .taken text.on { fill: var(--ground); font-weight: 700 }
 svg .hit { fill: transparent; cursor: pointer }
 svg .loud { font-weight: 700 }
 svg text.ended { fill: var(--k); font-size: 15px }
 svg text .dim { fill: var(--grey) }
+svg .later text, svg .later tspan { fill: var(--grey) }
+svg .later text.inv { fill: var(--ink) }
 details { margin-top: .6em }
 details ol { margin: .3em 0; padding-left: 2.4em }
 kbd { border: 1px solid var(--pale); border-radius: .25em; padding: 0 .3em; font: .85em ui-monospace, monospace }
 @media print {
-  body { display: block; height: auto }
+  @page { margin: 12mm }
   :root { color-scheme: light; --ink: #000 }
-  main { display: block; height: auto }
-  main > section { overflow: visible; break-inside: avoid-page; max-height: none !important }
-  button, #tools, footer { display: none }
+  * { print-color-adjust: exact }
+  body { font-size: 10pt }
+  body, main, header { display: block; height: auto; padding: 0 }
+  main > section, #outcomes { overflow: visible; max-height: none }
+  main > section { margin-top: 1em }
+  .card, #outcomes li, #source li { break-inside: avoid }
+  #picture svg { max-width: 100%; height: auto }
+  .heads { position: static; break-after: avoid }
+  .sheet { break-inside: avoid }
+  #lanes, button, #tools, #typed, footer { display: none }
+  h1, #whole { display: block }
 }
 "##;

@@ -2,12 +2,15 @@
 
 use crate::data::data;
 use crate::markup::{BEGIN, BETWEEN, BODY, END, HEAD, SCRIPT, SCRIPT_HASH, STYLE_HASH};
+use crate::script_brief::BRIEF;
 use crate::script_counts::COUNTS;
+use crate::script_key::KEY;
 use crate::script_lanes::LANES;
 use crate::script_moves::MOVES;
 use crate::script_panels::PANELS;
 use crate::script_play::PLAY;
 use crate::script_rounds::ROUNDS;
+use crate::script_teach::TEACH;
 use crate::style::STYLE;
 use crate::subject::PageSubject;
 use cp_progress::ObserveProgress;
@@ -25,7 +28,9 @@ pub fn page<O: ObserveProgress>(
         text.push_str(part)?;
     }
     text.push_str(data.text()?)?;
-    for part in [SCRIPT, PLAY, COUNTS, ROUNDS, PANELS, LANES, MOVES, END] {
+    for part in [
+        SCRIPT, PLAY, BRIEF, COUNTS, ROUNDS, TEACH, PANELS, KEY, LANES, MOVES, END,
+    ] {
         text.push_str(part)?;
     }
     Ok(text)
