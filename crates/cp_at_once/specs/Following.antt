@@ -81,15 +81,23 @@ GoesOn r g Leg most c before states after a false = (more : List (Machine × Lis
 abbrev pub IsDone : SlotGraph → (Machine → ℕ → Type 0) → (c : ℕ) → FoundAtOnce → List (Machine × List ℕ) → Machine → Type 0
 IsDone g Leg c found states s = (p : ℕ) → g.may s p ≡ true → IsGone found (Follows g Leg found states c) (g.on s p)
 
--- the same of a kept state; `false` where there is a state too many
-abbrev pub AllGoOn : Tables → SlotGraph → (Machine → ℕ → Type 0) → (most c : ℕ) → FoundAtOnce → List (Machine × List ℕ) → FoundAtOnce → Machine → Bool → Type 0
-AllGoOn r g Leg most c before states after s true = (more : List (Machine × List ℕ)) × Holds r g most after more × Grows before states after more × IsDone g Leg c after more s
-AllGoOn r g Leg most c before states after s false = (more : List (Machine × List ℕ)) × Holds r g most after more × IsOneTooMany g most more
-
 -- The first arrival and each choice of the first n kept states were gone on from.
 pub record IsGoneThrough (g : SlotGraph) (Leg : Machine → ℕ → Type 0) (c n : ℕ) (found : FoundAtOnce) (states : List (Machine × List ℕ)) : Type 0 where
   pub start : IsGone found (Follows g Leg found states c) g.start
   pub on : (i : ℕ) (x : Machine × List ℕ) → i < n → slice_get states i ≡ Some x → IsDone g Leg c found states x.0
+
+-- so it is for kept states
+abbrev pub GoesThrough : Tables → SlotGraph → (Machine → ℕ → Type 0) → (most c n : ℕ) → FoundAtOnce → Type 0
+GoesThrough r g Leg most c n found = (states : List (Machine × List ℕ)) × Holds r g most found states × IsGoneThrough g Leg c n found states
+
+-- so were these choices of the one after them, in which the machine stands
+pub record Within (r : Tables) (g : SlotGraph) (Leg : Machine → ℕ → Type 0) (most c : ℕ) (found : FoundAtOnce) (at : ℕ) (m : Machine) (done : List ℕ) : Type 0 where
+  pub states : List (Machine × List ℕ)
+  pub word : List ℕ
+  pub is : slice_get states at ≡ Some (m, word)
+  pub holds : Holds r g most found states
+  pub through : IsGoneThrough g Leg c at found states
+  pub on : All (λ p. IsGone found (Follows g Leg found states c) (g.on m p)) done
 
 -- the answer of a search: all was gone through, or there is a state too many
 abbrev pub Answers : Tables → SlotGraph → (Machine → ℕ → Type 0) → (most c : ℕ) → FoundAtOnce → Bool → Type 0

@@ -1,5 +1,5 @@
 -- From layer to layer.
-use Rattle.std.proofs.Common.{true≢false, ◌≡◌, ◌⊎◌, inl, inr, ⊎_elim, ◌<◌, ◌≤◌, ◌+◌, ℕ, zero, suc, Bool, true, false, ◌&&◌, nat_lt, if◌then◌else◌, List, [], ◌∷◌, length, Some, refl, sym, ap, subst, ◌∙◌, arith}
+use Rattle.std.proofs.Common.{◌≡◌, ◌⊎◌, inl, inr, ⊎_elim, ◌<◌, ◌≤◌, ◌+◌, ℕ, zero, suc, Bool, true, false, ◌&&◌, nat_lt, if◌then◌else◌, List, [], ◌∷◌, length, Some, refl, sym, ap, subst, ◌∙◌, arith}
 use Rattle.std.specs.Prelude.{Contains, slice_get}
 use Rattle.std.proofs.lemmas.Bool.{ltb-true, cases_order}
 use Rattle.std.proofs.lemmas.List.Elements.{Contains-append_left, Contains-append_right, Contains-append_cases, Contains-push, Contains-push_cases}
@@ -8,7 +8,7 @@ use Rattle.cp_cover.proofs.Words.{Tables, Machine, System, ReachedKey, CoverMark
 use Rattle.cp_key.proofs.Keys.{key_tells}
 use Rattle.cp_run.specs.Run.{Node, may, those_below, chosen, opened}
 use Rattle.cp_cover.specs.Reached.{IsDue, IsReached, chosen_marks, opened_marks}
-use Rattle.cp_cover.specs.Layers.{AddsNode, AreOwn, IsKeyOf, HasKey, IsLayer, AreReached, FromState, FromLayer, IsAfter}
+use Rattle.cp_cover.specs.Layers.{AddsNode, AreOwn, IsKeyOf, HasKey, IsLayer, AreReached, FromState, FromLayer}
 
 pub contains_at : {X : Type 0} (xs : List X) (i : ℕ) (x : X) → slice_get xs i ≡ Some x → Contains xs x
 contains_at xs i x at = (i, slice_get_within xs i x at, get_or_from_slice_get xs i x x at)
@@ -52,11 +52,11 @@ pub later : (sys : System Machine) (steps d k : ℕ) (mark : CoverMark) → d �
 later sys steps d k mark le (inl h) = inl h
 later sys steps d k mark le (inr h) = let lt = h.3 in inr (h.0, h.1, h.2, omega (arith, lt, le), h.4, h.5, h.6)
 
-module _ (r : Tables) (sys : System Machine) (steps d : ℕ) (layer : List ReachedKey) (before : List CoverMark) where
-  pub from_none : AreReached sys steps d before → FromLayer r sys steps d layer 0 before before []
-  from_none is =
+module _ (r : Tables) (sys : System Machine) (steps d : ℕ) (layer : List ReachedKey) where
+  pub from_none : (marks : List CoverMark) → AreReached sys steps d marks → FromLayer r sys steps d layer 0 marks []
+  from_none marks is =
       record {
-        kept = λ mark h. h;
+        kept = is.all;
         noted = λ i key m p lt at k y mark h. absurd (omega (arith, lt));
         only = λ mark h. later sys steps d (suc d) mark (omega arith) (is.reached mark h);
         found = λ i key m p n lt at k y e. absurd (omega (arith, lt));
@@ -68,7 +68,7 @@ module _ (r : Tables) (sys : System Machine) (steps d : ℕ) (layer : List Reach
       let one : key ≡ other = same_Some key other (sym at ∙ to) in
       key_tells m n (sym k ∙ ap (λ (x : ReachedKey). x.bytes.items) one ∙ o)
 
-  pub from_more : (count : ℕ) (key : ReachedKey) (m : Machine) (ps : List ℕ) (marks marks2 : List CoverMark) (next next2 : List ReachedKey) → FromLayer r sys steps d layer count before marks next → slice_get layer count ≡ Some key → IsDue sys steps d m → IsKeyOf key m → ps ≡ those_below sys.processes (may sys m) → FromState r sys steps m ps marks next marks2 next2 → FromLayer r sys steps d layer (count + 1) before marks2 next2
+  pub from_more : (count : ℕ) (key : ReachedKey) (m : Machine) (ps : List ℕ) (marks marks2 : List CoverMark) (next next2 : List ReachedKey) → FromLayer r sys steps d layer count marks next → slice_get layer count ≡ Some key → IsDue sys steps d m → IsKeyOf key m → ps ≡ those_below sys.processes (may sys m) → FromState r sys steps m ps marks next marks2 next2 → FromLayer r sys steps d layer (count + 1) marks2 next2
   from_more count key m ps marks marks2 next next2 f at due is all g =
       record {
         kept = λ mark h. g.kept mark (f.kept mark h);
@@ -98,8 +98,8 @@ module _ (r : Tables) (sys : System Machine) (steps d : ℕ) (layer : List Reach
       further : (o : Machine) → HasKey next o → HasKey next2 o
       further o h = (h.0, g.kept_keys h.0 h.1, h.2)
 
-  pub from_all : (count : ℕ) (marks : List CoverMark) (next : List ReachedKey) (b : Bool) → length layer ≤ count → IsLayer r sys steps d layer → AreReached sys steps d before → FromLayer r sys steps d layer count before marks next → IsAfter r sys steps d marks next b
-  from_all count marks next b le is known f = record { layer = λ e. made; reached = λ e. record { reached = f.only; all = all } }
+  pub from_all : (count : ℕ) (marks : List CoverMark) (next : List ReachedKey) → length layer ≤ count → IsLayer r sys steps d layer → FromLayer r sys steps d layer count marks next → IsLayer r sys steps (suc d) next × AreReached sys steps (suc d) marks
+  from_all count marks next le is f = (made, record { reached = f.only; all = all })
     where
       place : (key : ReachedKey) → Contains layer key → (i : ℕ) × (i < count) × (slice_get layer i ≡ Some key)
       place key c = let lt = c.1 in (c.0, omega (arith, lt, le), slice_get_read layer (length layer) c.0 key refl c.1 (sym c.2))
@@ -121,17 +121,13 @@ module _ (r : Tables) (sys : System Machine) (steps d : ℕ) (layer : List Reach
           f.noted at.0 k.0 m p at.1 at.2 k.2 y mark h
 
       all : (mark : CoverMark) → IsReached sys steps (suc d) mark → Contains marks mark
-      all mark (inl h) = f.kept mark (known.all mark (inl h))
+      all mark (inl h) = f.kept mark (inl h)
       all mark (inr x) =
           let lt = x.3 in
           ⊎_elim
           (λ (e : x.0 ≡ d). noted x.0 x.1 x.2 mark e x.4 x.5 x.6)
-          (λ (apart : (x.0 < d) ⊎ (d < x.0)). ⊎_elim (λ (less : x.0 < d). f.kept mark (known.all mark (inr (x.0, x.1, x.2, less, x.4, x.5, x.6)))) (λ (more : d < x.0). absurd (omega (arith, lt, more))) apart)
+          (λ (apart : (x.0 < d) ⊎ (d < x.0)). ⊎_elim (λ (less : x.0 < d). f.kept mark (inr (x.0, x.1, x.2, less, x.4, x.5, x.6))) (λ (more : d < x.0). absurd (omega (arith, lt, more))) apart)
           (cases_order x.0 d)
-
--- where there is no room nothing is said
-pub no_room : (r : Tables) (sys : System Machine) (steps d : ℕ) (marks : List CoverMark) (next : List ReachedKey) → IsAfter r sys steps d marks next false
-no_room r sys steps d marks next = record { layer = λ e. absurd (true≢false (sym e)); reached = λ e. absurd (true≢false (sym e)) }
 
 pub own_keys : (r : Tables) (sys : System Machine) (steps d : ℕ) (keys : List ReachedKey) → IsLayer r sys steps d keys → AreOwn r keys
 own_keys r sys steps d keys is = λ key h. (let x = is.own key h in (x.0, x.1, x.3))

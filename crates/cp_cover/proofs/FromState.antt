@@ -4,6 +4,7 @@ use Rattle.cp_cover.proofs.Words.{Contains, Tables, Machine, System, ReachedKey,
 use Rattle.std.specs.List.{list_any}
 use Rattle.std.specs.Cmp.Lexicographic.{bytes_decides}
 use Rattle.std.specs.Prelude.{◌||◌}
+use Rattle.std.proofs.lemmas.List.{length-append}
 use Rattle.std.proofs.lemmas.List.Elements.{Contains-append_left, Contains-append_right, Contains-push, Contains-push_cases}
 use Rattle.indexmap.specs.IndexSet.{insert_key}
 use Rattle.cp_key.specs.Room.{IsMachineOf}
@@ -32,10 +33,11 @@ adds_state keys key m is = by (list_any (same_key key) keys) refl
     by : (b : Bool) → list_any (same_key key) keys ≡ b → AddsState keys m (if b then keys else keys ++ key ∷ [])
     by true e =
         let k = known_key keys key e in
-        record { kept = λ other h. h; found = (k.0, k.1, k.2 ∙ is); only = λ other h. inl h }
+        record { kept = λ other h. h; few = omega arith; found = (k.0, k.1, k.2 ∙ is); only = λ other h. inl h }
     by false e =
         record {
           kept = λ other h. Contains-append_left keys (key ∷ []) other h;
+          few = (let len = length-append keys (key ∷ []) in omega (arith, len));
           found = (key, Contains-push keys key, is);
           only = λ other h. ⊎_elim (λ (c : Contains keys other). inl c) (λ (same : key ≡ other). inr (subst (λ k. IsKeyOf k m) same is)) (Contains-push_cases keys key other h);
         }
@@ -49,12 +51,13 @@ unfolding node_of_choice
 node_choosing r before after m own h =
     record {
       kept = h.kept;
+      few = h.few;
       found = λ n e. subst (HasKey after) (ap (λ x. node_of_choice x m) e) h.found;
       only = λ key c. ⊎_elim (λ (o : Contains before key). inl o) (λ (is : IsKeyOf key m). inr (m, own, refl, is)) (h.only key c);
     }
 
 pub node_halted : (r : Tables) (before : List ReachedKey) (kind : OutcomeKind) (m : Machine) → AddsNode r before (Halted kind m) before
-node_halted r before kind m = record { kept = λ key h. h; found = λ n e. absurd (cc); only = λ key h. inl h }
+node_halted r before kind m = record { kept = λ key h. h; few = omega arith; found = λ n e. absurd (cc); only = λ key h. inl h }
 
 module _ (r : Tables) (sys : System Machine) (steps : ℕ) (m : Machine) where
   none_in : {X : Type 0} (x : X) → Contains [] x → ⊥

@@ -1,5 +1,5 @@
 -- Layers of states, and what comes of going on from them.
-use Rattle.std.specs.Prelude.{◌≡◌, ◌⊎◌, ◌<◌, ℕ, suc, List, Bool, true, Contains, Some, slice_get}
+use Rattle.std.specs.Prelude.{◌≡◌, ◌⊎◌, ◌<◌, ◌≤◌, ◌+◌, ℕ, suc, List, true, Contains, Some, length, slice_get}
 use Rattle.cp_slots.specs.Tables.{Tables}
 use Rattle.cp_key.specs.Key.{key_of}
 use Rattle.cp_key.specs.Room.{IsMachineOf}
@@ -38,12 +38,14 @@ pub record AreReached (sys : System Machine) (steps choices : ℕ) (marks : List
 -- the machine is among the keys
 pub record AddsState (before : List ReachedKey) (m : Machine) (after : List ReachedKey) : Type 0 where
   pub kept : (key : ReachedKey) → Contains before key → Contains after key
+  pub few : length after ≤ length before + 1
   pub found : HasKey after m
   pub only : (key : ReachedKey) → Contains after key → Contains before key ⊎ IsKeyOf key m
 
 -- the machine is, if a choice is due there
 pub record AddsNode (r : Tables) (before : List ReachedKey) (node : Node Machine) (after : List ReachedKey) : Type 0 where
   pub kept : (key : ReachedKey) → Contains before key → Contains after key
+  pub few : length after ≤ length before + 1
   pub found : (n : Machine) → node ≡ Choosing n → HasKey after n
   pub only : (key : ReachedKey) → Contains after key → Contains before key ⊎ ((n : Machine) × IsMachineOf r n × (node ≡ Choosing n) × IsKeyOf key n)
 
@@ -57,14 +59,9 @@ pub record FromState (r : Tables) (sys : System Machine) (steps : ℕ) (m : Mach
   pub own : (key : ReachedKey) → Contains next key → Contains keys key ⊎ ((p : ℕ) × (n : Machine) × Contains numbers p × IsMachineOf r n × (chosen sys steps m p ≡ Choosing n) × IsKeyOf key n)
 
 -- from the first states of a layer, in which a choice is due after d choices, all went on
-pub record FromLayer (r : Tables) (sys : System Machine) (steps d : ℕ) (layer : List ReachedKey) (count : ℕ) (before marks : List CoverMark) (next : List ReachedKey) : Type 0 where
-  pub kept : (mark : CoverMark) → Contains before mark → Contains marks mark
+pub record FromLayer (r : Tables) (sys : System Machine) (steps d : ℕ) (layer : List ReachedKey) (count : ℕ) (marks : List CoverMark) (next : List ReachedKey) : Type 0 where
+  pub kept : (mark : CoverMark) → IsReached sys steps d mark → Contains marks mark
   pub noted : (i : ℕ) (key : ReachedKey) (m : Machine) (p : ℕ) → i < count → slice_get layer i ≡ Some key → IsKeyOf key m → may sys m p ≡ true → (mark : CoverMark) → Contains (chosen_marks sys steps m p) mark → Contains marks mark
   pub only : (mark : CoverMark) → Contains marks mark → IsReached sys steps (suc d) mark
   pub found : (i : ℕ) (key : ReachedKey) (m : Machine) (p : ℕ) (n : Machine) → i < count → slice_get layer i ≡ Some key → IsKeyOf key m → may sys m p ≡ true → chosen sys steps m p ≡ Choosing n → HasKey next n
   pub own : (key : ReachedKey) → Contains next key → IsDueKey r sys steps (suc d) key
-
--- layer d was gone on from; where there is room, from each of its states
-pub record IsAfter (r : Tables) (sys : System Machine) (steps d : ℕ) (marks : List CoverMark) (next : List ReachedKey) (is_room : Bool) : Type 0 where
-  pub layer : is_room ≡ true → IsLayer r sys steps (suc d) next
-  pub reached : is_room ≡ true → AreReached sys steps (suc d) marks

@@ -1,14 +1,17 @@
 //! The states in which a choice is due after as many choices.
 
-ghost use Rattle.std.specs.Prelude.{◌≡◌, [], true, IfOk, Some, length, slice_get};
+ghost use Rattle.std.specs.Prelude.{◌≡◌, ◌≤◌, [], true, false, IfOk, Some, length, slice_get};
 ghost use Rattle.cp_slots.specs.Tables.{Tables};
 ghost use Rattle.cp_machine.specs.System.{machine_of, IsStateOf};
-ghost use Rattle.cp_cover.specs.Layers.{AddsState, AreOwn, IsKeyOf};
+ghost use Rattle.cp_run.specs.Code.{node_of};
+ghost use Rattle.cp_cover.specs.Layers.{AddsNode, AddsState, AreOwn, IsKeyOf};
 ghost use Rattle.cp_ends.specs.declared.state_key.ReachedKey.{ReachedKey};
 
 use cp_ends::state_key::ReachedKey;
 use cp_key::{Parts, thaw};
 use cp_machine::{Moved, State};
+use cp_run::{Halt, OutcomeKind};
+use cp_search::SearchJob;
 use indexmap::IndexSet;
 use std::alloc::{AllocError, Global};
 
@@ -40,6 +43,22 @@ impl Layer {
         Ok(())
     }
 
+    /// The state to which a stretch came, where a choice is due in it.
+    pub fn arrive(
+        &mut self,
+        job: &SearchJob<'_>,
+        state: &State,
+        halt: Halt<OutcomeKind>,
+    ) -> Result<(), AllocError>
+        requires { IsStateOf job.now.program.now state.now }
+        ensures { IfOk result (λ _. AddsNode job.now.program.now self.old.known.keys (node_of halt (machine_of state.now)) self.new.known.keys) }
+    {
+        match halt {
+            Halt::Choice => self.add(job.alloc, state),
+            Halt::Ended(_) => Ok(()),
+        }
+    }
+
     /// How many states there are.
     pub fn len(&self) -> usize
         ensures { result ≡ length self.now.known.keys }
@@ -51,6 +70,7 @@ impl Layer {
     pub fn thaw_at(&self, number: usize, state: &mut State) -> bool
         requires { (r : Tables) × IsStateOf r state.old × AreOwn r self.now.known.keys }
         ensures own { (r : Tables) → IsStateOf r state.old → AreOwn r self.now.known.keys → IsStateOf r state.new }
+        ensures none { result ≡ false → length self.now.known.keys ≤ number }
         ensures key { result ≡ true → (key : ReachedKey) × (slice_get self.now.known.keys number ≡ Some key) × IsKeyOf key (machine_of state.new) }
     {
         let Some(key) = self.known.get_index(number) else {

@@ -1,16 +1,16 @@
 -- What the code finds when words arrive, and when a state is gone on from.
-use Rattle.std.proofs.Common.{◌≡◌, ◌∙◌, ⊎_elim, ◌<◌, ◌≤◌, ℕ, zero, suc, Bool, true, false, if◌then◌else◌, List, [], ◌∷◌, ◌++◌, length, take, get_or, Some, ◌+◌, refl, sym, ap, subst, arith}
+use Rattle.std.proofs.Common.{◌≡◌, ◌∙◌, ⊎_elim, ◌<◌, ◌≤◌, ℕ, zero, suc, Bool, true, false, if◌then◌else◌, List, [], ◌∷◌, ◌++◌, length, Option, None, Some, ◌+◌, refl, sym, ap, subst, arith}
 use Rattle.std.specs.Prelude.{Result, Ok, Err, IfOk, slice_get}
 use Rattle.cp_ends.proofs.Vocabulary.{cases_lt, slice_get_within, Tables, Machine, those_below, Goal, Place, End, Graph, has, with_first, arrived, gone_on}
 use Rattle.cp_ends.proofs.Vocabulary.{searched, Found, Choice, States, Shown}
-use Rattle.std.proofs.Math.ListN.{get_or-append}
-use Rattle.std.proofs.Math.Seq.{get_or-append_seam, take-append_seam}
-use Rattle.std.proofs.lemmas.List.{append-nil, length-append, take-append-le, take_more}
-use Rattle.cp_ends.specs.Answer.{ends_tests, Arrives, Comes, HoldsFew, IsDone, IsTooMany, Stops, with_shown}
+use Rattle.std.proofs.lemmas.List.{length-append}
+use Rattle.cp_ends.specs.Answer.{ends_tests, Arrives, Comes, HoldsFew, IsDone, IsSearch, IsStopped, IsTooMany, Stops, with_shown}
+use Rattle.cp_ends.specs.Visited.{IsWhole, IsWithin, gone_with}
+use Rattle.cp_search.specs.Searched.{IsSearched}
 use Rattle.cp_ends.specs.Holds.{same_key, AreStates, Holds, IsBefore, IsWordOf, SlotArrival, SlotFindings}
 use Rattle.cp_ends.specs.declared.end.End as code
 use Rattle.cp_ends.proofs.Finding.{found_later}
-use Rattle.cp_ends.proofs.Searching.Growing.{going_at, searched_done, searched_length}
+use Rattle.cp_ends.proofs.Searching.Growing.{going_at, searched_done, searched_length, searched_on}
 
 pub ok_to : {A E : Type 0} (r : Result A E) (P Q : A → Type 0) → IfOk r P → ((a : A) → P a → Q a) → IfOk r Q
 ok_to (Ok a) P Q h f = f a h
@@ -39,78 +39,26 @@ module _ (r : Tables) (most : ℕ) (found : Found) (f : SlotFindings) (word : Li
   pub came_to : (o : Goal Machine code.End) → o ≡ a.goal → (is_room : Bool) → Comes r most found (with_shown f word a) word o is_room → Arrives r most found f word a is_room
   came_to o e is_room h = subst (λ k. Comes r most found (with_shown f word a) word k is_room) e h
 
--- ---- numbers below a bound
-
-those_first : (h : ℕ → Bool) (n i : ℕ) → i < length (those_below n h) → (take i (those_below n h) ≡ those_below (get_or (those_below n h) i 0) h) × (get_or (those_below n h) i 0 < n)
-those_first h zero i lt = absurd (omega (arith, lt))
-those_first h (suc n) i lt = by (h n) lt (those_first h n i)
-  where
-    xs : List ℕ
-    xs = those_below n h
-
-    after : (ys : List ℕ) → i < length xs → (take i xs ≡ those_below (get_or xs i 0) h) × (get_or xs i 0 < n) → (take i (xs ++ ys) ≡ those_below (get_or (xs ++ ys) i 0) h) × (get_or (xs ++ ys) i 0 < suc n)
-    after ys below on =
-        let same = get_or-append xs ys 0 i below in
-        let lt = on.1 in
-        (take-append-le i xs ys (omega (arith, below)) ∙ on.0 ∙ ap (λ k. those_below k h) (sym same), omega (arith, same, lt))
-
-    last : i < length (xs ++ n ∷ []) → length xs ≤ i → (take i (xs ++ n ∷ []) ≡ those_below (get_or (xs ++ n ∷ []) i 0) h) × (get_or (xs ++ n ∷ []) i 0 < suc n)
-    last l above =
-        let at : i ≡ length xs = omega (arith, l, above, length-append xs (n ∷ [])) in
-        let here : get_or (xs ++ n ∷ []) i 0 ≡ n = ap (λ k. get_or (xs ++ n ∷ []) k 0) at ∙ get_or-append_seam xs n [] 0 in
-        (ap (λ k. take k (xs ++ n ∷ [])) at ∙ take-append_seam xs (n ∷ []) ∙ ap (λ k. those_below k h) (sym here), omega (arith, here))
-
-    by : (b : Bool) → i < length (xs ++ (if b then n ∷ [] else [])) → (i < length xs → (take i xs ≡ those_below (get_or xs i 0) h) × (get_or xs i 0 < n)) → (take i (xs ++ (if b then n ∷ [] else [])) ≡ those_below (get_or (xs ++ (if b then n ∷ [] else [])) i 0) h) × (get_or (xs ++ (if b then n ∷ [] else [])) i 0 < suc n)
-    by true l on = ⊎_elim (λ (below : i < length xs). after (n ∷ []) below (on below)) (λ (above : length xs ≤ i). last l above) (cases_lt i (length xs))
-    by false l on = let e = ap length (append-nil xs) in after [] (omega (arith, l, e)) (on (omega (arith, l, e)))
-
 -- ---- the numbers of a list
 
 module _ (g : Graph Machine code.End Shown) (x : Machine × List ℕ) where
-  abbrev pub gone_list : List ℕ → SlotFindings → SlotFindings
-  gone_list [] f = f
-  gone_list (p ∷ ps) f = gone_list ps (arrived ends_tests f (x.1 ++ p ∷ []) (g.on x.0 p))
-
-  list_append : (ps qs : List ℕ) (f : SlotFindings) → gone_list (ps ++ qs) f ≡ gone_list qs (gone_list ps f)
+  list_append : (ps qs : List ℕ) (f : SlotFindings) → gone_with g x (ps ++ qs) f ≡ gone_with g x qs (gone_with g x ps f)
   list_append [] qs f = refl
   list_append (p ∷ ps) qs f = list_append ps qs (arrived ends_tests f (x.1 ++ p ∷ []) (g.on x.0 p))
 
-  pub list_more : (ps : List ℕ) (p : ℕ) (f : SlotFindings) → gone_list (ps ++ p ∷ []) f ≡ arrived ends_tests (gone_list ps f) (x.1 ++ p ∷ []) (g.on x.0 p)
+  pub list_more : (ps : List ℕ) (p : ℕ) (f : SlotFindings) → gone_with g x (ps ++ p ∷ []) f ≡ arrived ends_tests (gone_with g x ps f) (x.1 ++ p ∷ []) (g.on x.0 p)
   list_more ps p f = list_append ps (p ∷ []) f
 
-  pub list_those : (n : ℕ) (f : SlotFindings) → gone_list (those_below n (g.may x.0)) f ≡ gone_on g ends_tests x n f
+  pub list_those : (n : ℕ) (f : SlotFindings) → gone_with g x (those_below n (g.may x.0)) f ≡ gone_on g ends_tests x n f
   list_those zero f = refl
-  list_those (suc n) f = list_append (those_below n (g.may x.0)) (if g.may x.0 n then n ∷ [] else []) f ∙ ap (gone_list (if g.may x.0 n then n ∷ [] else [])) (list_those n f) ∙ one (g.may x.0 n)
+  list_those (suc n) f = list_append (those_below n (g.may x.0)) (if g.may x.0 n then n ∷ [] else []) f ∙ ap (gone_with g x (if g.may x.0 n then n ∷ [] else [])) (list_those n f) ∙ one (g.may x.0 n)
     where
       k : SlotFindings
       k = gone_on g ends_tests x n f
 
-      one : (b : Bool) → gone_list (if b then n ∷ [] else []) k ≡ (if b then arrived ends_tests k (x.1 ++ n ∷ []) (g.on x.0 n) else k)
+      one : (b : Bool) → gone_with g x (if b then n ∷ [] else []) k ≡ (if b then arrived ends_tests k (x.1 ++ n ∷ []) (g.on x.0 n) else k)
       one true = refl
       one false = refl
-
-  -- those before the one of this place are those below it
-  pub list_first : (all : List ℕ) (i : ℕ) (f : SlotFindings) → all ≡ those_below g.below (g.may x.0) → i < length all → (gone_list (take i all) f ≡ gone_on g ends_tests x (get_or all i 0) f) × (get_or all i 0 < g.below)
-  list_first all i f is lt =
-      let e = ap length is in
-      let first = those_first (g.may x.0) g.below i (omega (arith, lt, e)) in
-      let same : get_or all i 0 ≡ get_or (those_below g.below (g.may x.0)) i 0 = ap (λ l. get_or l i 0) is in
-      let below = first.1 in
-      (ap (λ l. gone_list (take i l) f) is ∙ ap (λ l. gone_list l f) first.0 ∙ list_those (get_or (those_below g.below (g.may x.0)) i 0) f ∙ ap (λ k. gone_on g ends_tests x k f) (sym same), omega (arith, same, below))
-
-  -- the next number of a list is taken
-  pub taken : (r : Tables) (most number : ℕ) (old new : Found) (m : Machine) (b : Bool) (all : List ℕ) (i : ℕ) (f : SlotFindings) → m ≡ x.0 → all ≡ those_below g.below (g.may x.0) → i < length all → HoldsFew r most old (gone_list (take i all) f) → slice_get f.states number ≡ Some x → ((k : SlotFindings) (word : List ℕ) → HoldsFew r most old k → IsWordOf k.states (Choice number (get_or all i 0)) word → IsBefore (length k.states) (Choice number (get_or all i 0)) → Arrives r most new k word (g.on m (get_or all i 0)) b) → Arrives r most new (gone_on g ends_tests x (get_or all i 0) f) (x.1 ++ get_or all i 0 ∷ []) (g.on x.0 (get_or all i 0)) b
-  taken r most number old new m b all i f same is lt h at on =
-      let c : ℕ = get_or all i 0 in
-      let k : SlotFindings = gone_on g ends_tests x c f in
-      let here : slice_get k.states number ≡ Some x = going_at g ends_tests x c f number x at in
-      let holds : HoldsFew r most old k = subst (HoldsFew r most old) (list_first all i f is lt).0 h in
-      subst (λ n. Arrives r most new k (x.1 ++ c ∷ []) (g.on n c) b) same (on k (x.1 ++ c ∷ []) holds (x, here, refl) (slice_get_within k.states number x here))
-
-  pub one_more : (r : Tables) (most : ℕ) (new : Found) (all : List ℕ) (i : ℕ) (f : SlotFindings) → all ≡ those_below g.below (g.may x.0) → i < length all → Arrives r most new (gone_on g ends_tests x (get_or all i 0) f) (x.1 ++ get_or all i 0 ∷ []) (g.on x.0 (get_or all i 0)) true → HoldsFew r most new (gone_list (take (i + 1) all) f)
-  one_more r most new all i f is lt h =
-      let c : ℕ = get_or all i 0 in
-      subst (HoldsFew r most new) (ap (λ k. arrived ends_tests k (x.1 ++ c ∷ []) (g.on x.0 c)) (sym (list_first all i f is lt).0) ∙ sym (list_more (take i all) c f) ∙ ap (λ l. gone_list l f) (sym (take_more all i 0 lt))) h
 
   -- a state too many
   pub stops_here : (r : Tables) (most : ℕ) (found : Found) (f : SlotFindings) (c : ℕ) → c < g.below → g.may x.0 c ≡ true → Arrives r most found (gone_on g ends_tests x c f) (x.1 ++ c ∷ []) (g.on x.0 c) false → Stops r g most found f x
@@ -119,6 +67,44 @@ module _ (g : Graph Machine code.End Shown) (x : Machine × List ℕ) where
       by : (o : Goal Machine code.End) → (g.on x.0 c).goal ≡ o → IsTooMany most (gone_on g ends_tests x c f) o → Stops r g most found f x
       by (Place s) e many = record { number = c; below = below; may = may; state = s; goal = e; new = many.0; full = many.1; holds = h.0 }
       by (End e) at many = absurd many
+
+-- ---- the numbers of the state that is gone on from
+
+module _ (r : Tables) (g : Graph Machine code.End Shown) (most : ℕ) (old new : Found) (at : ℕ) (m : Machine) (p : ℕ) (within : IsWithin r g most old at m (those_below p (g.may m))) where
+  abbrev f : SlotFindings
+  f = searched g ends_tests at
+
+  abbrev word : List ℕ
+  word = within.from.1 ++ p ∷ []
+
+  abbrev k : SlotFindings
+  k = gone_with g within.from (those_below p (g.may m)) f
+
+  k_is : k ≡ gone_on g ends_tests within.from p f
+  k_is = ap (λ s. gone_with g within.from (those_below p (g.may s)) f) within.here ∙ list_those g within.from p f
+
+  -- what the code finds where the next number is taken
+  abbrev pub Takes : Bool → Type 0
+  Takes b = (f : SlotFindings) (word : List ℕ) → HoldsFew r most old f → IsWordOf f.states (Choice at p) word → IsBefore (length f.states) (Choice at p) → Arrives r most new f word (g.on m p) b
+
+  arrives : (b : Bool) → Takes b → Arrives r most new k word (g.on within.from.0 p) b
+  arrives b on =
+      let there : slice_get k.states at ≡ Some within.from = subst (λ (q : SlotFindings). slice_get q.states at ≡ Some within.from) (sym k_is) (going_at g ends_tests within.from p f at within.from within.is) in
+      subst (λ (s : Machine). Arrives r most new k word (g.on s p) b) within.here (on k word within.holds (within.from, there, refl) (slice_get_within k.states at within.from there))
+
+  pub within_more : Takes true → IsWithin r g most new at m (those_below p (g.may m) ++ p ∷ [])
+  within_more on = record { from = within.from; is = within.is; here = within.here; quiet = within.quiet; holds = subst (HoldsFew r most new) (sym (list_more g within.from (those_below p (g.may m)) p f)) (arrives true on) }
+
+  pub stops_at : p < g.below → g.may m p ≡ true → Takes false → IsStopped r g most new at
+  stops_at below may on =
+      let here = subst (λ (q : SlotFindings). Arrives r most new q word (g.on within.from.0 p) false) k_is (arrives false on) in
+      record { from = within.from; is = within.is; stops = stops_here g within.from r most new f p below (ap (λ s. g.may s p) (sym within.here) ∙ may) here }
+
+-- a state was gone on from with all its numbers
+pub all_taken : (r : Tables) (g : Graph Machine code.End Shown) (most : ℕ) (found : Found) (at : ℕ) (m : Machine) → IsWithin r g most found at m (those_below g.below (g.may m)) → HoldsFew r most found (searched g ends_tests (suc at))
+all_taken r g most found at m within =
+    let f : SlotFindings = searched g ends_tests at in
+    subst (HoldsFew r most found) (ap (λ s. gone_with g within.from (those_below g.below (g.may s)) f) within.here ∙ list_those g within.from g.below f ∙ sym (searched_on g ends_tests at within.from within.is)) within.holds
 
 -- ---- the whole search
 
@@ -140,3 +126,14 @@ search_done r g most found n h le =
     let fewer = searched_length g ends_tests count n le in
     let same : searched g ends_tests n ≡ searched g ends_tests count = searched_done g ends_tests count n fewer le in
     record { count = count; holds = subst (Holds r found) same h.holds; states = sym (ap (λ (k : SlotFindings). length k.states) same); few = h.few }
+
+pub search_answer : (r : Tables) (g : Graph Machine code.End Shown) (most : ℕ) (found : Found) (stopped : Option ℕ) → IsSearched (IsWhole r g most found) (IsStopped r g most found) stopped → IsSearch r g most found stopped
+search_answer r g most found None whole = search_done r g most found whole.count whole.holds whole.all
+search_answer r g most found (Some at) stops = stops
+
+-- where the search stopped is noted beside what was found
+pub stop_noted : (r : Tables) (g : Graph Machine code.End Shown) (most : ℕ) (found : Found) (note at : Option ℕ) → IsSearch r g most found at → IsSearch r g most (record found { stopped = note }) at
+stop_noted r g most found note None done = record { count = done.count; holds = record { states = done.holds.states; ends = done.holds.ends; values = done.holds.values }; states = done.states; few = done.few }
+stop_noted r g most found note (Some at) s =
+    let stops = s.stops in
+    record { from = s.from; is = s.is; stops = record { number = stops.number; below = stops.below; may = stops.may; state = stops.state; goal = stops.goal; new = stops.new; full = stops.full; holds = record { states = stops.holds.states; ends = stops.holds.ends; values = stops.holds.values } } }

@@ -8,4 +8,5 @@ pub mod Holds
 pub mod Named
 pub mod Searched
 pub mod Told
+pub mod Visited
 pub mod Whole

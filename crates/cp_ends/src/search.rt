@@ -1,15 +1,12 @@
 //! The search through all states.
 
-ghost use Rattle.std.specs.Prelude.{◌≡◌, ◌≤◌, ℕ, List, [], length, slice_get, IfOk, Some, true};
+ghost use Rattle.std.specs.Prelude.{◌≡◌, ◌≤◌, ℕ, List, [], length, IfOk};
 ghost use Rattle.cp_slots.specs.Tables.{Tables};
-ghost use Rattle.cp_machine.specs.System.{Machine, machine_of, output_of, IsStateOf};
-ghost use Rattle.cp_run.specs.Run.{may};
-ghost use Rattle.cp_run.specs.Slots.{slots};
-ghost use Rattle.cp_ends.specs.Answer.{Arrives, Comes, GoesOn, HoldsFew, IsSearch, ends_tests, slot_graph};
+ghost use Rattle.cp_machine.specs.System.{machine_of, output_of, IsStateOf};
+ghost use Rattle.cp_ends.specs.Answer.{Arrives, Comes, HoldsFew, IsSearch, slot_graph};
 ghost use Rattle.cp_ends.specs.Arrivals.{goal_at};
 ghost use Rattle.cp_ends.specs.Graph as graph;
 ghost use Rattle.cp_ends.specs.Holds.{IsBefore, IsWordOf, SlotArrival, SlotFindings, Holds, HasFindings};
-ghost use Rattle.cp_ends.specs.Searched as pure;
 ghost use Rattle.cp_ends.specs.Whole.{IsAnswer};
 
 use crate::choosing::{choose, open};
@@ -18,8 +15,9 @@ use crate::found::Found;
 use crate::origin::Origin;
 use crate::told::Told;
 use cp_machine::{State, Ticks};
-use cp_progress::{ObserveProgress, Progress, STATES_BETWEEN, Unobserved};
-use cp_run::{Halt, Limits, candidates};
+use cp_progress::{ObserveProgress, Progress, Unobserved};
+use cp_run::{Halt, Limits};
+use cp_search::{SearchJob, Visit, visit_all};
 use cp_slots::Resolved;
 use std::alloc::{AllocError, Global};
 use std::marker::Brand;
@@ -27,9 +25,10 @@ use std::sync::ledger::{Blank, Ledger};
 
 // What is found so far, with room for displayed values.
 #[derive(Drop)]
-struct Search {
+struct EndsVisit<S: Ledger> {
     found: Found,
     told: Told,
+    steps: Ticks<S>,
 }
 
 /// Goes on from the opening state, and from each state that is found, with each number that may be chosen there, in the order in which
@@ -59,55 +58,119 @@ pub fn search_ends_with<O: ObserveProgress>(
     ensures kept { IfOk result (λ found. HasFindings program.now found) }
 {
     let states = if most == 0 { 1 } else { most };
-    search_with::<O, Brand>(alloc, program, limits, states, observer, Blank::new(1))
+    let job = SearchJob {
+        alloc,
+        program,
+        limits,
+        most: states,
+    };
+    search_with::<O, Brand>(&job, observer, Blank::new(1))
 }
 
 fn search_with<O: ObserveProgress, S: Ledger>(
-    alloc: Global,
-    program: &Resolved,
-    limits: Limits,
-    most: u32,
+    job: &SearchJob<'_>,
     observer: &mut O,
     blank: Blank,
 ) -> Result<Found, AllocError>
     requires name { blank.name ≡ S.name }
     requires parts { blank.parts ≡ S.parts }
     requires one { S.parts ≡ 1 }
-    requires most { 1 ≤ most }
-    ensures { IfOk result (λ found. IsSearch program.now (slot_graph program.now limits.gates limits.steps) most found found.stopped) }
+    requires most { 1 ≤ job.now.most }
+    ensures { IfOk result (λ found. IsSearch job.now.program.now (slot_graph job.now.program.now job.now.limits.gates job.now.limits.steps) job.now.most found found.stopped) }
 {
-    let mut steps: Ticks<S> = Ticks::new(blank);
-    let mut search = Search::new(alloc);
-    let mut state = State::start(alloc, program, limits.gates)?;
+    let mut visit: EndsVisit<S> = EndsVisit::new(job.alloc, blank);
+    let mut state = State::start(job.alloc, job.program, job.limits.gates)?;
     let arrival = open(
-        alloc,
-        program,
-        limits,
+        job.alloc,
+        job.program,
+        job.limits,
         &mut state,
-        &mut search.told,
-        &mut steps,
+        &mut visit.told,
+        &mut visit.steps,
     )?;
-    search.arrive(alloc, program, most, &state, arrival, Origin::Start)?;
-    let mut next = state.copy(alloc)?;
-    let stopped = search.go_on(
-        alloc, program, limits, most, observer, &mut state, &mut next, &mut steps,
-    )?;
-    search.found.stopped = stopped;
-    Ok(search.found)
+    visit.arrive(job, &state, arrival, Origin::Start)?;
+    let mut next = state.copy(job.alloc)?;
+    visit.found.stopped = visit_all(job, &mut visit, &mut state, &mut next, observer)?;
+    Ok(visit.found)
 }
 
-impl Search {
-    fn new(alloc: Global) -> Search
+impl<S: Ledger> EndsVisit<S> {
+    fn new(alloc: Global, blank: Blank) -> EndsVisit<S>
+        requires name { blank.name ≡ S.name }
+        requires parts { blank.parts ≡ S.parts }
+        requires one { S.parts ≡ 1 }
         ensures found { (r : Tables) → Holds r result.found (record { states = []; ends = []; values = [] }) }
         ensures told { result.told.values.items ≡ [] }
     {
-        Search {
+        EndsVisit {
             found: Found::new(alloc),
             told: Told::new(alloc),
+            steps: Ticks::new(blank),
         }
     }
 
-    // What is found with words of so many choices.
+    // A word leads to where a stretch came to. `false` where that is a state too many.
+    fn arrive(
+        &mut self,
+        job: &SearchJob<'_>,
+        state: &State,
+        arrival: Halt<End>,
+        origin: Origin,
+    ) -> Result<bool, AllocError>
+        requires own { IsStateOf job.now.program.now state.now }
+        requires quiet { output_of (machine_of state.now) ≡ [] }
+        ensures { IfOk result (λ is_room. (f : SlotFindings) (word : List ℕ) (a : SlotArrival) → HoldsFew job.now.program.now job.now.most self.old.found f → IsWordOf f.states origin word → IsBefore (length f.states) origin → goal_at arrival (machine_of state.now) ≡ a.goal → self.old.told.values.items ≡ a.shown → Arrives job.now.program.now job.now.most self.new.found f word a is_room) }
+    {
+        self.found.add_values(self.told.values.as_slice(), origin)?;
+        match arrival {
+            Halt::Ended(end) => {
+                self.found.add_end(end, origin)?;
+                Ok(true)
+            }
+            Halt::Choice => self.add_state(job, state, origin),
+        }
+    }
+
+    // A word leads to a state, where a choice is due. `false` where it is one too many.
+    fn add_state(
+        &mut self,
+        job: &SearchJob<'_>,
+        state: &State,
+        origin: Origin,
+    ) -> Result<bool, AllocError>
+        requires own { IsStateOf job.now.program.now state.now }
+        requires quiet { output_of (machine_of state.now) ≡ [] }
+        ensures { IfOk result (λ is_room. (f : SlotFindings) (word : List ℕ) → HoldsFew job.now.program.now job.now.most self.old.found f → IsWordOf f.states origin word → IsBefore (length f.states) origin → Comes job.now.program.now job.now.most self.new.found f word (graph.Place (machine_of state.now)) is_room) }
+    {
+        let row = self.found.states.row_anew(job.alloc, state)?;
+        if self.found.states.contains(&row) {
+            return Ok(true);
+        }
+        if self.found.states.len() >= job.most as usize {
+            return Ok(false);
+        }
+        self.found.states.add(row, origin)?;
+        Ok(true)
+    }
+}
+
+impl<S: Ledger> Visit for EndsVisit<S> {
+    ghost use Rattle.cp_ends.specs.Answer.{HoldsFew, IsStopped, ends_tests, slot_graph};
+    ghost use Rattle.cp_ends.specs.Searched.{searched};
+    ghost use Rattle.cp_ends.specs.Visited.{IsWhole, IsWithin};
+
+    ghost before = { λ v job n. HoldsFew job.program.now job.most v.found (searched (slot_graph job.program.now job.limits.gates job.limits.steps) ends_tests n) };
+
+    ghost within = { λ v job at m done. IsWithin job.program.now (slot_graph job.program.now job.limits.gates job.limits.steps) job.most v.found at m done };
+
+    ghost over = { λ v job. IsWhole job.program.now (slot_graph job.program.now job.limits.gates job.limits.steps) job.most v.found };
+
+    ghost stops = { λ v job at. IsStopped job.program.now (slot_graph job.program.now job.limits.gates job.limits.steps) job.most v.found at };
+
+    fn len(&self) -> usize {
+        self.found.states.len()
+    }
+
     fn progress(&self, choices: u32) -> Progress {
         Progress {
             choices,
@@ -116,155 +179,37 @@ impl Search {
         }
     }
 
-    // Goes on from each state. Answers the one from which there is a state too many.
-    fn go_on<O: ObserveProgress, S: Ledger>(
-        &mut self,
-        alloc: Global,
-        program: &Resolved,
-        limits: Limits,
-        most: u32,
-        observer: &mut O,
-        state: &mut State,
-        next: &mut State,
-        steps: &mut Ticks<S>,
-    ) -> Result<Option<u32>, AllocError>
-        requires own { IsStateOf program.now state.old }
-        requires next { IsStateOf program.now next.old }
-        requires start { HoldsFew program.now most self.old.found (pure.searched (slot_graph program.now limits.gates limits.steps) ends_tests 0) }
-        ensures { IfOk result (λ stopped. IsSearch program.now (slot_graph program.now limits.gates limits.steps) most self.new.found stopped) }
-    {
-        let mut choices: u32 = 0;
-        let mut layer_end = self.found.states.len();
-        for number in 0..most {
-            if number as usize == layer_end {
-                choices = choices.saturating_add(1);
-                layer_end = self.found.states.len();
-            }
-            if number % STATES_BETWEEN == 0 {
-                observer.observe_progress(self.progress(choices));
-            }
-            if !self.found.states.thaw_at(number, state) {
-                return Ok(None);
-            }
-            let is_room = self.take_choices(
-                alloc, program, limits, most, number, state, next, steps,
-            )?;
-            if !is_room {
-                return Ok(Some(number));
-            }
-        }
-        Ok(None)
+    fn thaw_at(&mut self, _job: &SearchJob<'_>, number: u32, state: &mut State) -> bool {
+        self.found.states.thaw_at(number, state)
     }
 
-    // Goes on from a state with each number that may be chosen. `false` where there is a state too many.
-    fn take_choices<S: Ledger>(
+    fn take(
         &mut self,
-        alloc: Global,
-        program: &Resolved,
-        limits: Limits,
-        most: u32,
-        number: u32,
-        state: &State,
-        next: &mut State,
-        steps: &mut Ticks<S>,
-    ) -> Result<bool, AllocError>
-        requires own { IsStateOf program.now state.now }
-        requires quiet { output_of (machine_of state.now) ≡ [] }
-        requires next { IsStateOf program.now next.old }
-        ensures next { IsStateOf program.now next.new }
-        ensures found { IfOk result (λ is_room. (f : SlotFindings) (x : Machine × List ℕ) → HoldsFew program.now most self.old.found f → slice_get f.states number ≡ Some x → machine_of state.now ≡ x.0 → GoesOn program.now (slot_graph program.now limits.gates limits.steps) most self.new.found f x is_room) }
-    {
-        let numbers = candidates(program, limits, state);
-        for process in numbers.as_slice() {
-            next.take_from(state);
-            let origin = Origin::Choice {
-                state: number,
-                number: *process,
-            };
-            if !self.take_choice(alloc, program, limits, most, next, *process, origin, steps)? {
-                return Ok(false);
-            }
-        }
-        Ok(true)
-    }
-
-    // Takes a choice. `false` where it leads to a state too many.
-    fn take_choice<S: Ledger>(
-        &mut self,
-        alloc: Global,
-        program: &Resolved,
-        limits: Limits,
-        most: u32,
+        job: &SearchJob<'_>,
+        at: u32,
         state: &mut State,
         process: u8,
-        origin: Origin,
-        steps: &mut Ticks<S>,
-    ) -> Result<bool, AllocError>
-        requires own { IsStateOf program.now state.old }
-        requires may { may (slots program.now limits.gates) (machine_of state.old) process ≡ true }
-        requires quiet { output_of (machine_of state.old) ≡ [] }
-        ensures own { IsStateOf program.now state.new }
-        ensures found { IfOk result (λ is_room. (f : SlotFindings) (word : List ℕ) → HoldsFew program.now most self.old.found f → IsWordOf f.states origin word → IsBefore (length f.states) origin → Arrives program.now most self.new.found f word ((slot_graph program.now limits.gates limits.steps).on (machine_of state.old) process) is_room) }
-    {
+    ) -> Result<bool, AllocError> {
         self.told.values.clear();
         let arrival = choose(
-            alloc,
-            program,
-            limits,
+            job.alloc,
+            job.program,
+            job.limits,
             state,
             process,
             &mut self.told,
-            steps,
+            &mut self.steps,
         )?;
-        self.arrive(alloc, program, most, state, arrival, origin)
+        let origin = Origin::Choice {
+            state: at,
+            number: process,
+        };
+        self.arrive(job, state, arrival, origin)
     }
 
-    // A word leads to where a stretch came to. `false` where that is a state too many.
-    fn arrive(
-        &mut self,
-        alloc: Global,
-        program: &Resolved,
-        most: u32,
-        state: &State,
-        arrival: Halt<End>,
-        origin: Origin,
-    ) -> Result<bool, AllocError>
-        requires own { IsStateOf program.now state.now }
-        requires quiet { output_of (machine_of state.now) ≡ [] }
-        ensures { IfOk result (λ is_room. (f : SlotFindings) (word : List ℕ) (a : SlotArrival) → HoldsFew program.now most self.old.found f → IsWordOf f.states origin word → IsBefore (length f.states) origin → goal_at arrival (machine_of state.now) ≡ a.goal → self.old.told.values.items ≡ a.shown → Arrives program.now most self.new.found f word a is_room) }
-    {
-        self.found.add_values(self.told.values.as_slice(), origin)?;
-        match arrival {
-            Halt::Ended(end) => {
-                self.found.add_end(end, origin)?;
-                Ok(true)
-            }
-            Halt::Choice => self.add_state(alloc, program, most, state, origin),
-        }
+    fn end_state(&mut self, _job: &SearchJob<'_>, _at: u32) -> Result<(), AllocError> {
+        Ok(())
     }
 
-    // A word leads to a state, where a choice is due. `false` where it is one too many.
-    fn add_state(
-        &mut self,
-        alloc: Global,
-        program: &Resolved,
-        most: u32,
-        state: &State,
-        origin: Origin,
-    ) -> Result<bool, AllocError>
-        requires own { IsStateOf program.now state.now }
-        requires quiet { output_of (machine_of state.now) ≡ [] }
-        ensures { IfOk result (λ is_room. (f : SlotFindings) (word : List ℕ) → HoldsFew program.now most self.old.found f → IsWordOf f.states origin word → IsBefore (length f.states) origin → Comes program.now most self.new.found f word (graph.Place (machine_of state.now)) is_room) }
-    {
-        let _ = program;
-        let row = self.found.states.row_anew(alloc, state)?;
-        if self.found.states.contains(&row) {
-            return Ok(true);
-        }
-        if self.found.states.len() >= most as usize {
-            return Ok(false);
-        }
-        self.found.states.add(row, origin)?;
-        Ok(true)
-    }
+    ghost fills = { λ v job holds. record { count = job.most; holds = holds; all = holds.few } };
 }

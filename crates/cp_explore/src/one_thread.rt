@@ -12,7 +12,7 @@ use cp_walk::{ExploreFault, Job, Table, walk_on_one_thread};
 use std::alloc::Global;
 use std::sync::ledger::Ledger;
 
-/// The table of a job, by one walk over the tree of words. `calls` is raised by one by each call of `stretch`; no word is replayed.
+/// The table of a job, by one walk over the tree of words. `calls` is raised by one by each call of `choose` and `open`; no word is replayed.
 pub fn explore_one<L: Ledger>(
     alloc: Global,
     job: Job,

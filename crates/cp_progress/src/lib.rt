@@ -1,5 +1,9 @@
-//! How far work has come, told to whoever looks.
+//! How far work has come, told to whoever looks, and on a line of a terminal.
 #![tactic(auto)]
+
+mod line;
+
+pub use line::{ProgressLine, terminal_of};
 
 /// What a search by layers has done.
 #[derive(Clone, Copy, Drop)]
@@ -35,6 +39,15 @@ pub trait ObserveProgress {
     fn observe_walk(&mut self, progress: WalkProgress);
 }
 
+/// Whoever is told how far searches have come, and when the work that they belong to begins and ends.
+pub trait ObserveWork: ObserveProgress {
+    /// What the work is done on was read.
+    fn observe_begin(&mut self);
+
+    /// The work is done, or given up, and its answer is not yet written.
+    fn observe_end(&mut self);
+}
+
 /// Nobody is told.
 #[derive(Clone, Copy, Drop)]
 pub struct Unobserved;
@@ -49,4 +62,12 @@ impl ObserveProgress for Unobserved {
     fn observe_walk(&mut self, progress: WalkProgress) {
         let _ = progress;
     }
+}
+
+impl ObserveWork for Unobserved {
+    #[inline(always)]
+    fn observe_begin(&mut self) {}
+
+    #[inline(always)]
+    fn observe_end(&mut self) {}
 }

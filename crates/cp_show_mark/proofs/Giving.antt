@@ -20,13 +20,13 @@ use Rattle.cp_verdict.specs.Plain as plain
 use Rattle.cp_verdict.specs.Spelling.{SpellsJoined, SpellsOne, Words}
 use Rattle.cp_verdict.specs.Words.{words_behind, words_of}
 use Rattle.cp_verdict.specs.declared.expectation.Expectation.{Expectation}
-use Rattle.cp_ends_verdict.specs.AtOnce.{at_any_limit}
-use Rattle.cp_ends_verdict.specs.Behaviour.{on_names}
-use Rattle.cp_ends_verdict.specs.Marked.{IsTrueMark}
-use Rattle.cp_ends_verdict.specs.Plain as ends_plain
-use Rattle.cp_ends_verdict.specs.Spelling as ends_spelling
-use Rattle.cp_ends_verdict.specs.declared.expectation.EndsExpectation.{EndsExpectation}
-use Rattle.cp_ends_verdict.specs.declared.verdict.EndsMark.{EndsMark}
+use Rattle.cp_verdict.specs.endless.AtOnce.{at_any_limit}
+use Rattle.cp_verdict.specs.endless.Behaviour.{on_names}
+use Rattle.cp_verdict.specs.endless.Marked.{IsTrueMark}
+use Rattle.cp_verdict.specs.endless.Plain as ends_plain
+use Rattle.cp_verdict.specs.endless.Spelling as ends_spelling
+use Rattle.cp_verdict.specs.declared.endless.expectation.EndsExpectation.{EndsExpectation}
+use Rattle.cp_verdict.specs.declared.endless.verdict.EndsMark.{EndsMark}
 use Rattle.cp_show_mark.specs.Given.{IsTrueBy, MeansEnds, Spells, SpellsEnds, TellsEnds, TellsEndsBy, TellsIf, TellsWords, and_own, can_be_judged}
 use Rattle.cp_show_mark.specs.Showing.{ends_verdict_of}
 use Rattle.cp_show_mark.specs.declared.answer.ShowVerdict.{ShowVerdict}

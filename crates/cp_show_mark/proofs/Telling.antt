@@ -9,11 +9,11 @@ use Rattle.cp_run.specs.Table.{table}
 use Rattle.cp_run.specs.declared.limits.Limits.{Limits}
 use Rattle.cp_tool.specs.declared.options.Options.{Options}
 use Rattle.cp_verdict.specs.declared.expectation.Expectation.{Expectation}
-use Rattle.cp_ends_verdict.specs.AtOnce.{IsMarkAtOnce, IsMarkInTurn, can_be_at_once}
-use Rattle.cp_ends_verdict.specs.Marked.{can_be_asked}
-use Rattle.cp_ends_verdict.specs.declared.expectation.EndsExpectation as ends_expectation
-use Rattle.cp_ends_verdict.specs.declared.verdict.EndsMark as ends_mark
-use Rattle.cp_ends_verdict.specs.declared.verdict.EndsMark.TheVariants as of_ends
+use Rattle.cp_verdict.specs.endless.AtOnce.{IsMarkAtOnce, IsMarkInTurn, can_be_at_once}
+use Rattle.cp_verdict.specs.endless.Marked.{can_be_asked}
+use Rattle.cp_verdict.specs.declared.endless.expectation.EndsExpectation as ends_expectation
+use Rattle.cp_verdict.specs.declared.endless.verdict.EndsMark as ends_mark
+use Rattle.cp_verdict.specs.declared.endless.verdict.EndsMark.TheVariants as of_ends
 use Rattle.cp_legend.specs.Names.{Legend}
 use Rattle.cp_merged.specs.Code.{tally_of}
 use Rattle.cp_outcomes.specs.Findings.{IsKnownOf}

@@ -14,13 +14,13 @@ use Rattle.cp_verdict.specs.Comments.{AreHeld, and_text, comments_of}
 use Rattle.cp_verdict.specs.Plain as plain
 use Rattle.cp_verdict.specs.Spelling as spelling
 use Rattle.cp_verdict.specs.declared.expectation.Expectation.{Expectation}
-use Rattle.cp_ends_verdict.specs.AtOnce.{at_any_limit, can_be_at_once}
-use Rattle.cp_ends_verdict.specs.Behaviour.{on_names}
-use Rattle.cp_ends_verdict.specs.Marked.{IsTrueMark, can_be_asked}
-use Rattle.cp_ends_verdict.specs.Plain as ends_plain
-use Rattle.cp_ends_verdict.specs.Spelling as ends_spelling
-use Rattle.cp_ends_verdict.specs.declared.expectation.EndsExpectation.{EndsExpectation}
-use Rattle.cp_ends_verdict.specs.declared.verdict.EndsMark.{EndsMark}
+use Rattle.cp_verdict.specs.endless.AtOnce.{at_any_limit, can_be_at_once}
+use Rattle.cp_verdict.specs.endless.Behaviour.{on_names}
+use Rattle.cp_verdict.specs.endless.Marked.{IsTrueMark, can_be_asked}
+use Rattle.cp_verdict.specs.endless.Plain as ends_plain
+use Rattle.cp_verdict.specs.endless.Spelling as ends_spelling
+use Rattle.cp_verdict.specs.declared.endless.expectation.EndsExpectation.{EndsExpectation}
+use Rattle.cp_verdict.specs.declared.endless.verdict.EndsMark.{EndsMark}
 use Rattle.cp_show_mark.specs.MarkText.{Setting}
 use Rattle.cp_show_mark.specs.Showing.{TellsEndsMark, TellsMark, TellsMarkAtOnce, ends_verdict_of}
 use Rattle.cp_show_mark.specs.Told.{TellsText}

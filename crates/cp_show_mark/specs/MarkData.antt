@@ -18,8 +18,8 @@ use Rattle.cp_verdict.specs.Written.{doubt_text, expectation_text, is_stopped, n
 use Rattle.cp_verdict.specs.declared.expectation.Expectation.{Expectation}
 use Rattle.cp_verdict.specs.declared.judging.Judgement.{Judgement}
 use Rattle.cp_verdict.specs.declared.judging.Judgement.TheVariants as judgement
-use Rattle.cp_verdict.specs.declared.marking.TableMark.{TableMark}
-use Rattle.cp_verdict.specs.declared.marking.TableMark.TheVariants as mark
+use Rattle.cp_verdict.specs.declared.marking.Standing.{Standing}
+use Rattle.cp_verdict.specs.declared.marking.Standing.TheVariants as mark
 use Rattle.cp_verdict.specs.declared.program.Marked.{Marked}
 use Rattle.cp_verdict.specs.declared.program.Stops.{Stops}
 use Rattle.cp_show_mark.specs.MarkText.{Setting, doubt_told, line_text, reason_text, verdict_text}
@@ -58,7 +58,7 @@ judged_data s stops p = object_with ((codes "expectation", text_data (expectatio
 
 -- ---- the whole
 
-abbrev pub mark_name : TableMark → List ℕ
+abbrev pub mark_name : Standing → List ℕ
 mark_name mark.Holds = codes "holds"
 mark_name mark.Fails = codes "fails"
 mark_name mark.Open = codes "not settled"

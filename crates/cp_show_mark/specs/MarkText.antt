@@ -20,8 +20,8 @@ use Rattle.cp_verdict.specs.declared.expectation.Claim.TheVariants.{Never, Somet
 use Rattle.cp_verdict.specs.declared.expectation.Expectation.{Expectation}
 use Rattle.cp_verdict.specs.declared.judging.Judgement.{Judgement}
 use Rattle.cp_verdict.specs.declared.judging.Judgement.TheVariants as judgement
-use Rattle.cp_verdict.specs.declared.marking.TableMark.{TableMark}
-use Rattle.cp_verdict.specs.declared.marking.TableMark.TheVariants as mark
+use Rattle.cp_verdict.specs.declared.marking.Standing.{Standing}
+use Rattle.cp_verdict.specs.declared.marking.Standing.TheVariants as mark
 use Rattle.cp_verdict.specs.declared.program.Marked.{Marked}
 use Rattle.cp_verdict.specs.declared.program.Stops.{Stops}
 use Rattle.cp_show_mark.specs.declared.examinee.Examinee.{Examinee}
@@ -146,14 +146,14 @@ reach_text js = if list_any may_go_on js then codes "shown by a schedule; some e
 abbrev pub extent_text : List Judgement → Stops → List ℕ
 extent_text js stops = if is_stopped stops then reach_text js ++ stops_text stops ++ codes "\n" else codes "complete: the same for every greater number of choices\n"
 
-abbrev pub holds_text : List Judgement → Stops → TableMark → List ℕ
+abbrev pub holds_text : List Judgement → Stops → Standing → List ℕ
 holds_text js stops mark.Holds = codes "holds\n" ++ extent_text js stops
 holds_text js stops _ = []
 
 -- ---- what else is said
 
 -- where the longest schedules that can be asked for are too short: who tells of longer ones
-abbrev pub longer_text : (choices : ℕ) → Stops → TableMark → List ℕ
+abbrev pub longer_text : (choices : ℕ) → Stops → Standing → List ℕ
 longer_text choices stops mark.Open = if stops.choices && choices == 100 then codes "./show mark --ends says what holds of schedules of any length\n" else []
 longer_text choices stops _ = []
 

@@ -4,14 +4,14 @@ use Rattle.cp_walk.specs.Text.{Spellings}
 use Rattle.cp_run.specs.Table.{Line}
 use Rattle.cp_slots.specs.Tables.{Tables}
 use Rattle.cp_machine.specs.declared.gates.Gates.{Gates}
-use Rattle.cp_ends_verdict.specs.AtOnce.{IsMarkAtOnce, IsMarkInTurn}
-use Rattle.cp_ends_verdict.specs.declared.expectation.EndsExpectation as ends_expectation
-use Rattle.cp_ends_verdict.specs.declared.verdict.EndsMark as ends_mark
-use Rattle.cp_ends_verdict.specs.declared.verdict.EndsMark.TheVariants as of_ends
+use Rattle.cp_verdict.specs.endless.AtOnce.{IsMarkAtOnce, IsMarkInTurn}
+use Rattle.cp_verdict.specs.declared.endless.expectation.EndsExpectation as ends_expectation
+use Rattle.cp_verdict.specs.declared.endless.verdict.EndsMark as ends_mark
+use Rattle.cp_verdict.specs.declared.endless.verdict.EndsMark.TheVariants as of_ends
 use Rattle.cp_verdict.specs.Marked.{IsMarkOf}
 use Rattle.cp_verdict.specs.declared.expectation.Expectation.{Expectation}
-use Rattle.cp_verdict.specs.declared.marking.TableMark.{TableMark}
-use Rattle.cp_verdict.specs.declared.marking.TableMark.TheVariants as mark
+use Rattle.cp_verdict.specs.declared.marking.Standing.{Standing}
+use Rattle.cp_verdict.specs.declared.marking.Standing.TheVariants as mark
 pub use Rattle.cp_show_mark.specs.declared.answer.ShowVerdict.{ShowVerdict}
 use Rattle.cp_show_mark.specs.declared.answer.ShowVerdict.TheVariants.{Reported, Refused, TooMany, Misread, Fails, Open}
 
@@ -23,14 +23,14 @@ code_of TooMany = 5
 code_of Fails = 6
 code_of Open = 7
 
-abbrev pub verdict_of : TableMark → ShowVerdict
+abbrev pub verdict_of : Standing → ShowVerdict
 verdict_of mark.Holds = Reported
 verdict_of mark.Fails = Fails
 verdict_of mark.Open = Open
 
 -- There are too many rows, states or outcomes; or the mark of a program whose table has these rows is told.
 abbrev pub TellsMark : Spellings → List Expectation → List Line → ShowVerdict → Type 0
-TellsMark names es lines verdict = (verdict ≡ TooMany) ⊎ ((m : TableMark) × (verdict ≡ verdict_of m) × IsMarkOf names es lines m)
+TellsMark names es lines verdict = (verdict ≡ TooMany) ⊎ ((m : Standing) × (verdict ≡ verdict_of m) × IsMarkOf names es lines m)
 
 abbrev pub ends_verdict_of : ends_mark.EndsMark → ShowVerdict
 ends_verdict_of of_ends.Holds = Reported

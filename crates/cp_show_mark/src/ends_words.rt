@@ -1,9 +1,9 @@
 //! What is said of expectations of schedules of any length.
 
 use crate::examinee::Examinee;
-use crate::mark_objects::misread_json;
-use cp_ends_verdict::{EndsMark, MarkedEnds, Said, Standing};
+use crate::mark_objects::{mark_words, misread_json};
 use cp_story::objects::Object;
+use cp_verdict::endless::{EndsMark, MarkedEnds, Said};
 use serde_json::Value;
 use std::alloc::{AllocError, Global};
 
@@ -41,7 +41,7 @@ fn said_objects(alloc: Global, each: &[Said]) -> Result<Value, AllocError> {
 fn said_object(alloc: Global, said: &Said) -> Result<Value, AllocError> {
     let mut item = Object::new(alloc);
     item.text("expectation", said.expectation.as_str())?;
-    item.text("verdict", standing_words(said.standing))?;
+    item.text("verdict", mark_words(said.standing))?;
     if !said.reason.is_empty() {
         item.text("said", said.reason.as_str())?;
     }
@@ -69,13 +69,5 @@ fn ends_verdict_words(mark: EndsMark) -> &'static str {
         EndsMark::Open => "not settled",
         EndsMark::TooMany => "too many states",
         EndsMark::Misread => "misread",
-    }
-}
-
-fn standing_words(standing: Standing) -> &'static str {
-    match standing {
-        Standing::Holds => "holds",
-        Standing::Fails => "fails",
-        Standing::Open => "not settled",
     }
 }

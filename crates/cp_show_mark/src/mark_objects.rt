@@ -19,7 +19,7 @@ use cp_prose::Prose;
 use cp_run::OutcomeKind;
 use cp_story::objects::{Object, numbers, put_kind, waits};
 use cp_story::output_words;
-use cp_verdict::{Expectation, Judgement, Marked, Reading, SeenRow, Stops, TableMark};
+use cp_verdict::{Expectation, Judgement, Marked, Reading, SeenRow, Standing, Stops};
 use serde_json::Value;
 use std::alloc::{AllocError, Global};
 
@@ -88,13 +88,14 @@ fn put_note(
     }
 }
 
-fn mark_words(mark: TableMark) -> &'static str
+/// What a mark is called.
+pub fn mark_words(mark: Standing) -> &'static str
     ensures { result.now ≡ spec.mark_name mark }
 {
     match mark {
-        TableMark::Holds => "holds",
-        TableMark::Fails => "fails",
-        TableMark::Open => "not settled",
+        Standing::Holds => "holds",
+        Standing::Fails => "fails",
+        Standing::Open => "not settled",
     }
 }
 

@@ -22,7 +22,7 @@ use crate::stories::waits_of;
 use cp_prose::Prose;
 use cp_run::{MOST_CHOICES, OutcomeKind};
 use cp_story::{Wait, wait_words};
-use cp_verdict::{Claim, Expectation, Judgement, Marked, Reading, SeenRow, Stops, TableMark};
+use cp_verdict::{Claim, Expectation, Judgement, Marked, Reading, SeenRow, Standing, Stops};
 use std::alloc::{AllocError, Global};
 
 /// That there is no expectation, or why it is none.
@@ -103,10 +103,10 @@ fn push_longer(examinee: Examinee<'_>, text: &mut Prose, marked: &Marked)
 {
     let is_longest = examinee.options.choices == MOST_CHOICES;
     match marked.mark {
-        TableMark::Open if marked.stops.choices && is_longest => {
+        Standing::Open if marked.stops.choices && is_longest => {
             text.put("./show mark --ends says what holds of schedules of any length\n");
         }
-        TableMark::Holds | TableMark::Fails | TableMark::Open => {}
+        Standing::Holds | Standing::Fails | Standing::Open => {}
     }
 }
 
@@ -124,11 +124,11 @@ fn push_holds(alloc: Global, text: &mut Prose, marked: &Marked)
     ensures { UnlessRefused text.new (appended text.old (spec.holds_text marked.now.judgements.items marked.now.stops marked.now.mark)) }
 {
     match marked.mark {
-        TableMark::Holds => {
+        Standing::Holds => {
             text.put("holds\n");
             push_extent(alloc, text, marked);
         }
-        TableMark::Fails | TableMark::Open => {}
+        Standing::Fails | Standing::Open => {}
     }
 }
 

@@ -13,7 +13,7 @@ ghost use Rattle.cp_tree.specs.Read.{IsRead};
 ghost use Rattle.cp_tree.specs.Syntax.{Tree};
 ghost use Rattle.cp_verdict.specs.Plain.{expected_of};
 ghost use Rattle.cp_verdict.specs.Words.{words_of};
-ghost use Rattle.cp_ends_verdict.specs.Plain as ends_plain;
+ghost use Rattle.cp_verdict.specs.endless.Plain as ends_plain;
 ghost use Rattle.cp_show_mark.specs.Given as given;
 ghost use Rattle.cp_show_mark.specs.MarkText.{setting_of};
 ghost use Rattle.cp_show_mark.specs.Showing as spec;
@@ -26,15 +26,15 @@ use crate::ends_words::ends_told;
 use crate::examinee::Examinee;
 use crate::excess::{MarkExcess, excess_text};
 use crate::mark_words::{mark_text, misread_text};
-use cp_ends_verdict::{
-    EndsExpectation, EndsMark, EndsReading, MarkSubject, MarkedEnds,
-    expectations as ends_expectations, mark_at_once, mark_in_turn, misread_text as ends_reason,
-};
 use cp_outcomes::completing::greatest_known;
 use cp_outcomes::known::Known;
 use cp_progress::ObserveProgress;
+use cp_verdict::endless::{
+    EndsExpectation, EndsMark, EndsReading, MarkSubject, MarkedEnds,
+    expectations as ends_expectations, mark_at_once, mark_in_turn, misread_text as ends_reason,
+};
 use cp_verdict::{
-    MarkFault, Marked, Misread, Reading, TableMark, expectations, expectations_in, mark_program,
+    MarkFault, Marked, Misread, Reading, Standing, expectations, expectations_in, mark_program,
     mark_tallies, misread_text as reason,
 };
 use cp_walk::Job;
@@ -275,13 +275,13 @@ fn end_line(examinee: Examinee<'_>, said: String) -> Result<String, AllocError>
     Ok(text)
 }
 
-fn verdict_of(mark: TableMark) -> ShowVerdict
+fn verdict_of(mark: Standing) -> ShowVerdict
     ensures { result ≡ spec.verdict_of mark }
 {
     match mark {
-        TableMark::Holds => ShowVerdict::Reported,
-        TableMark::Fails => ShowVerdict::Fails,
-        TableMark::Open => ShowVerdict::Open,
+        Standing::Holds => ShowVerdict::Reported,
+        Standing::Fails => ShowVerdict::Fails,
+        Standing::Open => ShowVerdict::Open,
     }
 }
 

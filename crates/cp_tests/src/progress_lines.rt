@@ -1,7 +1,6 @@
 //! When the line that tells how far work has come is written, what it says, and that it goes.
 
-use cp_progress::{ObserveProgress, Progress, WalkProgress};
-use cp_progress_line::{ObserveWork, ProgressLine};
+use cp_progress::{ObserveProgress, ObserveWork, Progress, ProgressLine, WalkProgress};
 use std::alloc::Global;
 use std::cell::Cell;
 use std::io::{Error, ErrorKind, Result as IoResult, Write};

@@ -5,3 +5,5 @@ mod Matched
 mod WordLemmas
 pub mod Meaning
 pub mod Merging
+mod Asking
+mod Finding

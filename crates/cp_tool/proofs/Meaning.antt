@@ -25,7 +25,7 @@ use Rattle.cp_tool.specs.Answered.{IsReported, IsTraced, IsExplored, IsExploredA
 use Rattle.cp_tool.specs.Merged.{IsMerged, IsMergedOf}
 use Rattle.cp_tool.specs.OnSlots.{IsExploredOn, machine, machine_rows}
 use Rattle.cp_tool.specs.declared.options.Options.{Options}
-use Rattle.cp_tool.specs.declared.answering.Verdict.{Verdict}
+use Rattle.cp_tool.specs.declared.answer.Verdict.{Verdict}
 
 -- ---- two systems with the same runs
 

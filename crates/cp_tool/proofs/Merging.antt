@@ -11,8 +11,8 @@ use Rattle.cp_merged.specs.declared.fault.MergeFault.TheVariants as fault
 use Rattle.cp_tool.specs.Merged.{IsMerged}
 use Rattle.cp_tool.specs.OnSlots.{machine, machine_rows}
 use Rattle.cp_tool.specs.declared.options.Options.{Options}
-use Rattle.cp_tool.specs.declared.answering.Verdict.{Verdict}
-use Rattle.cp_tool.specs.declared.answering.Verdict.TheVariants.{Reported, TooManyStates, TooManyOutcomes}
+use Rattle.cp_tool.specs.declared.answer.Verdict.{Verdict}
+use Rattle.cp_tool.specs.declared.answer.Verdict.TheVariants.{Reported, TooManyStates, TooManyOutcomes}
 
 abbrev pub IsMergedBy : ℕ → ℕ → Gates → ℕ → Tables → Verdict → List ℕ → Type 0
 IsMergedBy choices steps gates states program verdict text =

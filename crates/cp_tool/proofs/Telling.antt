@@ -2,7 +2,7 @@
 use Rattle.std.proofs.Common.{◌≡◌, ℕ, List, take, Option, None, Some, IfSome, Result, Ok, Err, subst}
 use Rattle.cp_front.specs.declared.transfer.StreamFault.{StreamFault}
 use Rattle.cp_front.specs.declared.transfer.StreamFault.TheVariants as fault
-use Rattle.cp_tool.specs.declared.answering.Verdict.{Verdict}
+use Rattle.cp_tool.specs.declared.answer.Verdict.{Verdict}
 use Rattle.cp_tool.specs.Answered.{Answering, AnswersSource, IsWritten, Tells}
 
 pub tells : (P : Answering) (known : Option (List ℕ)) (read : List ℕ) (old new : Option (List ℕ)) (verdict : Verdict) (text : List ℕ) (ending : Result Verdict StreamFault) → IfSome known (λ bytes. read ≡ take 65536 bytes) → AnswersSource P read verdict text → IsWritten old new verdict text ending → Tells P known old new ending

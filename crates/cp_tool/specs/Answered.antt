@@ -19,8 +19,8 @@ use Rattle.cp_front.specs.declared.transfer.StreamFault.{StreamFault}
 use Rattle.cp_front.specs.declared.transfer.StreamFault.TheVariants as fault
 use Rattle.cp_tool.specs.Merged.{IsMergedOf}
 use Rattle.cp_tool.specs.declared.options.Options.{Options}
-use Rattle.cp_tool.specs.declared.answering.Verdict.{Verdict}
-use Rattle.cp_tool.specs.declared.answering.Verdict.TheVariants.{Reported, Refused, TooManyRows, TooManyStates, TooManyOutcomes, NotSettled}
+use Rattle.cp_tool.specs.declared.answer.Verdict.{Verdict}
+use Rattle.cp_tool.specs.declared.answer.Verdict.TheVariants.{Reported, Refused, TooManyRows, TooManyStates, TooManyOutcomes, NotSettled}
 
 -- the report of these rows, or that there are more than are shown
 abbrev pub IsReported : Options → Spellings → List Line → Verdict → List ℕ → Type 0

@@ -1,8 +1,12 @@
 pub mod Answered
+pub mod AtOnce
 pub mod Command
+pub mod Ends
 pub mod Finds
 pub mod Merged
 pub mod Numbers
+pub mod OfTables
 pub mod OnSlots
 pub mod Options
+pub mod Waits
 pub mod Words

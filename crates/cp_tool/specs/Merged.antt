@@ -12,8 +12,8 @@ use Rattle.cp_walk.specs.Report.{report_text}
 use Rattle.cp_merged.specs.TooMany.{FitsBefore, IsDueFault}
 use Rattle.cp_merged.specs.declared.fault.MergeFault.TheVariants as fault
 use Rattle.cp_tool.specs.declared.options.Options.{Options}
-use Rattle.cp_tool.specs.declared.answering.Verdict.{Verdict}
-use Rattle.cp_tool.specs.declared.answering.Verdict.TheVariants.{Reported, TooManyStates, TooManyOutcomes}
+use Rattle.cp_tool.specs.declared.answer.Verdict.{Verdict}
+use Rattle.cp_tool.specs.declared.answer.Verdict.TheVariants.{Reported, TooManyStates, TooManyOutcomes}
 
 -- the report of any number of rows, or what of the machine is too many first
 abbrev pub IsMerged : Options → System Machine → Spellings → List Line → Verdict → List ℕ → Type 0

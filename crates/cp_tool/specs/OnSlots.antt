@@ -9,7 +9,7 @@ use Rattle.cp_run.specs.Table.{Line, table}
 use Rattle.cp_tool.specs.Answered.{IsReported, IsTraced}
 use Rattle.cp_tool.specs.Merged.{IsMerged}
 use Rattle.cp_tool.specs.declared.options.Options.{Options}
-use Rattle.cp_tool.specs.declared.answering.Verdict.{Verdict}
+use Rattle.cp_tool.specs.declared.answer.Verdict.{Verdict}
 
 -- the slot machine of tables, by the rule of admission that the options name, and its rows
 abbrev pub machine : Options → Tables → System Machine

@@ -18,3 +18,4 @@ pub mod Valued
 pub mod Verdicts
 pub mod Walking
 pub mod Written
+pub mod any_length

@@ -8,7 +8,7 @@ use Rattle.cp_verdict.specs.Marked.{HoldsOf, FailsOf, OpenOf, Each, IsMarkOf, Ar
 use Rattle.cp_verdict.specs.declared.expectation.Expectation.{Expectation}
 use Rattle.cp_verdict.specs.declared.judging.Judgement.{Judgement}
 use Rattle.cp_verdict.specs.declared.judging.Judgement.TheVariants as judgement
-use Rattle.cp_verdict.specs.declared.marking.TableMark.TheVariants as mark
+use Rattle.cp_verdict.specs.declared.marking.Standing.TheVariants as mark
 
 module _ (names : Spellings) (lines : List Line) where
   pub judged_none : (list : List Expectation) (js : List Judgement) → js ≡ [] → AreJudged names lines (take 0 list) js

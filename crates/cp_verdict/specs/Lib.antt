@@ -17,3 +17,4 @@ pub mod Steps
 pub mod Values
 pub mod Words
 pub mod Written
+pub mod endless

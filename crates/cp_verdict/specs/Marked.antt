@@ -10,8 +10,8 @@ use Rattle.cp_verdict.specs.declared.expectation.Claim.TheVariants.{Sometimes}
 use Rattle.cp_verdict.specs.declared.expectation.Expectation.{Expectation}
 use Rattle.cp_verdict.specs.declared.judging.Judgement.{Judgement}
 use Rattle.cp_verdict.specs.declared.judging.Judgement.TheVariants as judgement
-use Rattle.cp_verdict.specs.declared.marking.TableMark.{TableMark}
-use Rattle.cp_verdict.specs.declared.marking.TableMark.TheVariants as mark
+use Rattle.cp_verdict.specs.declared.marking.Standing.{Standing}
+use Rattle.cp_verdict.specs.declared.marking.Standing.TheVariants as mark
 use Rattle.cp_verdict.specs.declared.program.Marked.{Marked}
 
 -- the first row that settles an expectation of a program with these tables
@@ -40,7 +40,7 @@ Each P [] = Unit {0}
 Each P (e ∷ es) = P e × Each P es
 
 -- Each holds; or one fails; or none fails, and one is open.
-abbrev pub IsMarkOf : Spellings → List Expectation → List Line → TableMark → Type 0
+abbrev pub IsMarkOf : Spellings → List Expectation → List Line → Standing → Type 0
 IsMarkOf names es lines mark.Holds = Each (HoldsOf names lines) es
 IsMarkOf names es lines mark.Fails = (e : Expectation) × (against : Option Line) × IsAmong e es × FailsOf names lines e against
 IsMarkOf names es lines mark.Open = Each (λ x. HoldsOf names lines x ⊎ OpenOf names lines x) es × ((e : Expectation) × IsAmong e es × OpenOf names lines e)
@@ -67,7 +67,7 @@ has_against js = list_any is_against js
 abbrev pub has_unsettled : List Judgement → Bool
 has_unsettled js = list_any is_unsettled js
 
-abbrev pub mark_of : List Judgement → TableMark
+abbrev pub mark_of : List Judgement → Standing
 mark_of js = if has_against js then mark.Fails else (if has_unsettled js then mark.Open else mark.Holds)
 
 -- each expectation is judged, they are marked together, and the limits are those at which rows ended

@@ -1,7 +1,8 @@
-//! What is expected of a program, and whether it holds of all schedules.
+//! What is expected of a program, and whether it holds of all schedules: of those within limits, or (`endless`) of any length.
 #![tactic(auto)]
 
 pub mod comments;
+pub mod endless;
 pub mod expectation;
 pub mod judging;
 pub mod laws;
@@ -14,16 +15,15 @@ mod reader;
 pub mod reading;
 pub mod seen;
 pub mod value;
+pub mod vocabulary;
 pub mod words;
 
 pub use comments::expectations_in;
 pub use expectation::{Claim, Expectation, KindPattern, OutcomePattern, OutputItem, OutputPattern};
 pub use judging::{Judgement, judge};
 pub use laws::{law_holds, law_output, law_spelling, law_stays};
-pub use marking::{TableMark, judge_each, mark_of};
+pub use marking::{Standing, judge_each, mark_of};
 pub use program::{MarkFault, Marked, Stops, mark_program, mark_tallies};
-pub use readable::push_readable;
-pub use reader::{claim_of, error_of};
-pub use reading::{Misread, Reading, WantedWord, as_name, expectations, value_of, words_in};
+pub use reading::{Misread, Reading, WantedWord, expectations};
 pub use seen::{Seen, SeenRow};
-pub use words::{misread_text, push_doubt, push_expectation, push_value};
+pub use words::{misread_text, push_doubt, push_expectation};

@@ -12,12 +12,12 @@ use crate::seen::Seen;
 use cp_slots::Resolved;
 use std::alloc::{AllocError, Global};
 
-/// What is said of some expectations together.
+/// What is said of an expectation, or of some together.
 #[derive(Clone, Copy, PartialEq, Eq)]
-pub enum TableMark {
-    /// Each of them is true of the whole table, and no run that a limit stopped could change that.
+pub enum Standing {
+    /// Each of them holds.
     Holds,
-    /// One of them is not.
+    /// One of them does not.
     Fails,
     /// None of them fails, and one is not settled.
     Open,
@@ -62,15 +62,15 @@ fn has_unsettled(judgements: &[Judgement]) -> bool
 }
 
 /// The mark by the judgement of each expectation.
-pub fn mark_of(judgements: &[Judgement]) -> TableMark
+pub fn mark_of(judgements: &[Judgement]) -> Standing
     ensures { result ≡ spec.mark_of judgements.now }
 {
     if has_against(judgements) {
-        TableMark::Fails
+        Standing::Fails
     } else if has_unsettled(judgements) {
-        TableMark::Open
+        Standing::Open
     } else {
-        TableMark::Holds
+        Standing::Holds
     }
 }
 

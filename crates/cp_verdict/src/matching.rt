@@ -15,19 +15,11 @@ use std::alloc::{AllocError, Global};
 fn is_same_error(wanted: ErrorName, name: ErrorName) -> bool
     ensures { result ≡ spec.is_same_error wanted name }
 {
-    match (wanted, name) {
-        (ErrorName::Overflow, ErrorName::Overflow) => true,
-        (ErrorName::ZeroDivisor, ErrorName::ZeroDivisor) => true,
-        (ErrorName::Range, ErrorName::Range) => true,
-        (ErrorName::NoCase, ErrorName::NoCase) => true,
-        (ErrorName::QueueInUse, ErrorName::QueueInUse) => true,
-        (ErrorName::NotInit, ErrorName::NotInit) => true,
-        (ErrorName::InitTwice, ErrorName::InitTwice) => true,
-        _ => false,
-    }
+    wanted == name
 }
 
-fn is_of_kind(pattern: KindPattern, kind: OutcomeKind) -> bool
+/// Whether an outcome is of this kind.
+pub fn is_of_kind(pattern: KindPattern, kind: OutcomeKind) -> bool
     ensures { result ≡ spec.is_of_kind pattern kind }
 {
     match (pattern, kind) {
@@ -54,7 +46,7 @@ pub fn is_limit(kind: OutcomeKind) -> bool
 }
 
 /// A value as a report prints it.
-fn text_of(alloc: Global, program: &Resolved, value: Shown) -> Result<String, AllocError>
+pub fn text_of(alloc: Global, program: &Resolved, value: Shown) -> Result<String, AllocError>
     ensures { IfOk result (λ s. string_bytes s ≡ outputs.value_text program.now.names value) }
 {
     let mut text = String::new(alloc);

@@ -13,7 +13,7 @@ ghost use Rattle.cp_verdict.specs.Meant.{IsMeantMark};
 
 use crate::expectation::Expectation;
 use crate::judging::Judgement;
-use crate::marking::{TableMark, judge_each, mark_of};
+use crate::marking::{Standing, judge_each, mark_of};
 use crate::seen::Seen;
 use cp_merged::{MergeFault, Tallies, Tally, explore_merged_with};
 use cp_progress::ObserveProgress;
@@ -54,7 +54,7 @@ pub struct Stops {
 #[derive(Drop)]
 pub struct Marked {
     pub judgements: Vec<Judgement>,
-    pub mark: TableMark,
+    pub mark: Standing,
     pub stops: Stops,
 }
 

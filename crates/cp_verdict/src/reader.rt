@@ -9,8 +9,7 @@ ghost use Rattle.cp_verdict.specs.Steps.{AtClaim, AtOutcome, with_outcome, with_
 use crate::expectation::{
     Claim, Expectation, KindPattern, OutcomePattern, OutputItem, OutputPattern,
 };
-use crate::reading::{as_name, value_of};
-use cp_machine::ErrorName;
+use crate::vocabulary::{as_name, claim_of, error_of, value_of};
 use std::alloc::{AllocError, Global};
 
 /// What may come next.
@@ -55,18 +54,6 @@ pub struct Reader {
     pub next: NextWord,
 }
 
-/// What an expectation that begins with this word claims.
-pub fn claim_of(word: &str) -> Option<Claim>
-    ensures { result ≡ steps.meant_by steps.claims word.now }
-{
-    match word {
-        "never" => Some(Claim::Never),
-        "some" => Some(Claim::Sometimes),
-        "only" => Some(Claim::Only),
-        _ => None,
-    }
-}
-
 fn beginning_of(word: &str) -> Option<Beginning>
     ensures { option_map start_of result ≡ steps.meant_by steps.beginnings word.now }
 {
@@ -75,22 +62,6 @@ fn beginning_of(word: &str) -> Option<Beginning>
         "all-waiting" => Some(Beginning::Kind(KindPattern::AllWaiting)),
         "run-error" => Some(Beginning::Kind(KindPattern::AnyError)),
         "shown" => Some(Beginning::Shown),
-        _ => None,
-    }
-}
-
-/// The run error of this name.
-pub fn error_of(word: &str) -> Option<ErrorName>
-    ensures { result ≡ steps.meant_by steps.errors word.now }
-{
-    match word {
-        "overflow" => Some(ErrorName::Overflow),
-        "zero-divisor" => Some(ErrorName::ZeroDivisor),
-        "range" => Some(ErrorName::Range),
-        "no-case" => Some(ErrorName::NoCase),
-        "queue-in-use" => Some(ErrorName::QueueInUse),
-        "not-init" => Some(ErrorName::NotInit),
-        "init-twice" => Some(ErrorName::InitTwice),
         _ => None,
     }
 }

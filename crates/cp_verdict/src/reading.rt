@@ -1,18 +1,15 @@
 //! Expectations as they are written.
 
-ghost use Rattle.std.specs.Prelude.{◌≡◌, ◌≢◌, ℕ, List, true, false, map, IfOk, IfErr, MatchOption};
+ghost use Rattle.std.specs.Prelude.{◌≡◌, ◌≢◌, List, map, IfOk, IfErr};
 ghost use Rattle.cp_verdict.specs.Misread.{IsMisread};
 ghost use Rattle.cp_verdict.specs.Plain.{Expected, expected_of};
 ghost use Rattle.cp_verdict.specs.Spelling.{Spells};
-ghost use Rattle.cp_verdict.specs.Values as spec;
-ghost use Rattle.cp_verdict.specs.Values.{SpellsValue, parenthesized};
 ghost use Rattle.cp_verdict.specs.Words.{words_of};
 ghost use Rattle.cp_verdict.specs.declared.reading.Misread.TheVariants.{Memory};
-ghost use Rattle.cp_verdict.specs.Written.{is_doubtful};
 
 use crate::expectation::Expectation;
 use crate::reader::{NextWord, Reader};
-use crate::value::is_value;
+use crate::vocabulary::words_in;
 use std::alloc::{AllocError, AllocFailed, Global};
 
 /// What could have stood where a text of expectations goes wrong.
@@ -66,40 +63,6 @@ pub struct Reading {
     pub doubtful: Option<&'static str>,
 }
 
-/// The word, if it begins an outcome and could be the name of a constant as well.
-pub fn as_name(word: &str) -> Option<&'static str>
-    ensures { MatchOption result (is_doubtful word.now ≡ false) (λ name. (is_doubtful word.now ≡ true) × (name.now ≡ word.now)) }
-{
-    match word {
-        "finished" => Some("finished"),
-        "shown" => Some("shown"),
-        _ => None,
-    }
-}
-
-/// The value that a word stands for, as a report prints it: itself, or what stands between its parentheses. None where no report prints it.
-pub fn value_of(word: &str) -> Option<&str>
-    ensures { MatchOption result ((v : List ℕ) → ¬ (SpellsValue word.now v)) (λ value. SpellsValue word.now value.now) }
-{
-    match in_parentheses(word) {
-        Some(value) => checked(value),
-        None if as_name(word).is_some() => None,
-        None => checked(word),
-    }
-}
-
-fn in_parentheses(word: &str) -> Option<&str>
-    ensures { MatchOption result ((v : List ℕ) → word.now ≢ parenthesized v) (λ v. word.now ≡ parenthesized v.now) }
-{
-    word.strip_prefix("(")?.strip_suffix(")")
-}
-
-fn checked(text: &str) -> Option<&str>
-    ensures { MatchOption result (spec.is_value text.now ≡ false) (λ value. (value.now ≡ text.now) × (spec.is_value text.now ≡ true)) }
-{
-    if is_value(text) { Some(text) } else { None }
-}
-
 /// What was wanted where a text ends too early, or a word does not fit.
 fn wanted_by(next: NextWord) -> WantedWord {
     match next {
@@ -112,13 +75,6 @@ fn wanted_by(next: NextWord) -> WantedWord {
         NextWord::Shown => WantedWord::Value,
         NextWord::AfterNone | NextWord::AfterShown => WantedWord::Joint,
     }
-}
-
-/// The words of a text.
-pub fn words_in(alloc: Global, text: &str) -> Result<Vec<&str>, AllocError>
-    ensures { IfOk result (λ v. map (λ w. w.now) v.items ≡ words_of text.now) }
-{
-    text.split_whitespace().collect(alloc)
 }
 
 /// The expectations of a text, joined by `and`.

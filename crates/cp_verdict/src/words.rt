@@ -8,11 +8,13 @@ use crate::expectation::{
 };
 use crate::program::Stops;
 use crate::readable::push_readable;
-use crate::reading::{WantedWord, as_name};
+use crate::reading::WantedWord;
+use crate::vocabulary::as_name;
 use cp_walk::text::error_name;
 use std::alloc::{AllocError, Global};
 
-fn push_kind(text: &mut String, kind: KindPattern) -> Result<(), AllocError>
+/// Appends a kind of outcomes as it is written.
+pub fn push_kind(text: &mut String, kind: KindPattern) -> Result<(), AllocError>
     ensures { IfOk result (λ _. string_bytes text.new ≡ string_bytes text.old ++ spec.kind_text kind) }
 {
     match kind {
@@ -172,6 +174,21 @@ fn wanted_words(wanted: WantedWord) -> &'static str {
     }
 }
 
+/// What is said of a word, or of the end, where others were wanted.
+pub fn found_text(alloc: Global, wanted: &str, word: Option<&str>) -> Result<String, AllocError> {
+    let mut said = String::new(alloc);
+    said.push_str("expected ")?;
+    said.push_str(wanted)?;
+    let Some(word) = word else {
+        said.push_str(", found the end\n")?;
+        return Ok(said);
+    };
+    said.push_str(", found \"")?;
+    push_readable(&mut said, word.as_bytes())?;
+    said.push_str("\"\n")?;
+    Ok(said)
+}
+
 /// What is said of a text that has no expectations: what was found, and what was wanted there.
 pub fn misread_text(
     alloc: Global,
@@ -179,17 +196,10 @@ pub fn misread_text(
     wanted: WantedWord,
     place: usize,
 ) -> Result<String, AllocError> {
-    let mut said = String::new(alloc);
-    said.push_str("expected ")?;
-    said.push_str(wanted_words(wanted))?;
-    let Some(word) = text.split_whitespace().nth(place) else {
-        said.push_str(", found the end\n")?;
-        return Ok(said);
-    };
-    said.push_str(", found \"")?;
-    push_readable(&mut said, word.as_bytes())?;
-    said.push_str("\"\n")?;
+    let word = text.split_whitespace().nth(place);
+    let mut said = found_text(alloc, wanted_words(wanted), word)?;
     if (wanted == WantedWord::Output || wanted == WantedWord::Value)
+        && let Some(word) = word
         && let Some(name) = as_name(word)
     {
         push_doubt(&mut said, name)?;

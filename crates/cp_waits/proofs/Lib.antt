@@ -16,5 +16,6 @@ pub mod Standstills
 pub mod Told
 pub mod Trapped
 pub mod Uncut
+pub mod Visiting
 pub mod Ways
 mod Words

@@ -1,15 +1,15 @@
 -- What the choices of states add to a graph.
-use Rattle.std.specs.Prelude.{◌≡◌, ◌⊎◌, ◌≤◌, ◌<◌, ◌^◌, ℕ, List, ◌++◌, map, length, Bool, true, Some, Contains, slice_get}
+use Rattle.std.specs.Prelude.{◌≡◌, ◌⊎◌, ◌≤◌, ◌<◌, ◌^◌, ℕ, List, [], ◌++◌, map, length, Bool, true, Some, Contains, slice_get}
 use Rattle.std.specs.List.{AllByRecursion as Each}
 use Rattle.cp_slots.specs.Tables.{Tables}
-use Rattle.cp_machine.specs.System.{Machine}
+use Rattle.cp_machine.specs.System.{Machine, output_of}
 use Rattle.cp_machine.specs.declared.gates.Gates.{Gates}
 use Rattle.cp_run.specs.Run.{may, stretch}
 use Rattle.cp_run.specs.System.{System}
 use Rattle.cp_endless.specs.Settled.{IsClosedSet}
 use Rattle.cp_endless.specs.Silent.{silent_slots, in_call_on_slots, waits_on_slots}
 use Rattle.cp_ends.specs.Firsts.{HasWord}
-use Rattle.cp_ends.specs.Holds.{AreStates}
+use Rattle.cp_ends.specs.Holds.{AreStates, HasFindings, IsAt}
 use Rattle.cp_ends.specs.declared.found.Found.{Found}
 use Rattle.cp_ends.specs.declared.origin.Origin.{Origin}
 use Rattle.cp_ends.specs.declared.origin.Origin.TheVariants.{Start, Choice}
@@ -73,3 +73,26 @@ AddsChoicesOnSlots r gates steps states i m numbers old new = AddsChoices (silen
 
 abbrev pub IsSlotGraphTo : Tables → Gates → ℕ → List (Machine × List ℕ) → ℕ → Graph → Type 0
 IsSlotGraphTo r gates steps states n g = IsGraphTo (silent_slots r gates) in_call_on_slots waits_on_slots steps states n g
+
+-- ---- how far a visit of the states has come
+
+module _ (is_visited : Found → Type 0) (r : Tables) (gates : Gates) (steps : ℕ) where
+  -- it is the graph of those before this number
+  pub record IsBuiltTo (found : Found) (n : ℕ) (g : Graph) : Type 0 where
+    pub visited : is_visited found
+    pub kept : HasFindings r found
+    pub graph : (states : List (Machine × List ℕ)) → AreAll r gates steps found states → IsSlotGraphTo r gates steps states n g
+
+  -- and the state of this number, which is the machine, is gone on from with these choices
+  pub record IsWithin (found : Found) (at : ℕ) (m : Machine) (numbers : List ℕ) (g : Graph) : Type 0 where
+    pub old : Graph
+    pub before : IsBuiltTo found at old
+    pub quiet : output_of m ≡ []
+    pub here : (states : List (Machine × List ℕ)) → AreAll r gates steps found states → IsAt states at true m
+    pub adds : (states : List (Machine × List ℕ)) → AreAll r gates steps found states → AddsChoicesOnSlots r gates steps states at m numbers old g
+
+  -- it is the graph of all, where they are no more than may be visited
+  pub record IsBuilt (most : ℕ) (found : Found) (g : Graph) : Type 0 where
+    pub count : ℕ
+    pub built : IsBuiltTo found count g
+    pub all : (states : List (Machine × List ℕ)) → AreAll r gates steps found states → length states ≤ most → length states ≤ count

@@ -24,7 +24,7 @@ use std::alloc::{AllocError, Global};
 use std::marker::Brand;
 use std::sync::ledger::{Blank, Ledger};
 
-/// The table of a job, by one walk over the tree of words. `calls` is raised by one by each call of `stretch`; no word is replayed.
+/// The table of a job, by one walk over the tree of words. `calls` is raised by one by each call of `choose` and `open`; no word is replayed.
 pub fn walk_on_one_thread<L: Ledger>(
     alloc: Global,
     job: Job,

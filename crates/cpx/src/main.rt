@@ -3,9 +3,10 @@
 
 ghost use Rattle.std.specs.Prelude.{◌≡◌};
 
-use cp_ends_tool::answer_stream;
-use cp_progress_line::{ObserveWork, ProgressLine, terminal_of};
-use cp_tool::{OptionFault, Options, SourceReading, VERSION, Wrapped, read_options, reason_for};
+use cp_progress::{ObserveWork, ProgressLine, terminal_of};
+use cp_tool::{
+    OptionFault, Options, SourceReading, VERSION, Wrapped, answer_stream, read_options, reason_for,
+};
 use std::alloc::{AllocError, Global};
 use std::env;
 use std::io::{ErrorKind, Stderr, Stdin, Stdout};

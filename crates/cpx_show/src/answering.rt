@@ -21,8 +21,7 @@ use cp_front::{
     load_with_symbols, read_source, refusal_line, write_text,
 };
 use cp_legend::legend_of;
-use cp_progress::ObserveProgress;
-use cp_progress_line::ObserveWork;
+use cp_progress::{ObserveProgress, ObserveWork};
 use cp_show_mark::{ShowAnswer, ShowVerdict};
 use cp_show_options::{Asked, ShowPart};
 use cp_symbols::Symbols;

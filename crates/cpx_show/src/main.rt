@@ -12,7 +12,7 @@ mod summaries;
 ghost use Rattle.std.specs.Prelude.{◌≡◌};
 
 use crate::answering::show_stream;
-use cp_progress_line::{ObserveWork, ProgressLine, terminal_of};
+use cp_progress::{ObserveWork, ProgressLine, terminal_of};
 use cp_show_options::{Asked, read_parts, refused_part};
 use cp_tool::{OptionFault, VERSION, Wrapped};
 use std::alloc::{AllocError, Global};

@@ -1,11 +1,43 @@
+use Rattle.cp_at_once.proofs.Words.{◌≡◌, ◌∙◌, ◌++◌, [], true, false, ap, subst, slot_graph, goal_at, GoesOn, HasLeg}
+use Rattle.cp_at_once.proofs.Arriving.{begun, first_followed}
+use Rattle.cp_at_once.proofs.Choices.{answers_marked, answers_told}
+use Rattle.cp_at_once.proofs.Nothing.{nothing_found}
 use Rattle.cp_at_once.proofs.search.search_with.Goals as goal
-use Rattle.cp_machine.proofs.CallOutcomes.{none_well}
 
-pub returns-in_err-state : goal.returns-in_err-state
-returns-in_err-state g c = none_well c.from_residual.result _ _ c.from_residual.ensures.1
+pub visit_all-requires-clause-begun : goal.visit_all-requires-clause-begun
+visit_all-requires-clause-begun g c =
+    let job = c.args.job.now in
+    let r = job.program.now in
+    let gr = slot_graph r job.limits.gates job.limits.steps in
+    let Leg = HasLeg r job.limits.gates in
+    let f = c.new-found.result in
+    let h = c.follow.new.self.found in
+    let room : c.in_ok-is_room.is_room ≡ true = search in (
+      c.follow.ensures.ahead,
+      begun r gr Leg job.most f [] h
+          (subst (GoesOn r gr Leg job.most 8 f [] h gr.start) room
+          (first_followed r gr Leg job.most f h c.start-origin.result c.start-origin.ensures.state c.start-origin.ensures.numbers
+          (nothing_found r gr job.most f c.new-found.ensures.kept c.new-found.ensures.ends c.new-found.ensures.values) _ _
+          (ap (λ m. goal_at c.in_ok-arrival.arrival m) c.in_ok-next.ensures.same ∙ c.in_ok-arrival.ensures.goal) (c.in_ok-arrival.ensures.shown ∙ ap (λ l. l ++ gr.start.shown) c.new-told.ensures) c.in_ok-is_room.is_room c.in_ok-is_room.ensures.found)),
+    )
 
-pub returns-in_err-search : goal.returns-in_err-search
-returns-in_err-search g c = none_well c.from_residual-in_err-search.result _ _ c.from_residual-in_err-search.ensures.1
+pub returns-then-not-is_room : goal.returns-then-not-is_room
+returns-then-not-is_room g c =
+    let job = c.args.job.now in
+    let r = job.program.now in
+    let gr = slot_graph r job.limits.gates job.limits.steps in
+    let Leg = HasLeg r job.limits.gates in
+    let f = c.new-found.result in
+    let h = c.follow.new.self.found in
+    let none : c.in_ok-is_room.is_room ≡ false = search in
+    answers_marked r gr Leg job.most h false false
+    (subst (GoesOn r gr Leg job.most 8 f [] h gr.start) none
+    (first_followed r gr Leg job.most f h c.start-origin.result c.start-origin.ensures.state c.start-origin.ensures.numbers
+    (nothing_found r gr job.most f c.new-found.ensures.kept c.new-found.ensures.ends c.new-found.ensures.values) _ _
+    (ap (λ m. goal_at c.in_ok-arrival.arrival m) c.in_ok-next.ensures.same ∙ c.in_ok-arrival.ensures.goal) (c.in_ok-arrival.ensures.shown ∙ ap (λ l. l ++ gr.start.shown) c.new-told.ensures) c.in_ok-is_room.is_room c.in_ok-is_room.ensures.found))
 
 pub returns : goal.returns
-returns g c = c.in_ok-fill.ensures
+returns g c =
+    let job = c.args.job.now in
+    let r = job.program.now in
+    answers_told r (slot_graph r job.limits.gates job.limits.steps) (HasLeg r job.limits.gates) job.most c.visit_all.new.visit.found c.in_ok-stopped.stopped c.is_none-search.result c.is_none-search.ensures c.in_ok-stopped.ensures.searched

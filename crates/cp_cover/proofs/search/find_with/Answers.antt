@@ -1,30 +1,40 @@
-use Rattle.cp_cover.proofs.Words.{◌≡◌, ◌+◌, ℕ, suc, List, true, sym, subst, arith, slots, ReachedKey, CoverMark, AreReached, IsLayer}
+use Rattle.std.specs.Prelude.{is_some, false}
+use Rattle.std.proofs.Common.{◌∙◌}
+use Rattle.cp_cover.proofs.Words.{◌≡◌, ◌+◌, ℕ, suc, sym, subst, arith, slots, AreReached}
 use Rattle.cp_cover.proofs.FromLayer.{same_marks}
+use Rattle.cp_cover.proofs.Visiting.{known_after, known_as, not_stopped}
 use Rattle.cp_cover.proofs.search.find_with.Goals as goal
 
-pub next_layer-requires-clause-layer : goal.next_layer-requires-clause-layer
-next_layer-requires-clause-layer g c = subst (λ (l : List ReachedKey). IsLayer c.args.program.now (slots c.args.program.now c.args.limits.gates) c.args.limits.steps c.loop-depth.depth l) (sym c.take_layer-layer.ensures.taken) c.loop-depth.invariant.layer
+pub begin_layer-requires : goal.begin_layer-requires
+begin_layer-requires g c =
+    let job = c.args.job.now in
+    let limits = c.with_choices.ensures in
+    known_as job.program.now job.limits.gates _ job.limits.steps _ job.most c.loop-depth.depth _ c.loop-depth.visit.marks.known.keys c.loop-depth.visit.next.known.keys (sym limits.2) (sym limits.1) (sym limits.0) c.loop-depth.invariant.known
 
-pub next_layer-requires-clause-marks : goal.next_layer-requires-clause-marks
-next_layer-requires-clause-marks g c = subst (λ (l : List CoverMark). AreReached (slots c.args.program.now c.args.limits.gates) c.args.limits.steps c.loop-depth.depth l) (sym c.take_layer-layer.ensures.marks) c.loop-depth.invariant.marks
-
-pub returns-then-not-is_room-clause-reached : goal.returns-then-not-is_room-clause-reached
-returns-then-not-is_room-clause-reached g c = same_marks (slots c.args.program.now c.args.limits.gates) c.args.limits.steps c.loop-depth.depth c.loop-depth.search.marks.known.keys c.in_ok-before.before.known.keys c.in_ok-before.ensures c.loop-depth.invariant.marks
+pub returns-then-is_some-clause-reached : goal.returns-then-is_some-clause-reached
+returns-then-is_some-clause-reached g c =
+    let job = c.args.job.now in
+    same_marks (slots job.program.now job.limits.gates) job.limits.steps c.loop-depth.depth c.loop-depth.visit.marks.known.keys c.in_ok-before.before.known.keys c.in_ok-before.ensures c.loop-depth.invariant.known.marks
 
 pub loop-depth-preserved : goal.loop-depth-preserved
 loop-depth-preserved g c =
-    let sys = slots c.args.program.now c.args.limits.gates in
-    let steps = c.args.limits.steps in
-    let room : c.in_ok-is_room.is_room ≡ true = search in
-    let d : suc c.loop-depth.depth ≡ c.loop-depth.depth + 1 = omega arith in
+    let job = c.args.job.now in
+    let limits = c.with_choices.result in
+    let same = c.with_choices.ensures in
+    let choices = same.0 in
+    let visit = c.visit_all.new.visit in
+    let whole_layer : is_some c.in_ok-stopped.stopped ≡ false = sym c.is_some.ensures ∙ c.if-is_some.false in
+    let whole = not_stopped _ _ c.in_ok-stopped.stopped whole_layer c.in_ok-stopped.ensures.searched in
+    let known = known_after job.program.now (slots job.program.now limits.gates) limits.steps job.most limits.choices visit.layer.known.keys visit.marks.known.keys visit.next.known.keys whole in
+    let one_more : suc limits.choices ≡ c.loop-depth.depth + 1 = omega (arith, choices) in
     record {
-      own = c.next_layer.ensures.own;
-      next = c.next_layer.ensures.next;
-      layer = subst (λ (k : ℕ). IsLayer c.args.program.now sys steps k c.next_layer.new.self.layer.known.keys) d (c.in_ok-is_room.ensures.after.layer room);
-      marks = subst (λ (k : ℕ). AreReached sys steps k c.next_layer.new.self.marks.known.keys) d (c.in_ok-is_room.ensures.after.reached room);
+      own = c.visit_all.ensures.own;
+      next = c.visit_all.ensures.next;
+      known = known_as job.program.now limits.gates job.limits.gates limits.steps job.limits.steps job.most (suc limits.choices) (c.loop-depth.depth + 1) visit.marks.known.keys visit.next.known.keys same.2 same.1 one_more known;
     }
 
 pub returns-clause-reached : goal.returns-clause-reached
 returns-clause-reached g c =
-    let same : c.loop-depth.depth ≡ c.args.limits.choices = omega arith in
-    subst (λ (k : ℕ). AreReached (slots c.args.program.now c.args.limits.gates) c.args.limits.steps k c.loop-depth.search.marks.known.keys) same c.loop-depth.invariant.marks
+    let job = c.args.job.now in
+    let same : c.loop-depth.depth ≡ job.limits.choices = omega arith in
+    subst (λ (k : ℕ). AreReached (slots job.program.now job.limits.gates) job.limits.steps k c.loop-depth.visit.marks.known.keys) same c.loop-depth.invariant.known.marks

@@ -1,11 +1,11 @@
-use Rattle.cp_cover.proofs.Words.{IsStateOf, slots, AreReached, IsLayer}
+use Rattle.cp_cover.proofs.Words.{IsStateOf, slots}
+use Rattle.cp_cover.specs.Visited.{IsKnown}
 use Rattle.cp_cover.proofs.search.find_with.Given as goal
 
 abbrev pub invariant-loop-depth : goal.invariant-loop-depth
 invariant-loop-depth g l =
     record {
-      own : IsStateOf l.program l.state;
-      next : IsStateOf l.program l.next;
-      layer : IsLayer l.program (slots l.program l.limits.gates) l.limits.steps l.depth l.search.layer.known.keys;
-      marks : AreReached (slots l.program l.limits.gates) l.limits.steps l.depth l.search.marks.known.keys;
+      own : IsStateOf l.job.program.now l.state;
+      next : IsStateOf l.job.program.now l.next;
+      known : IsKnown l.job.program.now (slots l.job.program.now l.job.limits.gates) l.job.limits.steps l.job.most l.depth l.visit.marks.known.keys l.visit.next.known.keys;
     }

@@ -2,10 +2,10 @@ use Rattle.std.proofs.Common.{List, inl, map, subst}
 use Rattle.std.proofs.lemmas.Result.{IfOk-weaker}
 use Rattle.cp_legend.specs.Names.{component_seen}
 use Rattle.cp_verdict.specs.Words.{words_of}
-use Rattle.cp_ends_verdict.specs.Plain as ends_plain
-use Rattle.cp_ends_verdict.specs.Reading.{IsReading}
-use Rattle.cp_ends_verdict.specs.Spelling.{process_of}
-use Rattle.cp_ends_verdict.specs.declared.expectation.EndsExpectation.{EndsExpectation}
+use Rattle.cp_verdict.specs.endless.Plain as ends_plain
+use Rattle.cp_verdict.specs.endless.Reading.{IsReading}
+use Rattle.cp_verdict.specs.endless.Spelling.{process_of}
+use Rattle.cp_verdict.specs.declared.endless.expectation.EndsExpectation.{EndsExpectation}
 use Rattle.cp_show_mark.specs.Given.{MeansEnds, SpellsEnds, TellsEnds, TellsSpelled}
 use Rattle.cp_show_mark.proofs.Giving.{ends_meant}
 use Rattle.cp_show_mark.proofs.marks.mark_ends.Goals as goal

@@ -6,9 +6,9 @@ use Rattle.cp_at_once.proofs.search.SearchAtOnce.follow.Given as goal
 abbrev pub invariant-loop-made : goal.invariant-loop-made
 invariant-loop-made g l =
     record {
-      own : IsStateOf l.program l.state;
+      own : IsStateOf l.job.program.now l.state;
       quiet : output_of (machine_of l.state) ≡ [];
-      ahead : IsStateOf l.program l.self.ahead;
+      ahead : IsStateOf l.job.program.now l.self.ahead;
       numbers : length l.origin.numbers.items ≤ l.made + 1;
-      found : (states : List (Machine × List ℕ)) (word : List ℕ) (a : SlotArrival) → Holds l.program (slot_graph l.program l.limits.gates l.limits.steps) l.most l.initial.self.found states → IsWordOf states l.initial.origin word → ArrivesAt (slot_graph l.program l.limits.gates l.limits.steps) word a → goal_at l.initial.arrival (machine_of l.initial.state) ≡ a.goal → l.initial.self.told.values.items ≡ a.shown → Going l.program (slot_graph l.program l.limits.gates l.limits.steps) (HasLeg l.program l.limits.gates) l.most l.initial.self.found states l.self.found a (goal_at l.arrival (machine_of l.state)) l.self.told.values.items l.origin l.made;
+      found : (states : List (Machine × List ℕ)) (word : List ℕ) (a : SlotArrival) → Holds l.job.program.now (slot_graph l.job.program.now l.job.limits.gates l.job.limits.steps) l.job.most l.initial.self.found states → IsWordOf states l.initial.origin word → ArrivesAt (slot_graph l.job.program.now l.job.limits.gates l.job.limits.steps) word a → goal_at l.initial.arrival (machine_of l.initial.state) ≡ a.goal → l.initial.self.told.values.items ≡ a.shown → Going l.job.program.now (slot_graph l.job.program.now l.job.limits.gates l.job.limits.steps) (HasLeg l.job.program.now l.job.limits.gates) l.job.most l.initial.self.found states l.self.found a (goal_at l.arrival (machine_of l.state)) l.self.told.values.items l.origin l.made;
     }

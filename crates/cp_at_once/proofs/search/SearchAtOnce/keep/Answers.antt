@@ -5,49 +5,49 @@ use Rattle.cp_at_once.proofs.Keeping.{states_length}
 use Rattle.cp_at_once.proofs.search.SearchAtOnce.keep.Goals as goal
 
 pub returns-then-contains-clause-found : goal.returns-then-contains-clause-found
-returns-then-contains-clause-found c = λ g states word h is leads.
-    (let r = c.args.program.now in
+returns-then-contains-clause-found g c = λ g states word h is leads.
+    (let r = c.args.job.now.program.now in
     let m = machine_of c.args.state.now in
     let present : c.contains.result ≡ true = search in
-    known_again r g c.args.most c.args.self.now.found states m h (sym (c.contains.ensures r states m h.kept c.in_ok-take_from.ensures) ∙ present))
+    known_again r g c.args.job.now.most c.args.self.now.found states m h (sym (c.contains.ensures r states m h.kept c.in_ok-take_from.ensures) ∙ present))
 
-pub returns-then-len-most-clause-found : goal.returns-then-len-most-clause-found
-returns-then-len-most-clause-found c = λ g states word h is leads.
-    (let r = c.args.program.now in
+pub returns-then-len-job-clause-found : goal.returns-then-len-job-clause-found
+returns-then-len-job-clause-found g c = λ g states word h is leads.
+    (let r = c.args.job.now.program.now in
     let m = machine_of c.args.state.now in
     let absent : c.contains.result ≡ false = search in
     let same = states_length r c.args.self.now.found.kept.known.entries states h.kept in
-    let many : c.args.most ≤ length states = omega (arith, same) in
-    one_too_many r g c.args.most c.args.self.now.found states h m word leads (sym (c.contains.ensures r states m h.kept c.in_ok-take_from.ensures) ∙ absent) many)
+    let many : c.args.job.now.most ≤ length states = omega (arith, same) in
+    one_too_many r g c.args.job.now.most c.args.self.now.found states h m word leads (sym (c.contains.ensures r states m h.kept c.in_ok-take_from.ensures) ∙ absent) many)
 
 pub returns-clause-found : goal.returns-clause-found
-returns-clause-found c = λ g states word h is leads.
-    (let r = c.args.program.now in
+returns-clause-found g c = λ g states word h is leads.
+    (let r = c.args.job.now.program.now in
     let m = machine_of c.args.state.now in
     let key = c.in_ok-take_from.ensures in
     let absent : c.contains.result ≡ false = search in
     let new : has same_key states m ≡ false = sym (c.contains.ensures r states m h.kept key) ∙ absent in
     let same = states_length r c.args.self.now.found.kept.known.entries states h.kept in
-    let room : length states < c.args.most = omega (arith, same) in
-    one_more r g c.args.most c.args.self.now.found states h m word leads new (key_self m) room c.add.new.self (c.in_ok-add.ensures r states m word h.kept new (machine_own r c.args.state.now c.requires.own) c.requires.quiet key is))
+    let room : length states < c.args.job.now.most = omega (arith, same) in
+    one_more r g c.args.job.now.most c.args.self.now.found states h m word leads new (key_self m) room c.add.new.self (c.in_ok-add.ensures r states m word h.kept new (machine_own r c.args.state.now c.requires.own) c.requires.quiet key is))
 
 pub returns-in_err-take_from-clause-found : goal.returns-in_err-take_from-clause-found
-returns-in_err-take_from-clause-found c = none_well c.from_residual.result _ _ c.from_residual.ensures.1
+returns-in_err-take_from-clause-found g c = none_well c.from_residual.result _ _ c.from_residual.ensures.1
 
 pub returns-in_err-add-clause-found : goal.returns-in_err-add-clause-found
-returns-in_err-add-clause-found c = none_well c.from_residual-in_err-add.result _ _ c.from_residual-in_err-add.ensures.1
+returns-in_err-add-clause-found g c = none_well c.from_residual-in_err-add.result _ _ c.from_residual-in_err-add.ensures.1
 
 pub returns-in_err-take_from-clause-ahead : goal.returns-in_err-take_from-clause-ahead
-returns-in_err-take_from-clause-ahead c = refl
+returns-in_err-take_from-clause-ahead g c = refl
 
 pub returns-then-contains-clause-ahead : goal.returns-then-contains-clause-ahead
-returns-then-contains-clause-ahead c = refl
+returns-then-contains-clause-ahead g c = refl
 
-pub returns-then-len-most-clause-ahead : goal.returns-then-len-most-clause-ahead
-returns-then-len-most-clause-ahead c = refl
+pub returns-then-len-job-clause-ahead : goal.returns-then-len-job-clause-ahead
+returns-then-len-job-clause-ahead g c = refl
 
 pub returns-in_err-add-clause-ahead : goal.returns-in_err-add-clause-ahead
-returns-in_err-add-clause-ahead c = refl
+returns-in_err-add-clause-ahead g c = refl
 
 pub returns-clause-ahead : goal.returns-clause-ahead
-returns-clause-ahead c = refl
+returns-clause-ahead g c = refl

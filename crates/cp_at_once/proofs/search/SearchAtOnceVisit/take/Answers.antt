@@ -1,0 +1,41 @@
+use Rattle.cp_at_once.proofs.Words.{◌≡◌, ◌∙◌, ◌++◌, [], ap, machine_of, slot_graph, all_at, ok_to, HasLeg}
+use Rattle.cp_run.specs.Run.{those_below}
+use Rattle.cp_at_once.proofs.Choices.{choice_taken, stops_here, within_more}
+use Rattle.cp_at_once.proofs.search.SearchAtOnceVisit.take.Goals as goal
+
+pub choose-requires-clause-quiet : goal.choose-requires-clause-quiet
+choose-requires-clause-quiet g c =
+    let x = c.requires.within.1 in
+    all_at (λ y. y.0.output ≡ []) x.states c.args.at (machine_of c.args.state.now, x.word) x.holds.kept.quiet x.is
+
+pub returns-clause-within : goal.returns-clause-within
+returns-clause-within g c =
+    let job = c.args.job.now in
+    let r = job.program.now in
+    let gr = slot_graph r job.limits.gates job.limits.steps in
+    let Leg = HasLeg r job.limits.gates in
+    let f = c.args.self.now.found in
+    let h = c.follow.new.self.found in
+    let m = machine_of c.args.state.now in
+    let p = c.args.process in
+    let o = c.choice.result in
+    ok_to c.follow.result _ _ c.follow.ensures.found (λ is_room on room. (
+      c.follow.ensures.ahead,
+      within_more r gr Leg job.most f h c.args.at m (those_below p (gr.may m)) p c.requires.within.1 is_room room
+          (choice_taken r gr Leg job.most f h c.args.at m (those_below p (gr.may m)) p c.requires.within.1 c.requires.may o c.choice.ensures.state c.choice.ensures.numbers _ _ c.in_ok-arrival.ensures.goal (c.in_ok-arrival.ensures.shown ∙ ap (λ l. l ++ (gr.on m p).shown) c.clear.ensures.items) is_room on),
+    ))
+
+pub returns-clause-stops : goal.returns-clause-stops
+returns-clause-stops g c =
+    let job = c.args.job.now in
+    let r = job.program.now in
+    let gr = slot_graph r job.limits.gates job.limits.steps in
+    let Leg = HasLeg r job.limits.gates in
+    let f = c.args.self.now.found in
+    let h = c.follow.new.self.found in
+    let m = machine_of c.args.state.now in
+    let p = c.args.process in
+    let o = c.choice.result in
+    ok_to c.follow.result _ _ c.follow.ensures.found (λ is_room on full.
+    stops_here r gr Leg job.most f h c.args.at m (those_below p (gr.may m)) p c.requires.within.1 is_room full
+    (choice_taken r gr Leg job.most f h c.args.at m (those_below p (gr.may m)) p c.requires.within.1 c.requires.may o c.choice.ensures.state c.choice.ensures.numbers _ _ c.in_ok-arrival.ensures.goal (c.in_ok-arrival.ensures.shown ∙ ap (λ l. l ++ (gr.on m p).shown) c.clear.ensures.items) is_room on))

@@ -1,4 +1,0 @@
-pub mod Answered
-pub mod AtOnce
-pub mod OfTables
-pub mod Waits

@@ -1,8 +1,0 @@
-use Rattle.cp_laws.proofs.OfAny.{closed}
-use Rattle.cp_laws.proofs.laws.law_closed.Goals as goal
-
-pub returns-clause-machine : goal.returns-clause-machine
-returns-clause-machine c = λ sys. closed sys
-
-pub returns-clause-meaning : goal.returns-clause-meaning
-returns-clause-meaning c = λ sys. closed sys

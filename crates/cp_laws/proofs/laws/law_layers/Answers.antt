@@ -1,8 +1,0 @@
-use Rattle.cp_laws.proofs.OfAny.{layers}
-use Rattle.cp_laws.proofs.laws.law_layers.Goals as goal
-
-pub returns-clause-machine : goal.returns-clause-machine
-returns-clause-machine c = λ sys. layers sys
-
-pub returns-clause-meaning : goal.returns-clause-meaning
-returns-clause-meaning c = λ sys. layers sys

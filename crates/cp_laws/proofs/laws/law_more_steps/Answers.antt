@@ -1,8 +1,0 @@
-use Rattle.cp_laws.proofs.OfAny.{more_steps}
-use Rattle.cp_laws.proofs.laws.law_more_steps.Goals as goal
-
-pub returns-clause-machine : goal.returns-clause-machine
-returns-clause-machine c = λ sys. more_steps sys
-
-pub returns-clause-meaning : goal.returns-clause-meaning
-returns-clause-meaning c = λ sys. more_steps sys

@@ -1,0 +1,228 @@
+-- What is so of the slot machine is so of the program on its own names; and where no stretch is cut, nothing else is.
+use Rattle.std.proofs.Common.{◌≡◌, ◌⊎◌, inl, inr, ◌∙◌, ◌+◌, ◌<◌, ℕ, Bool, true, false, not, ◌&&◌, ◌||◌, List, [], ◌∷◌, map, refl, sym, ap, subst}
+use Rattle.cp_verdict.proofs.any_length.Vocabulary.{Tree, IsRead, plain, laid, Tables, IsAccepted, Machine, Shown, slots, Spellings, EndsSo, ShowsSo, End, Over, Alone}
+use Rattle.cp_verdict.proofs.any_length.Vocabulary.{Spins, IsKnown, end_pair, is_whole, EndPattern, EndsExpectation, Never, Sometimes, Only, KnownEnds}
+use Rattle.cp_meaning.specs.State.{Gates, State}
+use Rattle.cp_run.specs.declared.outcome.OutcomeKind.{OutcomeKind}
+use Rattle.cp_run.specs.declared.outcome.OutcomeKind.TheVariants.{Finished, AllWaiting, RunError, ChoiceLimit, StepLimit, OutputLimit}
+use Rattle.cp_run.specs.Run.{opened}
+use Rattle.cp_run.specs.System.{System}
+use Rattle.cp_refine.specs.Named.{gates_of}
+use Rattle.cp_refine.proofs.Meaning.{goes_in_step}
+use Rattle.cp_endless.specs.Meaning.{MeansTheSame}
+use Rattle.cp_endless.specs.Reachable.{EndsAfter, node_after}
+use Rattle.cp_endless.specs.Repeats.{CallsAt, EndsAtEachLimit}
+use Rattle.cp_endless.specs.Rounds.{SetsOut, chosen_spot, spot_after}
+use Rattle.cp_endless.specs.Silent.{in_call_on_names, in_call_on_slots, silent_named, silent_slots, waits_on_names, waits_on_slots, without_output}
+use Rattle.cp_endless.specs.Standstill.{MayStandStill}
+use Rattle.cp_endless.specs.WaitsForEver.{MayLinger, MayWaitForEver}
+use Rattle.cp_endless.proofs.names.Meant.{endless_meaning}
+use Rattle.cp_endless.proofs.steps.Repeating.{repeating}
+use Rattle.cp_ends.specs.ForEver.{IsAloneForEver, SpinsForEver}
+use Rattle.cp_ends.specs.Holds.{same_key}
+use Rattle.cp_ends.specs.Named.{EndsOnNames, ShowsOnNames, kind_of}
+use Rattle.cp_ends.proofs.named.EachLimit.{shows_early}
+use Rattle.cp_ends.proofs.named.ForEver.{alone_for_ever, spins_for_ever}
+use Rattle.cp_ends.proofs.named.ForEverOnNames.{alone_named, spins_named}
+use Rattle.cp_ends.proofs.named.Keys.{key_same, key_self}
+use Rattle.cp_ends.proofs.named.Kinds.{no_steps_more, so_over, over_kind, over_so}
+use Rattle.cp_ends.proofs.named.Later.{again_shown, again_ends}
+use Rattle.cp_ends.proofs.words.Edges.{last_same, not_empty, some_same, choosing_same}
+use Rattle.cp_verdict.specs.endless.Behaviour.{Finding, Ends, Shows, Waits, IsSo, on_slots, on_names}
+use Rattle.cp_verdict.specs.endless.Expectations.{is_cut, is_named, is_of, settles}
+use Rattle.cp_verdict.specs.declared.expectation.KindPattern.TheVariants as kinds
+use Rattle.cp_verdict.specs.declared.endless.expectation.EndPattern.TheVariants as pattern
+use Rattle.cp_verdict.specs.declared.endless.expectation.Topic.TheVariants as topic
+use Rattle.cp_verdict.proofs.any_length.Firsts.{false_true}
+use Rattle.cp_verdict.proofs.any_length.Judgements.{all_ends, no_cut, states_all}
+
+-- ---- a stretch does not call the kernel again and again, and from some step on never
+
+module _ {S : Type 0} (sys : System S) (steps : ℕ) (word : List ℕ) where
+  abbrev Same : S × ℕ → S × ℕ → Type 0
+  Same x y = x ≡ y
+
+  -- a stretch begins in one state, by one process
+  sets_out_once : (s t : S) (p q : ℕ) → SetsOut sys steps word s p → SetsOut sys steps word t q → Same (s, p) (t, q)
+  sets_out_once s t p q (inl x) (inl y) = some_same (s, p) (t, q) (sym x.1 ∙ y.1)
+  sets_out_once s t p q (inl x) (inr y) = absurd (not_empty y.0 y.1 (sym x.0 ∙ y.3))
+  sets_out_once s t p q (inr x) (inl y) = absurd (not_empty x.0 x.1 (sym y.0 ∙ x.3))
+  sets_out_once s t p q (inr x) (inr y) =
+      let ends = last_same x.0 y.0 x.1 y.1 (sym x.3 ∙ y.3) in
+      let state = choosing_same x.2 y.2 (sym x.4 ∙ ap (λ w. node_after sys steps (opened sys steps) w) ends.0 ∙ y.4) in
+      some_same (s, p) (t, q) (sym x.6 ∙ ap (λ u. chosen_spot sys u x.1) state ∙ ap (λ c. chosen_spot sys y.2 c) ends.1 ∙ y.6)
+
+  pub not_both : (q p : ℕ) → IsAloneForEver sys steps word q → SpinsForEver sys steps word p → ⊥
+  not_both q p (x, again) (y, none) =
+      let call = again steps in
+      let begin = sets_out_once x.begin y.begin x.first y.first x.sets_out y.sets_out in
+      let here = some_same (x.state call.0, x.mover call.0) (y.state call.0, y.mover call.0) (sym (x.goes call.0) ∙ ap (λ (z : S × ℕ). spot_after sys call.0 z.0 z.1) begin ∙ y.goes call.0) in
+      none call.0 call.1 (subst (λ (z : S × ℕ). CallsAt sys (record { state = z.0; mover = z.1 })) here call.2)
+
+-- ---- ends of one kind
+
+alone_same : (q r : ℕ) (p : EndPattern) → is_of p (Alone q) ≡ is_of p (Alone r)
+alone_same q r (pattern.Kind kind) = refl
+alone_same q r pattern.Alone = refl
+alone_same q r pattern.Spins = refl
+
+spins_same : (q r : ℕ) (p : EndPattern) → is_of p (Spins q) ≡ is_of p (Spins r)
+spins_same q r (pattern.Kind kind) = refl
+spins_same q r pattern.Alone = refl
+spins_same q r pattern.Spins = refl
+
+cut_of_none : (p : EndPattern) → is_of p (Over StepLimit) ≡ false
+cut_of_none (pattern.Kind kinds.Finished) = refl
+cut_of_none (pattern.Kind kinds.AllWaiting) = refl
+cut_of_none (pattern.Kind kinds.AnyError) = refl
+cut_of_none (pattern.Kind (kinds.Error name)) = refl
+cut_of_none pattern.Alone = refl
+cut_of_none pattern.Spins = refl
+
+named_same : (a b : End) → ((p : EndPattern) → is_of p a ≡ is_of p b) → (ps : List EndPattern) → is_named ps a ≡ is_named ps b
+named_same a b same [] = refl
+named_same a b same (p ∷ ps) = ap (λ x. x || is_named ps a) (same p) ∙ ap (λ x. is_of p b || x) (named_same a b same ps)
+
+cut_named : (ps : List EndPattern) → is_named ps (Over StepLimit) ≡ false
+cut_named [] = refl
+cut_named (p ∷ ps) = ap (λ x. x || is_named ps (Over StepLimit)) (cut_of_none p) ∙ cut_named ps
+
+-- the same expectations speak of two ends, and neither is a stretch that was cut
+record AreAlike (a b : End) : Type 0 where
+  named : (ps : List EndPattern) → is_named ps a ≡ is_named ps b
+  uncut : is_cut a ≡ false
+  uncut_too : is_cut b ≡ false
+
+-- what settles an expectation is no stretch that was cut
+pub settling_uncut : (names : Spellings) (e : EndsExpectation) (end : End) (word : List ℕ) → settles names e (Ends end word) ≡ true → is_cut end ≡ false
+settling_uncut names e (Over Finished) word h = refl
+settling_uncut names e (Over AllWaiting) word h = refl
+settling_uncut names e (Over (RunError name process line)) word h = refl
+settling_uncut names e (Over ChoiceLimit) word h = refl
+settling_uncut names e (Over OutputLimit) word h = refl
+settling_uncut names e (Alone q) word h = refl
+settling_uncut names e (Spins q) word h = refl
+settling_uncut names (Never (topic.Ends ps)) (Over StepLimit) word h = false_true (is_named ps.items (Over StepLimit)) (cut_named ps.items) h
+settling_uncut names (Never (topic.Waiting process)) (Over StepLimit) word h = absurd (cc)
+settling_uncut names (Never (topic.Shown text)) (Over StepLimit) word h = absurd (cc)
+settling_uncut names (Sometimes (topic.Ends ps)) (Over StepLimit) word h = false_true (is_named ps.items (Over StepLimit)) (cut_named ps.items) h
+settling_uncut names (Sometimes (topic.Waiting process)) (Over StepLimit) word h = absurd (cc)
+settling_uncut names (Sometimes (topic.Shown text)) (Over StepLimit) word h = absurd (cc)
+settling_uncut names (Only ps) (Over StepLimit) word h = other (is_named ps.items (Over StepLimit)) h
+  where
+    other : (b : Bool) → (not b && false) ≡ true → true ≡ false
+    other true h = absurd (cc)
+    other false h = absurd (cc)
+
+settling_alike : (names : Spellings) (e : EndsExpectation) (a b : End) (word : List ℕ) → AreAlike a b → settles names e (Ends a word) ≡ settles names e (Ends b word)
+settling_alike names (Never (topic.Ends ps)) a b word h = h.named ps.items
+settling_alike names (Never (topic.Waiting process)) a b word h = refl
+settling_alike names (Never (topic.Shown text)) a b word h = refl
+settling_alike names (Sometimes (topic.Ends ps)) a b word h = h.named ps.items
+settling_alike names (Sometimes (topic.Waiting process)) a b word h = refl
+settling_alike names (Sometimes (topic.Shown text)) a b word h = refl
+settling_alike names (Only ps) a b word h = ap (λ x. not x && not (is_cut a)) (h.named ps.items) ∙ ap (λ x. not (is_named ps.items b) && not x) (h.uncut ∙ sym h.uncut_too)
+
+pub limit_cut : (kind : OutcomeKind) → is_cut (Over kind) ≡ false → kind ≡ StepLimit → ⊥
+limit_cut StepLimit h e = absurd (cc)
+limit_cut Finished h e = absurd (cc)
+limit_cut AllWaiting h e = absurd (cc)
+limit_cut (RunError name process line) h e = absurd (cc)
+limit_cut ChoiceLimit h e = absurd (cc)
+limit_cut OutputLimit h e = absurd (cc)
+
+-- ---- from slots to names, and back
+
+module _ (t : Tree) (r : Tables) (g : Gates) (read : IsRead t.program) (ok : IsAccepted t) (same : plain r ≡ laid t) (steps : ℕ) where
+  abbrev a : System State
+  a = silent_named t g
+
+  abbrev b : System Machine
+  b = silent_slots r (gates_of g)
+
+  means : (limit : ℕ) → MeansTheSame t r g limit
+  means limit = endless_meaning t r g read ok same limit
+
+  each_limit : (word : List ℕ) → EndsAtEachLimit b steps word → EndsAtEachLimit a steps word
+  each_limit word h more = (means (more + steps)).ends.after_back word StepLimit (h more)
+
+  end_there : (end : End) (word : List ℕ) → EndsSo b steps end word → EndsOnNames t g steps end word
+  end_there (Over kind) word so = (means steps).ends.after_back word kind (so_over b steps (Over kind) word so)
+  end_there (Alone q) word so = (each_limit word ((repeating b).alone steps word q so), alone_named t r g read ok same steps word q (alone_for_ever b steps word q so))
+  end_there (Spins q) word so = (each_limit word ((repeating b).spins steps word q so), spins_named t r g read ok same steps word q (spins_for_ever b steps word q so))
+
+  shown_there : (v : Shown) (word : List ℕ) → ShowsSo (slots r (gates_of g)) without_output steps v word → ShowsOnNames t g steps v word
+  shown_there v word (inl x) = inl ((means steps).values.back word v x)
+  shown_there v word (inr x) =
+      inr (each_limit word (again_ends (slots r (gates_of g)) without_output steps word v x), (means (steps + steps)).values.back word v (again_shown (slots r (gates_of g)) without_output steps word v x))
+
+  count : a.processes ≡ b.processes
+  count = (goes_in_step t r g read ok same).processes
+
+  waits_there : (q : ℕ) → (on_slots r (gates_of g) steps).waits q → (on_names t g steps).waits q
+  waits_there q (less, how) = (subst (λ n. q < n) (sym count) less, by how)
+    where
+      by : MayWaitForEver b waits_on_slots q steps ⊎ (((word : List ℕ) × MayStandStill b waits_on_slots q steps word) ⊎ MayLinger b in_call_on_slots waits_on_slots q steps) →
+          MayWaitForEver a waits_on_names q steps ⊎ (((word : List ℕ) × MayStandStill a waits_on_names q steps word) ⊎ MayLinger a in_call_on_names waits_on_names q steps)
+      by (inl w) = inl ((means steps).waits.back q w)
+      by (inr (inl x)) = inr (inl (x.0, (means steps).waits.still_back x.0 q x.1))
+      by (inr (inr l)) = inr (inr ((means steps).lingers.back q l))
+
+  waits_back : (q : ℕ) → (on_names t g steps).waits q → (on_slots r (gates_of g) steps).waits q
+  waits_back q (less, how) = (subst (λ n. q < n) count less, by how)
+    where
+      by : MayWaitForEver a waits_on_names q steps ⊎ (((word : List ℕ) × MayStandStill a waits_on_names q steps word) ⊎ MayLinger a in_call_on_names waits_on_names q steps) →
+          MayWaitForEver b waits_on_slots q steps ⊎ (((word : List ℕ) × MayStandStill b waits_on_slots q steps word) ⊎ MayLinger b in_call_on_slots waits_on_slots q steps)
+      by (inl w) = inl ((means steps).waits.there q w)
+      by (inr (inl x)) = inr (inl (x.0, (means steps).waits.still_there x.0 q x.1))
+      by (inr (inr l)) = inr (inr ((means steps).lingers.there q l))
+
+  -- what is so on slots
+  pub there : (f : Finding) → IsSo (on_slots r (gates_of g) steps) f → IsSo (on_names t g steps) f
+  there (Ends end word) so = end_there end word so
+  there (Shows v word) so = shown_there v word so
+  there (Waits q) so = waits_there q so
+
+  module _ (most : ℕ) (k : KnownEnds) (h : IsKnown r (gates_of g) steps most k) (whole : is_whole k ≡ true) where
+    uncut : (word : List ℕ) → EndsSo b steps (Over StepLimit) word → ⊥
+    uncut word so = no_cut r (gates_of g) steps most k h whole word so
+
+    -- a word that ends at each limit does so since it goes on for ever
+    abbrev GoesOn : List ℕ → Type 0
+    GoesOn word = (end : End) × (kind_of end ≡ StepLimit) × EndsSo b steps end word
+
+    goes_on : (word : List ℕ) → EndsAtEachLimit a steps word → GoesOn word
+    goes_on word each = over_so (slots r (gates_of g)) without_output same_key steps key_same key_self word StepLimit
+        ((means steps).ends.after_there word StepLimit (subst (λ n. EndsAfter a n word StepLimit) (no_steps_more steps) (each 0)))
+
+    abbrev Alike : End → List ℕ → Type 0
+    Alike end word = (other : End) × EndsSo b steps other word × AreAlike end other
+
+    alone_back : (q : ℕ) (word : List ℕ) → IsAloneForEver a steps word q → GoesOn word → Alike (Alone q) word
+    alone_back q word alone (Over kind, e, so) = absurd (uncut word (subst (λ x. EndsSo b steps (Over x) word) e so))
+    alone_back q word alone (Alone p, e, so) = (Alone p, so, record { named = named_same (Alone q) (Alone p) (alone_same q p); uncut = refl; uncut_too = refl })
+    alone_back q word alone (Spins p, e, so) = absurd (not_both a steps word q p alone (spins_named t r g read ok same steps word p (spins_for_ever b steps word p so)))
+
+    spins_back : (q : ℕ) (word : List ℕ) → SpinsForEver a steps word q → GoesOn word → Alike (Spins q) word
+    spins_back q word spins (Over kind, e, so) = absurd (uncut word (subst (λ x. EndsSo b steps (Over x) word) e so))
+    spins_back q word spins (Spins p, e, so) = (Spins p, so, record { named = named_same (Spins q) (Spins p) (spins_same q p); uncut = refl; uncut_too = refl })
+    spins_back q word spins (Alone p, e, so) = absurd (not_both a steps word p q (alone_named t r g read ok same steps word p (alone_for_ever b steps word p so)) spins)
+
+    end_back : (end : End) (word : List ℕ) → is_cut end ≡ false → EndsOnNames t g steps end word → Alike end word
+    end_back (Over kind) word none so = (Over kind, over_kind b steps kind word (limit_cut kind none) ((means steps).ends.after_there word kind so), record { named = λ ps. refl; uncut = none; uncut_too = none })
+    end_back (Alone q) word none so = alone_back q word so.1 (goes_on word so.0)
+    end_back (Spins q) word none so = spins_back q word so.1 (goes_on word so.0)
+
+    shown_back : (v : Shown) (word : List ℕ) → ShowsOnNames t g steps v word → ShowsSo (slots r (gates_of g)) without_output steps v word
+    shown_back v word (inl x) = inl ((means steps).values.there word v x)
+    shown_back v word (inr x) =
+        shows_early (slots r (gates_of g)) without_output same_key steps key_same key_self h.states (map end_pair k.ends.items) (states_all r (gates_of g) steps most k h whole) (all_ends r (gates_of g) steps most k h whole)
+        (λ w c. uncut w ((all_ends r (gates_of g) steps most k h whole).first (Over StepLimit) w c).is) steps v word ((means (steps + steps)).values.there word v x.1)
+
+    -- what settles an expectation on names does so on slots
+    pub back : (names : Spellings) (e : EndsExpectation) (f : Finding) → IsSo (on_names t g steps) f → settles names e f ≡ true → (h : Finding) × IsSo (on_slots r (gates_of g) steps) h × (settles names e h ≡ true)
+    back names e (Ends end word) so is =
+        let x = end_back end word (settling_uncut names e end word is) so in
+        (Ends x.0 word, x.1, sym (settling_alike names e end x.0 word x.2) ∙ is)
+    back names e (Shows v word) so is = (Shows v word, shown_back v word so, is)
+    back names e (Waits q) so is = (Waits q, waits_back q so, is)

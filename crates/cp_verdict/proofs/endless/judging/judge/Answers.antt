@@ -1,0 +1,13 @@
+use Rattle.cp_verdict.proofs.any_length.Vocabulary.{◌∙◌, ap, asks_some, judgement_of}
+use Rattle.cp_verdict.proofs.any_length.Judgements.{judged}
+use Rattle.cp_verdict.proofs.endless.judging.judge.Goals as goal
+
+pub returns-clause-slots : goal.returns-clause-slots
+returns-clause-slots c = λ r gates steps most h. judged r gates steps most c.args.known.now h c.args.expectation.now c.judgement_from.result c.first_settling-found.result c.is_settled.result (c.first_settling-found.ensures r.names h.texts) c.is_settled.ensures c.judgement_from.ensures
+
+pub returns-clause-known : goal.returns-clause-known
+returns-clause-known c = λ names h. (
+  c.first_settling-found.result,
+  c.first_settling-found.ensures names h,
+  c.judgement_from.ensures ∙ ap (judgement_of (asks_some c.args.expectation.now) c.first_settling-found.result) c.is_settled.ensures,
+)

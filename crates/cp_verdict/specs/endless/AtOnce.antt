@@ -1,0 +1,89 @@
+-- What a search that makes kernel calls at once lets one know, and the marks by it.
+use Rattle.std.specs.Prelude.{◌≡◌, ◌⊎◌, ◌&&◌, ◌||◌, ℕ, List, Bool, true, not, map, nat_lt, All, length}
+use Rattle.std.specs.List.{list_any}
+use Rattle.cp_tree.specs.Syntax.{Tree}
+use Rattle.cp_slots.specs.Tables.{Tables}
+use Rattle.cp_machine.specs.declared.gates.Gates.{Gates}
+use Rattle.cp_machine.specs.declared.gates.Gates.TheVariants.{First}
+use Rattle.cp_machine.specs.declared.shown.Shown.{Shown}
+use Rattle.cp_meaning.specs.State.{first_gates}
+use Rattle.cp_refine.specs.Named.{named}
+use Rattle.cp_run.specs.Slots.{slots}
+use Rattle.cp_endless.specs.Reachable.{EndsAfter}
+use Rattle.cp_endless.specs.Shown.{ShowsAfter}
+use Rattle.cp_endless.specs.Silent.{in_call_on_names, named_without_output, silent_slots, waits_on_names, without_output}
+use Rattle.cp_ends.specs.Answer.{ends_tests}
+use Rattle.cp_ends.specs.Ends.{EndsSo, ShowsSo}
+use Rattle.cp_ends.specs.Whole.{OfItsPrograms}
+use Rattle.cp_ends.specs.declared.end.End.{End}
+use Rattle.cp_ends.specs.declared.end.End.TheVariants.{Over, Alone, Spins}
+use Rattle.cp_ends.specs.declared.found.TheConstants.{MOST_VALUES}
+use Rattle.cp_at_once_laws.specs.OnSlots.{LeavesNone}
+use Rattle.cp_at_once_laws.specs.Quiet.{names}
+use Rattle.cp_at_once_laws.specs.Whole.{IsAloneBy, SpinsBy}
+use Rattle.cp_verdict.specs.endless.Behaviour.{Behaviour, MayWait}
+use Rattle.cp_verdict.specs.endless.Judged.{IsJudgedBy}
+use Rattle.cp_verdict.specs.endless.Knowledge.{HasTexts, end_pair, is_whole, value_pair}
+use Rattle.cp_verdict.specs.endless.Marked.{AreJudged, IsMarkOf, IsMeantMark, IsTrueMark, ask_waits, is_any, mark_of}
+use Rattle.cp_verdict.specs.declared.endless.expectation.EndsExpectation.{EndsExpectation}
+use Rattle.cp_verdict.specs.declared.endless.known.KnownEnds.{KnownEnds}
+use Rattle.cp_verdict.specs.declared.endless.verdict.EndsMark.{EndsMark}
+use Rattle.cp_verdict.specs.declared.endless.verdict.EndsMark.TheVariants.{TooMany}
+use Rattle.cp_verdict.specs.declared.endless.verdict.EndsVerdict.{EndsVerdict}
+
+-- ---- what schedules of any length do on the program's own names, whatever the limit of steps
+
+-- with some limit of steps the word ends so; of a stretch that goes on for ever it is asked who makes each step from some one on
+abbrev pub EndsAtSomeLimit : Tree → End → List ℕ → Type 0
+EndsAtSomeLimit t (Over kind) word = (limit : ℕ) × EndsAfter (names t) limit word kind
+EndsAtSomeLimit t (Alone q) word = (limit : ℕ) × IsAloneBy (names t) limit word q
+EndsAtSomeLimit t (Spins q) word = (limit : ℕ) × SpinsBy (names t) limit word q
+
+abbrev pub at_any_limit : Tree → Behaviour
+at_any_limit t =
+    record {
+      ends = EndsAtSomeLimit t;
+      shows = λ v word. ((limit : ℕ) × ShowsAfter (named t first_gates) named_without_output limit word v);
+      waits = λ q. ((limit : ℕ) × MayWait (names t) in_call_on_names waits_on_names limit q);
+    }
+
+-- ---- what is known
+
+-- the end is known
+abbrev pub knows_end : KnownEnds → End → Bool
+knows_end k end = list_any (λ e. ends_tests.end e.end end) k.ends.items
+
+-- the value is known, or there are more than are told
+abbrev pub knows_value : KnownEnds → Shown → Bool
+knows_value k v = list_any (λ x. ends_tests.value x.value v) k.values.items || nat_lt MOST_VALUES (length k.values.items)
+
+-- Each end and each value is so by its word; and where all is gone through and no stretch was cut, no other is possible with any limit of steps.
+pub record IsKnownAtOnce (r : Tables) (steps : ℕ) (k : KnownEnds) : Type 0 where
+  pub ends : All (λ x. EndsSo (silent_slots r First) steps x.0 x.1) (map end_pair k.ends.items)
+  pub values : All (λ x. ShowsSo (slots r First) without_output steps x.0 x.1) (map value_pair k.values.items)
+  pub texts : HasTexts r.names k.values.items
+  pub all : is_whole k ≡ true → OfItsPrograms r (λ t. LeavesNone t (λ kind. knows_end k (Over kind) ≡ true) (λ q. knows_end k (Alone q) ≡ true) (λ q. knows_end k (Spins q) ≡ true) (λ v. knows_value k v ≡ true))
+
+-- ---- marks
+
+-- who waits can't be asked then, nor who else may go into a monitor
+abbrev pub can_be_at_once : Gates → List EndsExpectation → Bool
+can_be_at_once gates es = not (is_any gates) && not (ask_waits es)
+
+-- The mark is that of a verdict by what is known, and it is true of the program's own names, whatever the limit of steps.
+pub record IsMarkAtOnce (r : Tables) (steps : ℕ) (es : List EndsExpectation) (m : EndsMark) : Type 0 where
+  pub known : KnownEnds
+  pub is_known : IsKnownAtOnce r steps known
+  pub verdict : EndsVerdict
+  pub is : m ≡ mark_of verdict known.looked
+  pub judged : AreJudged (IsJudgedBy r.names known) es verdict
+  pub meaning : OfItsPrograms r (λ t. IsTrueMark r.names (at_any_limit t) es m)
+
+-- the mark stands, or there are too many states and kernel calls at once settle more
+abbrev pub IsAgain : Tables → Gates → ℕ → List EndsExpectation → (before after : EndsMark) → Type 0
+IsAgain r gates steps es before after = (after ≡ before) ⊎ ((gates ≡ First) × IsMarkAtOnce r steps es after)
+
+-- It is the mark by all states; or there are too many of them, and it is the mark by kernel calls at once.
+abbrev pub IsMarkInTurn : Tables → Gates → (steps most : ℕ) → List EndsExpectation → EndsMark → Type 0
+IsMarkInTurn r gates steps most es m =
+    (IsMarkOf r gates steps most es m × IsMeantMark r gates steps es m) ⊎ (IsMarkOf r gates steps most es TooMany × (gates ≡ First) × IsMarkAtOnce r steps es m)

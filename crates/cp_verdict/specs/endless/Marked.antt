@@ -1,0 +1,105 @@
+-- What is known of some expectations together.
+use Rattle.std.specs.Prelude.{◌≡◌, ◌⊎◌, ◌&&◌, ℕ, List, Bool, true, false, not, Option, None, Some, Contains}
+use Rattle.std.specs.List.{list_any}
+use Rattle.std.specs.Borrow.{Bor}
+use Rattle.cp_slots.specs.Tables.{Tables}
+use Rattle.cp_machine.specs.declared.gates.Gates.{Gates}
+use Rattle.cp_machine.specs.declared.gates.Gates.TheVariants.{First, Any}
+use Rattle.cp_refine.specs.Named.{named_gates}
+use Rattle.cp_walk.specs.Text.{Spellings}
+use Rattle.cp_ends.specs.Whole.{OfItsPrograms}
+use Rattle.cp_verdict.specs.endless.Behaviour.{Behaviour, on_slots, on_names}
+use Rattle.cp_verdict.specs.endless.Expectations.{IsTrue}
+use Rattle.cp_verdict.specs.endless.Judged.{IsJudged}
+use Rattle.cp_verdict.specs.endless.Knowledge.{IsKnown}
+use Rattle.cp_verdict.specs.declared.endless.expectation.Topic.{Topic}
+use Rattle.cp_verdict.specs.declared.endless.expectation.Topic.TheVariants as topic
+use Rattle.cp_verdict.specs.declared.endless.expectation.EndsExpectation.{EndsExpectation}
+use Rattle.cp_verdict.specs.declared.endless.expectation.EndsExpectation.TheVariants.{Never, Sometimes, Only}
+use Rattle.cp_verdict.specs.declared.endless.judging.EndsJudgement.{EndsJudgement}
+use Rattle.cp_verdict.specs.declared.endless.judging.EndsJudgement.TheVariants as judgement
+use Rattle.cp_verdict.specs.declared.endless.known.KnownEnds.{KnownEnds}
+use Rattle.cp_verdict.specs.declared.endless.known.Witness.{Witness}
+use Rattle.cp_verdict.specs.declared.endless.verdict.EndsMark.{EndsMark}
+use Rattle.cp_verdict.specs.declared.endless.verdict.EndsMark.TheVariants as mark
+use Rattle.cp_verdict.specs.declared.endless.verdict.EndsVerdict.{EndsVerdict}
+use Rattle.cp_verdict.specs.declared.endless.verdict.EndsVerdict.TheVariants as verdict
+
+-- it is judged to fail: with a schedule against it, or none where it asks for one and there is none
+abbrev pub IsJudgedToFail : (EndsExpectation → EndsJudgement → Type 0) → EndsExpectation → Option Witness → Type 0
+IsJudgedToFail J e (Some w) = J e (judgement.Against w)
+IsJudgedToFail J e None = J e judgement.Missing
+
+-- The verdict is by judgements: each holds; or this one fails; or none fails, and this one is open.
+abbrev pub AreJudged : (EndsExpectation → EndsJudgement → Type 0) → List EndsExpectation → EndsVerdict → Type 0
+AreJudged J es verdict.Holds = (e : EndsExpectation) → Contains es e → J e judgement.Holds
+AreJudged J es (verdict.Fails e against) = Contains es e.now × IsJudgedToFail J e.now against
+AreJudged J es (verdict.Open e) = ((x : EndsExpectation) → Contains es x → J x judgement.Holds ⊎ J x judgement.Open) × (Contains es e.now × J e.now judgement.Open)
+
+-- by judgements of what a program does
+abbrev pub IsMarked : Spellings → Behaviour → KnownEnds → List EndsExpectation → EndsVerdict → Type 0
+IsMarked names b k es v = AreJudged (IsJudged names b k) es v
+
+-- the verdict on some expectations and one more
+abbrev pub joined : EndsVerdict → Bor EndsExpectation → EndsJudgement → EndsVerdict
+joined (verdict.Fails f against) e j = verdict.Fails f against
+joined verdict.Holds e judgement.Holds = verdict.Holds
+joined verdict.Holds e (judgement.Against w) = verdict.Fails e (Some w)
+joined verdict.Holds e judgement.Missing = verdict.Fails e None
+joined verdict.Holds e judgement.Open = verdict.Open e
+joined (verdict.Open f) e judgement.Holds = verdict.Open f
+joined (verdict.Open f) e (judgement.Against w) = verdict.Fails e (Some w)
+joined (verdict.Open f) e judgement.Missing = verdict.Fails e None
+joined (verdict.Open f) e judgement.Open = verdict.Open f
+
+-- ---- who asks who waits
+
+abbrev pub is_of_waiting : Topic → Bool
+is_of_waiting (topic.Waiting process) = true
+is_of_waiting t = false
+
+abbrev pub asks_waits : EndsExpectation → Bool
+asks_waits (Never t) = is_of_waiting t
+asks_waits (Sometimes t) = is_of_waiting t
+asks_waits (Only ps) = false
+
+abbrev pub ask_waits : List EndsExpectation → Bool
+ask_waits es = list_any asks_waits es
+
+-- anybody in line may go into a monitor that becomes free
+abbrev pub is_any : Gates → Bool
+is_any First = false
+is_any Any = true
+
+-- who waits can't be asked then
+abbrev pub can_be_asked : Gates → List EndsExpectation → Bool
+can_be_asked gates es = not (ask_waits es && is_any gates)
+
+-- ---- marks
+
+abbrev pub open_mark : Option ℕ → EndsMark
+open_mark None = mark.Open
+open_mark (Some d) = mark.TooMany
+
+abbrev pub mark_of : EndsVerdict → Option ℕ → EndsMark
+mark_of verdict.Holds looked = mark.Holds
+mark_of (verdict.Fails e against) looked = mark.Fails
+mark_of (verdict.Open e) looked = open_mark looked
+
+-- The mark is that of a verdict by what is known, which is all that words of any length lead to, or all that words of so many numbers do.
+pub record IsMarkOf (r : Tables) (gates : Gates) (steps most : ℕ) (es : List EndsExpectation) (m : EndsMark) : Type 0 where
+  pub known : KnownEnds
+  pub is_known : IsKnown r gates steps most known
+  pub verdict : EndsVerdict
+  pub is : m ≡ mark_of verdict known.looked
+  pub marked : IsMarked r.names (on_slots r gates steps) known es verdict
+
+-- each holds, or one does not
+abbrev pub IsTrueMark : Spellings → Behaviour → List EndsExpectation → EndsMark → Type 0
+IsTrueMark names b es mark.Holds = (e : EndsExpectation) → Contains es e → IsTrue names b e
+IsTrueMark names b es mark.Fails = (e : EndsExpectation) × Contains es e × (IsTrue names b e → ⊥)
+IsTrueMark names b es m = Unit {0}
+
+-- of whatever program was read, is accepted, and has these tables: it is true of its meaning
+abbrev pub IsMeantMark : Tables → Gates → ℕ → List EndsExpectation → EndsMark → Type 0
+IsMeantMark r gates steps es m = OfItsPrograms r (λ t. IsTrueMark r.names (on_names t (named_gates gates) steps) es m)

@@ -1,0 +1,105 @@
+//! Whether all of some expectations hold of schedules of any length, by a search that makes kernel calls at once.
+
+ghost use Rattle.std.specs.Prelude.{◌≡◌, ◌≤◌, ◌⊎◌, IfOk, false, true};
+ghost use Rattle.cp_verdict.specs.endless.AtOnce as spec;
+ghost use Rattle.cp_verdict.specs.endless.Marked.{can_be_asked};
+ghost use Rattle.cp_verdict.specs.declared.endless.verdict.EndsMark.TheVariants.{Misread};
+
+use crate::endless::expectation::EndsExpectation;
+use crate::endless::knowing_at_once::knowledge_at_once;
+use crate::endless::marking::{MarkSubject, ask_waits, is_any, mark_list, tell};
+use crate::endless::saying::MarkedEnds;
+use crate::endless::verdict::{EndsMark, verdict_on};
+use cp_at_once::search_at_once_with;
+use cp_machine::Gates;
+use cp_progress::ObserveProgress;
+use std::alloc::{AllocError, Global};
+
+/// What all schedules of any length say of some expectations; where there are too many states, what kernel calls at once say, if these may be made and there are
+/// not too many states then as well. An observer is told how far the searches have come.
+pub fn mark_in_turn<O: ObserveProgress>(
+    alloc: Global,
+    subject: MarkSubject<'_>,
+    list: &[EndsExpectation],
+    observer: &mut O,
+) -> Result<MarkedEnds, AllocError>
+    ensures mark { 1 ≤ subject.entry.most → can_be_asked subject.entry.limits.gates list.now ≡ true → IfOk result (λ m. spec.IsMarkInTurn subject.entry.program.now subject.entry.limits.gates subject.entry.limits.steps subject.entry.most list.now m.mark) }
+    ensures refused { can_be_asked subject.entry.limits.gates list.now ≡ false → IfOk result (λ m. m.mark ≡ Misread) }
+{
+    let marked = mark_list(alloc, subject, list, observer)?;
+    match marked.mark {
+        EndsMark::TooMany => mark_again(alloc, subject, list, marked, observer),
+        _ => Ok(marked),
+    }
+}
+
+// The same, where there are too many states.
+fn mark_again<O: ObserveProgress>(
+    alloc: Global,
+    subject: MarkSubject<'_>,
+    list: &[EndsExpectation],
+    marked: MarkedEnds,
+    observer: &mut O,
+) -> Result<MarkedEnds, AllocError>
+    ensures { IfOk result (λ m. spec.IsAgain subject.entry.program.now subject.entry.limits.gates subject.entry.limits.steps list.now marked.mark m.mark) }
+{
+    if can_be_at_once(subject.limits.gates, list) {
+        let again = mark_at_once(alloc, subject, list, observer)?;
+        tell_again(alloc, subject, marked, again)
+    } else {
+        Ok(marked)
+    }
+}
+
+// The mark that kernel calls at once give, if there are not too many states then as well.
+fn tell_again(
+    alloc: Global,
+    subject: MarkSubject<'_>,
+    marked: MarkedEnds,
+    again: MarkedEnds,
+) -> Result<MarkedEnds, AllocError>
+    ensures { IfOk result (λ m. (m.mark ≡ marked.mark) ⊎ (m.mark ≡ again.mark)) }
+{
+    match again.mark {
+        EndsMark::TooMany => marked.with_line("so there are with kernel calls at once\n"),
+        _ => {
+            let most = subject.most;
+            let line = format!(in alloc;
+                "too many states: there may be {most}, so kernel calls were made at once\n"
+            )?;
+            again.with_line(line.as_str())
+        }
+    }
+}
+
+// Whether kernel calls at once can settle it: not who waits, and not where anybody in line may go into a monitor.
+fn can_be_at_once(gates: Gates, list: &[EndsExpectation]) -> bool
+    ensures { result ≡ spec.can_be_at_once gates list.now }
+{
+    !is_any(gates) && !ask_waits(list)
+}
+
+/// What schedules of any length say of some expectations, where kernel calls are made at once. An observer is told how far the search has come.
+pub fn mark_at_once<O: ObserveProgress>(
+    alloc: Global,
+    subject: MarkSubject<'_>,
+    list: &[EndsExpectation],
+    observer: &mut O,
+) -> Result<MarkedEnds, AllocError>
+    ensures mark { spec.can_be_at_once subject.entry.limits.gates list.now ≡ true → IfOk result (λ m. spec.IsMarkAtOnce subject.entry.program.now subject.entry.limits.steps list.now m.mark) }
+    ensures refused { spec.can_be_at_once subject.entry.limits.gates list.now ≡ false → IfOk result (λ m. m.mark ≡ Misread) }
+{
+    if !can_be_at_once(subject.limits.gates, list) {
+        return MarkedEnds::misread(alloc, "waiting can't be asked with --at-once\n");
+    }
+    let MarkSubject {
+        program,
+        limits,
+        most,
+        ..
+    } = subject;
+    let found = search_at_once_with(alloc, program, limits, most, observer)?;
+    let known = knowledge_at_once(alloc, program, &found)?;
+    let verdict = verdict_on(&known, list);
+    tell(alloc, subject, &known, list, verdict, true)
+}

@@ -1,0 +1,150 @@
+//! Whether all of some expectations hold of schedules of any length.
+
+ghost use Rattle.std.specs.Prelude.{◌≡◌, ◌≤◌, ◌<◌, ◌^◌, ℕ, IfOk, false, true};
+ghost use Rattle.cp_ends.specs.Holds.{HasFindings};
+ghost use Rattle.cp_ends.specs.Whole.{IsAnswer};
+ghost use Rattle.cp_verdict.specs.endless.Knowledge.{IsKnown, KnowsWaits};
+ghost use Rattle.cp_verdict.specs.endless.Marked as spec;
+ghost use Rattle.cp_verdict.specs.declared.endless.verdict.EndsMark.TheVariants.{Misread};
+
+use crate::endless::expectation::{EndsExpectation, Topic};
+use crate::endless::knowing::knowledge_of;
+use crate::endless::known::KnownEnds;
+use crate::endless::saying::{MarkedEnds, note_on, open_words, sayings_of};
+use crate::endless::verdict::{EndsVerdict, mark_of, verdict_on};
+use cp_ends::{Found, search_ends_with};
+use cp_legend::Legend;
+use cp_machine::Gates;
+use cp_progress::ObserveProgress;
+use cp_run::Limits;
+use cp_slots::Resolved;
+use cp_waits::{Waiting, Waits, find_waits_with};
+use std::alloc::{AllocError, Global};
+
+/// The program that is marked, and how many states there may be.
+#[derive(Clone, Copy)]
+pub struct MarkSubject<'a> {
+    pub program: &'a Resolved,
+    pub legend: &'a Legend,
+    pub limits: Limits,
+    pub most: u32,
+}
+
+/// What all schedules of any length say of some expectations. An observer is told how far the searches have come.
+pub fn mark_list<O: ObserveProgress>(
+    alloc: Global,
+    subject: MarkSubject<'_>,
+    list: &[EndsExpectation],
+    observer: &mut O,
+) -> Result<MarkedEnds, AllocError>
+    ensures mark { 1 ≤ subject.entry.most → spec.can_be_asked subject.entry.limits.gates list.now ≡ true → IfOk result (λ m. spec.IsMarkOf subject.entry.program.now subject.entry.limits.gates subject.entry.limits.steps subject.entry.most list.now m.mark) }
+    ensures refused { spec.can_be_asked subject.entry.limits.gates list.now ≡ false → IfOk result (λ m. m.mark ≡ Misread) }
+    ensures meaning { 1 ≤ subject.entry.most → spec.can_be_asked subject.entry.limits.gates list.now ≡ true → IfOk result (λ m. spec.IsMeantMark subject.entry.program.now subject.entry.limits.gates subject.entry.limits.steps list.now m.mark) }
+{
+    let asks = ask_waits(list);
+    if asks && is_any(subject.limits.gates) {
+        return MarkedEnds::misread(alloc, "waiting can't be asked with --gates any\n");
+    }
+    let known = knowledge(alloc, subject, asks, observer)?;
+    let verdict = verdict_on(&known, list);
+    tell(alloc, subject, &known, list, verdict, false)
+}
+
+/// Whether anybody in line may go into a monitor that becomes free.
+pub fn is_any(gates: Gates) -> bool
+    ensures { result ≡ spec.is_any gates }
+{
+    matches!(gates, Gates::Any)
+}
+
+fn is_of_waiting(topic: &Topic) -> bool
+    ensures { result ≡ spec.is_of_waiting topic.now }
+{
+    matches!(topic, Topic::Waiting(_))
+}
+
+fn asks_waits(expectation: &EndsExpectation) -> bool
+    ensures { result ≡ spec.asks_waits expectation.now }
+{
+    match expectation {
+        EndsExpectation::Never(topic) => is_of_waiting(topic),
+        EndsExpectation::Sometimes(topic) => is_of_waiting(topic),
+        EndsExpectation::Only(_) => false,
+    }
+}
+
+/// Whether one of some expectations asks who waits.
+pub fn ask_waits(list: &[EndsExpectation]) -> bool
+    ensures { result ≡ spec.ask_waits list.now }
+{
+    list.iter().any(asks_waits)
+}
+
+// What is known of the schedules of a program, and of who may wait for ever where that is asked.
+fn knowledge<O: ObserveProgress>(
+    alloc: Global,
+    subject: MarkSubject<'_>,
+    asks: bool,
+    observer: &mut O,
+) -> Result<KnownEnds, AllocError>
+    ensures { 1 ≤ subject.entry.most → IfOk result (λ k. IsKnown subject.entry.program.now subject.entry.limits.gates subject.entry.limits.steps subject.entry.most k) }
+{
+    let MarkSubject {
+        program,
+        limits,
+        most,
+        ..
+    } = subject;
+    let found = search_ends_with(alloc, program, limits, most, observer)?;
+    let waits = waits_of(alloc, program, limits, &found, asks, observer)?;
+    knowledge_of(alloc, program, &found, waits)
+}
+
+// Who may wait for ever, where that is asked, all states are found, and it is settled.
+fn waits_of<O: ObserveProgress>(
+    alloc: Global,
+    program: &Resolved,
+    limits: Limits,
+    found: &Found,
+    asks: bool,
+    observer: &mut O,
+) -> Result<Option<Vec<Waiting>>, AllocError>
+    requires kept { HasFindings program.now found.now }
+    ensures { IfOk result (λ waits. (most : ℕ) → most < 2 ^ 32 → IsAnswer program.now limits.gates limits.steps most found.now → KnowsWaits program.now limits.gates limits.steps waits) }
+{
+    if !asks || found.stopped.is_some() {
+        return Ok(None);
+    }
+    match find_waits_with(alloc, program, limits, found, observer)? {
+        Waits::Known(list) => Ok(Some(list)),
+        Waits::NotSettled(_) => Ok(None),
+    }
+}
+
+/// The mark of a verdict, and what is said with it, where kernel calls were made at once or not.
+pub fn tell(
+    alloc: Global,
+    subject: MarkSubject<'_>,
+    known: &KnownEnds,
+    list: &[EndsExpectation],
+    verdict: EndsVerdict<'_>,
+    at_once: bool,
+) -> Result<MarkedEnds, AllocError>
+    ensures { IfOk result (λ m. m.mark ≡ spec.mark_of verdict.entry known.now.looked) }
+{
+    let mark = mark_of(verdict, known);
+    let note = note_on(alloc, subject.most, known, mark, at_once)?;
+    let before = if at_once {
+        "a schedule against it: "
+    } else {
+        "first against it: "
+    };
+    let open = open_words(alloc, known, at_once)?;
+    let each = sayings_of(alloc, subject.legend, known, list, before, open.as_str())?;
+    Ok(MarkedEnds {
+        mark,
+        note,
+        each,
+        last: String::new(alloc),
+    })
+}
