@@ -27,7 +27,17 @@ def open_browser():
     return SmallBrowser(node) if (node := shutil.which("node")) else None
 
 
-class SmallBrowser:
+class Reader:
+    """What is read off a page by what its script can ask."""
+
+    def text(self, selector):
+        return self.do(f"(document.querySelector({json.dumps(selector)}) || {{ textContent: '' }}).textContent")
+
+    def word(self):
+        return self.do("document.getElementById('word').value")
+
+
+class SmallBrowser(Reader):
     """A page in node: as much of a document as its script uses. Nothing is laid out."""
 
     has_layout = False
@@ -67,18 +77,12 @@ class SmallBrowser:
     def print(self):
         self.ask("print")
 
-    def text(self, selector):
-        return self.do(f"(document.querySelector({json.dumps(selector)}) || {{ textContent: '' }}).textContent")
-
-    def word(self):
-        return self.do("document.getElementById('word').value")
-
     def close(self):
         self.process.stdin.close()
         self.process.wait(20)
 
 
-class Browser:
+class Browser(Reader):
     """One page at a time, with what went wrong in it and what it asked for."""
 
     has_layout = True
@@ -178,12 +182,6 @@ class Browser:
 
     def print(self):
         self.do("dispatchEvent(new Event('beforeprint'))")
-
-    def text(self, selector):
-        return self.do(f"(document.querySelector({json.dumps(selector)}) || {{ textContent: '' }}).textContent")
-
-    def word(self):
-        return self.do("document.getElementById('word').value")
 
     def look(self, width, height, scheme):
         self.call("Emulation.setDeviceMetricsOverride", width=width, height=height, deviceScaleFactor=1, mobile=False)
