@@ -335,7 +335,7 @@ def check_class_of_many(room):
         verdicts = [it.replace("-", " ") for it in wanted.split()]
         want(file.name, row[:5], [str(file), *verdicts, str(verdicts.count("holds"))])
     page = run("./class", *around, "--html", "--pages", room / "pages", "-e", "never run-error", files[8])[1]
-    numbers = re.findall(r'font-size="10\.5" fill="#66727f" text-anchor="end">(\d*)</text>', page)
+    numbers = re.findall(r'font-size="10\.5" fill="#4f5a65" text-anchor="end">(\d*)</text>', page)
     want("lines beside the rows", sorted(set(numbers) - {""}, key=int), ["5", "6", "7", "13"])
     want_in("the line of a row", page, "p, line 7: continues b.receiver")
     want_in("the line of a row below", page, f"p, line 3 of {bottom}: enters b.put(1)")

@@ -6,7 +6,7 @@ import time
 from pathlib import Path
 
 # Where a picture has the number of a line of the source: beside a row, and in the words of its title.
-BESIDE = re.compile(r'(?<=font-size="10\.5" fill="#66727f" text-anchor="end">)(\d+)(?=</text>)')
+BESIDE = re.compile(r'(?<=font-size="10\.5" fill="#4f5a65" text-anchor="end">)(\d+)(?=</text>)')
 TITLE = re.compile(r"((?:<title>|; )\d+ \S+), line (\d+)(?=: )")
 LINE = re.compile(r"\bline (\d+)\b")
 

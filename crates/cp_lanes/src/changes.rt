@@ -8,6 +8,9 @@ use cp_story::{Change, StoryEvent};
 use std::alloc::AllocError;
 use std::mem;
 
+/// The width of the sign in a monitor's colour before such a line, with the space after it.
+pub const SWATCH: f64 = 11.0;
+
 /// A line of what changed in a monitor.
 #[derive(Drop)]
 pub struct ChangeLine {

@@ -1,7 +1,8 @@
 //! Lanes: lives, stays, waits and holds.
 
+use crate::key::draw_hopeless;
 use crate::labels::{Face, PictureLabel, points, put_routine};
-use crate::palette::{RED, hue_of};
+use crate::palette::{INK, RED, hue_of};
 use crate::pictures::{Layout, Scene};
 use crate::plan::Plan;
 use crate::spans::{Hold, Life, Pause, Stay};
@@ -73,7 +74,7 @@ fn draw_stay(svg: &mut Svg, scene: Scene<'_>, plan: &Plan, stay: &Stay) {
         radius: 7.0,
         stroke: hue.strong,
         stroke_width: 1.5,
-        ..Block::plain(left, stay.top, width, stay.bottom - stay.top, hue.soft)
+        ..Block::plain(left, stay.top, width, stay.bottom - stay.top, hue.stay)
     });
     svg.close();
 }
@@ -86,7 +87,7 @@ fn call_words(scene: Scene<'_>, stay: &Stay) -> Result<String, AllocError> {
 
 fn draw_pause(svg: &mut Svg, scene: Scene<'_>, plan: &Plan, pause: &Pause, is_stuck: bool) {
     let hue = hue_of(pause.monitor);
-    let is_red = pause.lasts && is_stuck;
+    let is_hopeless = pause.lasts && is_stuck;
     svg.begin_title();
     write_process(svg, scene, pause.process);
     svg.raw(if pause.at_gate {
@@ -95,16 +96,22 @@ fn draw_pause(svg: &mut Svg, scene: Scene<'_>, plan: &Plan, pause: &Pause, is_st
         " waits in a queue of "
     });
     svg.escape(scene.legend.monitor_name(pause.monitor));
+    if is_hopeless {
+        svg.raw(", and nobody is left who could end it");
+    }
     svg.end_title();
     let left = plan.dot(pause.process) - 9.0;
     let height = (pause.bottom - pause.top).max(6.0);
     let fill = if pause.at_gate { hue.gate } else { hue.queue };
     svg.block(Block {
         radius: 5.0,
-        stroke: if is_red { RED } else { hue.strong },
-        stroke_width: if is_red { 2.0 } else { 1.2 },
+        stroke: if is_hopeless { RED } else { hue.strong },
+        stroke_width: if is_hopeless { 2.0 } else { 1.2 },
         ..Block::plain(left, pause.top, 18.0, height, fill)
     });
+    if is_hopeless {
+        draw_hopeless(svg, left + 9.0, pause.bottom - 10.0);
+    }
     svg.close();
 }
 
@@ -117,14 +124,17 @@ fn draw_hold(svg: &mut Svg, scene: Scene<'_>, plan: &Plan, hold: &Hold) {
     write_process(svg, scene, hold.process);
     svg.end_title();
     let height = (hold.bottom - hold.top).max(14.0);
-    let fill = hue_of(hold.monitor).strong;
+    let hue = hue_of(hold.monitor);
     svg.block(Block {
         radius: 5.0,
-        ..Block::plain(middle - 12.0, hold.top, 24.0, height, fill)
+        ..Block::plain(middle - 12.0, hold.top, 24.0, height, hue.bar)
     });
-    let y = (hold.top + hold.bottom) / 2.0 + 4.0;
-    let white = Style::new(11.0, "#fff", BOLD_MIDDLE);
-    svg.number(middle, y, white, u32::from(hold.process));
+    let y = (hold.top + hold.bottom) / 2.0;
+    if hue.is_hatched {
+        svg.circle(middle, y, 9.0, hue.strong, "");
+    }
+    let style = Style::new(11.0, hue.letters, BOLD_MIDDLE);
+    svg.number(middle, y + 4.0, style, u32::from(hold.process));
     svg.close();
 }
 
@@ -147,8 +157,7 @@ pub fn draw_resumed(svg: &mut Svg, scene: Scene<'_>, layout: Layout<'_>, stay: &
         return;
     }
     let lane = layout.plan.lane(stay.process);
-    let colour = hue_of(stay.call.monitor).strong;
-    let style = Style::new(10.5, colour, "font-style=\"italic\"");
+    let style = Style::new(10.5, INK, "font-style=\"italic\"");
     let lines = resumed_lines(scene, stay, lane.width - 36.0);
     svg.lines_made(lane.left + 31.0, y, style, lines);
 }

@@ -2,7 +2,7 @@
 
 use crate::draw::all_wait;
 use crate::labels::{BOLD, WIDTH, bold_width, plain_width, points};
-use crate::palette::{FAINT, GREEN, GREY, HUES, INK, PALE, RED, SLATE, hue_of};
+use crate::palette::{FAINT, GREEN, GREY, Hue, INK, PALE, PATTERNS, RED, SLATE, WHITE, hue_of};
 use crate::pictures::{Layout, Scene};
 use crate::plan::{Column, Plan, TOP};
 use crate::sheet::EDGE;
@@ -12,6 +12,15 @@ use cp_prose::Prose;
 use cp_run::{OutcomeKind, RunEnd};
 use cp_story::{Story, end_words, unused_words, wait_words};
 use std::alloc::{AllocError, Global};
+
+const SLANTED: &str = " patternTransform=\"rotate(45)\"";
+
+// The width and the height of a stripe, in a pattern of 7 by 7.
+const STRIPE: (&str, &str) = ("2.2", "7");
+
+const CROSSING: (&str, &str) = ("7", "1.4");
+
+const BROAD: (&str, &str) = ("7", "2.6");
 
 const BRACKET: &str = "stroke-width=\"2\"";
 
@@ -34,27 +43,36 @@ pub fn draw_patterns(svg: &mut Svg, scene: Scene<'_>, title: &str) {
     svg.raw("</title>\n<desc>");
     svg.escape(scene.end.trim());
     svg.raw("</desc>\n<defs>\n");
-    for number in 0..scene.legend.monitors().max(1).min(HUES) {
-        draw_pattern(svg, number);
+    for number in 0..scene.legend.monitors().max(1).min(PATTERNS) {
+        draw_patterns_of(svg, number, hue_of(number));
     }
     svg.raw(MARKER);
     svg.raw("</defs>\n");
 }
 
-fn draw_pattern(svg: &mut Svg, number: u8) {
-    let colour = hue_of(number).strong;
-    svg.pattern("gate", number, " patternTransform=\"rotate(45)\"");
-    svg.raw(
-        "<rect width=\"7\" height=\"7\" fill=\"#fff\"/><rect width=\"2.2\" height=\"7\" opacity=\".6\" fill=\"",
-    );
-    svg.raw(colour);
-    svg.raw("\"/></pattern>\n");
-    svg.pattern("queue", number, "");
-    svg.raw(
-        "<rect width=\"7\" height=\"7\" fill=\"#fff\"/><circle cx=\"2\" cy=\"2\" r=\"1.3\" fill=\"",
-    );
-    svg.raw(colour);
-    svg.raw("\"/></pattern>\n");
+// The patterns of a monitor: stripes for its gate and dots for its queues. A hatch crosses them, and boxes and bars have it too.
+fn draw_patterns_of(svg: &mut Svg, number: u8, hue: Hue) {
+    let ground = if hue.is_hatched { hue.soft } else { WHITE };
+    svg.begin_pattern("gate", number, SLANTED, ground);
+    svg.stripe(STRIPE, hue.strong, ".6");
+    if hue.is_hatched {
+        svg.stripe(CROSSING, hue.strong, ".6");
+    }
+    svg.end_pattern();
+    svg.begin_pattern("queue", number, "", ground);
+    svg.dot(hue.strong);
+    if hue.is_hatched {
+        svg.stripe(CROSSING, hue.strong, ".6");
+    }
+    svg.end_pattern();
+    if hue.is_hatched {
+        svg.begin_pattern("stay", number, SLANTED, hue.soft);
+        svg.stripe(BROAD, WHITE, ".9");
+        svg.end_pattern();
+        svg.begin_pattern("bar", number, SLANTED, hue.strong);
+        svg.stripe(CROSSING, WHITE, ".9");
+        svg.end_pattern();
+    }
 }
 
 /// White, and every other row shaded.
@@ -150,6 +168,7 @@ fn draw_bar_head(svg: &mut Svg, scene: Scene<'_>, layout: Layout<'_>, monitor: u
     let bar = layout.plan.bar(monitor);
     let middle = bar.left + bar.width / 2.0;
     let name = scene.legend.monitor_name(monitor);
+    let hue = hue_of(monitor);
     svg.begin_title();
     svg.raw("monitor ");
     svg.escape(name);
@@ -158,9 +177,12 @@ fn draw_bar_head(svg: &mut Svg, scene: Scene<'_>, layout: Layout<'_>, monitor: u
     svg.end_title();
     svg.block(Block {
         radius: 6.0,
-        ..Block::plain(bar.left, 52.0, bar.width, 30.0, hue_of(monitor).strong)
+        ..Block::plain(bar.left, 52.0, bar.width, 30.0, hue.strong)
     });
-    draw_bar_name(svg, scene, middle, bar.width - 6.0, name);
+    if hue.is_hatched {
+        svg.block(Block::plain(bar.left, 84.0, bar.width, 7.0, hue.bar));
+    }
+    draw_bar_name(svg, scene, middle, bar.width - 6.0, hue.letters, name);
     let bottom = layout.sheet.end + 4.0;
     let thin = "stroke-width=\"1\"";
     svg.line((middle, 98.0), (middle, bottom), "#c9d1d9", thin);
@@ -168,8 +190,15 @@ fn draw_bar_head(svg: &mut Svg, scene: Scene<'_>, layout: Layout<'_>, monitor: u
 }
 
 // The name of a monitor in one line or in two.
-fn draw_bar_name(svg: &mut Svg, scene: Scene<'_>, middle: f64, room: f64, name: &str) {
-    let style = Style::new(10.5, "#fff", BOLD_MIDDLE);
+fn draw_bar_name(
+    svg: &mut Svg,
+    scene: Scene<'_>,
+    middle: f64,
+    room: f64,
+    letters: &str,
+    name: &str,
+) {
+    let style = Style::new(10.5, letters, BOLD_MIDDLE);
     if bold_width(name, 10.5) <= room {
         svg.words(middle, 71.0, style, name);
         return;

@@ -8,7 +8,7 @@ use crate::title::sentence;
 use crate::wrapping::LineRoom;
 use std::alloc::AllocError;
 
-/// The most lines of a heading, after which it is cut.
+/// The most lines of a heading, after which it is cut at a word.
 const MOST_LINES: usize = 2;
 
 /// The heading of a picture, and its schedule, in lines.
@@ -58,7 +58,7 @@ impl PictureHeading {
     fn break_all(&mut self, scene: Scene<'_>, room: f64) -> Result<(), AllocError> {
         if !self.title.is_empty() {
             let line = LineRoom::new(scene.alloc, room, 16.0 * BOLD);
-            self.lines = line.wrap_in_lines(self.title.as_str(), MOST_LINES)?;
+            self.lines = line.wrap_in_lines(self.title.as_str(), MOST_LINES, " ..")?;
         }
         self.schedule = schedule_in_lines(scene, room)?;
         self.is_beside = fits_beside(&self.lines, &self.schedule, room);

@@ -1,7 +1,8 @@
 //! What the signs mean that occur in a picture.
 
+use crate::draw::all_wait;
 use crate::labels::plain_width;
-use crate::palette::{FAINT, INK, hue_of};
+use crate::palette::{FAINT, INK, RED, WHITE, hue_of};
 use crate::pictures::{Layout, Scene};
 use crate::svg::{Block, Style, Svg};
 use cp_story::{Choice, Happening, StoryEvent};
@@ -12,6 +13,8 @@ pub struct Signs {
     stays: bool,
     gates: bool,
     queues: bool,
+    /// A wait that nobody is left to end.
+    hopeless: bool,
     /// A process is chosen, or one of those at a gate.
     chosen: bool,
     admitted: bool,
@@ -31,6 +34,7 @@ enum KeySign {
     Stay,
     Gate,
     Queue,
+    Hopeless,
     Chosen,
     Admitted,
     Full,
@@ -39,10 +43,15 @@ enum KeySign {
 }
 
 /// The signs, how wide each is drawn with the space after it, and what it means.
-static KEY: [(KeySign, f64, &str); 8] = [
+static KEY: [(KeySign, f64, &str); 9] = [
     (KeySign::Stay, 28.0, "inside a monitor"),
     (KeySign::Gate, 28.0, "waits at its gate"),
     (KeySign::Queue, 28.0, "delayed in a queue of it"),
+    (
+        KeySign::Hopeless,
+        22.0,
+        "nobody is left who could end this wait",
+    ),
     (KeySign::Chosen, 44.0, "chosen; the other could go on too"),
     (
         KeySign::Admitted,
@@ -60,15 +69,18 @@ pub fn signs_of(scene: Scene<'_>, layout: Layout<'_>) -> Signs {
         stays: !layout.spans.stays.is_empty(),
         gates: false,
         queues: false,
+        hopeless: false,
         chosen: false,
         admitted: false,
         full: false,
         broken: false,
         lost: false,
     };
+    let is_stuck = all_wait(scene.story);
     for pause in &layout.spans.pauses {
         signs.gates = signs.gates || pause.at_gate;
         signs.queues = signs.queues || !pause.at_gate;
+        signs.hopeless = signs.hopeless || pause.lasts && is_stuck;
     }
     for row in &layout.sheet.rows {
         for event in row.events(scene.story) {
@@ -100,6 +112,7 @@ impl Signs {
             KeySign::Stay => self.stays,
             KeySign::Gate => self.gates,
             KeySign::Queue => self.queues,
+            KeySign::Hopeless => self.hopeless,
             KeySign::Chosen => self.chosen,
             KeySign::Admitted => self.admitted,
             KeySign::Full => self.full,
@@ -168,6 +181,7 @@ fn draw_sign(svg: &mut Svg, sign: KeySign, x: f64, y: f64) {
         KeySign::Stay => draw_box(svg, x, y, hue.soft),
         KeySign::Gate => draw_box(svg, x, y, hue.gate),
         KeySign::Queue => draw_box(svg, x, y, hue.queue),
+        KeySign::Hopeless => draw_hopeless(svg, x + 8.0, y + 7.0),
         KeySign::Chosen => {
             svg.circle(x + 8.0, y + 7.0, 8.0, INK, "");
             svg.circle(x + 27.0, y + 7.0, 7.5, "#fff", "stroke=\"#aab4be\"")
@@ -199,6 +213,14 @@ pub fn draw_square(svg: &mut Svg, left: f64, top: f64, side: f64, fill: &str, st
         stroke_width: 1.0,
         ..Block::plain(left, top, side, side, fill)
     });
+}
+
+/// The sign of a wait that nobody is left to end: a red disc with a cross.
+pub fn draw_hopeless(svg: &mut Svg, x: f64, y: f64) {
+    svg.circle(x, y, 7.5, RED, "");
+    let cross = "stroke-width=\"2\"";
+    svg.line((x - 3.5, y - 3.5), (x + 3.5, y + 3.5), WHITE, cross);
+    svg.line((x - 3.5, y + 3.5), (x + 3.5, y - 3.5), WHITE, cross);
 }
 
 /// The sign of a queue that is continued while nobody waits in it: a ring that is struck out.

@@ -29,7 +29,7 @@ pub enum Face {
 #[derive(Drop)]
 pub struct PictureLabel {
     pub words: String,
-    /// The words where these have no room: one value alone that comes back has no name, which the row of the call has already.
+    /// What matters of the words, where these have no room.
     pub brief: Option<String>,
     pub face: Face,
     pub pill: Option<String>,
@@ -61,24 +61,27 @@ pub fn label_of(
     fold: Fold,
 ) -> Result<Option<PictureLabel>, AllocError> {
     let alloc = scene.alloc;
-    let words = match fold {
+    let label = match fold {
         Fold::None => {
             return match scene.story.events.get(first) {
                 Some(event) => event_label(scene, event),
                 None => Ok(None),
             };
         }
-        Fold::Starts => format!(in alloc; "starts {count}"),
+        Fold::Starts => PictureLabel::new(format!(in alloc; "starts {count}")?, Face::Faint),
         Fold::Rounds(rounds) => {
-            format!(in alloc; "the same {rounds} times more: {count} events")
+            let words = format!(in alloc; "the same {rounds} times more: {count} events")?;
+            let mut label = PictureLabel::new(words, Face::Faint);
+            label.brief = Some(format!(in alloc; "{rounds} times more")?);
+            label
         }
     };
-    Ok(Some(PictureLabel::new(words?, Face::Faint)))
+    Ok(Some(label))
 }
 
 fn event_label(scene: Scene<'_>, event: &StoryEvent) -> Result<Option<PictureLabel>, AllocError> {
     let mut label = PictureLabel::new(event_words(scene, event)?, face_of(event));
-    label.brief = brief_words(scene, event)?;
+    label.brief = Some(brief_words(scene, event)?);
     label.pill = pill_of(scene, event)?;
     Ok(Some(label))
 }
@@ -100,16 +103,34 @@ fn event_words(scene: Scene<'_>, event: &StoryEvent) -> Result<String, AllocErro
     words.finish()
 }
 
-// What happened, and one value that comes back without its name; none where there are more values, or none.
-fn brief_words(scene: Scene<'_>, event: &StoryEvent) -> Result<Option<String>, AllocError> {
-    let (1, Some(one)) = (event.returned.len(), event.returned.first()) else {
-        return Ok(None);
-    };
+// What matters of what happened: the colour tells the monitor, an arrow who is woken, and a ring that is struck out that nobody is.
+fn brief_words(scene: Scene<'_>, event: &StoryEvent) -> Result<String, AllocError> {
     let mut brief = Prose::new(scene.alloc);
-    put_words(scene, &mut brief, event);
-    brief.put(", = ");
-    brief.put_made(one.value.text(scene.alloc));
-    Ok(Some(brief.finish()?))
+    match &event.happening {
+        Happening::Enter {
+            call,
+            arguments,
+            waits,
+        } => {
+            brief.put(if *waits { "at the gate: " } else { "" });
+            put_call(scene, &mut brief, *call, arguments);
+        }
+        Happening::Continue(queue, _) => put_queue(&mut brief, "continue(", queue.name.as_str()),
+        _ => put_words(scene, &mut brief, event),
+    }
+    put_values(scene.alloc, &mut brief, &event.returned);
+    brief.finish()
+}
+
+// What comes back; one value alone without its name, which the row of the call has already.
+fn put_values(alloc: Global, words: &mut Prose, returned: &[Returned]) {
+    match (returned.len(), returned.first()) {
+        (1, Some(one)) => {
+            words.put(", = ");
+            words.put_made(one.value.text(alloc));
+        }
+        _ => words.put_made(values_by_name(alloc, returned)),
+    }
 }
 
 fn values_by_name(alloc: Global, returned: &[Returned]) -> Result<String, AllocError> {
@@ -158,6 +179,12 @@ fn put_words(scene: Scene<'_>, words: &mut Prose, event: &StoryEvent) {
 
 /// Appends a call with its routine first: the colour names the monitor.
 pub fn put_routine(scene: Scene<'_>, words: &mut Prose, call: OpenCall, arguments: &[SourceValue]) {
+    put_call(scene, words, call, arguments);
+    words.put(" in ");
+    words.put(scene.legend.monitor_name(call.monitor));
+}
+
+fn put_call(scene: Scene<'_>, words: &mut Prose, call: OpenCall, arguments: &[SourceValue]) {
     words.put(scene.legend.routine_name(call.routine));
     let mut before = "(";
     for argument in arguments {
@@ -165,12 +192,7 @@ pub fn put_routine(scene: Scene<'_>, words: &mut Prose, call: OpenCall, argument
         words.put_made(argument.text(scene.alloc));
         before = ", ";
     }
-    words.put(if arguments.is_empty() {
-        " in "
-    } else {
-        ") in "
-    });
-    words.put(scene.legend.monitor_name(call.monitor));
+    words.put(if arguments.is_empty() { "" } else { ")" });
 }
 
 fn put_queue(words: &mut Prose, before: &str, name: &str) {
@@ -195,6 +217,16 @@ impl PictureLabel {
             face,
             pill: None,
         }
+    }
+
+    /// Whether both say the same.
+    pub fn says_same(&self, other: &PictureLabel) -> bool {
+        let shows_same = match (&self.pill, &other.pill) {
+            (Some(pill), Some(other)) => pill.as_str() == other.as_str(),
+            (None, None) => true,
+            _ => false,
+        };
+        shows_same && self.words.as_str() == other.words.as_str()
     }
 
     /// How wide the label is.

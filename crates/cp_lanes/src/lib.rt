@@ -18,4 +18,4 @@ mod title;
 mod wrapping;
 
 pub use pictures::{PictureSubject, PictureView, picture, picture_in};
-pub use sheet::SheetExtent;
+pub use sheet::{SheetExtent, row_count};

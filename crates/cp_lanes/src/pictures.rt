@@ -1,6 +1,6 @@
 //! The whole picture.
 
-use crate::changes::changes_words;
+use crate::changes::{SWATCH, changes_words};
 use crate::draw::spans_drawn;
 use crate::frame::{
     draw_again, draw_edges, draw_end, draw_ground, draw_heads, draw_patterns, unused_lines,
@@ -98,7 +98,7 @@ pub fn picture_in(
 // Each part of the picture is let go where it was made, and what comes next borrows it.
 fn draw_sheet(scene: Scene<'_>, sheet: &mut Sheet) -> Result<String, AllocError> {
     let plan = plan_of(scene, sheet, widths(scene, sheet)?)?;
-    sheet.place(scene, plan.changes.width)?;
+    sheet.place(scene, plan.changes.width - SWATCH)?;
     draw_planned(scene, sheet, &plan)
 }
 
@@ -163,7 +163,9 @@ fn widths(scene: Scene<'_>, sheet: &Sheet) -> Result<Widths, AllocError> {
         let events = row.events(scene.story);
         let text = changes_words(scene, events)?;
         if !text.is_empty() {
-            widths.changes = widths.changes.max(plain_width(text.as_str(), 10.5) + 1.0);
+            widths.changes = widths
+                .changes
+                .max(plain_width(text.as_str(), 10.5) + SWATCH + 1.0);
         }
         if let Some(line) = line_of(scene.story, events) {
             let text = source_line(scene.source, line);

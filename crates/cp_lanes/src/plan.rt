@@ -182,12 +182,12 @@ fn sum(widths: &[f64], most: f64) -> f64 {
     total
 }
 
-// The width at which lanes are cut so that all together have no more than the room: narrow ones leave theirs to the others.
+// The width at which lanes are cut so that all together have no more than the room: narrow ones leave theirs to the others. Each has room for `continue(`.
 fn fair_share(widths: &[f64], room: f64) -> f64 {
     if sum(widths, ANY_WIDTH) <= room {
         return room.max(0.0) + 10000.0;
     }
-    let mut share = 100.0;
+    let mut share = 108.0;
     for _ in 0..192u8 {
         if sum(widths, share + 4.0) > room {
             break;

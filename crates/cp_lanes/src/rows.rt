@@ -1,10 +1,10 @@
 //! Rows: what happened, who could be chosen, what changed, and where it stands in the source.
 
-use crate::changes::changes_words;
+use crate::changes::{SWATCH, changes_words};
 use crate::draw::{draw_resumed, write_process};
 use crate::key::{BROKEN, FULL, draw_lost, draw_square};
 use crate::labels::{FIXED, Face, PictureLabel, pill_width, points};
-use crate::palette::{FAINT, GREY, INK, PALE, RED, hue_of};
+use crate::palette::{FAINT, GREY, INK, RED, hue_of};
 use crate::pictures::{Layout, Scene, source_line};
 use crate::plan::{Column, Plan, ROW};
 use crate::sheet::{Fold, LINE, PictureRow};
@@ -188,7 +188,7 @@ fn write_changes(svg: &mut Svg, changes: &str) {
 // The number of a row, or the first and the last of those that are folded.
 fn draw_number(svg: &mut Svg, scene: Scene<'_>, row: &PictureRow) {
     let alloc = scene.alloc;
-    let style = Style::new(9.5, PALE, AT_END);
+    let style = Style::new(9.5, GREY, AT_END);
     let y = row.middle() + 3.5;
     let first = row.first.saturating_add(1);
     let last = row.first.saturating_add(row.count);
@@ -227,7 +227,7 @@ fn draw_option(svg: &mut Svg, x: f64, y: f64, option: u8, is_chosen: bool, at_ga
     let style = if is_chosen {
         Style::new(10.5, "#fff", BOLD_MIDDLE)
     } else {
-        Style::new(10.5, "#7b8794", MIDDLE)
+        Style::new(10.5, GREY, MIDDLE)
     };
     svg.number(x, y + 3.8, style, u32::from(option));
 }
@@ -337,12 +337,23 @@ fn draw_arrow(
     }
 }
 
+// What changed, in lines; the first of each monitor has a sign in its colour.
 fn draw_changes(svg: &mut Svg, plan: &Plan, row: &PictureRow) {
     let above = points(row.changes.len().saturating_sub(1)) * LINE / 2.0;
     let mut at = row.middle() + 4.0 - above;
+    let left = plan.changes.left;
+    let mut last = None;
     for line in &row.changes {
-        let style = Style::new(10.5, hue_of(line.monitor).strong, "");
-        svg.words(plan.changes.left, at, style, line.words.as_str());
+        if last != Some(line.monitor) {
+            svg.block(Block::plain(left, at - 8.0, 6.0, 9.0, hue_of(line.monitor).bar));
+        }
+        last = Some(line.monitor);
+        svg.words(
+            left + SWATCH,
+            at,
+            Style::new(10.5, INK, ""),
+            line.words.as_str(),
+        );
         at += LINE;
     }
 }
@@ -398,6 +409,14 @@ fn stop_lines(
     room: f64,
     beside: f64,
 ) -> Result<Vec<String>, AllocError> {
-    let label = PictureLabel::new(stop.words.clone()?, Face::Bold);
+    let mut label = PictureLabel::new(stop.words.clone()?, Face::Bold);
+    label.brief = Some(String::from_str(scene.alloc, stop_name(stop.words.as_str()))?);
     label_lines(scene.alloc, &label, room, beside)
+}
+
+// The name of a run error, or which limit it is.
+fn stop_name(words: &str) -> &str {
+    let name = words.strip_prefix("stops with ").unwrap_or(words);
+    let name = name.strip_prefix("goes on to the ").unwrap_or(name);
+    name.split_once(':').map_or(name, |(name, _)| name)
 }

@@ -4,7 +4,7 @@ use crate::changes::{ChangeLine, changes_in_lines};
 use crate::labels::{PictureLabel, label_of, points};
 use crate::pictures::Scene;
 use crate::plan::{ROW, TOP};
-use cp_story::{Happening, OpenCall, Story, StoryEvent};
+use cp_story::{Happening, Story, StoryEvent};
 use std::alloc::AllocError;
 
 /// How many starts, or rounds of one process alone, are folded at least.
@@ -134,15 +134,21 @@ impl Sheet {
     }
 }
 
+/// How many rows a story has, folded ones counted as what they stand for.
+pub fn row_count(story: &Story) -> usize {
+    let count = story.events.len();
+    if story.stop.is_some() {
+        count.saturating_add(1)
+    } else {
+        count
+    }
+}
+
 /// The rows of a story, not placed yet; a row after the events is for its stop. No fold goes beyond the event with which a round begins.
 pub fn sheet_of(scene: Scene<'_>) -> Result<Sheet, AllocError> {
-    let extra = if scene.story.stop.is_some() {
-        1
-    } else {
-        0usize
-    };
-    let total = scene.story.events.len().saturating_add(extra);
+    let total = row_count(scene.story);
     let (first, last) = bounds(scene.extent, total);
+    let labels = event_labels(scene)?;
     let mut rows = Vec::new(scene.alloc);
     let mut at = first;
     for _ in first..last {
@@ -151,7 +157,7 @@ pub fn sheet_of(scene: Scene<'_>) -> Result<Sheet, AllocError> {
                 Some(row) if at < row && row < last => row,
                 _ => last,
             };
-            at = at.saturating_add(push_rows(scene, &mut rows, at, end)?);
+            at = at.saturating_add(push_rows(scene, &mut rows, &labels, at, end)?);
         }
     }
     Ok(Sheet {
@@ -160,6 +166,15 @@ pub fn sheet_of(scene: Scene<'_>) -> Result<Sheet, AllocError> {
         after: total.saturating_sub(last),
         end: TOP,
     })
+}
+
+// What each event says.
+fn event_labels(scene: Scene<'_>) -> Result<Vec<Option<PictureLabel>>, AllocError> {
+    let mut labels = Vec::new(scene.alloc);
+    for place in 0..scene.story.events.len() {
+        labels.push(label_of(scene, place, 1, Fold::None)?)?;
+    }
+    Ok(labels)
 }
 
 // The first event that is drawn, and the one after the last.
@@ -178,6 +193,7 @@ fn bounds(extent: SheetExtent, total: usize) -> (usize, usize) {
 fn push_rows(
     scene: Scene<'_>,
     rows: &mut Vec<PictureRow>,
+    labels: &[Option<PictureLabel>],
     at: usize,
     end: usize,
 ) -> Result<usize, AllocError> {
@@ -186,7 +202,7 @@ fn push_rows(
         rows.push(new_row(scene, at, starts, Fold::Starts))?;
         return Ok(starts);
     }
-    let (length, rounds) = rounds_at(scene.story, at, end);
+    let (length, rounds) = rounds_at(scene.story, labels, at, end);
     if rounds < FEWEST {
         rows.push(new_row(scene, at, 1, Fold::None))?;
         return Ok(1);
@@ -228,11 +244,20 @@ fn starts_at(story: &Story, at: usize, end: usize) -> usize {
 }
 
 // The length of the shortest round that a process goes alone from an event on at least three times, and how often.
-fn rounds_at(story: &Story, at: usize, end: usize) -> (usize, usize) {
+fn rounds_at(
+    story: &Story,
+    labels: &[Option<PictureLabel>],
+    at: usize,
+    end: usize,
+) -> (usize, usize) {
     for length in 1..LONGEST {
         let mut same = 0usize;
         for place in at..end {
-            if !is_same(story, place, place.saturating_add(length), end) {
+            let other = place.saturating_add(length);
+            if other >= end
+                || !is_same_process(story, at, place)
+                || !is_same(story, labels, place, other)
+            {
                 break;
             }
             same = same.saturating_add(1);
@@ -245,44 +270,36 @@ fn rounds_at(story: &Story, at: usize, end: usize) -> (usize, usize) {
     (1, 1)
 }
 
-// Whether two events are of one process alone, and the same on the same line.
-fn is_same(story: &Story, place: usize, other: usize, end: usize) -> bool {
-    let (Some(one), Some(two)) = (story.events.get(place), story.events.get(other)) else {
-        return false;
-    };
-    let is_alone = one.woken.is_empty() && one.let_in.is_empty() && two.woken.is_empty();
-    other < end
-        && is_alone
-        && two.let_in.is_empty()
-        && one.plain.process == two.plain.process
-        && one.line == two.line
-        && is_same_happening(&one.happening, &two.happening)
-}
-
-// Whether two events are calls of one routine, or returns from it, or continue one queue, or display one value.
-fn is_same_happening(one: &Happening, two: &Happening) -> bool {
-    match (one, two) {
-        (
-            Happening::Enter {
-                call: one,
-                waits: false,
-                ..
-            },
-            Happening::Enter {
-                call: two,
-                waits: false,
-                ..
-            },
-        ) => is_same_call(*one, *two),
-        (Happening::Leave(one), Happening::Leave(two)) => is_same_call(*one, *two),
-        (Happening::Continue(one, _), Happening::Continue(two, _)) => {
-            one.monitor == two.monitor && one.name.as_str() == two.name.as_str()
-        }
-        (Happening::Display(one), Happening::Display(two)) => one == two,
+// Whether two events are of one process.
+fn is_same_process(story: &Story, place: usize, other: usize) -> bool {
+    match (story.events.get(place), story.events.get(other)) {
+        (Some(one), Some(two)) => one.plain.process == two.plain.process,
         _ => false,
     }
 }
 
-fn is_same_call(one: OpenCall, two: OpenCall) -> bool {
-    one.monitor == two.monitor && one.routine == two.routine
+// Whether two events move one process alone, and say the same on the same line.
+fn is_same(story: &Story, labels: &[Option<PictureLabel>], place: usize, other: usize) -> bool {
+    let (Some(one), Some(two)) = (story.events.get(place), story.events.get(other)) else {
+        return false;
+    };
+    let says_same = match (labels.get(place), labels.get(other)) {
+        (Some(Some(one)), Some(Some(two))) => one.says_same(two),
+        _ => false,
+    };
+    says_same
+        && is_same_process(story, place, other)
+        && moves_one_alone(one)
+        && moves_one_alone(two)
+        && one.line == two.line
+}
+
+// Whether an event starts, delays and ends nobody, and lets nobody else go on.
+fn moves_one_alone(event: &StoryEvent) -> bool {
+    let goes_on = match event.happening {
+        Happening::Enter { waits, .. } => !waits,
+        Happening::Leave(_) | Happening::Continue(..) | Happening::Display(_) => true,
+        _ => false,
+    };
+    goes_on && event.woken.is_empty() && event.let_in.is_empty()
 }

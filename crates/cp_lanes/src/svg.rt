@@ -44,6 +44,9 @@ pub const BOLD_MIDDLE: &str = "text-anchor=\"middle\" font-weight=\"bold\"";
 
 pub const AT_END: &str = "text-anchor=\"end\"";
 
+// Printed, a picture is as large as the page; one within a page of HTML is as large as that says.
+const PRINTED: &str = "<style>@media print{svg:root{width:100%;height:100%}}</style>\n";
+
 impl<'a> Block<'a> {
     /// A rectangle without an edge, whose corners are not round.
     pub fn plain(left: f64, top: f64, width: f64, height: f64, fill: &'a str) -> Block<'a> {
@@ -99,6 +102,7 @@ impl Svg {
         svg.whole_number(whole);
         svg.raw("\" font-family=\"DejaVu Sans, Helvetica, Arial, sans-serif\"");
         svg.raw(" font-size=\"12\" fill=\"#1f2933\">\n");
+        svg.raw(PRINTED);
         svg
     }
 
@@ -123,8 +127,8 @@ impl Svg {
         self.raw("\"");
     }
 
-    // Appends an attribute that is a colour.
-    fn colour(&mut self, name: &str, value: &str) {
+    // Appends an attribute that is a word.
+    fn word(&mut self, name: &str, value: &str) {
         self.raw(" ");
         self.raw(name);
         self.raw("=\"");
@@ -215,14 +219,38 @@ impl Svg {
         }
     }
 
-    /// Begins a pattern of a monitor's colour.
-    pub fn pattern(&mut self, name: &str, number: u8, more: &str) {
+    /// Begins a pattern of a monitor, on a ground.
+    pub fn begin_pattern(&mut self, name: &str, number: u8, more: &str, ground: &str) {
         self.raw("<pattern id=\"");
         self.raw(name);
         self.digits(u32::from(number));
         self.raw("\" width=\"7\" height=\"7\" patternUnits=\"userSpaceOnUse\"");
         self.raw(more);
-        self.raw(">");
+        self.raw("><rect width=\"7\" height=\"7\"");
+        self.word("fill", ground);
+        self.raw("/>");
+    }
+
+    /// A stripe of a pattern, by its width and its height.
+    pub fn stripe(&mut self, size: (&str, &str), fill: &str, opacity: &str) {
+        self.raw("<rect");
+        self.word("width", size.0);
+        self.word("height", size.1);
+        self.word("fill", fill);
+        self.word("opacity", opacity);
+        self.raw("/>");
+    }
+
+    /// A dot of a pattern.
+    pub fn dot(&mut self, fill: &str) {
+        self.raw("<circle cx=\"2\" cy=\"2\" r=\"1.3\"");
+        self.word("fill", fill);
+        self.raw("/>");
+    }
+
+    /// Ends a pattern.
+    pub fn end_pattern(&mut self) {
+        self.raw("</pattern>\n");
     }
 
     /// Begins a group with a title.
@@ -244,9 +272,9 @@ impl Svg {
         self.attribute("width", block.width);
         self.attribute("height", block.height);
         self.attribute("rx", block.radius);
-        self.colour("fill", block.fill);
+        self.word("fill", block.fill);
         if !block.stroke.is_empty() {
-            self.colour("stroke", block.stroke);
+            self.word("stroke", block.stroke);
             self.attribute("stroke-width", block.stroke_width);
         }
         self.raw("/>\n");
@@ -259,7 +287,7 @@ impl Svg {
         self.attribute("y1", from.1);
         self.attribute("x2", to.0);
         self.attribute("y2", to.1);
-        self.colour("stroke", stroke);
+        self.word("stroke", stroke);
         self.end_element(more);
     }
 
@@ -283,7 +311,7 @@ impl Svg {
             }
         }
         self.raw("\" fill=\"none\"");
-        self.colour("stroke", stroke);
+        self.word("stroke", stroke);
         self.raw("/>\n");
     }
 
@@ -300,7 +328,7 @@ impl Svg {
         self.attribute("cx", x);
         self.attribute("cy", y);
         self.attribute("r", radius);
-        self.colour("fill", fill);
+        self.word("fill", fill);
         self.end_element(more);
     }
 
@@ -323,7 +351,7 @@ impl Svg {
         self.attribute("x", x);
         self.attribute("y", y);
         self.attribute("font-size", style.size);
-        self.colour("fill", style.fill);
+        self.word("fill", style.fill);
         self.raw(" ");
         self.raw(style.more);
         self.raw(">");

@@ -73,24 +73,39 @@ impl LineRoom {
     }
 
     /// The words in so many lines at most, of which the last is cut at a word, with a mark, where some are missing.
-    pub fn wrap_in_lines(self, words: &str, most: usize) -> Result<Vec<String>, AllocError> {
-        let mut lines = self.wrap(words)?;
+    pub fn wrap_in_lines(
+        self,
+        words: &str,
+        most: usize,
+        mark: &str,
+    ) -> Result<Vec<String>, AllocError> {
+        self.first_lines(self.wrap(words), most, mark)
+    }
+
+    // So many of some lines at most, the last with a mark where some are missing.
+    fn first_lines(
+        self,
+        lines: Result<Vec<String>, AllocError>,
+        most: usize,
+        mark: &str,
+    ) -> Result<Vec<String>, AllocError> {
+        let mut lines = lines?;
         if lines.len() > most {
             lines.truncate(most);
             if let Some(last) = lines.last_mut() {
-                *last = self.marked_line(last.as_str())?;
+                *last = self.marked_line(last.as_str(), mark)?;
             }
         }
         Ok(lines)
     }
 
     // As many words of a line as there is room for beside the mark that some are missing.
-    fn marked_line(self, line: &str) -> Result<String, AllocError> {
-        let narrower = LineRoom::new(self.alloc, self.room - self.each, self.each);
-        let parts = narrower.wrap(line.trim())?;
+    fn marked_line(self, line: &str, mark: &str) -> Result<String, AllocError> {
+        let room = self.room - points(mark.chars().count()) * self.each;
+        let parts = LineRoom::new(self.alloc, room, self.each).wrap(line.trim())?;
         let mut text = Prose::new(self.alloc);
         text.put(first_words(&parts));
-        text.put("…");
+        text.put(mark);
         text.finish()
     }
 
@@ -118,9 +133,10 @@ impl LineRoom {
         Ok(None)
     }
 
-    // The words in two lines at most, each of which is cut where it has no room.
+    // The words in two lines at most, each of which is cut where it has no room; one word alone breaks at its bracket.
     fn lines_cut(self, words: &str) -> Result<Vec<String>, AllocError> {
-        let mut lines = self.wrap_in_lines(words, 2)?;
+        let separator = if words.contains(' ') { ' ' } else { '(' };
+        let mut lines = self.first_lines(self.break_at(words, separator), 2, "…")?;
         for line in &mut lines {
             *line = self.cut(line.as_str().trim())?;
         }
@@ -150,7 +166,7 @@ fn first_words(lines: &[String]) -> &str {
 }
 
 /// The lines of a label, two at most, in the room of its lane, or of the free lanes beside it where that is not enough. The label's whole words come
-/// first, then its brief ones, which break at a bracket at last, or are cut.
+/// first, then its brief ones, which break at a bracket or a hyphen at last, or are cut.
 pub fn label_lines(
     alloc: Global,
     label: &PictureLabel,
@@ -171,8 +187,10 @@ pub fn label_lines(
     if let Some(lines) = lane.whole_lines(words, beside)? {
         return Ok(lines);
     }
-    if let Some(lines) = beside.lines_within(beside.break_at(words, '('))? {
-        return Ok(lines);
+    for separator in ['(', '-'] {
+        if let Some(lines) = beside.lines_within(beside.break_at(words, separator))? {
+            return Ok(lines);
+        }
     }
     beside.lines_cut(words)
 }

@@ -1,0 +1,2 @@
+"(* expect only finished *)"
+begin display(1) end.

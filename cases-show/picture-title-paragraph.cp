@@ -1,0 +1,4 @@
+"Two displays
+
+ Options: none"
+begin display(1); display(2) end.
