@@ -22,6 +22,10 @@ blanks n = replicate n 32
 abbrev pub right_text : ℕ → List ℕ → List ℕ
 right_text width text = blanks (width - length text) ++ text
 
+-- a share in its column, with a blank before it and after it in any case
+abbrev pub share_column : List ℕ → List ℕ
+share_column share = if nat_lt (length share) 8 then right_text 8 share ++ codes "  " else codes " " ++ share ++ codes " "
+
 -- one of them, or some
 abbrev pub counted_text : ℕ → List ℕ → List ℕ → List ℕ
 counted_text n one some = number_text n ++ (if n == 1 then one else some)
@@ -51,7 +55,7 @@ line_text width line = blanks width ++ blanks 11 ++ line ++ codes "\n"
 -- an outcome: its number and share, its kind and output; how many schedules have it, the first and the simplest; the lines of its end
 unfoldable pub told_text : Setting → (width whole number : ℕ) → Told → List ℕ
 told_text s width whole number t =
-    right_text width (number_text number) ++ codes "." ++ right_text 8 (share_text (share_in t.tally.count whole)) ++ codes "  " ++ outcome_text s.program.names t.tally.first.outcome ++ codes "\n" ++ line_text width (schedules_text t.tally.count ++ codes ", first " ++ word_text t.tally.first.word ++ simple_text t.tally.first.word t.simple) ++ each (line_text width) (end_lines s t.tally)
+    right_text width (number_text number) ++ codes "." ++ share_column (share_text (share_in t.tally.count whole)) ++ outcome_text s.program.names t.tally.first.outcome ++ codes "\n" ++ line_text width (schedules_text t.tally.count ++ codes ", first " ++ word_text t.tally.first.word ++ simple_text t.tally.first.word t.simple) ++ each (line_text width) (end_lines s t.tally)
 
 -- with numbers from this one on
 abbrev pub numbered_text : Setting → (width whole number : ℕ) → List Told → List ℕ
@@ -65,7 +69,7 @@ searched_text states searched = if searched then [] else codes "\nsimplest sched
 -- what to try where runs ended at a limit
 abbrev pub advice_text : (choices steps : ℕ) → Limit → List ℕ
 advice_text choices steps Choices = if nat_lt choices 100 then codes " (try greater --choices)" else codes " (./show ends tells of schedules of any length)"
-advice_text choices steps Steps = if nat_lt steps 100000 then codes " (try greater --steps)" else codes " (no greater --steps can be tried)"
+advice_text choices steps Steps = if nat_lt steps 100000 then codes " (try greater --steps, or ./show ends for a loop that never ends)" else codes " (./show ends tells a loop that never ends)"
 advice_text choices steps Output = codes " (a run displays at most 1000 values)"
 
 -- how many schedules ended at a limit

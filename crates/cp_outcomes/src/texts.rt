@@ -131,7 +131,7 @@ fn push_figures(
     whole: &Natural,
 ) -> Result<(), AllocError>
     requires { whole.now < 10 ^ 126 }
-    ensures { IfOk result (λ _. string_bytes text.new ≡ string_bytes text.old ++ (spec.right_text width (number_text number) ++ codes "." ++ spec.right_text 8 (share_text (share_in count.now whole.now)) ++ codes "  ")) }
+    ensures { IfOk result (λ _. string_bytes text.new ≡ string_bytes text.old ++ (spec.right_text width (number_text number) ++ codes "." ++ spec.share_column (share_text (share_in count.now whole.now)))) }
 {
     let mut digits = String::new(alloc);
     push_count(&mut digits, number)?;
@@ -139,8 +139,21 @@ fn push_figures(
     text.push_str(".")?;
     let mut share = String::new(alloc);
     share_of(count, whole).push_to(&mut share)?;
-    push_right(text, SHARE_WIDTH, share.as_str())?;
-    text.push_str("  ")
+    push_share(text, share.as_str())
+}
+
+// A share in its column, with a blank before it and after it in any case.
+fn push_share(text: &mut String, share: &str) -> Result<(), AllocError>
+    ensures { IfOk result (λ _. string_bytes text.new ≡ string_bytes text.old ++ spec.share_column share.now) }
+{
+    if share.len() < SHARE_WIDTH {
+        push_right(text, SHARE_WIDTH, share)?;
+        text.push_str("  ")
+    } else {
+        text.push_str(" ")?;
+        text.push_str(share)?;
+        text.push_str(" ")
+    }
 }
 
 // How many schedules have an outcome, and the first of them.
@@ -290,9 +303,9 @@ pub fn advice(limit: Limit, limits: Limits) -> &'static str
         }
         Limit::Steps => {
             if limits.steps < MOST_STEPS {
-                " (try greater --steps)"
+                " (try greater --steps, or ./show ends for a loop that never ends)"
             } else {
-                " (no greater --steps can be tried)"
+                " (./show ends tells a loop that never ends)"
             }
         }
         Limit::Output => " (a run displays at most 1000 values)",
