@@ -5,6 +5,7 @@ pub mod Choices
 pub mod Arriving
 pub mod Nothing
 pub mod Legs
+pub mod MonitorCalls
 pub mod Same
 pub mod Pending
 pub mod Tied

@@ -7,6 +7,7 @@ ghost use Rattle.cp_run.specs.Run.{may};
 ghost use Rattle.cp_run.specs.Slots.{slots};
 ghost use Rattle.cp_at_once.specs.Legs.{EndsQuietly, HasLeg, ends_quietly};
 
+use crate::entering::enters_next;
 use cp_machine::{Event, Kernel, Moved, State, Ticks, Watch, local_step, step};
 use cp_run::{Limits, candidates};
 use cp_slots::Resolved;
@@ -105,6 +106,9 @@ pub fn process_at_once<S: Ledger>(
     let numbers = candidates(program, limits, state);
     let mut moved = Moved::everybody();
     for pid in numbers.as_slice() {
+        if enters_next(program, state, *pid) {
+            continue;
+        }
         if has_quiet_leg(program, limits, state, ahead, &moved, *pid, steps) {
             return Some(*pid);
         }

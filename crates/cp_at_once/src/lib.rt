@@ -2,6 +2,7 @@
 //! states.
 #![tactic(auto)]
 
+pub mod entering;
 pub mod found;
 pub mod kept;
 pub mod leg;
