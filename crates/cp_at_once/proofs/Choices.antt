@@ -13,6 +13,7 @@ use Rattle.cp_search.specs.Searched.{IsSearched}
 use Rattle.cp_ends.proofs.words.Returns.{number}
 use Rattle.cp_ends.proofs.words.Translated.{arrival_on}
 use Rattle.cp_at_once.specs.Following.{Answers, Follows, GoesOn, GoesThrough, Grows, IsDone, IsGone, IsGoneThrough, SlotGraph, Within}
+use Rattle.cp_at_once.specs.declared.kept.Kept.{Kept}
 use Rattle.cp_at_once.proofs.Following.{States, done_still, gone_still}
 use Rattle.cp_at_once.proofs.Keeping.{word_choice}
 
@@ -27,6 +28,13 @@ module _ (r : Tables) (g : SlotGraph) (Leg : Machine → ℕ → Type 0) (most :
       by : (i : ℕ) (x : Machine × List ℕ) → i < n → slice_get b i ≡ Some x → ((z : Machine × List ℕ) × (i < length a) × (slice_get a i ≡ Some z) × (get_or a i z ≡ z)) ⊎ ((length a ≤ i) × (slice_get a i ≡ None)) → IsDone g Leg 8 h b x.0
       by i x less at (inl z) = subst (λ (w : Machine × List ℕ). IsDone g Leg 8 h b w.0) (same_Some z.0 x (sym (m.places i z.0 z.2) ∙ at)) (done_still g Leg f a h b m 8 z.0.0 (t.on i z.0 less z.2))
       by i x less at (inr past) = let far = past.0 in absurd (omega (arith, few, far, less))
+
+  -- what was gone through is so where the code keeps the same states in another way
+  pub kept_through : (f : FoundAtOnce) (n : ℕ) (states : States) → IsGoneThrough g Leg 8 n f states → (kept : Kept) → IsGoneThrough g Leg 8 n (record f { kept = kept }) states
+  kept_through f n states t kept =
+      let h : FoundAtOnce = record f { kept = kept } in
+      let m : Grows f states h states = record { ends = λ e k. k; values = λ v k. k; kept = λ m k. k; places = λ i y k. k } in
+      record { start = gone_still g Leg f states h states m 8 g.start t.start; on = λ i x less at. done_still g Leg f states h states m 8 x.0 (t.on i x less at) }
 
   -- ---- a choice is taken in a kept state
 

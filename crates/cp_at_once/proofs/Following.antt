@@ -1,13 +1,14 @@
 -- What is followed is followed still when more is found; one stretch more, one state more, one choice more.
 use Rattle.std.proofs.Common.{◌≡◌, ◌∙◌, inl, inr, ◌+◌, ◌<◌, ◌≤◌, ℕ, zero, suc, List, [], ◌∷◌, ◌++◌, Bool, true, false, if◌then◌else◌, length, Some, refl, sym, ap, subst, arith}
 use Rattle.cp_at_once.proofs.Words.{slice_get, Tables, Shown, Machine, Goal, Place, ArrivesAt, LeadsToPlace, LeadsToEnd, ShowsLast, same_key, SlotArrival}
-use Rattle.cp_at_once.proofs.Words.{has, End, AreStates, HasWord, Holds, IsWordOf, FoundAtOnce, OriginAtOnce}
+use Rattle.cp_at_once.proofs.Words.{has, End, HasWord, Holds, IsWordOf, FoundAtOnce, OriginAtOnce}
 use Rattle.std.proofs.lemmas.List.{length-append}
 use Rattle.std.proofs.lemmas.List.Elements.{All-push, All-weaker}
 use Rattle.cp_ends.specs.Graph as graph
 use Rattle.cp_ends.proofs.Keeping.{get_more}
 use Rattle.cp_ends.proofs.words.Translated.{arrival_on}
 use Rattle.cp_at_once.specs.Following.{Follows, GoesOn, Grows, IsDone, IsGone, IsKept, IsKnownGoal, NotesArrival, SlotGraph}
+use Rattle.cp_at_once.specs.Holds.{AreKept}
 use Rattle.cp_at_once.specs.declared.kept.Kept.{Kept}
 use Rattle.cp_at_once.proofs.Keeping.{word_grows}
 use Rattle.cp_at_once.proofs.Noting.{grows_on, grows_same}
@@ -48,6 +49,10 @@ words_still a b on o P h = (h.0, word_grows a b o h.0 on h.1, h.2)
 
 -- ---- a state more
 
+-- the same states, which the code keeps in another way
+pub kept_else : (r : Tables) (g : SlotGraph) (most : ℕ) (found : FoundAtOnce) (states : States) → Holds r g most found states → (kept : Kept) → AreKept r kept states → Holds r g most (record found { kept = kept }) states
+kept_else r g most found states h kept are = record { kept = are; few = h.few; reached = h.reached; ends = h.ends; values = h.values }
+
 module _ (r : Tables) (g : SlotGraph) (most : ℕ) (found : FoundAtOnce) (states : States) (h : Holds r g most found states) (m : Machine) (word : List ℕ) (leads : LeadsToPlace g m word) (new : has same_key states m ≡ false) where
   abbrev more : States
   more = states ++ (m, word) ∷ []
@@ -71,7 +76,7 @@ module _ (r : Tables) (g : SlotGraph) (most : ℕ) (found : FoundAtOnce) (states
       by true on = refl
       by false on = on
 
-  pub one_more : same_key m m ≡ true → length states < most → (kept : Kept) → AreStates r kept.known.entries more → IsKept r g most found states (record found { kept = kept }) m true
+  pub one_more : same_key m m ≡ true → length states < most → (kept : Kept) → AreKept r kept more → IsKept r g most found states (record found { kept = kept }) m true
   one_more self room kept are = (
     more,
     record {
@@ -85,11 +90,11 @@ module _ (r : Tables) (g : SlotGraph) (most : ℕ) (found : FoundAtOnce) (states
     has_last states self,
   )
 
-  pub one_too_many : most ≤ length states → IsKept r g most found states found m false
-  one_too_many full = (h, record { state = m; word = word; leads = leads; new = new; full = full })
+  pub one_too_many : most ≤ length states → (kept : Kept) → AreKept r kept states → IsKept r g most found states (record found { kept = kept }) m false
+  one_too_many full kept are = (kept_else r g most found states h kept are, record { state = m; word = word; leads = leads; new = new; full = full })
 
-pub known_again : (r : Tables) (g : SlotGraph) (most : ℕ) (found : FoundAtOnce) (states : States) (m : Machine) → Holds r g most found states → has same_key states m ≡ true → IsKept r g most found states found m true
-known_again r g most found states m h there = (states, h, grows_same found states, there)
+pub known_again : (r : Tables) (g : SlotGraph) (most : ℕ) (found : FoundAtOnce) (states : States) (m : Machine) → Holds r g most found states → (kept : Kept) → AreKept r kept states → has same_key states m ≡ true → IsKept r g most found states (record found { kept = kept }) m true
+known_again r g most found states m h kept are there = (states, kept_else r g most found states h kept are, record { ends = λ e k. k; values = λ v k. k; kept = λ s k. k; places = λ i x at. at }, there)
 
 -- ---- an arrival
 

@@ -1,32 +1,33 @@
 -- The entries of the code are the kept states, each with its word.
-use Rattle.std.proofs.Common.{◌≡◌, ◌∙◌, ◌⊎◌, inl, inr, ◌<◌, ◌≤◌, ℕ, zero, suc, Bool, true, false, cond, if◌then◌else◌, List, [], ◌∷◌, ◌++◌, length, map, Option, None, Some, is_some, get_or, drop, refl, sym, ap, subst, arith}
+use Rattle.std.proofs.Common.{◌≡◌, ◌∙◌, ◌⊎◌, inl, inr, ◌<◌, ◌≤◌, ℕ, zero, suc, Bool, true, false, cond, if◌then◌else◌, List, [], ◌∷◌, ◌++◌, length, Option, None, Some, is_some, get_or, refl, sym, ap, subst, arith}
+use Rattle.std.specs.Cmp.Lexicographic.{bytes_decides}
 use Rattle.std.specs.Prelude.{nat_eq, slice_get}
 use Rattle.std.specs.Map.{lookup}
 use Rattle.std.proofs.lemmas.Cmp.{nat_list_eq_equiv}
-use Rattle.std.proofs.lemmas.List.{append_assoc, length-map, map-append}
+use Rattle.std.proofs.lemmas.List.{append_assoc}
 use Rattle.std.proofs.lemmas.List.Elements.{All-push}
 use Rattle.std.proofs.lemmas.Option.{same_Some, slice_get_cases, slice_get_past, slice_get_within}
 use Rattle.indexmap.specs.IndexMap.{insert_entry}
 use lib.Pointwise.{pointwise}
-use Rattle.cp_at_once.proofs.Words.{Tables, Machine, same_key, has, all_at, OriginAtOnce}
-use Rattle.cp_key.specs.Key.{key_of}
+use Rattle.cp_at_once.proofs.Words.{Tables, IsStateOf, Machine, same_key, has, all_at, OriginAtOnce}
 use Rattle.cp_key.specs.Room.{IsMachineOf}
-use Rattle.cp_ends.specs.declared.state_key.ReachedKey.{ReachedKey}
+use Rattle.cp_states.specs.Rows.{IsRowOf, KeepParts}
+use Rattle.cp_states.specs.declared.row.StateRow.{StateRow}
+use Rattle.cp_states.specs.declared.store.Store.{Store}
+use Rattle.cp_states.proofs.Alone.{one_machine, one_row}
+use Rattle.cp_states.proofs.Following.{row_on}
 use Rattle.cp_ends.proofs.Keeping.{get_more}
-use Rattle.cp_at_once.specs.Holds.{AreStates, IsBefore, IsWordBy, IsWordOf}
+use Rattle.cp_ends.proofs.named.Keys.{key_same, key_self}
+use Rattle.cp_refine.proofs.expressions.SetRanges.{same_truth as both_true}
+use Rattle.cp_at_once.specs.Holds.{AreKept, AreRows, AreStates, IsBefore, IsWordBy, IsWordOf}
+use Rattle.cp_at_once.specs.declared.kept.Kept.{Kept}
 use Rattle.cp_resolved.proofs.names.Entries.{last_or_before as get_cases}
 
-abbrev pub Keys : Type 0
-Keys = ReachedKey × OriginAtOnce
+abbrev pub Entry : Type 0
+Entry = StateRow × OriginAtOnce
 
 abbrev pub Stated : Type 0
 Stated = Machine × List ℕ
-
-abbrev pub bytes_of : Keys → List ℕ
-bytes_of e = e.0.bytes.items
-
-abbrev pub key_at : Stated → List ℕ
-key_at x = key_of x.0
 
 -- ---- words stay
 
@@ -64,37 +65,68 @@ word_choice states o at p x there state numbers = subst (λ s. IsWordBy states s
 pub word_start : (states : List Stated) (o : OriginAtOnce) → o.state ≡ None → o.numbers.items ≡ [] → IsWordOf states o []
 word_start states o state numbers = subst (λ s. IsWordBy states s o.numbers.items []) (sym state) (sym numbers)
 
--- ---- keys
+-- ---- rows
 
-head_same : {X Y : Type 0} (f : X → List ℕ) (g : Y → List ℕ) (x : X) (xs : List X) (y : Y) (ys : List Y) → map f (x ∷ xs) ≡ map g (y ∷ ys) → f x ≡ g y
-head_same f g x xs y ys e = ap (λ l. get_or l 0 []) e
-
-tail_same : {X Y : Type 0} (f : X → List ℕ) (g : Y → List ℕ) (x : X) (xs : List X) (y : Y) (ys : List Y) → map f (x ∷ xs) ≡ map g (y ∷ ys) → map f xs ≡ map g ys
-tail_same f g x xs y ys e = ap (drop 1) e
-
--- what stands at one place has one key
-key_here : (es : List Keys) (xs : List Stated) (i : ℕ) (e : Keys) (x : Stated) → map bytes_of es ≡ map key_at xs → slice_get es i ≡ Some e → slice_get xs i ≡ Some x → bytes_of e ≡ key_at x
-key_here (k ∷ es) (y ∷ xs) zero e x same at to = ap bytes_of (sym (same_Some k e at)) ∙ head_same bytes_of key_at k es y xs same ∙ ap key_at (same_Some y x to)
-key_here (k ∷ es) (y ∷ xs) (suc i) e x same at to = key_here es xs i e x (tail_same bytes_of key_at k es y xs same) at to
-key_here y z i e x same at to = cc
-
--- a key is that of an entry exactly where its machine has the key of a state
-pub found_same : (es : List Keys) (xs : List Stated) (k : ReachedKey) (m : Machine) → map bytes_of es ≡ map key_at xs → k.bytes.items ≡ key_of m → is_some (lookup (λ j. pointwise nat_eq k.bytes.items j.bytes.items) es) ≡ has same_key xs m
-unfolding same_key
-found_same [] [] k m same key = refl
-found_same [] (x ∷ xs) k m same key = cc
-found_same (e ∷ es) [] k m same key = cc
-found_same (e ∷ es) (x ∷ xs) k m same key = by (pointwise nat_eq k.bytes.items e.0.bytes.items) (same_key x.0 m) test (found_same es xs k m (tail_same bytes_of key_at e es x xs same) key)
+-- in one store, rows are the same exactly where the machines of a program are
+same_rows : (r : Tables) (store : Store) (row other : List ℕ) (m n : Machine) → IsMachineOf r m → IsMachineOf r n → IsRowOf store row m → IsRowOf store other n → pointwise nat_eq row other ≡ same_key n m
+same_rows r store row other m n mine theirs a b = both_true (pointwise nat_eq row other) (same_key n m) on back
   where
-    test : pointwise nat_eq k.bytes.items e.0.bytes.items ≡ same_key x.0 m
-    test = ap (λ b. pointwise nat_eq b e.0.bytes.items) key ∙ ap (λ b. pointwise nat_eq (key_of m) b) (head_same bytes_of key_at e es x xs same) ∙ nat_list_eq_equiv.symm (key_of m) (key_of x.0)
+    on : pointwise nat_eq row other ≡ true → same_key n m ≡ true
+    on h =
+        let e : row ≡ other = (bytes_decides row other).0 h in
+        let same : m ≡ n = one_machine store row m n (mine.fits.threads ∙ sym theirs.fits.threads) a (subst (λ l. IsRowOf store l n) (sym e) b) in
+        ap (same_key n) same ∙ key_self n
 
-    by : (b c : Bool) → b ≡ c → is_some (lookup (λ j. pointwise nat_eq k.bytes.items j.bytes.items) es) ≡ has same_key xs m → is_some (cond b (Some e.1) (lookup (λ j. pointwise nat_eq k.bytes.items j.bytes.items) es)) ≡ (if c then true else has same_key xs m)
+    back : same_key n m ≡ true → pointwise nat_eq row other ≡ true
+    back h =
+        let same : n ≡ m = key_same n m h in
+        let e : row ≡ other = one_row store row other m a (subst (IsRowOf store other) same b) in
+        ap (pointwise nat_eq row) (sym e) ∙ nat_list_eq_equiv.refl row
+
+pub rows_length : (store : Store) (es : List Entry) (xs : List Stated) → AreRows store es xs → length es ≡ length xs
+rows_length store [] [] h = refl
+rows_length store (e ∷ es) (x ∷ xs) h = ap suc (rows_length store es xs h.1)
+rows_length store _ _ h = absurd h
+
+-- what stands at one place is the row of the state there
+row_here : (store : Store) (es : List Entry) (xs : List Stated) (i : ℕ) (e : Entry) (x : Stated) → AreRows store es xs → slice_get es i ≡ Some e → slice_get xs i ≡ Some x → IsRowOf store e.0.numbers x.0
+row_here store [] xs i e x h at to = cc
+row_here store (k ∷ es) [] i e x h at to = absurd h
+row_here store (k ∷ es) (y ∷ xs) zero e x h at to = subst (λ (z : Entry). IsRowOf store z.0.numbers x.0) (same_Some k e at) (subst (λ (z : Stated). IsRowOf store k.0.numbers z.0) (same_Some y x to) h.0)
+row_here store (k ∷ es) (y ∷ xs) (suc i) e x h at to = row_here store es xs i e x h.1 at to
+
+rows_more : (store : Store) (es : List Entry) (xs : List Stated) (e : Entry) (x : Stated) → IsRowOf store e.0.numbers x.0 → AreRows store es xs → AreRows store (es ++ e ∷ []) (xs ++ x ∷ [])
+rows_more store [] [] e x is h = (is, tt)
+rows_more store (k ∷ es) (y ∷ xs) e x is h = (h.0, rows_more store es xs e x is h.1)
+rows_more store _ _ e x is h = absurd h
+
+-- rows stay where the store keeps its parts
+rows_on : (s t : Store) (es : List Entry) (xs : List Stated) → KeepParts s t → AreRows s es xs → AreRows t es xs
+rows_on s t [] [] kept h = tt
+rows_on s t (e ∷ es) (x ∷ xs) kept h = (row_on s t e.0.numbers x.0 kept h.0, rows_on s t es xs kept h.1)
+rows_on s t _ _ kept h = absurd h
+
+pub kept_on : (r : Tables) (old new : Kept) (xs : List Stated) → new.known.entries ≡ old.known.entries → KeepParts old.store new.store → IsStateOf r new.last → AreKept r old xs → AreKept r new xs
+kept_on r old new xs same parts last h =
+    record {
+      entries = subst (λ l. AreStates r l xs) (sym same) h.entries;
+      rows = subst (λ l. AreRows new.store l xs) (sym same) (rows_on old.store new.store old.known.entries xs parts h.rows);
+      last = last;
+    }
+
+-- a row is that of an entry exactly where its machine is a state
+pub found_same : (r : Tables) (store : Store) (es : List Entry) (xs : List Stated) (row : StateRow) (m : Machine) → AreRows store es xs → ((i : ℕ) (x : Stated) → slice_get xs i ≡ Some x → IsMachineOf r x.0) → IsMachineOf r m → IsRowOf store row.numbers m → is_some (lookup (λ j. pointwise nat_eq row.numbers j.numbers) es) ≡ has same_key xs m
+found_same r store [] [] row m h owns own is = refl
+found_same r store (e ∷ es) (x ∷ xs) row m h owns own is = by (pointwise nat_eq row.numbers e.0.numbers) (same_key x.0 m) (same_rows r store row.numbers e.0.numbers m x.0 own (owns 0 x refl) is h.0) (found_same r store es xs row m h.1 (λ i y at. owns (suc i) y at) own is)
+  where
+    by : (b c : Bool) → b ≡ c → is_some (lookup (λ j. pointwise nat_eq row.numbers j.numbers) es) ≡ has same_key xs m → is_some (cond b (Some e.1) (lookup (λ j. pointwise nat_eq row.numbers j.numbers) es)) ≡ (if c then true else has same_key xs m)
     by true true t on = refl
     by false false t on = on
-    by x y t on = cc
+    by true false t on = cc
+    by false true t on = cc
+found_same r store _ _ row m h owns own is = absurd h
 
-insert_new : (eq : ReachedKey → ReachedKey → Bool) (es : List Keys) (k : ReachedKey) (o : OriginAtOnce) → is_some (lookup (eq k) es) ≡ false → insert_entry eq es k o ≡ es ++ (k, o) ∷ []
+insert_new : (eq : StateRow → StateRow → Bool) (es : List Entry) (k : StateRow) (o : OriginAtOnce) → is_some (lookup (eq k) es) ≡ false → insert_entry eq es k o ≡ es ++ (k, o) ∷ []
 insert_new eq [] k o new = refl
 insert_new eq (e ∷ es) k o new = by (eq k e.0) new (insert_new eq es k o)
   where
@@ -102,50 +134,67 @@ insert_new eq (e ∷ es) k o new = by (eq k e.0) new (insert_new eq es k o)
     by true new on = cc
     by false new on = ap (λ l. e ∷ l) (on new)
 
-module _ (r : Tables) (es : List Keys) (xs : List Stated) (h : AreStates r es xs) where
-  pub states_length : length es ≡ length xs
-  states_length = sym (length-map es bytes_of) ∙ ap length h.keys ∙ length-map xs key_at
+module _ (r : Tables) (kept : Kept) (xs : List Stated) (h : AreKept r kept xs) where
+  abbrev es : List Entry
+  es = kept.known.entries
+
+  pub owned : (i : ℕ) (x : Stated) → slice_get xs i ≡ Some x → IsMachineOf r x.0
+  owned i x at = all_at (λ (x : Stated). IsMachineOf r x.0) xs i x h.entries.own at
 
   -- the state of an entry
-  pub state_of : (i : ℕ) (e : Keys) → slice_get es i ≡ Some e → (x : Stated) × (slice_get xs i ≡ Some x) × IsMachineOf r x.0 × (x.0.output ≡ []) × (bytes_of e ≡ key_of x.0)
+  pub state_of : (i : ℕ) (e : Entry) → slice_get kept.known.entries i ≡ Some e → (x : Stated) × (slice_get xs i ≡ Some x) × IsMachineOf r x.0 × (x.0.output ≡ []) × IsRowOf kept.store e.0.numbers x.0
   state_of i e at = by (slice_get_cases xs i).1
     where
-      by : ((z : Stated) × (i < length xs) × (slice_get xs i ≡ Some z) × (get_or xs i z ≡ z)) ⊎ ((length xs ≤ i) × (slice_get xs i ≡ None)) → (x : Stated) × (slice_get xs i ≡ Some x) × IsMachineOf r x.0 × (x.0.output ≡ []) × (bytes_of e ≡ key_of x.0)
-      by (inl z) = (z.0, z.2, all_at (λ (x : Stated). IsMachineOf r x.0) xs i z.0 h.own z.2, all_at (λ (x : Stated). x.0.output ≡ []) xs i z.0 h.quiet z.2, key_here es xs i e z.0 h.keys at z.2)
-      by (inr none) = let past = none.0 in let within = slice_get_within es i e at in let few = states_length in absurd (omega (arith, past, within, few))
+      by : ((z : Stated) × (i < length xs) × (slice_get xs i ≡ Some z) × (get_or xs i z ≡ z)) ⊎ ((length xs ≤ i) × (slice_get xs i ≡ None)) → (x : Stated) × (slice_get xs i ≡ Some x) × IsMachineOf r x.0 × (x.0.output ≡ []) × IsRowOf kept.store e.0.numbers x.0
+      by (inl z) = (z.0, z.2, all_at (λ (x : Stated). IsMachineOf r x.0) xs i z.0 h.entries.own z.2, all_at (λ (x : Stated). x.0.output ≡ []) xs i z.0 h.entries.quiet z.2, row_here kept.store es xs i e z.0 h.rows at z.2)
+      by (inr none) = let past = none.0 in let within = slice_get_within es i e at in let few = h.entries.count in absurd (omega (arith, past, within, few))
 
   -- where there is none there is no entry
-  pub no_state : (i : ℕ) → slice_get es i ≡ None → slice_get xs i ≡ None
+  pub no_state : (i : ℕ) → slice_get kept.known.entries i ≡ None → slice_get xs i ≡ None
   no_state i none = by (slice_get_cases es i).1
     where
-      by : ((z : Keys) × (i < length es) × (slice_get es i ≡ Some z) × (get_or es i z ≡ z)) ⊎ ((length es ≤ i) × (slice_get es i ≡ None)) → slice_get xs i ≡ None
+      by : ((z : Entry) × (i < length es) × (slice_get es i ≡ Some z) × (get_or es i z ≡ z)) ⊎ ((length es ≤ i) × (slice_get es i ≡ None)) → slice_get xs i ≡ None
       by (inl z) = let both = sym none ∙ z.2 in cc
-      by (inr past) = let le = past.0 in let few = states_length in slice_get_past xs i (omega (arith, le, few))
+      by (inr past) = let le = past.0 in let few = h.entries.count in slice_get_past xs i (omega (arith, le, few))
 
   -- one more
-  module _ (k : ReachedKey) (o : OriginAtOnce) (m : Machine) (word : List ℕ) where
-    pub states_more : has same_key xs m ≡ false → IsMachineOf r m → m.output ≡ [] → k.bytes.items ≡ key_of m → IsWordOf xs o word → AreStates r (insert_entry (λ a b. pointwise nat_eq a.bytes.items b.bytes.items) es k o) (xs ++ (m, word) ∷ [])
-    states_more new own quiet key is = subst (λ l. AreStates r l (xs ++ (m, word) ∷ [])) (sym put) more
+  module _ (k : StateRow) (o : OriginAtOnce) (m : Machine) (word : List ℕ) where
+    pub states_more : has same_key xs m ≡ false → IsMachineOf r m → m.output ≡ [] → IsRowOf kept.store k.numbers m → IsWordOf xs o word → (new : Kept) → new.store ≡ kept.store → new.last ≡ kept.last → new.known.entries ≡ insert_entry (λ a b. pointwise nat_eq a.numbers b.numbers) kept.known.entries k o → AreKept r new (xs ++ (m, word) ∷ [])
+    states_more fresh own quiet row is new same lasts listed = more
       where
-        put : insert_entry (λ a b. pointwise nat_eq a.bytes.items b.bytes.items) es k o ≡ es ++ (k, o) ∷ []
-        put = insert_new (λ a b. pointwise nat_eq a.bytes.items b.bytes.items) es k o (found_same es xs k m h.keys key ∙ new)
+        put : insert_entry (λ a b. pointwise nat_eq a.numbers b.numbers) es k o ≡ es ++ (k, o) ∷ []
+        put = insert_new (λ a b. pointwise nat_eq a.numbers b.numbers) es k o (found_same r kept.store es xs k m h.rows owned own row ∙ fresh)
 
-        words : (i : ℕ) (e : Keys) (x : Stated) → (slice_get es i ≡ Some e) ⊎ ((i ≡ length es) × (e ≡ (k, o))) → (slice_get xs i ≡ Some x) ⊎ ((i ≡ length xs) × (x ≡ (m, word))) → IsWordOf (xs ++ (m, word) ∷ []) e.1 x.1
-        words i e x (inl at) (inl to) = word_more xs (m, word) e.1 x.1 (h.words i e x at to)
-        words i e x (inl at) (inr to) = let within = slice_get_within es i e at in let here = to.0 in let few = states_length in absurd (omega (arith, within, here, few))
-        words i e x (inr at) (inl to) = let within = slice_get_within xs i x to in let here = at.0 in let few = states_length in absurd (omega (arith, within, here, few))
-        words i e x (inr at) (inr to) = subst (λ (f : Keys). IsWordOf (xs ++ (m, word) ∷ []) f.1 x.1) (sym at.1) (subst (λ (y : Stated). IsWordOf (xs ++ (m, word) ∷ []) o y.1) (sym to.1) (word_more xs (m, word) o word is))
+        words : (i : ℕ) (e : Entry) (x : Stated) → (slice_get es i ≡ Some e) ⊎ ((i ≡ length es) × (e ≡ (k, o))) → (slice_get xs i ≡ Some x) ⊎ ((i ≡ length xs) × (x ≡ (m, word))) → IsWordOf (xs ++ (m, word) ∷ []) e.1 x.1
+        words i e x (inl at) (inl to) = word_more xs (m, word) e.1 x.1 (h.entries.words i e x at to)
+        words i e x (inl at) (inr to) = let within = slice_get_within es i e at in let here = to.0 in let few = h.entries.count in absurd (omega (arith, within, here, few))
+        words i e x (inr at) (inl to) = let within = slice_get_within xs i x to in let here = at.0 in let few = h.entries.count in absurd (omega (arith, within, here, few))
+        words i e x (inr at) (inr to) = subst (λ (f : Entry). IsWordOf (xs ++ (m, word) ∷ []) f.1 x.1) (sym at.1) (subst (λ (y : Stated). IsWordOf (xs ++ (m, word) ∷ []) o y.1) (sym to.1) (word_more xs (m, word) o word is))
 
-        befores : (i : ℕ) (e : Keys) → (slice_get es i ≡ Some e) ⊎ ((i ≡ length es) × (e ≡ (k, o))) → IsBefore i e.1.state
-        befores i e (inl at) = h.before i e at
-        befores i e (inr at) = subst (λ (f : Keys). IsBefore i f.1.state) (sym at.1) (subst (λ n. IsBefore n o.state) (sym (at.0 ∙ states_length)) (word_before xs o word is))
+        befores : (i : ℕ) (e : Entry) → (slice_get es i ≡ Some e) ⊎ ((i ≡ length es) × (e ≡ (k, o))) → IsBefore i e.1.state
+        befores i e (inl at) = h.entries.before i e at
+        befores i e (inr at) = subst (λ (f : Entry). IsBefore i f.1.state) (sym at.1) (subst (λ n. IsBefore n o.state) (sym (at.0 ∙ h.entries.count)) (word_before xs o word is))
 
-        more : AreStates r (es ++ (k, o) ∷ []) (xs ++ (m, word) ∷ [])
-        more =
+        all : new.known.entries ≡ es ++ (k, o) ∷ []
+        all = listed ∙ put
+
+        states : AreStates r (es ++ (k, o) ∷ []) (xs ++ (m, word) ∷ [])
+        states =
             record {
-              keys = map-append bytes_of es ((k, o) ∷ []) ∙ ap (λ l. l ++ k.bytes.items ∷ []) h.keys ∙ ap (λ b. map key_at xs ++ b ∷ []) key ∙ sym (map-append key_at xs ((m, word) ∷ []));
-              own = All-push (λ (x : Stated). IsMachineOf r x.0) xs (m, word) h.own own;
-              quiet = All-push (λ (x : Stated). x.0.output ≡ []) xs (m, word) h.quiet quiet;
+              count = rows_length kept.store (es ++ (k, o) ∷ []) (xs ++ (m, word) ∷ []) (rows_more kept.store es xs (k, o) (m, word) row h.rows);
+              own = All-push (λ (x : Stated). IsMachineOf r x.0) xs (m, word) h.entries.own own;
+              quiet = All-push (λ (x : Stated). x.0.output ≡ []) xs (m, word) h.entries.quiet quiet;
               words = λ i e x at to. words i e x (get_cases es (k, o) i e at) (get_cases xs (m, word) i x to);
               before = λ i e at. befores i e (get_cases es (k, o) i e at);
+            }
+
+        rows : AreRows new.store (es ++ (k, o) ∷ []) (xs ++ (m, word) ∷ [])
+        rows = subst (λ s. AreRows s (es ++ (k, o) ∷ []) (xs ++ (m, word) ∷ [])) (sym same) (rows_more kept.store es xs (k, o) (m, word) row h.rows)
+
+        more : AreKept r new (xs ++ (m, word) ∷ [])
+        more =
+            record {
+              entries = subst (λ l. AreStates r l (xs ++ (m, word) ∷ [])) (sym all) states;
+              rows = subst (λ l. AreRows new.store l (xs ++ (m, word) ∷ [])) (sym all) rows;
+              last = subst (IsStateOf r) (sym lasts) h.last;
             }

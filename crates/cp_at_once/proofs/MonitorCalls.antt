@@ -1,5 +1,5 @@
 -- A process that enters a monitor next has no quiet leg.
-use Rattle.std.proofs.Common.{◌≡◌, ◌∙◌, ◌-◌, ◌<◌, ℕ, Bool, true, false, List, [], ◌∷◌, Option, Some, Result, Ok, Err, if◌then◌else◌, refl, sym, ap, subst, get_or, get_or-set_same, length, length-set, reverse, arith}
+use Rattle.std.proofs.Common.{◌≡◌, ◌∙◌, ◌-◌, ◌<◌, ℕ, Bool, true, false, List, [], ◌∷◌, Some, Result, Ok, Err, if◌then◌else◌, refl, sym, ap, subst, get_or, get_or-set_same, length, length-set, reverse, arith}
 use Rattle.std.proofs.lemmas.Bool.{false≢true}
 use Rattle.std.proofs.lemmas.List.{get_or-reverse, length-reverse}
 use Rattle.std.proofs.lemmas.Option.{get_or_from_slice_get, same_Some, slice_get_within}

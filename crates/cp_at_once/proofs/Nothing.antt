@@ -1,18 +1,20 @@
 -- Before the search nothing is found.
-use Rattle.cp_at_once.proofs.Words.{◌≡◌, ℕ, List, [], sym, subst, arith, All, Tables, LeadsToPlace, LeadsToEnd, ShowsLast, SlotGraph, AreStates, HasWord}
-use Rattle.cp_at_once.proofs.Words.{Holds, FoundAtOnce}
+use Rattle.cp_at_once.proofs.Words.{◌≡◌, ℕ, [], refl, sym, subst, arith, All, Tables, LeadsToPlace, LeadsToEnd, ShowsLast, SlotGraph, AreStates, HasWord}
+use Rattle.cp_at_once.proofs.Words.{Holds, FoundAtOnce, IsStateOf}
 use Rattle.std.proofs.lemmas.List.Elements.{All-nil}
+use Rattle.cp_at_once.specs.Holds.{AreRows}
 
 no_states : (r : Tables) → AreStates r [] []
-no_states r = record { keys = refl_nil; own = All-nil _; quiet = All-nil _; words = λ i e x at to. cc; before = λ i e at. absurd (cc) }
-  where
-    refl_nil : (◌≡◌ {A = List (List ℕ)}) [] []
-    refl_nil = cc
+no_states r = record { count = refl; own = All-nil _; quiet = All-nil _; words = λ i e x at to. cc; before = λ i e at. absurd (cc) }
 
-pub nothing_found : (r : Tables) (g : SlotGraph) (most : ℕ) (found : FoundAtOnce) → found.kept.known.entries ≡ [] → found.ends.items ≡ [] → found.values.items ≡ [] → Holds r g most found []
-nothing_found r g most found kept ends values =
+pub nothing_found : (r : Tables) (g : SlotGraph) (most : ℕ) (found : FoundAtOnce) → found.kept.known.entries ≡ [] → IsStateOf r found.kept.last → found.ends.items ≡ [] → found.values.items ≡ [] → Holds r g most found []
+nothing_found r g most found kept last ends values =
     record {
-      kept = subst (λ es. AreStates r es []) (sym kept) (no_states r);
+      kept = record {
+        entries = subst (λ es. AreStates r es []) (sym kept) (no_states r);
+        rows = subst (λ es. AreRows found.kept.store es []) (sym kept) tt;
+        last = last;
+      };
       few = omega arith;
       reached = All-nil (λ x. LeadsToPlace g x.0 x.1);
       ends = subst (All (λ e. HasWord [] e.origin (LeadsToEnd g e.end))) (sym ends) (All-nil (λ e. HasWord [] e.origin (LeadsToEnd g e.end)));

@@ -57,9 +57,9 @@ module _ (nothing_out : LeavesNothingOut) (r : Tables) (steps most : ℕ) (found
 
   by : (gates : Gates) (b : Bool) → b ≡ found.is_whole → Answers r (slot_graph r gates steps) (HasLeg r gates) most 8 found b → IsAnswer r gates steps most found
   by gates true e (states, h, t) =
-      record { states = states; kept = h.kept; few = h.few; reached = reached gates states h; ends = ends gates states h; values = values gates states h; whole = λ is first uncut. whole gates states h t first uncut; too_many = λ none. absurd (true_false (e ∙ none)) }
+      record { states = states; kept = h.kept.entries; rows = h.kept.rows; few = h.few; reached = reached gates states h; ends = ends gates states h; values = values gates states h; whole = λ is first uncut. whole gates states h t first uncut; too_many = λ none. absurd (true_false (e ∙ none)) }
   by gates false e (states, h, many) =
-      record { states = states; kept = h.kept; few = h.few; reached = reached gates states h; ends = ends gates states h; values = values gates states h; whole = λ is first uncut. absurd (true_false (sym (e ∙ is))); too_many = λ none. too_many gates states h many }
+      record { states = states; kept = h.kept.entries; rows = h.kept.rows; few = h.few; reached = reached gates states h; ends = ends gates states h; values = values gates states h; whole = λ is first uncut. absurd (true_false (sym (e ∙ is))); too_many = λ none. too_many gates states h many }
 
 -- of the code's result
 pub says : {E : Type 0} → LeavesNothingOut → (r : Tables) (gates : Gates) (steps most : ℕ) (result : Result FoundAtOnce E) → IfOk result (λ found. Answers r (slot_graph r gates steps) (HasLeg r gates) most 8 found found.is_whole) → IfOk result (λ found. IsAnswer r gates steps most found)

@@ -1,14 +1,16 @@
 -- What the findings of the code stand for: the kept states, each with its word, and words that lead to the ends and values.
-use Rattle.std.specs.Prelude.{◌≡◌, ◌<◌, ◌≤◌, ℕ, List, [], ◌++◌, map, All, Option, None, Some, length, slice_get}
+use Rattle.std.specs.Prelude.{◌≡◌, ◌<◌, ◌≤◌, ℕ, List, [], ◌∷◌, ◌++◌, All, Option, None, Some, length, slice_get}
 use Rattle.cp_slots.specs.Tables.{Tables}
-use Rattle.cp_key.specs.Key.{key_of}
 use Rattle.cp_key.specs.Room.{IsMachineOf}
 use Rattle.cp_machine.specs.declared.shown.Shown.{Shown}
-use Rattle.cp_machine.specs.System.{Machine}
+use Rattle.cp_machine.specs.System.{Machine, IsStateOf}
 use Rattle.cp_ends.specs.Graph.{Graph, LeadsToPlace, LeadsToEnd, ShowsLast}
 use Rattle.cp_ends.specs.declared.end.End.{End}
-use Rattle.cp_ends.specs.declared.state_key.ReachedKey.{ReachedKey}
+use Rattle.cp_states.specs.Rows.{IsRowOf}
+use Rattle.cp_states.specs.declared.row.StateRow.{StateRow}
+use Rattle.cp_states.specs.declared.store.Store.{Store}
 use Rattle.cp_at_once.specs.declared.found.FoundAtOnce.{FoundAtOnce}
+use Rattle.cp_at_once.specs.declared.kept.Kept.{Kept}
 use Rattle.cp_at_once.specs.declared.origin.OriginAtOnce.{OriginAtOnce}
 
 -- the word of a kept state, if one is named, and these numbers
@@ -30,31 +32,44 @@ IsBefore n None = Unit {0}
 IsBefore n (Some at) = at < n
 
 -- where the state of this number comes from, and the numbers after it
-abbrev pub state_of : Option (ReachedKey × OriginAtOnce) → Option ℕ
+abbrev pub state_of : Option (StateRow × OriginAtOnce) → Option ℕ
 state_of None = None
 state_of (Some e) = e.1.state
 
-abbrev pub numbers_of : Option (ReachedKey × OriginAtOnce) → List ℕ
+abbrev pub numbers_of : Option (StateRow × OriginAtOnce) → List ℕ
 numbers_of None = []
 numbers_of (Some e) = e.1.numbers.items
 
-abbrev pub state_at : List (ReachedKey × OriginAtOnce) → ℕ → Option ℕ
+abbrev pub state_at : List (StateRow × OriginAtOnce) → ℕ → Option ℕ
 state_at entries at = state_of (slice_get entries at)
 
-abbrev pub numbers_at : List (ReachedKey × OriginAtOnce) → ℕ → List ℕ
+abbrev pub numbers_at : List (StateRow × OriginAtOnce) → ℕ → List ℕ
 numbers_at entries at = numbers_of (slice_get entries at)
 
--- the entries are the states, each with its word
-pub record AreStates (r : Tables) (entries : List (ReachedKey × OriginAtOnce)) (states : List (Machine × List ℕ)) : Type 0 where
-  pub keys : map (λ e. e.0.bytes.items) entries ≡ map (λ x. key_of x.0) states
+-- the entries are the rows of the states
+abbrev pub AreRows : Store → List (StateRow × OriginAtOnce) → List (Machine × List ℕ) → Type 0
+AreRows store [] [] = Unit {0}
+AreRows store [] (x ∷ xs) = ⊥
+AreRows store (e ∷ es) [] = ⊥
+AreRows store (e ∷ es) (x ∷ xs) = IsRowOf store e.0.numbers x.0 × AreRows store es xs
+
+-- the entries are as many as the states, and each has the word of its state
+pub record AreStates (r : Tables) (entries : List (StateRow × OriginAtOnce)) (states : List (Machine × List ℕ)) : Type 0 where
+  pub count : length entries ≡ length states
   pub own : All (λ x. IsMachineOf r x.0) states
   pub quiet : All (λ x. x.0.output ≡ []) states
-  pub words : (i : ℕ) (e : ReachedKey × OriginAtOnce) (x : Machine × List ℕ) → slice_get entries i ≡ Some e → slice_get states i ≡ Some x → IsWordOf states e.1 x.1
-  pub before : (i : ℕ) (e : ReachedKey × OriginAtOnce) → slice_get entries i ≡ Some e → IsBefore i e.1.state
+  pub words : (i : ℕ) (e : StateRow × OriginAtOnce) (x : Machine × List ℕ) → slice_get entries i ≡ Some e → slice_get states i ≡ Some x → IsWordOf states e.1 x.1
+  pub before : (i : ℕ) (e : StateRow × OriginAtOnce) → slice_get entries i ≡ Some e → IsBefore i e.1.state
+
+-- what the code keeps are the states, and the state that was taken last is the program's
+pub record AreKept (r : Tables) (kept : Kept) (states : List (Machine × List ℕ)) : Type 0 where
+  pub entries : AreStates r kept.known.entries states
+  pub rows : AreRows kept.store kept.known.entries states
+  pub last : IsStateOf r kept.last
 
 -- at most so many states are kept, and the words lead to them, to the ends and to the values
 pub record Holds (r : Tables) (g : Graph Machine End Shown) (most : ℕ) (found : FoundAtOnce) (states : List (Machine × List ℕ)) : Type 0 where
-  pub kept : AreStates r found.kept.known.entries states
+  pub kept : AreKept r found.kept states
   pub few : length states ≤ most
   pub reached : All (λ x. LeadsToPlace g x.0 x.1) states
   pub ends : All (λ e. HasWord states e.origin (LeadsToEnd g e.end)) found.ends.items

@@ -17,7 +17,7 @@ use Rattle.cp_ends.specs.declared.end.End.TheVariants.{Over, Alone, Spins}
 use Rattle.cp_at_once_laws.specs.OnSlots.{IsQuietOnSlots, LeavesNone, Tells}
 use Rattle.cp_at_once_laws.specs.Search.{SearchesAtOnce}
 use Rattle.cp_at_once.specs.Following.{knows_end, knows_value}
-use Rattle.cp_at_once.specs.Holds.{AreStates, HasWord}
+use Rattle.cp_at_once.specs.Holds.{AreRows, AreStates, HasWord}
 use Rattle.cp_at_once.specs.declared.found.FoundAtOnce.{FoundAtOnce}
 
 -- the end is among those that were found
@@ -51,6 +51,7 @@ pub record HasTooMany (r : Tables) (gates : Gates) (steps most : ℕ) (states : 
 pub record IsAnswer (r : Tables) (gates : Gates) (steps most : ℕ) (found : FoundAtOnce) : Type 0 where
   pub states : List (Machine × List ℕ)
   pub kept : AreStates r found.kept.known.entries states
+  pub rows : AreRows found.kept.store found.kept.known.entries states
   pub few : length states ≤ most
   pub reached : All (λ x. LeadsToState (slots r gates) without_output steps x.0 x.1) states
   pub ends : All (λ e. HasWord states e.origin (EndsSo (silent_slots r gates) steps e.end)) found.ends.items

@@ -3,7 +3,7 @@
 ghost use Rattle.std.specs.Prelude.{◌≡◌, ◌≤◌, ◌∷◌, ℕ, List, [], IfOk, All, length, true};
 ghost use Rattle.std.specs.List.{list_any};
 ghost use Rattle.cp_slots.specs.Tables.{Tables};
-ghost use Rattle.cp_machine.specs.System.{Machine};
+ghost use Rattle.cp_machine.specs.System.{Machine, IsStateOf};
 ghost use Rattle.cp_ends.specs.Answer.{ends_tests};
 ghost use Rattle.cp_ends.specs.Graph.{LeadsToEnd, ShowsLast};
 ghost use Rattle.cp_at_once.specs.Following.{NotesEnd, NotesValues, SlotGraph};
@@ -14,7 +14,7 @@ use crate::order::{place_of_end, place_of_value};
 use crate::origin::OriginAtOnce;
 use cp_ends::End;
 use cp_ends::found::MOST_VALUES;
-use cp_machine::Shown;
+use cp_machine::{Shown, State};
 use cp_run::OutcomeKind;
 use std::alloc::{AllocError, Global};
 
@@ -44,18 +44,19 @@ pub struct FoundAtOnce {
 }
 
 impl FoundAtOnce {
-    /// Nothing was found.
-    pub fn new(alloc: Global) -> FoundAtOnce
-        ensures kept { result.kept.known.entries ≡ [] }
-        ensures ends { result.ends.items ≡ [] }
-        ensures values { result.values.items ≡ [] }
+    /// Nothing was found of the program of a state.
+    pub fn new(alloc: Global, state: &State) -> Result<FoundAtOnce, AllocError>
+        ensures kept { IfOk result (λ found. found.kept.known.entries ≡ []) }
+        ensures last { IfOk result (λ found. (r : Tables) → IsStateOf r state.now → IsStateOf r found.kept.last) }
+        ensures ends { IfOk result (λ found. found.ends.items ≡ []) }
+        ensures values { IfOk result (λ found. found.values.items ≡ []) }
     {
-        FoundAtOnce {
-            kept: Kept::new(alloc),
+        Ok(FoundAtOnce {
+            kept: Kept::new(alloc, state)?,
             ends: Vec::new(alloc),
             values: Vec::new(alloc),
             is_whole: false,
-        }
+        })
     }
 
     /// A word leads to an end.

@@ -17,7 +17,6 @@ use crate::leg::process_at_once;
 use crate::origin::{MOST_IN_A_ROW, OriginAtOnce};
 use cp_ends::End;
 use cp_ends::choosing::{choose, open};
-use cp_ends::state_key::ReachedKey;
 use cp_ends::told::Told;
 use cp_machine::{State, Ticks};
 use cp_progress::{ObserveProgress, Progress, Unobserved};
@@ -28,11 +27,10 @@ use std::alloc::{AllocError, Global};
 use std::marker::Brand;
 use std::sync::ledger::{Blank, Ledger};
 
-// What is found so far, with room for a key, for displayed values, and for a state in which a leg is tried.
+// What is found so far, with room for displayed values, and for a state in which a leg is tried.
 #[derive(Drop)]
 struct SearchAtOnce<S: Ledger> {
     found: FoundAtOnce,
-    key: ReachedKey,
     told: Told,
     ahead: State,
     steps: Ticks<S>,
@@ -81,13 +79,10 @@ fn search_with<O: ObserveProgress, S: Ledger>(
     ensures { IfOk result (λ found. Answers job.now.program.now (slot_graph job.now.program.now job.now.limits.gates job.now.limits.steps) (HasLeg job.now.program.now job.now.limits.gates) job.now.most 8 found found.is_whole) }
 {
     let mut state = State::start(job.alloc, job.program, job.limits.gates)?;
-    let found = FoundAtOnce::new(job.alloc);
+    let found = FoundAtOnce::new(job.alloc, &state)?;
     let told = Told::new(job.alloc);
     let mut search: SearchAtOnce<S> = SearchAtOnce {
         found,
-        key: ReachedKey {
-            bytes: Vec::new(job.alloc),
-        },
         told,
         ahead: state.copy(job.alloc)?,
         steps: Ticks::new(blank),
@@ -185,14 +180,14 @@ impl<S: Ledger> SearchAtOnce<S> {
         ensures ahead { self.new.ahead ≡ self.old.ahead }
         ensures found { IfOk result (λ is_room. (g : SlotGraph) (states : List (Machine × List ℕ)) (word : List ℕ) → Holds job.now.program.now g job.now.most self.old.found states → IsWordOf states origin word → LeadsToPlace g (machine_of state.now) word → IsKept job.now.program.now g job.now.most self.old.found states self.new.found (machine_of state.now) is_room) }
     {
-        self.key.take_from(state)?;
-        if self.found.kept.contains(&self.key) {
+        let row = self.found.kept.row_of(job.alloc, state)?;
+        if self.found.kept.contains(&row) {
             return Ok(true);
         }
         if self.found.kept.len() >= job.most as usize {
             return Ok(false);
         }
-        self.found.kept.add(job.alloc, &self.key, origin)?;
+        self.found.kept.add(row, origin)?;
         Ok(true)
     }
 }

@@ -6,7 +6,7 @@ use Rattle.cp_at_once.proofs.search.SearchAtOnceVisit.take.Goals as goal
 pub choose-requires-clause-quiet : goal.choose-requires-clause-quiet
 choose-requires-clause-quiet g c =
     let x = c.requires.within.1 in
-    all_at (λ y. y.0.output ≡ []) x.states c.args.at (machine_of c.args.state.now, x.word) x.holds.kept.quiet x.is
+    all_at (λ y. y.0.output ≡ []) x.states c.args.at (machine_of c.args.state.now, x.word) x.holds.kept.entries.quiet x.is
 
 pub returns-clause-within : goal.returns-clause-within
 returns-clause-within g c =
