@@ -244,4 +244,4 @@ def counts_of(data):
 
 def limited(end):
     """An end without who came to it, if that is no run error."""
-    return end if end[0] == "run-error" else [end[0], "", 0, 0]
+    return end[:4] if end[0] == "run-error" else [end[0], "", 0, 0]

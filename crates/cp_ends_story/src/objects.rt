@@ -7,7 +7,7 @@ use cp_ends::End;
 use cp_ends::found::MOST_VALUES;
 use cp_run::OutcomeKind;
 use cp_story::objects::{Object, monitors, numbers, processes, put_kind, waits};
-use cp_story::output_words;
+use cp_story::{output_words, put_error_cause};
 use cp_waits::{How, Set, Waiting, Waits};
 use serde_json::Value;
 use std::alloc::AllocError;
@@ -69,10 +69,20 @@ fn end_object(telling: Telling<'_>, end: &ToldEnd) -> Result<Value, AllocError> 
         End::Over(OutcomeKind::AllWaiting) => put_final(telling, &mut object, word)?,
         End::Over(OutcomeKind::RunError { line, .. }) => {
             object.text("text", line_of(telling.subject.source, line))?;
+            put_cause(telling, &mut object, word)?;
         }
         _ => {}
     }
     Ok(object.into_value())
+}
+
+// What the error is of to which a word leads, if that is known.
+fn put_cause(telling: Telling<'_>, object: &mut Object, word: &[u8]) -> Result<(), AllocError> {
+    let Telling { alloc, subject, .. } = telling;
+    match whole_story(telling, word)? {
+        Some(story) => put_error_cause(alloc, subject.legend, object, story.cause),
+        None => Ok(()),
+    }
 }
 
 fn put_going(object: &mut Object, kind: &str, process: u8) -> Result<(), AllocError> {

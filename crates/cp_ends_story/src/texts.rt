@@ -4,10 +4,12 @@ use crate::placing::{outermost_call, wait_of, whole_story};
 use crate::subject::{Reach, Telling, ToldEnd};
 use cp_ends::End;
 use cp_ends::found::MOST_VALUES;
-use cp_machine::Gates;
+use cp_machine::{ErrorName, Gates};
 use cp_prose::Prose;
 use cp_run::{MOST_STEPS, OutcomeKind};
-use cp_story::{OpenCall, Story, Wait, kind_words, output_words, push_call, wait_words};
+use cp_story::{
+    OpenCall, Story, Wait, cause_line, kind_words, output_words, push_call, wait_words,
+};
 use cp_waits::{How, Set, Waiting, Waits};
 use cp_walk::text::{error_name, push_word};
 use std::alloc::{AllocError, Global};
@@ -118,7 +120,13 @@ fn push_end(telling: Telling<'_>, text: &mut Prose, end: &ToldEnd) {
     push_words(telling, text, telling.findings.word_name(), &end.word);
     match end.end {
         End::Over(OutcomeKind::AllWaiting) => push_all_waiting(telling, text, &end.word),
-        End::Over(OutcomeKind::RunError { process, line, .. }) => {
+        End::Over(
+            OutcomeKind::RunError {
+                name,
+                process,
+                line,
+            },
+        ) => {
             text.put(INDENT);
             push_process(telling, text, process);
             text.put(" at line ");
@@ -126,8 +134,21 @@ fn push_end(telling: Telling<'_>, text: &mut Prose, end: &ToldEnd) {
             text.put(": ");
             text.put(line_of(telling.subject.source, line));
             text.put_char('\n');
+            push_cause(telling, text, name, &end.word);
         }
         _ => {}
+    }
+}
+
+// What the error is of to which a word leads, if that is known.
+fn push_cause(telling: Telling<'_>, text: &mut Prose, name: ErrorName, word: &[u8]) {
+    let Some(story) = story_for(telling, text, word) else {
+        return;
+    };
+    match cause_line(telling.alloc, telling.subject.legend, name, story.cause) {
+        Ok(Some(line)) => push_line(text, line.as_str()),
+        Ok(None) => {}
+        Err(_) => text.refuse(),
     }
 }
 

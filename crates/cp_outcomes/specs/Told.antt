@@ -2,6 +2,7 @@
 use Rattle.std.specs.Prelude.{◌≡◌, ℕ, ◌-◌, List, [], ◌∷◌, ◌++◌, Bool, true, false, not, ◌||◌, map, length, take, drop, Option, IfSome, option_copied, slice_index_or, decimal, codes, string_bytes, if◌then◌else◌}
 use Rattle.std.specs.Char.{is_ascii_whitespace}
 use Rattle.std.specs.List.{filter, prefix_len, suffix_len, AllByRecursion}
+use Rattle.std.specs.Option.{option_to_list}
 use Rattle.cp_slots.specs.Tables.{Tables}
 use Rattle.cp_legend.specs.Names.{Legend, legend_seen}
 use Rattle.cp_machine.specs.declared.gates.Gates.{Gates}
@@ -12,8 +13,11 @@ use Rattle.cp_walk.specs.Groups.{Tally}
 use Rattle.cp_merged.specs.Code.{tally_of}
 use Rattle.cp_simplest.specs.Simple.{IsScheduleOf}
 use Rattle.cp_simplest.specs.declared.finding.SimplestSchedule.{SimplestSchedule}
+use Rattle.cp_story.specs.Causes.{cause_of_run}
+use Rattle.cp_story.specs.CauseText.{cause_line}
 use Rattle.cp_story.specs.Sentences.{process_text, wait_text}
 use Rattle.cp_story.specs.Waiting.{Waiting, who_waits}
+use Rattle.cp_story.specs.declared.cause.Cause.{Cause}
 use Rattle.cp_outcomes.specs.Stops.{is_at}
 use Rattle.cp_outcomes.specs.declared.stopped.Limit.TheVariants.{Choices, Steps, Output}
 use Rattle.cp_outcomes.specs.declared.subject.Subject.{Subject}
@@ -73,10 +77,14 @@ error_text s process line = process_text s.legend process ++ codes " at line " +
 abbrev pub waits_after : Setting → (word : List ℕ) → List Waiting
 waits_after s word = who_waits s.legend s.program s.gates s.choices s.steps word
 
--- the lines of an end after a schedule: where all wait, one for each that waits; one of a run error; else none
+-- what the error of a schedule is of, if that is known
+abbrev pub cause_after : Setting → (word : List ℕ) → Option Cause
+cause_after s word = cause_of_run s.program s.gates s.choices s.steps word
+
+-- the lines of an end after a schedule: where all wait, one for each that waits; of a run error one, and what it is of if that is known; else none
 abbrev pub lines_after : Setting → (word : List ℕ) → OutcomeKind → List (List ℕ)
 lines_after s word AllWaiting = map (wait_text s.legend) (waits_after s word)
-lines_after s word (RunError name process line) = error_text s process line ∷ []
+lines_after s word (RunError name process line) = error_text s process line ∷ option_to_list (cause_line s.legend name (cause_after s word))
 lines_after s word _ = []
 
 -- those of the outcome's first schedule

@@ -16,14 +16,14 @@ use crate::share::share_of;
 use crate::simples::Simples;
 use crate::stopped::{Limit, schedules_in, schedules_stopped_at};
 use crate::subject::{Excess, Subject};
-use crate::told::{ToldOutcome, line_of, tell_outcomes, waits_of};
+use crate::told::{ToldOutcome, cause_of, line_of, tell_outcomes, waits_of};
 use cp_legend::Legend;
 use cp_merged::{Tallies, Tally};
 use cp_natural::{Natural, push_natural};
 use cp_run::OutcomeKind;
 use cp_simplest::SimplestSchedule;
 use cp_story::objects::{Object, monitors, numbers, processes, put_kind, waits};
-use cp_story::output_words;
+use cp_story::{output_words, put_error_cause};
 use cp_walk::text::push_count;
 use serde_json::Value;
 use std::alloc::{AllocError, Global};
@@ -169,7 +169,7 @@ fn put_simple(
     }
 }
 
-// Who waits where at the end, or the line of a run error.
+// Who waits where at the end, or the line of a run error and what it is of.
 fn put_end(
     alloc: Global,
     subject: Subject<'_>,
@@ -183,7 +183,11 @@ fn put_end(
             let waiting = waits_of(alloc, subject, tally.first.as_slice())?;
             object.put("final", waits(alloc, subject.legend, &waiting)?)
         }
-        OutcomeKind::RunError { line, .. } => object.text("text", line_of(subject.source, line)),
+        OutcomeKind::RunError { line, .. } => {
+            object.text("text", line_of(subject.source, line))?;
+            let cause = cause_of(alloc, subject, tally.first.as_slice())?;
+            put_error_cause(alloc, subject.legend, object, cause)
+        }
         _ => Ok(()),
     }
 }

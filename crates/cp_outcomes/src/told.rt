@@ -1,7 +1,8 @@
 //! What is told of each outcome.
 
-ghost use Rattle.std.specs.Prelude.{◌≡◌, ◌-◌, ◌≤◌, ◌++◌, [], IfOk, length, map, string_bytes, slice_index_or};
+ghost use Rattle.std.specs.Prelude.{◌≡◌, ◌-◌, ◌≤◌, ◌++◌, [], ◌∷◌, IfOk, length, map, option_map, string_bytes, slice_index_or};
 ghost use Rattle.std.specs.List.{filter, AllByRecursion};
+ghost use Rattle.std.specs.Option.{option_to_list};
 ghost use Rattle.cp_legend.specs.Names.{legend_seen};
 ghost use Rattle.cp_merged.specs.Code.{tally_of};
 ghost use Rattle.cp_story.specs.Sentences.{wait_text};
@@ -17,7 +18,7 @@ use cp_machine::Ticks;
 use cp_merged::Tally;
 use cp_run::OutcomeKind;
 use cp_simplest::SimplestSchedule;
-use cp_story::{Wait, tell, wait_words};
+use cp_story::{Cause, Story, Wait, cause_line, tell, wait_words};
 use cp_walk::Job;
 use std::alloc::{AllocError, Global};
 use std::marker::Brand;
@@ -104,13 +105,37 @@ pub fn end_lines(
             let waits = waits_of(alloc, subject, tally.first.as_slice())?;
             wait_lines(alloc, subject.legend, &waits)
         }
-        OutcomeKind::RunError { process, line, .. } => {
-            let mut lines = Vec::new(alloc);
-            lines.push(error_line(alloc, subject, process, line)?)?;
-            Ok(lines)
+        OutcomeKind::RunError {
+            name,
+            process,
+            line,
+        } => {
+            let place = error_line(alloc, subject, process, line)?;
+            let cause = cause_of(alloc, subject, tally.first.as_slice())?;
+            error_lines(
+                alloc,
+                place,
+                cause_line(alloc, subject.legend, name, cause)?,
+            )
         }
         _ => Ok(Vec::new(alloc)),
     }
+}
+
+// The line of an error, and what it is of if that is known.
+fn error_lines(
+    alloc: Global,
+    place: String,
+    cause: Option<String>,
+) -> Result<Vec<String>, AllocError>
+    ensures { IfOk result (λ lines. map string_bytes lines.items ≡ string_bytes place ∷ option_to_list (option_map string_bytes cause)) }
+{
+    let mut lines = Vec::new(alloc);
+    lines.push(place)?;
+    if let Some(cause) = cause {
+        lines.push(cause)?;
+    }
+    Ok(lines)
 }
 
 fn wait_lines(alloc: Global, legend: &Legend, waits: &[Wait]) -> Result<Vec<String>, AllocError>
@@ -128,20 +153,33 @@ pub fn waits_of(alloc: Global, subject: Subject<'_>, word: &[u8]) -> Result<Vec<
     requires { length word.now ≤ 100 }
     ensures { IfOk result (λ waits. map wait_of waits.items ≡ spec.waits_after (setting_of subject.entry subject.entry.limits.choices) word.now) }
 {
-    waits_by::<Brand>(alloc, subject, word, Blank::new(1))
+    Ok(story_by::<Brand>(alloc, subject, word, Blank::new(1))?.waits)
 }
 
-fn waits_by<L: Ledger>(
+/// What the error of a schedule is of, if that is known.
+pub fn cause_of(
+    alloc: Global,
+    subject: Subject<'_>,
+    word: &[u8],
+) -> Result<Option<Cause>, AllocError>
+    requires { length word.now ≤ 100 }
+    ensures { IfOk result (λ cause. cause ≡ spec.cause_after (setting_of subject.entry subject.entry.limits.choices) word.now) }
+{
+    Ok(story_by::<Brand>(alloc, subject, word, Blank::new(1))?.cause)
+}
+
+fn story_by<L: Ledger>(
     alloc: Global,
     subject: Subject<'_>,
     word: &[u8],
     blank: Blank,
-) -> Result<Vec<Wait>, AllocError>
+) -> Result<Story, AllocError>
     requires name { blank.name ≡ L.name }
     requires parts { blank.parts ≡ L.parts }
     requires one { L.parts ≡ 1 }
     requires word { length word.now ≤ 100 }
-    ensures { IfOk result (λ waits. map wait_of waits.items ≡ spec.waits_after (setting_of subject.entry subject.entry.limits.choices) word.now) }
+    ensures waits { IfOk result (λ s. map wait_of s.waits.items ≡ spec.waits_after (setting_of subject.entry subject.entry.limits.choices) word.now) }
+    ensures cause { IfOk result (λ s. s.cause ≡ spec.cause_after (setting_of subject.entry subject.entry.limits.choices) word.now) }
 {
     let Subject {
         program,
@@ -150,7 +188,7 @@ fn waits_by<L: Ledger>(
         ..
     } = subject;
     let mut ticks: Ticks<L> = Ticks::new(blank);
-    Ok(tell(alloc, program, legend, limits, word, &mut ticks)?.waits)
+    tell(alloc, program, legend, limits, word, &mut ticks)
 }
 
 // The process that was in error, and the text of the line at which it was.

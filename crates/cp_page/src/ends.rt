@@ -3,20 +3,28 @@
 ghost use Rattle.cp_machine.specs.System.{IsStateOf};
 
 use crate::json::Json;
+use crate::register::Register;
 use crate::views::next_line;
 use cp_ends::End;
 use cp_machine::State;
 use cp_run::OutcomeKind;
 use cp_slots::Resolved;
-use cp_story::{error_words, kind_words};
-use std::alloc::Global;
+use cp_story::{cause_of_kind, cause_text, error_words, kind_words};
+use std::alloc::AllocError;
 
 /// An end where a stretch came to it: `[kind, error, process, line]`. Of a limit, and of a stretch that goes on for ever, it is said who was
-/// going on, and where.
-pub fn end_row(alloc: Global, program: &Resolved, state: &State, end: End, going: u8) -> Json
+/// going on, and where; and of a run error what it is of, as a fifth member, if that is known.
+pub fn end_row(
+    register: &Register<'_>,
+    program: &Resolved,
+    state: &State,
+    end: End,
+    going: u8,
+) -> Result<Json, AllocError>
     requires { IsStateOf program.now state.now }
 {
-    let mut row = Json::new(alloc);
+    let mut row = Json::new(register.alloc);
+    row.open();
     match end {
         End::Over(OutcomeKind::StepLimit)
         | End::Over(OutcomeKind::OutputLimit)
@@ -25,13 +33,26 @@ pub fn end_row(alloc: Global, program: &Resolved, state: &State, end: End, going
             let line = next_line(program, state, going);
             put_end(&mut row, end_words(end), "", going, line);
         }
-        End::Over(_) => put_plain_end(&mut row, end),
+        End::Over(kind) => {
+            put_members(&mut row, end);
+            if let Some(cause) = cause_of_kind(program, state, kind) {
+                let detail = cause_text(register.alloc, register.legend, cause)?;
+                row.put_quoted(detail.as_str());
+            }
+        }
     }
-    row
+    row.close();
+    Ok(row)
 }
 
 /// Appends an end as it is told of schedules: `[kind, error, process, line]`.
 pub fn put_plain_end(json: &mut Json, end: End) {
+    json.open();
+    put_members(json, end);
+    json.close();
+}
+
+fn put_members(json: &mut Json, end: End) {
     let (error, process, line) = match end {
         End::Over(
             OutcomeKind::RunError {
@@ -55,10 +76,8 @@ fn end_words(end: End) -> &'static str {
 }
 
 fn put_end(json: &mut Json, kind: &str, error: &str, process: u8, line: u32) {
-    json.open();
     json.put_quoted(kind);
     json.put_quoted(error);
     json.put_plain(process);
     json.put_plain(line);
-    json.close();
 }

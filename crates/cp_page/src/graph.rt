@@ -161,7 +161,8 @@ impl<'a, K: Schedules> PageGraph<'a, K> {
     {
         match halt {
             Halt::Ended(end) => {
-                let row = end_row(self.alloc(), program, &state, end, self.teller.going);
+                let register = &self.teller.register;
+                let row = end_row(register, program, &state, end, self.teller.going)?;
                 let place = self.teller.register.ends.place(&row)?;
                 self.edge_to(None, place)
             }

@@ -228,10 +228,10 @@ function headShapes({ lane, laneX, barX }) {
 }
 
 function endWords(s) {
-  const { kind, error, p, line } = s.end;
+  const { kind, error, p, line, cause } = s.end;
   const { output } = s;
   const shown = output.length ? " \u00b7 displayed " + (output.length > 12 ? `${output.slice(0, 3).join(" ")} .. ${output.at(-1)}` : output.join(" ")) : "";
-  return kindText(kind) + (error && ` ${error}: ${person(p)}, line ${line}`) + shown;
+  return kindText(kind) + (error && ` ${error}: ${person(p)}, line ${line}${behindColon(cause)}`) + shown;
 }
 
 function bracket(y, from, to) {

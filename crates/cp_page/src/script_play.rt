@@ -91,15 +91,17 @@ const NODES = D.nodes.map(([gate, pairs]) => {
 const edgeOf = (node, p) => NODES[node].edges[NODES[node].options.indexOf(p)];
 const isWholeGraph = NODES.every(node => !node.isOpen);
 
-const ENDS = D.ends.map(([kind, error, p, line]) => ({ kind, error, p, line }));
+const ENDS = D.ends.map(([kind, error, p, line, cause]) => ({ kind, error, p, line, cause }));
 const CHOICE_LIMIT = { kind: "choice-limit", error: "", p: 0, line: 0 };
 const BEYOND = { kind: "beyond", error: "", p: 0, line: 0 };
 
-function endSentence({ kind, error, p, line }) {
+const behindColon = text => text ? ": " + text : "";
+
+function endSentence({ kind, error, p, line, cause }) {
   return {
     "finished": () => "Finished: every process has ended.",
     "all-waiting": () => "All wait, and nobody is left who could wake them.",
-    "run-error": () => `Run error ${error}: ${person(p)}, line ${line}.`,
+    "run-error": () => `Run error ${error}: ${person(p)}, line ${line}${behindColon(cause)}.`,
     "choice-limit": () => `The limit of ${K} choices. What follows is not told: try more --choices.`,
     "alone": () => `${person(p)} goes on for ever, and nobody else can.`,
     "spins": () => `${person(p)} goes on for ever without a call${line ? ", line " + line : ""}, and nobody else does.`,

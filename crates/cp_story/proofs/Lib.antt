@@ -1,5 +1,6 @@
 pub mod Arrays
 pub mod Behind
+pub mod CauseFloats
 pub mod Calls
 pub mod Changing
 pub mod Floats

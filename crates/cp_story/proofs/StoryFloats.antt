@@ -14,6 +14,9 @@ use Rattle.cp_run.specs.declared.outcome.OutcomeKind.TheVariants as kind
 use Rattle.cp_run.specs.Code.{answer_of}
 use Rattle.cp_run.specs.Run.{Answer, Ended, Wants, NotReady}
 use Rattle.cp_story.proofs.Floats.{both, is_float_member, no_float-array, no_float-at_each, no_float-flag, no_float-numbers, no_float-object, no_float-optional, none_of}
+use Rattle.cp_story.proofs.CauseFloats as floats
+use Rattle.cp_story.specs.CauseText.{error_cause_members}
+use Rattle.cp_story.specs.declared.cause.Cause.{Cause}
 use Rattle.cp_story.specs.Changes.{Changed}
 use Rattle.cp_story.specs.Halted.{Halted, halted_seen}
 use Rattle.cp_story.specs.Objects.{array_of, flag, integer_data, number_data, numbers_data, optional, text_data, with_member}
@@ -160,11 +163,12 @@ stop_free (Some s) =
     both refl (none_of (optional (codes "line") number_data s.line) (optional (codes "waiting") number_data s.waiting)
     (no_float-optional (codes "line") number_data s.line number_free) (no_float-optional (codes "waiting") number_data s.waiting number_free))
 
-end_free : (a : Answer) (s : Option Halted) (d : Option Decision) → has_float (spec.end_data a s d) ≡ false
-end_free a s d =
+end_free : (l : Legend) (a : Answer) (s : Option Halted) (c : Option Cause) (d : Option Decision) → has_float (spec.end_data l a s c d) ≡ false
+end_free l a s c d =
     let last = optional (codes "choice") spec.choice_data d in
-    no_float-object (spec.answer_members a ++ spec.stop_members s ++ last)
-    (none_of (spec.answer_members a ++ spec.stop_members s) last (none_of (spec.answer_members a) (spec.stop_members s) (answer_free a) (stop_free s)) (no_float-optional (codes "choice") spec.choice_data d choice_free))
+    let cause = error_cause_members l c in
+    no_float-object (spec.answer_members a ++ spec.stop_members s ++ cause ++ last)
+    (none_of (spec.answer_members a ++ spec.stop_members s ++ cause) last (none_of (spec.answer_members a ++ spec.stop_members s) cause (none_of (spec.answer_members a) (spec.stop_members s) (answer_free a) (stop_free s)) (floats.cause_free l c)) (no_float-optional (codes "choice") spec.choice_data d choice_free))
 
 outcome_free : (l : Legend) (a : Answer) (word : List ℕ) → list_any is_float_member (spec.outcome_members l a word) ≡ false
 outcome_free l (Ended outcome used) word = both (no_float-numbers (take used word)) refl
@@ -187,7 +191,7 @@ first_free l s =
     both (no_float-at_each (spec.process_data l) (process_count l.components) (process_free l))
     (both (no_float-at_each (spec.monitor_data l) (monitor_count l.components) (monitor_free l))
     (both (no_float-array (spec.event_data l) (map told_of s.events.items) (event_free l))
-    (both (end_free (answer_of s.end) (option_map halted_seen s.stop) (option_map decision_of s.last_choice)) refl)))
+    (both (end_free l (answer_of s.end) (option_map halted_seen s.stop) s.cause (option_map decision_of s.last_choice)) refl)))
 
 pub story_free : (l : Legend) (s : Story) (word : List ℕ) (source : List (List ℕ)) → has_float (spec.story_data l s word source) ≡ false
 story_free l s word source =

@@ -1,9 +1,12 @@
 pub mod Aimed
+pub mod Causes
+pub mod CauseText
 pub mod Changes
 pub mod Columns
 pub mod Ends
 pub mod Events
 pub mod Halted
+pub mod Integers
 pub mod Joined
 pub mod Objects
 pub mod Passed

@@ -11,6 +11,7 @@ use Rattle.cp_run.specs.Code.{answer_of}
 use Rattle.cp_run.specs.declared.outcome.OutcomeKind.{OutcomeKind}
 use Rattle.cp_run.specs.declared.outcome.OutcomeKind.TheVariants as kind
 use Rattle.cp_run.specs.Run.{Answer, Ended, Wants, NotReady}
+use Rattle.cp_story.specs.CauseText.{error_cause_members}
 use Rattle.cp_story.specs.Changes.{Changed}
 use Rattle.cp_story.specs.Ends.{error_name, kind_name, output_text}
 use Rattle.cp_story.specs.Halted.{Halted, halted_seen}
@@ -20,6 +21,7 @@ use Rattle.cp_story.specs.Sentences.{shown_text}
 use Rattle.cp_story.specs.Story.{Decision, Happened, Enters, Leaves, Delays, Continues, Starts, Displays, Ends, IsAdmitted, Told, queue_at}
 use Rattle.cp_story.specs.Views.{decision_of, told_of, wait_of}
 use Rattle.cp_story.specs.Waiting.{Waiting}
+use Rattle.cp_story.specs.declared.cause.Cause.{Cause}
 use Rattle.cp_story.specs.declared.event.OpenCall.{OpenCall}
 use Rattle.cp_story.specs.declared.story.Story.{Story}
 
@@ -157,8 +159,8 @@ abbrev pub stop_members : Option Halted → List Member
 stop_members None = []
 stop_members (Some stop) = (codes "process", number_data stop.process) ∷ optional (codes "line") number_data stop.line ++ optional (codes "waiting") number_data stop.waiting
 
-abbrev pub end_data : Answer → Option Halted → (last : Option Decision) → Data
-end_data answer stop last = object_with (answer_members answer ++ stop_members stop ++ optional (codes "choice") choice_data last)
+abbrev pub end_data : Legend → Answer → Option Halted → Option Cause → (last : Option Decision) → Data
+end_data l answer stop cause last = object_with (answer_members answer ++ stop_members stop ++ error_cause_members l cause ++ optional (codes "choice") choice_data last)
 
 -- of a run that ended, the numbers that it used, and what it displayed
 abbrev pub outcome_members : Legend → Answer → (word : List ℕ) → List Member
@@ -192,7 +194,7 @@ first_members l s =
     (codes "processes", processes_data l)
     ∷ (codes "monitors", monitors_data l)
     ∷ (codes "events", events_data l (map told_of s.events.items))
-    ∷ (codes "end", end_data (answer_of s.end) (option_map halted_seen s.stop) (option_map decision_of s.last_choice))
+    ∷ (codes "end", end_data l (answer_of s.end) (option_map halted_seen s.stop) s.cause (option_map decision_of s.last_choice))
     ∷ []
 
 -- and what a run that ended used and displayed; the processes that wait; and the lines of the source

@@ -5,6 +5,7 @@ use Rattle.cp_legend.specs.Written.{value_text}
 use Rattle.cp_run.specs.declared.outcome.RunEnd.{RunEnd}
 use Rattle.cp_run.specs.declared.outcome.RunEnd.TheVariants as run_end
 use Rattle.cp_run.specs.Table.{each}
+use Rattle.cp_story.specs.CauseText.{behind_colon, cause_text}
 use Rattle.cp_story.specs.Changes.{Changed}
 use Rattle.cp_story.specs.Columns.{Row, rows_text}
 use Rattle.cp_story.specs.Halted.{Halted, halted_seen}
@@ -13,6 +14,8 @@ use Rattle.cp_story.specs.Sentences.{monitor_text, process_text, event_text, wai
 use Rattle.cp_story.specs.Story.{Decision}
 use Rattle.cp_story.specs.Views.{decision_of, told_of, wait_of}
 use Rattle.cp_story.specs.Waiting.{Waiting}
+use Rattle.cp_story.specs.declared.cause.Cause.{Cause}
+use Rattle.cp_story.specs.declared.cause.Cause.TheVariants as cause
 use Rattle.cp_story.specs.declared.event.StoryEvent.{StoryEvent}
 use Rattle.cp_story.specs.declared.story.Story.{Story}
 
@@ -51,16 +54,25 @@ changes_text l changes = joined [] (codes "  ") (change_text l) changes
 abbrev pub event_row : Legend → StoryEvent → Row
 event_row l e = choice_text (told_of e).choice ∷ process_text l (told_of e).process ∷ line_text (told_of e).line ∷ event_text l e ∷ changes_text l (told_of e).changes ∷ []
 
--- how the run stopped where no event tells of it, behind a choice if one came last
-abbrev pub stop_row : Legend → Option Decision → Halted → Row
-stop_row l choice stop = choice_text choice ∷ process_text l stop.process ∷ line_text stop.line ∷ stop.words ∷ []
+-- what an error is of, if that is known; who waits in a queue that is in use is told already
+abbrev pub told_of_cause : Legend → Option Cause → List ℕ
+told_of_cause l None = []
+told_of_cause l (Some (cause.InUse process cell)) = []
+told_of_cause l (Some c) = behind_colon (cause_text l c)
 
-abbrev pub stop_rows : Legend → Option Decision → Option Halted → List Row
-stop_rows l choice None = []
-stop_rows l choice (Some stop) = stop_row l choice stop ∷ []
+abbrev pub stop_text : Legend → Halted → Option Cause → List ℕ
+stop_text l stop c = stop.words ++ told_of_cause l c
+
+-- how the run stopped where no event tells of it, behind a choice if one came last
+abbrev pub stop_row : Legend → Option Decision → Halted → Option Cause → Row
+stop_row l choice stop cause = choice_text choice ∷ process_text l stop.process ∷ line_text stop.line ∷ stop_text l stop cause ∷ []
+
+abbrev pub stop_rows : Legend → Option Decision → Option Halted → Option Cause → List Row
+stop_rows l choice None cause = []
+stop_rows l choice (Some stop) cause = stop_row l choice stop cause ∷ []
 
 abbrev pub story_rows : Legend → Story → List Row
-story_rows l s = map (event_row l) s.events.items ++ stop_rows l (option_map decision_of s.last_choice) (option_map halted_seen s.stop)
+story_rows l s = map (event_row l) s.events.items ++ stop_rows l (option_map decision_of s.last_choice) (option_map halted_seen s.stop) s.cause
 
 -- ---- lines below the table
 

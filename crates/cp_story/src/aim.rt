@@ -43,8 +43,8 @@ const RETURN: Aim = Aim {
     ends_call: true,
 };
 
-// The topmost entry of a process.
-fn top_of(state: &State, pid: u8) -> Option<&Entry>
+/// The topmost entry of a process.
+pub fn top_of(state: &State, pid: u8) -> Option<&Entry>
     requires { pid < length state.now.processes.items }
     ensures { (thread_at (machine_of state.now).threads pid).stack ≡ above (option_copied result) (drop 1 (thread_at (machine_of state.now).threads pid).stack) }
 {
@@ -126,7 +126,8 @@ fn woken_by(state: &State, item: &Item, queue: Option<usize>) -> Option<u8>
     }
 }
 
-fn waiter_of(state: &State, cell: usize) -> Option<u8>
+/// Who waits in the queue of a cell.
+pub fn waiter_of(state: &State, cell: usize) -> Option<u8>
     ensures { result ≡ waits_in (machine_of state.now) cell }
 {
     match place_in_queue(&state.processes, cell) {

@@ -13,6 +13,7 @@ ghost use Rattle.cp_story.specs.Objects.{array_of, line_of, members_in, number_d
 ghost use Rattle.cp_story.specs.StoryData as spec;
 ghost use Rattle.cp_story.specs.Views.{changed_of, decision_of, given_of, happened_of, told_of, wait_of};
 
+use crate::cause_objects::put_error_cause;
 use crate::event::{Change, Choice, Happening, OpenCall, Returned, StoryEvent};
 use crate::story::{Story, Wait};
 use crate::words::{error_words, kind_words, output_words, push_shown};
@@ -110,7 +111,7 @@ fn story_object(
     whole.put("processes", processes(alloc, legend)?)?;
     whole.put("monitors", monitors(alloc, legend)?)?;
     whole.put("events", events(alloc, legend, &story.events)?)?;
-    whole.put("end", end(alloc, story)?)?;
+    whole.put("end", end(alloc, legend, story)?)?;
     put_outcome(alloc, legend, &mut whole, story, word)?;
     whole.put("final", waits(alloc, legend, &story.waits)?)?;
     whole.put("source", lines(alloc, source)?)?;
@@ -485,12 +486,13 @@ pub fn waits(alloc: Global, legend: &Legend, waits: &[Wait]) -> Result<Value, Al
 }
 
 #[tactic(auto, using(crate::proofs::Floats::with_both))]
-fn end(alloc: Global, story: &Story) -> Result<Value, AllocError>
-    ensures { IfOk result (λ v. view v ≡ spec.end_data (answer_of story.now.end) (option_map halted_seen story.now.stop) (option_map decision_of story.now.last_choice)) }
+fn end(alloc: Global, legend: &Legend, story: &Story) -> Result<Value, AllocError>
+    ensures { IfOk result (λ v. view v ≡ spec.end_data (legend_seen legend.now) (answer_of story.now.end) (option_map halted_seen story.now.stop) story.now.cause (option_map decision_of story.now.last_choice)) }
 {
     let mut object = Object::new(alloc);
     put_answer(alloc, &mut object, &story.end)?;
     put_stop(&mut object, story)?;
+    put_error_cause(alloc, legend, &mut object, story.cause)?;
     put_choice(alloc, &mut object, &story.last_choice)?;
     Ok(object.into_value())
 }

@@ -10,12 +10,14 @@ ghost use Rattle.cp_run.specs.Trace.{holders_in, step_lines, trace};
 ghost use Rattle.cp_story.specs.Story.{story_of, decision_in, telling, told_more, told_step};
 ghost use Rattle.cp_story.specs.Halted.{halted_seen, how_halted};
 ghost use Rattle.cp_run.specs.Stop.{numbers_left};
+ghost use Rattle.cp_story.specs.Causes.{cause_of_run};
 ghost use Rattle.cp_story.specs.Told.{lines_of};
 ghost use Rattle.cp_story.specs.Views.{past_of, decision_of, telling_of, told_of, wait_of};
 ghost use Rattle.cp_story.specs.Waiting as waiting;
 ghost use Rattle.cp_story.specs.Waiting.{waiting_at, waits_at, waits_in, who_waits};
 
 use crate::aim::{Aim, NONE, aim_of};
+use crate::cause::{Cause, cause_of_end};
 use crate::event::{Choice, OpenCall, StoryEvent};
 use crate::observer::Observer;
 use crate::statuses::status_of;
@@ -51,6 +53,8 @@ pub struct Story {
     pub end: RunEnd,
     /// How it stopped, where no event tells of it.
     pub stop: Option<AbruptEnd>,
+    /// What the run error is of, where it stopped with one and that is known.
+    pub cause: Option<Cause>,
     /// How many numbers of the word were not used, since the run had ended.
     pub left: usize,
 }
@@ -293,6 +297,7 @@ pub fn tell<L: Ledger>(
     ensures waits { IfOk result (λ s. map wait_of s.waits.items ≡ who_waits (legend_seen legend.now) program.now limits.gates limits.choices limits.steps word.now) }
     ensures answer { IfOk result (λ s. answer_of s.end ≡ run (slots program.now limits.gates) limits.choices limits.steps word.now) }
     ensures stop { IfOk result (λ s. option_map halted_seen s.stop ≡ how_halted (legend_seen legend.now) program.now limits.gates limits.choices limits.steps word.now) }
+    ensures cause { IfOk result (λ s. s.cause ≡ cause_of_run program.now limits.gates limits.choices limits.steps word.now) }
     ensures left { IfOk result (λ s. s.left ≡ numbers_left word.now (run (slots program.now limits.gates) limits.choices limits.steps word.now)) }
     ensures ticks { ticks.new ≤ ticks.old + (limits.choices + 1) * limits.steps }
 {
@@ -314,12 +319,14 @@ pub fn tell<L: Ledger>(
     } = teller;
     let waits = waits_of(alloc, program, &state, &observer)?;
     let stop = abrupt_end(alloc, legend, &end, observer.last, &waits)?;
+    let cause = cause_of_end(program, &state, &end);
     Ok(Story {
         events,
         last_choice: observer.choice,
         waits,
         end,
         stop,
+        cause,
         left,
     })
 }

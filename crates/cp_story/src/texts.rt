@@ -2,6 +2,7 @@
 
 ghost use Rattle.std.specs.Prelude.{◌≡◌, ◌++◌, [], map, option_map, decimal, string_bytes, IfOk, OnOk};
 ghost use Rattle.cp_legend.specs.Names.{legend_seen};
+ghost use Rattle.cp_story.specs.CauseText.{behind_colon};
 ghost use Rattle.cp_story.specs.Columns.{row_seen, rows_text};
 ghost use Rattle.cp_story.specs.Halted.{halted_seen};
 ghost use Rattle.cp_story.specs.Joined.{joined};
@@ -9,6 +10,8 @@ ghost use Rattle.cp_story.specs.Sentences as sentences;
 ghost use Rattle.cp_story.specs.Text as spec;
 ghost use Rattle.cp_story.specs.Views.{changed_of, decision_of, wait_of};
 
+use crate::cause::Cause;
+use crate::cause_words::cause_text;
 use crate::event::{Change, Choice, StoryEvent};
 use crate::stopping::AbruptEnd;
 use crate::story::{Story, Wait};
@@ -43,7 +46,7 @@ fn push_table(
 {
     let mut rows = event_rows(alloc, legend, &story.events)?;
     if let Some(stop) = &story.stop {
-        rows.push(stop_row(alloc, legend, &story.last_choice, stop)?)?;
+        rows.push(stop_row(alloc, legend, &story.last_choice, stop, story.cause)?)?;
     }
     push_rows(alloc, text, &rows)
 }
@@ -129,15 +132,44 @@ fn stop_row(
     legend: &Legend,
     choice: &Option<Choice>,
     stop: &AbruptEnd,
+    cause: Option<Cause>,
 ) -> Result<TableRow, AllocError>
-    ensures { IfOk result (λ r. row_seen r ≡ spec.stop_row (legend_seen legend.now) (option_map decision_of choice.now) (halted_seen stop.now)) }
+    ensures { IfOk result (λ r. row_seen r ≡ spec.stop_row (legend_seen legend.now) (option_map decision_of choice.now) (halted_seen stop.now) cause) }
 {
     let choice = choice_text(alloc, choice)?;
     let process = process_text(alloc, legend, stop.process)?;
     let line = line_text(alloc, stop.line)?;
-    let words = stop.words.clone()?;
+    let words = stop_words(alloc, legend, stop, cause)?;
     let cells = vec![in alloc; choice, process, line, words]?;
     Ok(TableRow { cells })
+}
+
+/// How a run stopped, and what its error is of if that is known.
+pub fn stop_words(
+    alloc: Global,
+    legend: &Legend,
+    stop: &AbruptEnd,
+    cause: Option<Cause>,
+) -> Result<String, AllocError>
+    ensures { IfOk result (λ t. string_bytes t ≡ spec.stop_text (legend_seen legend.now) (halted_seen stop.now) cause) }
+{
+    let mut text = stop.words.clone()?;
+    match cause {
+        None | Some(Cause::InUse(..)) => {}
+        Some(cause) => push_behind_colon(&mut text, &cause_text(alloc, legend, cause)?)?,
+    }
+    Ok(text)
+}
+
+// Appends a text behind a colon, if there is some.
+fn push_behind_colon(text: &mut String, detail: &str) -> Result<(), AllocError>
+    ensures { OnOk result (string_bytes text.new ≡ string_bytes text.old ++ behind_colon detail.now) }
+{
+    if detail.is_empty() {
+        return Ok(());
+    }
+    text.push_str(": ")?;
+    text.push_str(detail)
 }
 
 /// A choice as `0 of 01`: the number taken, and the numbers that could be.

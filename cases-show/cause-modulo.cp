@@ -1,0 +1,4 @@
+var a: integer;
+begin
+  display(9 mod a)
+end.

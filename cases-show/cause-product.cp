@@ -1,0 +1,5 @@
+var a: integer;
+begin
+  a := 200;
+  a := a * a
+end.
