@@ -17,6 +17,7 @@ use crate::leg::process_at_once;
 use crate::origin::{MOST_IN_A_ROW, OriginAtOnce};
 use cp_ends::End;
 use cp_ends::choosing::{choose, open};
+use cp_ends::sight::Unseen;
 use cp_ends::told::Told;
 use cp_machine::{State, Ticks};
 use cp_progress::{ObserveProgress, Progress, Unobserved};
@@ -31,7 +32,7 @@ use std::sync::ledger::{Blank, Ledger};
 #[derive(Drop)]
 struct SearchAtOnce<S: Ledger> {
     found: FoundAtOnce,
-    told: Told,
+    told: Told<Unseen>,
     ahead: State,
     steps: Ticks<S>,
 }
@@ -80,7 +81,7 @@ fn search_with<O: ObserveProgress, S: Ledger>(
 {
     let mut state = State::start(job.alloc, job.program, job.limits.gates)?;
     let found = FoundAtOnce::new(job.alloc, &state)?;
-    let told = Told::new(job.alloc);
+    let told = Told::new(job.alloc, Unseen);
     let mut search: SearchAtOnce<S> = SearchAtOnce {
         found,
         told,

@@ -1,6 +1,6 @@
 -- Where a stretch comes to, by where it stands after as many steps as the limit, and what is told of it.
-use Rattle.std.proofs.Common.{◌≡◌, ◌∙◌, ◌+◌, ◌<◌, ℕ, zero, suc, List, [], ◌∷◌, ◌++◌, Bool, true, false, if◌then◌else◌, length, take, Option, None, Some, refl, sym, ap, arith}
-use Rattle.cp_ends.proofs.Vocabulary.{append-nil, append_assoc, same_Some, ◌||◌, Shown, Turn, System, node_at, settled_turn, stretch, turn_after, each}
+use Rattle.std.proofs.Common.{◌≡◌, ◌∙◌, ◌+◌, ℕ, zero, suc, List, [], ◌++◌, Bool, true, false, if◌then◌else◌, length, take, Option, None, Some, refl, sym, ap, arith}
+use Rattle.cp_ends.proofs.Vocabulary.{append-nil, append_assoc, same_Some, ◌||◌, Shown, Turn, System, settled_turn, stretch, turn_after, each}
 use Rattle.cp_ends.proofs.Vocabulary.{forgetting_system, Moment, moments_by, stretch_moments, spot_after, spot_by, shown_at, Goal, End, Arrival, goal_of, StepLimit, has_call, is_call, Tables, Gates, Machine, silent_slots}
 use Rattle.std.proofs.Math.Seq.{take-append_seam}
 use Rattle.cp_run.specs.Code.{halt_at, node_of}

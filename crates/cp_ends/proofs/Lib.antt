@@ -4,6 +4,7 @@ pub mod Finding
 pub mod GoingOn
 pub mod Halting
 pub mod Keeping
+pub mod Legs
 pub mod Listing
 pub mod Numbering
 pub mod Returning

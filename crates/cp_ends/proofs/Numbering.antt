@@ -1,5 +1,5 @@
 -- The numbers of states, by their rows.
-use Rattle.std.proofs.Common.{◌≡◌, ◌⊎◌, inl, inr, ◌<◌, ◌≤◌, ◌∙◌, ℕ, zero, suc, Bool, true, false, if◌then◌else◌, List, [], ◌∷◌, Option, None, Some, is_some, length, get_or, refl, sym, ap, subst, arith}
+use Rattle.std.proofs.Common.{◌≡◌, ◌⊎◌, inl, inr, ◌<◌, ◌≤◌, ◌∙◌, ◌++◌, ℕ, zero, suc, Bool, true, false, if◌then◌else◌, List, [], ◌∷◌, Option, None, Some, is_some, length, get_or, refl, sym, ap, subst, arith}
 use Rattle.std.specs.Prelude.{nat_eq, position, slice_get}
 use Rattle.std.specs.Map.{keys_of, lookup}
 use Rattle.cp_ends.proofs.Vocabulary.{bytes_decides, same_Some, slice_get_cases, pointwise, Tables, Machine, has, States}
@@ -11,7 +11,28 @@ use Rattle.cp_states.specs.declared.store.Store.{Store}
 use Rattle.cp_states.proofs.Alone.{one_machine}
 use Rattle.cp_ends.specs.Holds.{same_key, AreRows, AreStates, IsNumberOf}
 use Rattle.cp_ends.proofs.Keeping.{Entry, Stated, found_same, owned, state_of}
-use Rattle.cp_ends.proofs.named.Keys.{key_same}
+use Rattle.cp_ends.proofs.named.Keys.{key_same, key_self}
+
+pub at_end : {X : Type 0} (xs : List X) (x : X) → slice_get (xs ++ x ∷ []) (length xs) ≡ Some x
+at_end [] x = refl
+at_end (y ∷ xs) x = at_end xs x
+
+-- what has a number is found
+pub numbered_known : (xs : List Stated) (m : Machine) (number : ℕ) → IsNumberOf xs m (Some number) → has same_key xs m ≡ true
+numbered_known [] m number is = absurd (none is.0 is.1)
+  where
+    none : (x : Stated) → slice_get [] number ≡ Some x → ⊥
+    none x e = cc
+numbered_known (y ∷ xs) m zero is = first (same_key y.0 m) (ap (λ (x : Stated). same_key x.0 m) (same_Some y is.0 is.1) ∙ ap (λ k. same_key k m) is.2 ∙ key_self m)
+  where
+    first : (b : Bool) → b ≡ true → (if b then true else has same_key xs m) ≡ true
+    first true e = refl
+    first false e = absurd (cc)
+numbered_known (y ∷ xs) m (suc number) is = later (same_key y.0 m) (numbered_known xs m number is)
+  where
+    later : (b : Bool) → has same_key xs m ≡ true → (if b then true else has same_key xs m) ≡ true
+    later true e = refl
+    later false e = e
 
 key_at : (es : List Entry) (j : ℕ) (e : Entry) (d : StateRow) → slice_get es j ≡ Some e → get_or (keys_of es) j d ≡ e.0
 key_at [] j e d at = absurd (cc)

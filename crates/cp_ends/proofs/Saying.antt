@@ -53,10 +53,11 @@ module _ (r : Tables) (gates : Gates) (steps most : ℕ) (found : Found) where
   abbrev g : Graph Machine End Shown
   g = slot_graph r gates steps
 
+  pub done_whole : (d : IsDone r g most found) → IsWhole (slots r gates) without_output steps most (searched g ends_tests d.count)
+  done_whole d = answers_whole (slots r gates) without_output same_key steps states_told ends_tests.end ends_told ends_tests.value values_told d.count most (let n = d.states in omega (arith, n)) (let n = d.states in let few = d.few in omega (arith, n, few))
+
   done : IsDone r g most found → None ≡ found.stopped → IsAnswer r gates steps most found
-  done d e =
-      answers (searched g ends_tests d.count) d.holds (subst (IsAnswerBy r gates steps most (searched g ends_tests d.count)) e
-      (answers_whole (slots r gates) without_output same_key steps states_told ends_tests.end ends_told ends_tests.value values_told d.count most (let n = d.states in omega (arith, n)) (let n = d.states in let few = d.few in omega (arith, n, few))))
+  done d e = answers (searched g ends_tests d.count) d.holds (subst (IsAnswerBy r gates steps most (searched g ends_tests d.count)) e (done_whole d))
 
   module _ (at : ℕ) (s : IsStopped r g most found at) where
     -- what was found when there was a state too many

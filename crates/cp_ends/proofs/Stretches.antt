@@ -1,5 +1,5 @@
 -- Where a stretch stands after some steps.
-use Rattle.std.proofs.Common.{◌≡◌, ◌∙◌, ◌+◌, ℕ, zero, suc, List, ◌∷◌, ◌++◌, Option, None, Some, refl, sym, ap, arith}
+use Rattle.std.proofs.Common.{◌≡◌, ◌∙◌, ◌+◌, ℕ, zero, suc, ◌∷◌, ◌++◌, Option, None, Some, refl, sym, ap, arith}
 use Rattle.cp_ends.proofs.Vocabulary.{same_Some, Turn, Goes, System, turn_after, moments_by, stretch_moments, spot_after, spot_by, from_there}
 
 -- nobody goes on

@@ -6,6 +6,8 @@ use Rattle.cp_machine.specs.declared.shown.Shown.{Shown}
 use Rattle.cp_machine.specs.contracts.shown.ShownPartialEq.TheImpl as shown_eq
 use Rattle.cp_machine.specs.System.{Machine}
 use Rattle.cp_run.specs.Slots.{slots}
+use Rattle.cp_run.specs.declared.outcome.Halt.{Halt}
+use Rattle.cp_run.specs.declared.outcome.Halt.TheVariants as halt
 use Rattle.cp_endless.specs.Silent.{without_output}
 use Rattle.cp_ends.specs.Arrivals.{ends_graph}
 use Rattle.cp_ends.specs.Graph as graph
@@ -14,6 +16,8 @@ use Rattle.cp_ends.specs.Holds.{same_key, Holds, SlotFindings, SlotArrival}
 use Rattle.cp_ends.specs.Searched.{Tests, has, with_values, with_goal, gone_on, searched}
 use Rattle.cp_ends.specs.contracts.end.EndPartialEq.TheImpl as end_eq
 use Rattle.cp_ends.specs.declared.end.End.{End}
+use Rattle.cp_ends.specs.declared.found.Arrived.{Arrived}
+use Rattle.cp_ends.specs.declared.found.Arrived.TheVariants.{Ended, At, Full}
 use Rattle.cp_ends.specs.declared.found.Found.{Found}
 
 -- which states, ends and values are one; one value more is kept than is told
@@ -37,14 +41,37 @@ abbrev pub IsTooMany : ℕ → SlotFindings → Goal Machine End → Type 0
 IsTooMany most f (Place s) = (has same_key f.states s ≡ false) × (length f.states ≡ most)
 IsTooMany most f (graph.End e) = ⊥
 
--- what is found when a word comes to a goal; `false` where that is a state too many
-abbrev pub Comes : Tables → ℕ → Found → SlotFindings → List ℕ → Goal Machine End → Bool → Type 0
-Comes r most found f word goal true = HoldsFew r most found (with_goal ends_tests f word goal)
-Comes r most found f word goal false = Holds r found f × IsTooMany most f goal
+-- there is room where a word arrives
+abbrev pub has_room : Arrived → Bool
+has_room Full = false
+has_room _ = true
+
+abbrev pub number_of : Arrived → Option ℕ
+number_of (At number) = Some number
+number_of _ = None
+
+-- where a stretch halts that arrives there
+abbrev pub halt_of : Arrived → Halt End
+halt_of (Ended e) = halt.Ended e
+halt_of _ = halt.Choice
+
+-- the state of this number
+abbrev pub HasNumber : List (Machine × List ℕ) → Machine → ℕ → Type 0
+HasNumber states m number = (word : List ℕ) × (slice_get states number ≡ Some (m, word))
+
+abbrev pub IsGoalAt : List (Machine × List ℕ) → Goal Machine End → ℕ → Type 0
+IsGoalAt states (Place m) number = HasNumber states m number
+IsGoalAt states (graph.End e) number = Unit {0}
+
+-- what is found when a word comes to a goal, and arrives there
+abbrev pub Comes : Tables → ℕ → Found → SlotFindings → List ℕ → Goal Machine End → Arrived → Type 0
+Comes r most found f word goal Full = Holds r found f × IsTooMany most f goal
+Comes r most found f word goal (At number) = HoldsFew r most found (with_goal ends_tests f word goal) × IsGoalAt (with_goal ends_tests f word goal).states goal number
+Comes r most found f word goal (Ended e) = HoldsFew r most found (with_goal ends_tests f word goal)
 
 -- the same of an arrival, with its values
-abbrev pub Arrives : Tables → ℕ → Found → SlotFindings → List ℕ → SlotArrival → Bool → Type 0
-Arrives r most found f word a is_room = Comes r most found (with_shown f word a) word a.goal is_room
+abbrev pub Arrives : Tables → ℕ → Found → SlotFindings → List ℕ → SlotArrival → Arrived → Type 0
+Arrives r most found f word a arrived = Comes r most found (with_shown f word a) word a.goal arrived
 
 -- A state with its word is gone on from with each edge below a number, which leads to a state too many.
 pub record Stops (r : Tables) (g : Graph Machine End Shown) (most : ℕ) (found : Found) (f : SlotFindings) (x : Machine × List ℕ) : Type 0 where
@@ -56,11 +83,6 @@ pub record Stops (r : Tables) (g : Graph Machine End Shown) (most : ℕ) (found 
   pub new : has same_key (gone_on g ends_tests x number f).states state ≡ false
   pub full : length (gone_on g ends_tests x number f).states ≡ most
   pub holds : Holds r found (with_shown (gone_on g ends_tests x number f) (x.1 ++ number ∷ []) (g.on x.0 number))
-
--- what is found when a state was gone on from; `false` where there is a state too many
-abbrev pub GoesOn : Tables → Graph Machine End Shown → ℕ → Found → SlotFindings → Machine × List ℕ → Bool → Type 0
-GoesOn r g most found f x true = HoldsFew r most found (gone_on g ends_tests x g.below f)
-GoesOn r g most found f x false = Stops r g most found f x
 
 -- Each state was gone on from.
 pub record IsDone (r : Tables) (g : Graph Machine End Shown) (most : ℕ) (found : Found) : Type 0 where

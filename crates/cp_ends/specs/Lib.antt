@@ -5,6 +5,7 @@ pub mod Firsts
 pub mod ForEver
 pub mod Graph
 pub mod Holds
+pub mod Legs
 pub mod Named
 pub mod Searched
 pub mod Told

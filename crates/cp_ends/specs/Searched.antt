@@ -1,5 +1,5 @@
 -- A search through a graph: each place is gone on from once, in the order in which places are found.
-use Rattle.std.specs.Prelude.{nat_lt, ℕ, zero, suc, List, [], ◌∷◌, ◌++◌, Bool, true, false, if◌then◌else◌, Option, None, Some, length, slice_get}
+use Rattle.std.specs.Prelude.{◌≡◌, nat_lt, ℕ, zero, suc, List, [], ◌∷◌, ◌++◌, Bool, true, false, if◌then◌else◌, Option, None, Some, length, slice_get}
 use Rattle.cp_ends.specs.Graph.{Goal, Place, End, Arrival, Graph}
 
 -- what was found, each with the word that led to it
@@ -7,6 +7,9 @@ pub record Findings (S E V : Type 0) : Type 0 where
   pub states : List (S × List ℕ)
   pub ends : List (E × List ℕ)
   pub values : List (V × List ℕ)
+
+abbrev pub nothing : {S E V : Type 0} → Findings S E V
+nothing = record { states = []; ends = []; values = [] }
 
 -- tests of whether two are the same, and how many values are kept
 pub record Tests (S E V : Type 0) : Type 0 where
@@ -47,5 +50,9 @@ gone_on_from g t (Some x) f = gone_on g t x g.below f
 
 -- what is found when the first n places were gone on from
 unfoldable pub searched : {S E V : Type 0} → Graph S E V → Tests S E V → ℕ → Findings S E V
-searched g t zero = arrived t (record { states = []; ends = []; values = [] }) [] g.start
+searched g t zero = arrived t nothing [] g.start
 searched g t (suc n) = gone_on_from g t (slice_get (searched g t n).states n) (searched g t n)
+
+-- the second list is the first with more at its end
+abbrev pub Grows : {X : Type 0} → List X → List X → Type 0
+Grows {X} xs ys = (more : List X) × (ys ≡ xs ++ more)

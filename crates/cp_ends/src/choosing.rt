@@ -1,16 +1,19 @@
 //! From one due choice to the next, with nothing displayed.
 
-ghost use Rattle.std.specs.Prelude.{◌≡◌, ◌++◌, [], IfOk, true, false};
-ghost use Rattle.cp_machine.specs.System.{machine_of, opening, output_of, is_ready, is_pending, IsStateOf};
+ghost use Rattle.std.specs.Prelude.{◌≡◌, ◌++◌, ◌∷◌, [], List, IfOk, true, false};
+ghost use Rattle.cp_machine.specs.System.{Machine, machine_of, opening, output_of, is_ready, is_pending, IsStateOf};
 ghost use Rattle.cp_run.specs.Code.{IfGoes};
+ghost use Rattle.cp_run.specs.Fold.{walked};
 ghost use Rattle.cp_run.specs.Run.{may};
 ghost use Rattle.cp_run.specs.Silent.{silent_slots, without_output};
 ghost use Rattle.cp_run.specs.Slots.{slots};
 ghost use Rattle.cp_ends.specs.Arrivals.{goal_at, first_arrival, halt_arrival, next_arrival};
 ghost use Rattle.cp_ends.specs.Holds.{same_key};
+ghost use Rattle.cp_ends.specs.Legs.{ComesTo, choice_leg, first_leg, turn_leg, with_round};
 
 use crate::end::End;
 use crate::round::end_of_cut;
+use crate::sight::Sight;
 use crate::told::Told;
 use cp_machine::{State, Ticks};
 use cp_run::{Halt, Limits, Turn, observe_choice, observe_opening};
@@ -19,13 +22,13 @@ use std::alloc::{AllocError, Global};
 use std::sync::ledger::Ledger;
 
 // Where a stretch came to that made as many steps as it may, by what comes next.
-fn arrive<S: Ledger>(
+fn arrive<S: Ledger, P: Sight>(
     alloc: Global,
     program: &Resolved,
     limits: Limits,
     state: &mut State,
     turn: Turn,
-    told: &mut Told,
+    told: &mut Told<P>,
     steps: &mut Ticks<S>,
 ) -> Result<Halt<End>, AllocError>
     requires own { IsStateOf program.now state.old }
@@ -35,7 +38,9 @@ fn arrive<S: Ledger>(
     ensures own { IsStateOf program.now state.new }
     ensures quiet { IfOk result (λ _. output_of (machine_of state.new) ≡ []) }
     ensures comes { IfOk result (λ h. halt_arrival (slots program.now limits.gates) (silent_slots program.now limits.gates) same_key limits.steps told.old.values.items (machine_of state.old) turn ≡ record { goal = goal_at h (machine_of state.new); shown = told.new.values.items }) }
+    ensures leg { IfOk result (λ h. (s : Machine) (first : Turn) (due : List Machine) → walked (silent_slots program.now limits.gates) limits.steps s first ≡ (machine_of state.old, turn) → P.sees told.old.seen program.now limits.gates due ((turn_leg (silent_slots program.now limits.gates) limits.steps s first).moments limits.steps) → ComesTo (silent_slots program.now limits.gates) (λ w. P.sees w program.now limits.gates) limits.steps (turn_leg (silent_slots program.now limits.gates) limits.steps s first) due told.new.seen (with_round told.new.again h) (machine_of state.new)) }
 {
+    told.again = None;
     match turn {
         Turn::Over(kind) => Ok(Halt::Ended(End::Over(kind))),
         Turn::Due => Ok(Halt::Choice),
@@ -46,14 +51,14 @@ fn arrive<S: Ledger>(
     }
 }
 
-/// Takes a due choice: lets the process in at the pending monitor, or goes on with it.
-pub fn choose<S: Ledger>(
+/// Takes a due choice: lets the process in at the pending monitor, or goes on with it. The choice is seen, and each moment of the stretch.
+pub fn choose<S: Ledger, P: Sight>(
     alloc: Global,
     program: &Resolved,
     limits: Limits,
     state: &mut State,
     process: u8,
-    told: &mut Told,
+    told: &mut Told<P>,
     steps: &mut Ticks<S>,
 ) -> Result<Halt<End>, AllocError>
     requires own { IsStateOf program.now state.old }
@@ -63,18 +68,21 @@ pub fn choose<S: Ledger>(
     ensures quiet { IfOk result (λ _. output_of (machine_of state.new) ≡ []) }
     ensures goal { IfOk result (λ h. goal_at h (machine_of state.new) ≡ (next_arrival (slots program.now limits.gates) without_output same_key limits.steps (machine_of state.old) process).goal) }
     ensures shown { IfOk result (λ _. told.new.values.items ≡ told.old.values.items ++ (next_arrival (slots program.now limits.gates) without_output same_key limits.steps (machine_of state.old) process).shown) }
+    ensures leg { IfOk result (λ h. ComesTo (silent_slots program.now limits.gates) (λ w. P.sees w program.now limits.gates) limits.steps (choice_leg (silent_slots program.now limits.gates) limits.steps (machine_of state.old) process) (machine_of state.old ∷ []) told.new.seen (with_round told.new.again h) (machine_of state.new)) }
 {
+    told.seen = P::begin(program);
+    told.seen.see_due(state);
     let turn = observe_choice(program, limits, state, process, steps, told)?;
     arrive(alloc, program, limits, state, turn, told, steps)
 }
 
-/// Begins a run in the opening state.
-pub fn open<S: Ledger>(
+/// Begins a run in the opening state. Each moment before the first choice is seen.
+pub fn open<S: Ledger, P: Sight>(
     alloc: Global,
     program: &Resolved,
     limits: Limits,
     state: &mut State,
-    told: &mut Told,
+    told: &mut Told<P>,
     steps: &mut Ticks<S>,
 ) -> Result<Halt<End>, AllocError>
     requires own { IsStateOf program.now state.old }
@@ -83,7 +91,9 @@ pub fn open<S: Ledger>(
     ensures quiet { IfOk result (λ _. output_of (machine_of state.new) ≡ []) }
     ensures goal { IfOk result (λ h. goal_at h (machine_of state.new) ≡ (first_arrival (slots program.now limits.gates) without_output same_key limits.steps).goal) }
     ensures shown { IfOk result (λ _. told.new.values.items ≡ told.old.values.items ++ (first_arrival (slots program.now limits.gates) without_output same_key limits.steps).shown) }
+    ensures leg { IfOk result (λ h. ComesTo (silent_slots program.now limits.gates) (λ w. P.sees w program.now limits.gates) limits.steps (first_leg (silent_slots program.now limits.gates) limits.steps) [] told.new.seen (with_round told.new.again h) (machine_of state.new)) }
 {
+    told.seen = P::begin(program);
     let turn = observe_opening(program, limits, state, steps, told)?;
     arrive(alloc, program, limits, state, turn, told, steps)
 }

@@ -1,17 +1,76 @@
 //! What a search finds.
 
-ghost use Rattle.std.specs.Prelude.{◌≡◌, ◌∷◌, ℕ, List, [], IfOk};
+ghost use Rattle.std.specs.Prelude.{◌≡◌, ◌<◌, ◌^◌, ◌∷◌, ℕ, List, [], IfOk, length};
 ghost use Rattle.std.specs.List.{list_any};
 ghost use Rattle.cp_slots.specs.Tables.{Tables};
-ghost use Rattle.cp_ends.specs.Answer.{ends_tests};
-ghost use Rattle.cp_ends.specs.Holds.{Holds, IsWordOf, SlotFindings};
+ghost use Rattle.cp_machine.specs.System.{machine_of, output_of, IsStateOf};
+ghost use Rattle.cp_run.specs.declared.outcome.Halt.TheVariants as halt;
+ghost use Rattle.cp_ends.specs.declared.found.Arrived.TheVariants as arrived;
+ghost use Rattle.cp_ends.specs.Answer.{Arrives, Comes, HoldsFew, ends_tests, halt_of, has_room, number_of};
+ghost use Rattle.cp_ends.specs.Arrivals.{goal_at};
+ghost use Rattle.cp_ends.specs.Graph as graph;
+ghost use Rattle.cp_ends.specs.Holds.{Holds, IsBefore, IsWordOf, SlotArrival, SlotFindings};
+ghost use Rattle.cp_ends.specs.Legs.{with_round};
 ghost use Rattle.cp_ends.specs.Searched.{with_first, with_values};
 
 use crate::end::End;
 use crate::origin::Origin;
 use crate::states::States;
-use cp_machine::Shown;
+use cp_machine::{Shown, State};
+use cp_run::Halt;
+use cp_search::SearchJob;
 use std::alloc::{AllocError, Global};
+
+/// Where a word arrives.
+#[derive(Clone, Copy)]
+pub enum Arrived {
+    /// At an end.
+    Ended(End),
+    /// At the state of this number.
+    At(u32),
+    /// At a state too many.
+    Full,
+}
+
+impl Arrived {
+    // At the state of this number.
+    fn at(number: usize) -> Arrived
+        ensures few { number < 2 ^ 32 → result ≡ arrived.At number }
+        ensures halt { halt_of result ≡ halt.Choice }
+    {
+        match u32::try_from(number) {
+            Ok(number) => Arrived::At(number),
+            Err(_) => Arrived::Full,
+        }
+    }
+
+    /// Whether it is no state too many.
+    pub fn has_room(self) -> bool
+        ensures { result ≡ has_room self }
+    {
+        !matches!(self, Arrived::Full)
+    }
+
+    /// The number of the state, if it is one.
+    pub fn number(self) -> Option<u32>
+        ensures { result ≡ number_of self }
+    {
+        match self {
+            Arrived::At(number) => Some(number),
+            _ => None,
+        }
+    }
+
+    /// Where a stretch halts that arrives there, with what is seen of the part that repeats.
+    pub fn halt<P: Drop>(self, again: Option<P>) -> Halt<Option<P>>
+        ensures { result ≡ with_round again (halt_of self) }
+    {
+        match self {
+            Arrived::Ended(_) => Halt::Ended(again),
+            _ => Halt::Choice,
+        }
+    }
+}
 
 /// The most values that are told.
 pub const MOST_VALUES: usize = 1_000;
@@ -53,8 +112,57 @@ impl Found {
         }
     }
 
-    /// A word leads to an end.
-    pub fn add_end(&mut self, end: End, origin: Origin) -> Result<(), AllocError>
+    /// A word leads to where a stretch came to, which displayed these values.
+    pub fn arrive(
+        &mut self,
+        job: &SearchJob<'_>,
+        state: &State,
+        halt: Halt<End>,
+        values: &[Shown],
+        origin: Origin,
+    ) -> Result<Arrived, AllocError>
+        requires own { IsStateOf job.now.program.now state.now }
+        requires quiet { output_of (machine_of state.now) ≡ [] }
+        ensures arrives { IfOk result (λ arrived. (f : SlotFindings) (word : List ℕ) (a : SlotArrival) → HoldsFew job.now.program.now job.now.most self.old f → IsWordOf f.states origin word → IsBefore (length f.states) origin → goal_at halt (machine_of state.now) ≡ a.goal → values.now ≡ a.shown → Arrives job.now.program.now job.now.most self.new f word a arrived) }
+        ensures halt { IfOk result (λ arrived. halt_of arrived ≡ halt) }
+    {
+        self.add_values(values, origin)?;
+        match halt {
+            Halt::Ended(end) => {
+                self.add_end(end, origin)?;
+                Ok(Arrived::Ended(end))
+            }
+            Halt::Choice => self.add_state(job, state, origin),
+        }
+    }
+
+    // A word leads to a state, where a choice is due.
+    fn add_state(
+        &mut self,
+        job: &SearchJob<'_>,
+        state: &State,
+        origin: Origin,
+    ) -> Result<Arrived, AllocError>
+        requires own { IsStateOf job.now.program.now state.now }
+        requires quiet { output_of (machine_of state.now) ≡ [] }
+        ensures comes { IfOk result (λ arrived. (f : SlotFindings) (word : List ℕ) → HoldsFew job.now.program.now job.now.most self.old f → IsWordOf f.states origin word → IsBefore (length f.states) origin → Comes job.now.program.now job.now.most self.new f word (graph.Place (machine_of state.now)) arrived) }
+        ensures halt { IfOk result (λ arrived. halt_of arrived ≡ halt.Choice) }
+    {
+        let most = job.most;
+        let row = self.states.row_anew(job.alloc, state)?;
+        if let Some(number) = self.states.number(&row) {
+            return Ok(Arrived::at(number));
+        }
+        let number = self.states.len();
+        if number >= most as usize {
+            return Ok(Arrived::Full);
+        }
+        self.states.add(row, origin)?;
+        Ok(Arrived::at(number))
+    }
+
+    // A word leads to an end.
+    fn add_end(&mut self, end: End, origin: Origin) -> Result<(), AllocError>
         ensures { IfOk result (λ _. (r : Tables) (f : SlotFindings) (word : List ℕ) → Holds r self.old f → IsWordOf f.states origin word → Holds r self.new (record f { ends = with_first ends_tests.end f.ends end word })) }
     {
         if !has_end(&self.ends, end) {
@@ -63,8 +171,8 @@ impl Found {
         Ok(())
     }
 
-    /// A word leads to a stretch that displays these values.
-    pub fn add_values(&mut self, values: &[Shown], origin: Origin) -> Result<(), AllocError>
+    // A word leads to a stretch that displays these values.
+    fn add_values(&mut self, values: &[Shown], origin: Origin) -> Result<(), AllocError>
         ensures { IfOk result (λ _. (r : Tables) (f : SlotFindings) (word : List ℕ) → Holds r self.old f → IsWordOf f.states origin word → Holds r self.new (record f { values = with_values ends_tests.value ends_tests.most f.values values.now word })) }
     {
         for value in values {

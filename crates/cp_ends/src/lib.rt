@@ -9,6 +9,7 @@ pub mod origin;
 pub mod report;
 pub mod round;
 pub mod search;
+pub mod sight;
 pub mod state_key;
 pub mod states;
 pub mod told;

@@ -12,8 +12,10 @@ ghost use Rattle.cp_endless.specs.Rounds.{spot_after};
 ghost use Rattle.cp_ends.specs.Arrivals.{cut_arrival, return_within};
 ghost use Rattle.cp_ends.specs.Graph as graph;
 ghost use Rattle.cp_ends.specs.Holds.{same_key};
+ghost use Rattle.cp_ends.specs.Legs.{SeesRound};
 
 use crate::end::End;
+use crate::sight::Sight;
 use crate::state_key::ReachedKey;
 use crate::told::Told;
 use cp_machine::{State, Ticks};
@@ -23,14 +25,14 @@ use std::alloc::{AllocError, Global};
 use std::sync::ledger::Ledger;
 
 /// How a stretch ends of which all steps are made, where this process would make the next one: if the state comes back within as many
-/// steps, before a choice is due or the run ends, it goes on for ever. What is displayed is told if it does.
-pub fn end_of_cut<S: Ledger>(
+/// steps, before a choice is due or the run ends, it goes on for ever. What is displayed and seen of it is told if it does.
+pub fn end_of_cut<S: Ledger, P: Sight>(
     alloc: Global,
     program: &Resolved,
     limits: Limits,
     state: &mut State,
     pid: u8,
-    told: &mut Told,
+    told: &mut Told<P>,
     steps: &mut Ticks<S>,
 ) -> Result<End, AllocError>
     requires own { IsStateOf program.now state.old }
@@ -40,13 +42,22 @@ pub fn end_of_cut<S: Ledger>(
     ensures own { IsStateOf program.now state.new }
     ensures quiet { IfOk result (λ _. output_of (machine_of state.new) ≡ []) }
     ensures cut { IfOk result (λ e. cut_arrival (slots program.now limits.gates) (silent_slots program.now limits.gates) told.old.values.items (machine_of state.old) pid (return_within (silent_slots program.now limits.gates) same_key (machine_of state.old) pid limits.steps) ≡ record { goal = graph.End e; shown = told.new.values.items }) }
+    ensures seen { IfOk result (λ _. SeesRound (λ w. P.sees w program.now limits.gates) program.now limits.gates limits.steps (machine_of state.old) pid told.old.seen told.new.seen told.new.again) }
 {
     let count = told.values.len();
+    let before = told.seen;
     told.is_called = false;
+    told.seen = P::begin(program);
     if !observe_round(alloc, program, limits, state, pid, steps, told)? {
         told.values.truncate(count);
+        told.seen = before;
+        told.again = None;
         return Ok(End::Over(OutcomeKind::StepLimit));
     }
+    let again = told.seen;
+    told.seen = before;
+    told.seen.then(&again);
+    told.again = Some(again);
     if told.is_called {
         return Ok(End::Alone(pid));
     }

@@ -1,33 +1,38 @@
 //! The search through all states.
 
-ghost use Rattle.std.specs.Prelude.{◌≡◌, ◌≤◌, ℕ, List, [], length, IfOk};
+ghost use Rattle.std.specs.Prelude.{◌≡◌, ◌≤◌, ◌<◌, ◌∷◌, ◌++◌, ℕ, List, [], Some, IfOk, slice_get, true, false};
 ghost use Rattle.cp_slots.specs.Tables.{Tables};
-ghost use Rattle.cp_machine.specs.System.{machine_of, output_of, IsStateOf};
-ghost use Rattle.cp_ends.specs.Answer.{Arrives, Comes, HoldsFew, IsSearch, slot_graph};
-ghost use Rattle.cp_ends.specs.Arrivals.{goal_at};
-ghost use Rattle.cp_ends.specs.Graph as graph;
-ghost use Rattle.cp_ends.specs.Holds.{IsBefore, IsWordOf, SlotArrival, SlotFindings, Holds, HasFindings};
+ghost use Rattle.cp_machine.specs.System.{Machine, machine_of, opening, IsStateOf};
+ghost use Rattle.cp_run.specs.Run.{may, those_below};
+ghost use Rattle.cp_run.specs.Silent.{silent_slots};
+ghost use Rattle.cp_run.specs.Slots.{processes_of, slots};
+ghost use Rattle.cp_ends.specs.Answer.{HasNumber, HoldsFew, IsSearch, IsStopped, ends_tests, halt_of, has_room, slot_graph};
+ghost use Rattle.cp_ends.specs.Holds.{Holds, HasFindings};
+ghost use Rattle.cp_ends.specs.Legs.{ComesTo, choice_leg, first_leg, with_round};
+ghost use Rattle.cp_ends.specs.Searched.{nothing, searched};
+ghost use Rattle.cp_ends.specs.Visited.{IsWithin, gone_with};
 ghost use Rattle.cp_ends.specs.Whole.{IsAnswer};
+ghost use Rattle.cp_ends.specs.declared.found.Arrived.TheVariants.{At};
 
 use crate::choosing::{choose, open};
-use crate::end::End;
-use crate::found::Found;
+use crate::found::{Arrived, Found};
 use crate::origin::Origin;
+use crate::sight::{Sight, Unseen};
 use crate::told::Told;
 use cp_machine::{State, Ticks};
 use cp_progress::{ObserveProgress, Progress, Unobserved};
-use cp_run::{Halt, Limits};
+use cp_run::Limits;
 use cp_search::{SearchJob, Visit, visit_all};
 use cp_slots::Resolved;
 use std::alloc::{AllocError, Global};
 use std::marker::Brand;
 use std::sync::ledger::{Blank, Ledger};
 
-// What is found so far, with room for displayed values.
+/// What is found so far, with room for what is told of a stretch.
 #[derive(Drop)]
-struct EndsVisit<S: Ledger> {
-    found: Found,
-    told: Told,
+pub struct EndsVisit<S: Ledger, P> {
+    pub found: Found,
+    pub told: Told<P>,
     steps: Ticks<S>,
 }
 
@@ -78,83 +83,90 @@ fn search_with<O: ObserveProgress, S: Ledger>(
     requires most { 1 ≤ job.now.most }
     ensures { IfOk result (λ found. IsSearch job.now.program.now (slot_graph job.now.program.now job.now.limits.gates job.now.limits.steps) job.now.most found found.stopped) }
 {
-    let mut visit: EndsVisit<S> = EndsVisit::new(job.alloc, blank);
+    let mut visit: EndsVisit<S, Unseen> = EndsVisit::new(job.alloc, Unseen, blank);
     let mut state = State::start(job.alloc, job.program, job.limits.gates)?;
-    let arrival = open(
-        job.alloc,
-        job.program,
-        job.limits,
-        &mut state,
-        &mut visit.told,
-        &mut visit.steps,
-    )?;
-    visit.arrive(job, &state, arrival, Origin::Start)?;
+    visit.open(job, &mut state)?;
     let mut next = state.copy(job.alloc)?;
     visit.found.stopped = visit_all(job, &mut visit, &mut state, &mut next, observer)?;
     Ok(visit.found)
 }
 
-impl<S: Ledger> EndsVisit<S> {
-    fn new(alloc: Global, blank: Blank) -> EndsVisit<S>
+impl<S: Ledger, P: Sight> EndsVisit<S, P> {
+    /// Nothing is found.
+    pub fn new(alloc: Global, seen: P, blank: Blank) -> EndsVisit<S, P>
         requires name { blank.name ≡ S.name }
         requires parts { blank.parts ≡ S.parts }
         requires one { S.parts ≡ 1 }
-        ensures found { (r : Tables) → Holds r result.found (record { states = []; ends = []; values = [] }) }
-        ensures told { result.told.values.items ≡ [] }
+        ensures { (r : Tables) → Holds r result.found nothing }
     {
         EndsVisit {
             found: Found::new(alloc),
-            told: Told::new(alloc),
+            told: Told::new(alloc, seen),
             steps: Ticks::new(blank),
         }
     }
 
-    // A word leads to where a stretch came to. `false` where that is a state too many.
-    fn arrive(
-        &mut self,
-        job: &SearchJob<'_>,
-        state: &State,
-        arrival: Halt<End>,
-        origin: Origin,
-    ) -> Result<bool, AllocError>
-        requires own { IsStateOf job.now.program.now state.now }
-        requires quiet { output_of (machine_of state.now) ≡ [] }
-        ensures { IfOk result (λ is_room. (f : SlotFindings) (word : List ℕ) (a : SlotArrival) → HoldsFew job.now.program.now job.now.most self.old.found f → IsWordOf f.states origin word → IsBefore (length f.states) origin → goal_at arrival (machine_of state.now) ≡ a.goal → self.old.told.values.items ≡ a.shown → Arrives job.now.program.now job.now.most self.new.found f word a is_room) }
+    /// Follows the opening stretch, and notes where it arrives. Before it nothing is found.
+    pub fn open(&mut self, job: &SearchJob<'_>, state: &mut State) -> Result<Arrived, AllocError>
+        requires own { IsStateOf job.now.program.now state.old }
+        requires start { machine_of state.old ≡ opening job.now.program.now job.now.limits.gates }
+        requires most { 1 ≤ job.now.most }
+        requires nothing { Holds job.now.program.now self.old.found nothing }
+        ensures own { IsStateOf job.now.program.now state.new }
+        ensures begun { IfOk result (λ _. HoldsFew job.now.program.now job.now.most self.new.found (searched (slot_graph job.now.program.now job.now.limits.gates job.now.limits.steps) ends_tests 0)) }
+        ensures leg { IfOk result (λ arrived. ComesTo (silent_slots job.now.program.now job.now.limits.gates) (λ w. P.sees w job.now.program.now job.now.limits.gates) job.now.limits.steps (first_leg (silent_slots job.now.program.now job.now.limits.gates) job.now.limits.steps) [] self.new.told.seen (with_round self.new.told.again (halt_of arrived)) (machine_of state.new)) }
     {
-        self.found.add_values(self.told.values.as_slice(), origin)?;
-        match arrival {
-            Halt::Ended(end) => {
-                self.found.add_end(end, origin)?;
-                Ok(true)
-            }
-            Halt::Choice => self.add_state(job, state, origin),
-        }
+        self.told.values.clear();
+        let halt = open(
+            job.alloc,
+            job.program,
+            job.limits,
+            state,
+            &mut self.told,
+            &mut self.steps,
+        )?;
+        let values = self.told.values.as_slice();
+        self.found.arrive(job, state, halt, values, Origin::Start)
     }
 
-    // A word leads to a state, where a choice is due. `false` where it is one too many.
-    fn add_state(
+    /// Takes a choice in the state of this number, and notes where it arrives.
+    pub fn take_choice(
         &mut self,
         job: &SearchJob<'_>,
-        state: &State,
-        origin: Origin,
-    ) -> Result<bool, AllocError>
-        requires own { IsStateOf job.now.program.now state.now }
-        requires quiet { output_of (machine_of state.now) ≡ [] }
-        ensures { IfOk result (λ is_room. (f : SlotFindings) (word : List ℕ) → HoldsFew job.now.program.now job.now.most self.old.found f → IsWordOf f.states origin word → IsBefore (length f.states) origin → Comes job.now.program.now job.now.most self.new.found f word (graph.Place (machine_of state.now)) is_room) }
+        at: u32,
+        state: &mut State,
+        process: u8,
+    ) -> Result<Arrived, AllocError>
+        requires own { IsStateOf job.now.program.now state.old }
+        requires below { process < processes_of job.now.program.now }
+        requires may { may (slots job.now.program.now job.now.limits.gates) (machine_of state.old) process ≡ true }
+        requires within { IsWithin job.now.program.now (slot_graph job.now.program.now job.now.limits.gates job.now.limits.steps) job.now.most self.old.found at (machine_of state.old) (those_below process (may (slots job.now.program.now job.now.limits.gates) (machine_of state.old))) }
+        ensures own { IsStateOf job.now.program.now state.new }
+        ensures within { IfOk result (λ arrived. has_room arrived ≡ true → IsWithin job.now.program.now (slot_graph job.now.program.now job.now.limits.gates job.now.limits.steps) job.now.most self.new.found at (machine_of state.old) (those_below process (may (slots job.now.program.now job.now.limits.gates) (machine_of state.old)) ++ process ∷ [])) }
+        ensures stops { IfOk result (λ arrived. has_room arrived ≡ false → IsStopped job.now.program.now (slot_graph job.now.program.now job.now.limits.gates job.now.limits.steps) job.now.most self.new.found at) }
+        ensures number { IfOk result (λ arrived. (number : ℕ) (from : Machine × List ℕ) → arrived ≡ At number → slice_get (searched (slot_graph job.now.program.now job.now.limits.gates job.now.limits.steps) ends_tests at).states at ≡ Some from → HasNumber (gone_with (slot_graph job.now.program.now job.now.limits.gates job.now.limits.steps) from (those_below process (may (slots job.now.program.now job.now.limits.gates) (machine_of state.old)) ++ process ∷ []) (searched (slot_graph job.now.program.now job.now.limits.gates job.now.limits.steps) ends_tests at)).states (machine_of state.new) number) }
+        ensures leg { IfOk result (λ arrived. ComesTo (silent_slots job.now.program.now job.now.limits.gates) (λ w. P.sees w job.now.program.now job.now.limits.gates) job.now.limits.steps (choice_leg (silent_slots job.now.program.now job.now.limits.gates) job.now.limits.steps (machine_of state.old) process) (machine_of state.old ∷ []) self.new.told.seen (with_round self.new.told.again (halt_of arrived)) (machine_of state.new)) }
     {
-        let row = self.found.states.row_anew(job.alloc, state)?;
-        if self.found.states.contains(&row) {
-            return Ok(true);
-        }
-        if self.found.states.len() >= job.most as usize {
-            return Ok(false);
-        }
-        self.found.states.add(row, origin)?;
-        Ok(true)
+        self.told.values.clear();
+        let halt = choose(
+            job.alloc,
+            job.program,
+            job.limits,
+            state,
+            process,
+            &mut self.told,
+            &mut self.steps,
+        )?;
+        let origin = Origin::Choice {
+            state: at,
+            number: process,
+        };
+        let values = self.told.values.as_slice();
+        self.found.arrive(job, state, halt, values, origin)
     }
 }
 
-impl<S: Ledger> Visit for EndsVisit<S> {
+impl<S: Ledger, P: Sight> Visit for EndsVisit<S, P> {
     ghost use Rattle.cp_ends.specs.Answer.{HoldsFew, IsStopped, ends_tests, slot_graph};
     ghost use Rattle.cp_ends.specs.Searched.{searched};
     ghost use Rattle.cp_ends.specs.Visited.{IsWhole, IsWithin};
@@ -190,21 +202,7 @@ impl<S: Ledger> Visit for EndsVisit<S> {
         state: &mut State,
         process: u8,
     ) -> Result<bool, AllocError> {
-        self.told.values.clear();
-        let arrival = choose(
-            job.alloc,
-            job.program,
-            job.limits,
-            state,
-            process,
-            &mut self.told,
-            &mut self.steps,
-        )?;
-        let origin = Origin::Choice {
-            state: at,
-            number: process,
-        };
-        self.arrive(job, state, arrival, origin)
+        Ok(self.take_choice(job, at, state, process)?.has_room())
     }
 
     fn end_state(&mut self, _job: &SearchJob<'_>, _at: u32) -> Result<(), AllocError> {

@@ -51,11 +51,11 @@ impl States {
         self.store.row_anew(alloc, state)
     }
 
-    /// Whether the state with this row was found.
-    pub fn contains(&self, row: &StateRow) -> bool
-        ensures { (r : Tables) (states : List (Machine × List ℕ)) (m : Machine) → AreStates r self.now states → IsMachineOf r m → IsRowOf self.now.store row.now.numbers m → result ≡ has same_key states m }
+    /// The number of the state with this row, if it was found.
+    pub fn number(&self, row: &StateRow) -> Option<usize>
+        ensures { (r : Tables) (states : List (Machine × List ℕ)) (m : Machine) → AreStates r self.now states → IsMachineOf r m → IsRowOf self.now.store row.now.numbers m → IsNumberOf states m result }
     {
-        self.known.contains_key(row)
+        self.known.get_index_of(row)
     }
 
     /// A state that was not found is.
@@ -64,16 +64,6 @@ impl States {
     {
         self.known.insert(row, origin)?;
         Ok(())
-    }
-
-    /// The number of a state, if it was found.
-    pub fn number(&self, state: &State) -> Option<usize>
-        ensures { (r : Tables) (states : List (Machine × List ℕ)) → AreStates r self.now states → IsMachineOf r (machine_of state.now) → IsNumberOf states (machine_of state.now) result }
-    {
-        match self.store.row_of(state) {
-            Some(row) => self.known.get_index_of(&row),
-            None => None,
-        }
     }
 
     /// A state becomes the one that was found with this number; `false` where there is none.

@@ -2,44 +2,55 @@
 
 ghost use Rattle.std.specs.Prelude.{◌≡◌, []};
 
+use crate::sight::Sight;
 use cp_machine::{Event, Shown, State};
 use cp_run::{Limits, Observe};
 use cp_slots::Resolved;
 use std::alloc::{AllocError, Global};
 
-/// The values that were displayed, and whether the kernel was called.
+/// The values that were displayed, whether the kernel was called, and what is seen besides.
 #[derive(Drop)]
-pub struct Told {
+pub struct Told<P> {
     pub values: Vec<Shown>,
     pub is_called: bool,
+    /// Of all of the stretch, once round if it repeats.
+    pub seen: P,
+    /// Of the part that repeats, if it does.
+    pub again: Option<P>,
 }
 
-impl Told {
+impl<P: Sight> Told<P> {
     /// Nothing was told.
-    pub fn new(alloc: Global) -> Told
+    pub fn new(alloc: Global, seen: P) -> Told<P>
         ensures { result.values.items ≡ [] }
     {
         Told {
             values: Vec::new(alloc),
             is_called: false,
+            seen,
+            again: None,
         }
     }
 }
 
-impl Observe for Told {
-    ghost use Rattle.std.specs.Prelude.{◌≡◌, ◌++◌, [], List, Bool, true, false};
+impl<P: Sight> Observe for Told<P> {
+    ghost use Rattle.std.specs.Prelude.{◌≡◌, ◌++◌, ◌∷◌, [], List, Bool, true, false};
     ghost use Rattle.std.proofs.Common.{◌∙◌, ap, refl, sym};
     ghost use Rattle.std.proofs.lemmas.List.{append-nil};
     ghost use Rattle.cp_machine.specs.Statements.{Stepped};
-    ghost use Rattle.cp_machine.specs.System.{output_of};
+    ghost use Rattle.cp_machine.specs.System.{Machine, output_of};
     ghost use Rattle.cp_machine.specs.declared.shown.Shown.{Shown};
+    ghost use Rattle.cp_run.specs.Fold.{beside};
     ghost use Rattle.cp_run.specs.Slots.{slots};
     ghost use Rattle.cp_run.proofs.LocalOutput.{local_output};
+    ghost use Rattle.cp_endless.specs.Moments.{Moment};
     ghost use Rattle.cp_ends.specs.Arrivals.{teller};
+    ghost use Rattle.cp_ends.specs.Legs.{seer};
 
     type Error = AllocError;
 
-    ghost Seen = { List Shown × Bool };
+    // What is displayed and whether the kernel was called; due choices, and the moments after them.
+    ghost Seen = { (List Shown × Bool) × (List Machine × List (Moment Machine)) };
 
     ghost IS_SILENT = { true };
 
@@ -55,20 +66,21 @@ impl Observe for Told {
         false
     }
 
-    ghost holds = { λ told r gates now seen. (told.values.items ≡ seen.0) × (told.is_called ≡ seen.1) × (output_of now ≡ []) };
+    ghost holds = { λ told r gates now x. (told.values.items ≡ x.0.0) × (told.is_called ≡ x.0.1) × (output_of now ≡ []) × P.sees told.seen r gates x.1.0 x.1.1 };
 
-    ghost fold = { λ r gates. teller (slots r gates) };
+    ghost fold = { λ r gates. beside (teller (slots r gates)) seer };
 
-    ghost expects = { λ told r gates before process seen. (told.values.items ≡ seen.0) × (told.is_called ≡ seen.1) × (output_of before ≡ []) };
+    ghost expects = { λ told r gates before process x. (told.values.items ≡ x.0.0) × (told.is_called ≡ x.0.1) × (output_of before ≡ []) × P.sees told.seen r gates x.1.0 (x.1.1 ++ record { state = before; mover = process } ∷ []) };
 
     #[inline(always)]
     fn expect_step(
         &mut self,
         _program: &Resolved,
         _limits: Limits,
-        _state: &State,
-        _process: u8,
+        state: &State,
+        process: u8,
     ) -> Result<(), AllocError> {
+        self.seen.add(state, process);
         Ok(())
     }
 
@@ -99,5 +111,5 @@ impl Observe for Told {
 
     fn see_choice(&mut self, _program: &Resolved, _limits: Limits, _state: &State, _number: u8) {}
 
-    ghost passes = { λ unseen told r gates before after process seen step h. (h.0 ∙ sym (append-nil seen.0) ∙ ap (λ l. seen.0 ++ l) (sym (ap (λ (x : Stepped). x.machine.output) step ∙ local_output r before after process [] h.2 step)), h.1, refl) };
+    ghost passes = { λ unseen told r gates before after process x step h. (h.0 ∙ sym (append-nil x.0.0) ∙ ap (λ l. x.0.0 ++ l) (sym (ap (λ (y : Stepped). y.machine.output) step ∙ local_output r before after process [] h.2 step)), h.1, refl, h.3) };
 }

@@ -2,10 +2,10 @@
 
 use crate::subject::{EndsSubject, Findings, Reach};
 use cp_at_once::{FoundAtOnce, search_at_once_with};
-use cp_ends::{Found, search_ends_with};
+use cp_ends::Found;
 use cp_machine::Gates;
 use cp_progress::ObserveProgress;
-use cp_waits::find_waits_with;
+use cp_waits::{FoundWaits, find_waits};
 use std::alloc::{AllocError, Global};
 
 /// What is found by following each state, or, where that was asked for or there are too many of them, with kernel calls at once.
@@ -38,11 +38,16 @@ fn findings_by_states<O: ObserveProgress>(
         most,
         ..
     } = subject;
-    let found = search_ends_with(alloc, program, limits, most, observer)?;
+    let FoundWaits { found, waits } = find_waits(
+        alloc,
+        program,
+        limits,
+        most,
+        subject.waits,
+        observer,
+    )?;
     let mut findings = told(alloc, &found)?;
-    if subject.waits && found.stopped.is_none() {
-        findings.waits = Some(find_waits_with(alloc, program, limits, &found, observer)?);
-    }
+    findings.waits = waits;
     Ok(findings)
 }
 

@@ -7,10 +7,10 @@ ghost use Rattle.cp_waits.specs.Named.{TellOfAll};
 use crate::ends::put_plain_end;
 use crate::json::Json;
 use crate::subject::{MOST_STATES, PageSubject};
-use cp_ends::{Found, search_ends_with};
+use cp_ends::Found;
 use cp_legend::Legend;
 use cp_progress::ObserveProgress;
-use cp_waits::{How, Waiting, Waits, find_waits_with};
+use cp_waits::{FoundWaits, How, Waiting, Waits, find_waits};
 use std::alloc::{AllocError, Global};
 
 /// What is possible in schedules of any length.
@@ -35,11 +35,14 @@ pub fn endless_of<O: ObserveProgress>(
         limits,
         ..
     } = subject;
-    let found = search_ends_with(alloc, program, limits, MOST_STATES, observer)?;
-    let waits = match found.stopped {
-        None => Some(find_waits_with(alloc, program, limits, &found, observer)?),
-        Some(_) => None,
-    };
+    let FoundWaits { found, waits } = find_waits(
+        alloc,
+        program,
+        limits,
+        MOST_STATES,
+        true,
+        observer,
+    )?;
     Ok(Endless { found, waits })
 }
 

@@ -17,6 +17,7 @@ use crate::schedules::Schedules;
 use crate::variables::{KeptVariable, kept_variables};
 use cp_ends::End;
 use cp_ends::round::end_of_cut;
+use cp_ends::sight::Unseen;
 use cp_ends::told::Told;
 use cp_legend::Legend;
 use cp_machine::{Event as Step, Kernel, MOST_SHOWN, State, Ticks};
@@ -198,7 +199,7 @@ impl<'a, K: Schedules> Teller<'a, K> {
             Turn::Due => Ok(Halt::Choice),
             Turn::Goes(pid) if K::IS_SILENT => {
                 let alloc = self.register.alloc;
-                let mut told = Told::new(alloc);
+                let mut told = Told::new(alloc, Unseen);
                 let end = end_of_cut(alloc, program, limits, state, pid, &mut told, ticks)?;
                 Ok(Halt::Ended(end))
             }

@@ -19,7 +19,7 @@ use Rattle.cp_ends.specs.Told.{IsDepth, ends_text}
 use Rattle.cp_ends.specs.Whole.{IsAnswer, IsAnswerBy, IsMeantBy}
 use Rattle.cp_ends.specs.declared.found.Found.{Found}
 use Rattle.cp_ends.specs.declared.found.TheConstants.{MOST_VALUES}
-use Rattle.cp_waits.specs.Named.{TellWho}
+use Rattle.cp_waits.specs.Named.{TellAsked, TellWho}
 use Rattle.cp_waits.specs.Told.{waits_text}
 use Rattle.cp_waits.specs.declared.waiting.Waits.{Waits}
 use Rattle.cp_tool.specs.declared.options.Options.{Options}
@@ -50,19 +50,10 @@ module _ (o : Options) (t : Tree) (r : Tables) where
     abbrev IsReported : Type 0
     IsReported = (x : IsAnswer r o.gates o.steps o.states found) (to : Option ℕ) → IsDepth x.findings found.stopped to → IsReportOf o t r x.findings to verdict text
 
-    told : IsAnswer r o.gates o.steps o.states found → IsReported → AreTold o t r verdict text
+    pub told : IsAnswer r o.gates o.steps o.states found → IsReported → AreTold o t r verdict text
     told a report =
         let all = all_found a.findings found.stopped a.answer (a.meaning t read ok is.laid) in
         (a.findings, all.0, all.2, report a all.0 all.1)
-
-    -- by limits that are those of the options
-    abbrev IsReportedBy : ℕ → Gates → Type 0
-    IsReportedBy steps gates = (x : IsAnswer r gates steps o.states found) (to : Option ℕ) → IsDepth x.findings found.stopped to → IsReportOf o t r x.findings to verdict text
-
-    pub told_by : (steps : ℕ) (gates : Gates) → steps ≡ o.steps → gates ≡ o.gates → IsAnswer r gates steps o.states found → IsReportedBy steps gates → AreTold o t r verdict text
-    told_by steps gates same_steps same_gates a report =
-        told (subst (λ (g : Gates). IsAnswer r g o.steps o.states found) same_gates (subst (λ n. IsAnswer r gates n o.states found) same_steps a))
-        (subst (λ (g : Gates). IsReportedBy o.steps g) same_gates (subst (λ n. IsReportedBy n gates) same_steps report))
 
   -- ---- the text, by the names of the tables
 
@@ -82,11 +73,14 @@ module _ (o : Options) (t : Tree) (r : Tables) where
         subst (λ (d : Option ℕ). IsReportOf o t r f d Reported text) (sym e)
         (subst (λ (b : Bool). MatchBool b (IsWaitsReport o t r f Reported text) ((Reported ≡ Reported) × (text ≡ ends_text (constant_names t.program) f None))) (sym quiet) so)
 
-    pub waits_reported : (verdict : Verdict) (text : List ℕ) → o.waits ≡ true → IsDepth f None to → IsWaitsReport o t r f verdict text → IsReportOf o t r f to verdict text
-    waits_reported verdict text asked e h =
-        subst (λ (d : Option ℕ). IsReportOf o t r f d verdict text) (sym e)
-        (subst (λ (b : Bool). MatchBool b (IsWaitsReport o t r f verdict text) ((verdict ≡ Reported) × (text ≡ ends_text (constant_names t.program) f None))) (sym asked) h)
+    pub waits_reported : (found : Found) (waits : Waits) (verdict : Verdict) (text : List ℕ) → TellAsked r o.gates o.steps o.waits found (Some waits) → IsDepth f found.stopped to → verdict ≡ verdict_on waits → text ≡ ends_text r.names f to ++ waits_text waits → TellWho r o.gates o.steps f.ends waits → IsReportOf o t r f to verdict text
+    waits_reported found waits verdict text asked d v h tell =
+        let whole : to ≡ None = subst (λ (s : Option ℕ). IsDepth f s to) asked.1 d in
+        let report : IsWaitsReport o t r f verdict text = (waits, v, h ∙ ap (λ (l : List ℕ). l ++ waits_text waits) (by_names (ends_text r.names f to) refl ∙ ap (ends_text (constant_names t.program) f) whole), tell) in
+        subst (λ (d : Option ℕ). IsReportOf o t r f d verdict text) (sym whole)
+        (subst (λ (b : Bool). MatchBool b (IsWaitsReport o t r f verdict text) ((verdict ≡ Reported) × (text ≡ ends_text (constant_names t.program) f None))) (sym asked.0) report)
 
-    pub waits_told : (waits : Waits) (verdict : Verdict) (text : List ℕ) → to ≡ None → verdict ≡ verdict_on waits → text ≡ ends_text r.names f to ++ waits_text waits → TellWho r o.gates o.steps f.ends waits → IsWaitsReport o t r f verdict text
-    waits_told waits verdict text e v h tell =
-        (waits, v, h ∙ ap (λ (l : List ℕ). l ++ waits_text waits) (by_names (ends_text r.names f to) refl ∙ ap (ends_text (constant_names t.program) f) e), tell)
+-- who waits is not asked
+pub unasked : (asks : Bool) → (asks ≡ true → ⊥) → asks ≡ false
+unasked true h = absurd (h refl)
+unasked false h = refl

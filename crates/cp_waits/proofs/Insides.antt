@@ -1,13 +1,12 @@
 -- Whether a process is in its call, by the entries of its stack.
 use Rattle.std.proofs.Common.{◌≡◌, ◌∙◌, ◌⊎◌, ⊎_elim, ◌<◌, ◌≤◌, ◌+◌, ℕ, Bool, true, false, List, [], ◌∷◌, length, map, reverse, None, refl, sym, ap, arith}
-use Rattle.cp_waits.proofs.Words.{◌&&◌, ◌||◌, nat_eq, nat_lt, slice_index_or, list_any, ProcessState, Tables, IsStateOf, threads_count, has, Set, thread_read}
+use Rattle.cp_waits.proofs.Words.{◌&&◌, ◌||◌, nat_eq, nat_lt, slice_index_or, list_any, ProcessState, has, Set, thread_read}
 use Rattle.std.proofs.lemmas.Bool.{cases_order, eq-eqb, le-ltb, lt-ltb, ne_eqb}
-use Rattle.std.proofs.lemmas.List.{length-map, reverse-append}
+use Rattle.std.proofs.lemmas.List.{reverse-append}
 use Rattle.std.proofs.lemmas.List.Folds.{list_any-append}
 use Rattle.cp_machine.specs.Machine.{thread_of, thread_at}
 use Rattle.cp_machine.specs.declared.process.Entry.{Entry}
 use Rattle.cp_machine.specs.declared.process.Entry.TheVariants.{Rest, Successor, Return, InitEnd}
-use Rattle.cp_machine.specs.declared.state.State.{State}
 use Rattle.cp_endless.specs.Silent.{has_monitor_return}
 use Rattle.cp_refine.proofs.gates.Gates.{and_false as both_none}
 
@@ -59,8 +58,6 @@ pub with_none : (a b : Bool) → (a || (b && false)) ≡ a
 with_none true b = refl
 with_none false b = both_none b
 
--- each process of a state is one of everybody
-pub everybody_is : (r : Tables) (s : State) (q : ℕ) → IsStateOf r s → length s.processes.items ≤ 16 → (all : Set) (count : ℕ) → count ≡ length r.processes → ((k : ℕ) → has all k ≡ (nat_lt k 16 && nat_lt k count)) → q < length r.processes → has all q ≡ true
-everybody_is r s q own few all count is below lt =
-    let same : length r.processes ≡ length s.processes.items = sym (threads_count r s own) ∙ length-map s.processes.items thread_of in
-    below q ∙ ap (λ b. b && nat_lt q count) (lt-ltb q 16 (omega (arith, few, same, lt))) ∙ lt-ltb q count (omega (arith, is, lt))
+-- each process is one of everybody
+pub everybody_is : (all : Set) (count q n : ℕ) → count ≡ n → n ≤ 16 → ((k : ℕ) → has all k ≡ (nat_lt k 16 && nat_lt k count)) → q < n → has all q ≡ true
+everybody_is all count q n is few below lt = below q ∙ ap (λ b. b && nat_lt q count) (lt-ltb q 16 (omega (arith, few, lt))) ∙ lt-ltb q count (omega (arith, is, lt))

@@ -4,7 +4,6 @@ pub mod Edges
 pub mod Falling
 pub mod Graphs
 pub mod Insides
-pub mod Legs
 pub mod Numbers
 pub mod Runs
 pub mod Saying

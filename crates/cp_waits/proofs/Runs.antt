@@ -7,7 +7,8 @@ use Rattle.cp_endless.specs.Lasso.{HasLasso, IsWaitingLoop, WaitsAlong}
 use Rattle.cp_endless.specs.Moments.{AnyOf, Moment, moments, moments_along, states_along}
 use Rattle.cp_waits.specs.declared.passing.Keeping.{Keeping}
 use Rattle.cp_waits.specs.declared.passing.Keeping.TheVariants.{Waiting, Inside}
-use Rattle.cp_waits.specs.Legs.{ComesTo, IsHalted, choice_leg}
+use Rattle.cp_ends.specs.Legs.{IsHalted, choice_leg}
+use Rattle.cp_waits.specs.Legs.{ComesTo}
 use Rattle.cp_waits.specs.Walks.{IsEdge, IsWay, IsRound}
 use Rattle.cp_endless.proofs.Basics.{any_left, any_right, each_append as each_joined}
 

@@ -36,7 +36,7 @@ use Rattle.cp_ends.proofs.Listing.{origin_here}
 use Rattle.cp_ends.proofs.Searching.Lists.{contains_at, pair_at, place_of}
 use Rattle.cp_ends.proofs.named.Keys.{key_same, key_self}
 use Rattle.cp_ends.proofs.named.Kinds.{are_settled}
-use Rattle.cp_waits.specs.Graphs.{IsGraphOfAll, IsSlotGraphOf}
+use Rattle.cp_waits.specs.Graphs.{HasGraph, IsSlotGraphOf}
 use Rattle.cp_waits.specs.MayWait.{AreWaits, HasLine, ShowWaiting, TellWaits, WaitsForGood}
 use Rattle.cp_waits.specs.Named.{AreWaitsOnNames, LinesMeaningLaw, LingersBy, ShowOnNames, TellOfAll, TellOnNames, WaitsBy}
 use Rattle.cp_waits.specs.declared.waiting.How.{How}
@@ -188,7 +188,8 @@ lines_mean r gates steps most found f g waits holds whole graph say =
     let on_slots = tell_on_slots r gates steps most found f holds whole g graph waits say in
     record { slots = on_slots; names = λ t read ok same. tell_on_names t r gates read ok same steps f.ends whole.ends waits on_slots }
 
-pub told_of_all : (r : Tables) (gates : slot_gates.Gates) (steps : ℕ) (found : Found) (g : Graph) → IsGraphOfAll r gates steps found g → (waits : Waits) → SayWhoWaits g found.states waits → TellOfAll r gates steps found waits
-told_of_all r gates steps found g graph waits say = λ most answer few all.
+pub told_of_all : (r : Tables) (gates : slot_gates.Gates) (steps : ℕ) (found : Found) (g : Graph) → HasGraph r gates steps found g → (waits : Waits) → SayWhoWaits g found.states waits → TellOfAll r gates steps found waits
+told_of_all r gates steps found g has waits say = λ most answer few all.
     let whole : IsWhole (slots r gates) without_output steps most answer.findings = subst (λ (o : Option ℕ). IsAnswerBy r gates steps most answer.findings o) all answer.answer in
-    lines_mean r gates steps most found answer.findings g waits answer.holds whole (graph most answer.findings few answer.holds whole) say
+    let on_slots = tell_on_slots r gates steps has.most found has.findings has.holds has.whole g has.graph waits say in
+    record { slots = on_slots; names = λ t read ok same. tell_on_names t r gates read ok same steps answer.findings.ends whole.ends waits on_slots }

@@ -34,10 +34,11 @@ pub use Rattle.cp_run.specs.declared.outcome.Halt.{Halt}
 pub use Rattle.cp_run.specs.declared.outcome.Turn.{Turn}
 pub use Rattle.cp_run.specs.declared.outcome.Turn.TheVariants.{Due, Goes, Over}
 pub use Rattle.cp_slots.specs.Tables.{Tables}
-pub use Rattle.cp_waits.specs.Building.{AddsChoicesOnSlots, AreAll}
+pub use Rattle.cp_waits.specs.Building.{AddsChoicesOnSlots}
 pub use Rattle.cp_waits.specs.Graphs.{IsChoice, IsNumber, LetsWait}
 pub use Rattle.cp_waits.specs.Keeps.{keeps}
-pub use Rattle.cp_waits.specs.Legs.{Comes, ComesTo, Leg, choice_leg, first_leg}
+pub use Rattle.cp_ends.specs.Legs.{Leg, choice_leg, first_leg}
+pub use Rattle.cp_waits.specs.Legs.{Comes, ComesTo}
 pub use Rattle.cp_waits.specs.Lines.{SayWhoWaits}
 pub use Rattle.cp_waits.specs.MayWait.{AreLasso, AreLingeringLasso, StandsStillAfter, WaitsForGood}
 pub use Rattle.cp_waits.specs.Passings.{Seen}

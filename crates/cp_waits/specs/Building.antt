@@ -1,31 +1,28 @@
 -- What the choices of states add to a graph.
-use Rattle.std.specs.Prelude.{◌≡◌, ◌⊎◌, ◌≤◌, ◌<◌, ◌^◌, ℕ, List, [], ◌++◌, map, length, Bool, true, Some, Contains, slice_get}
+use Rattle.std.specs.Prelude.{◌≡◌, ◌⊎◌, ◌≤◌, ◌<◌, ℕ, List, ◌++◌, map, length, Bool, true, Option, None, Some, Contains, slice_get}
 use Rattle.std.specs.List.{AllByRecursion as Each}
 use Rattle.cp_slots.specs.Tables.{Tables}
-use Rattle.cp_machine.specs.System.{Machine, output_of}
+use Rattle.cp_machine.specs.System.{Machine}
 use Rattle.cp_machine.specs.declared.gates.Gates.{Gates}
 use Rattle.cp_run.specs.Run.{may, stretch}
 use Rattle.cp_run.specs.System.{System}
-use Rattle.cp_endless.specs.Settled.{IsClosedSet}
 use Rattle.cp_endless.specs.Silent.{silent_slots, in_call_on_slots, waits_on_slots}
-use Rattle.cp_ends.specs.Firsts.{HasWord}
-use Rattle.cp_ends.specs.Holds.{AreStates, HasFindings, IsAt}
+use Rattle.cp_ends.specs.Answer.{HoldsFew, IsDone, IsStopped, ends_tests, slot_graph}
+use Rattle.cp_ends.specs.Holds.{SlotFindings}
+use Rattle.cp_ends.specs.Legs.{Leg, first_leg, choice_leg}
+use Rattle.cp_ends.specs.Searched.{Grows, searched}
+use Rattle.cp_ends.specs.Visited.{gone_with}
+use Rattle.cp_ends.specs.Visited as visited
 use Rattle.cp_ends.specs.declared.found.Found.{Found}
 use Rattle.cp_ends.specs.declared.origin.Origin.{Origin}
 use Rattle.cp_ends.specs.declared.origin.Origin.TheVariants.{Start, Choice}
-use Rattle.cp_waits.specs.Graphs.{AreEdges, AreChoices, HasStill, IsChoice, IsStill, LetsWait}
-use Rattle.cp_waits.specs.Legs.{Leg, first_leg, choice_leg, GoesRound}
+use Rattle.cp_waits.specs.Graphs.{AreEdges, AreChoices, HasStill, IsChoice, IsSlotGraphOf, IsStill, LetsWait}
+use Rattle.cp_waits.specs.Legs.{GoesRound}
 use Rattle.cp_waits.specs.Sets.{has}
 use Rattle.cp_waits.specs.Walks.{first_edge}
 use Rattle.cp_waits.specs.declared.graph.Edge.{Edge}
 use Rattle.cp_waits.specs.declared.graph.Graph.{Graph}
 use Rattle.cp_waits.specs.declared.graph.Standstill.{Standstill}
-
--- The states are all that were found, no more than can be counted, and no choice leads out of them.
-pub record AreAll (r : Tables) (gates : Gates) (steps : ℕ) (found : Found) (states : List (Machine × List ℕ)) : Type 0 where
-  pub held : AreStates r found.states states
-  pub few : length states < 2 ^ 32
-  pub closed : IsClosedSet (silent_slots r gates) steps (HasWord states)
 
 -- a leg leads where its stretch leads
 abbrev pub IsOfStretch : {S : Type 0} → System S → ℕ → Leg S → Type 0
@@ -74,25 +71,30 @@ AddsChoicesOnSlots r gates steps states i m numbers old new = AddsChoices (silen
 abbrev pub IsSlotGraphTo : Tables → Gates → ℕ → List (Machine × List ℕ) → ℕ → Graph → Type 0
 IsSlotGraphTo r gates steps states n g = IsGraphTo (silent_slots r gates) in_call_on_slots waits_on_slots steps states n g
 
--- ---- how far a visit of the states has come
+-- ---- how far a search has come
 
-module _ (is_visited : Found → Type 0) (r : Tables) (gates : Gates) (steps : ℕ) where
-  -- it is the graph of those before this number
+module _ (r : Tables) (gates : Gates) (steps most : ℕ) where
+  abbrev pub findings_at : ℕ → SlotFindings
+  findings_at n = searched (slot_graph r gates steps) ends_tests n
+
+  -- the states before this number were gone on from, and it is their graph, whatever is found after them
   pub record IsBuiltTo (found : Found) (n : ℕ) (g : Graph) : Type 0 where
-    pub visited : is_visited found
-    pub kept : HasFindings r found
-    pub graph : (states : List (Machine × List ℕ)) → AreAll r gates steps found states → IsSlotGraphTo r gates steps states n g
+    pub ends : HoldsFew r most found (findings_at n)
+    pub graph : (states : List (Machine × List ℕ)) → Grows (findings_at n).states states → IsSlotGraphTo r gates steps states n g
 
-  -- and the state of this number, which is the machine, is gone on from with these choices
+  -- and so was the state of this number, which is the machine, with these choices
   pub record IsWithin (found : Found) (at : ℕ) (m : Machine) (numbers : List ℕ) (g : Graph) : Type 0 where
+    pub ends : visited.IsWithin r (slot_graph r gates steps) most found at m numbers
     pub old : Graph
-    pub before : IsBuiltTo found at old
-    pub quiet : output_of m ≡ []
-    pub here : (states : List (Machine × List ℕ)) → AreAll r gates steps found states → IsAt states at true m
-    pub adds : (states : List (Machine × List ℕ)) → AreAll r gates steps found states → AddsChoicesOnSlots r gates steps states at m numbers old g
+    pub before : (states : List (Machine × List ℕ)) → Grows (findings_at at).states states → IsSlotGraphTo r gates steps states at old
+    pub adds : (states : List (Machine × List ℕ)) → Grows (gone_with (slot_graph r gates steps) ends.from numbers (findings_at at)).states states → AddsChoicesOnSlots r gates steps states at m numbers old g
 
-  -- it is the graph of all, where they are no more than may be visited
-  pub record IsBuilt (most : ℕ) (found : Found) (g : Graph) : Type 0 where
-    pub count : ℕ
-    pub built : IsBuiltTo found count g
-    pub all : (states : List (Machine × List ℕ)) → AreAll r gates steps found states → length states ≤ most → length states ≤ count
+  -- each state was gone on from, and it is their graph
+  pub record IsBuilt (found : Found) (g : Graph) : Type 0 where
+    pub whole : visited.IsWhole r (slot_graph r gates steps) most found
+    pub graph : (states : List (Machine × List ℕ)) → Grows (findings_at whole.count).states states → IsSlotGraphTo r gates steps states whole.count g
+
+  -- the answer of a search: each state was gone on from, and it is their graph, or it stopped at this state
+  abbrev pub IsSearchedGraph : Found → Graph → Option ℕ → Type 0
+  IsSearchedGraph found g None = (done : IsDone r (slot_graph r gates steps) most found) × IsSlotGraphOf r gates steps (findings_at done.count).states g
+  IsSearchedGraph found g (Some at) = IsStopped r (slot_graph r gates steps) most found at

@@ -1,5 +1,5 @@
 -- What a graph says of the states of a machine: of each the choices, and which stretches stand still.
-use Rattle.std.specs.Prelude.{◌≡◌, ◌<◌, ◌+◌, ◌^◌, ℕ, suc, List, [], ◌∷◌, ◌++◌, map, length, Bool, true, Option, None, Some, Contains, slice_get}
+use Rattle.std.specs.Prelude.{◌≡◌, ◌<◌, ◌+◌, ℕ, suc, List, [], ◌∷◌, ◌++◌, map, length, Bool, true, Option, None, Some, Contains, slice_get}
 use Rattle.std.specs.List.{AllByRecursion as Each}
 use Rattle.cp_slots.specs.Tables.{Tables}
 use Rattle.cp_machine.specs.System.{Machine}
@@ -16,7 +16,8 @@ use Rattle.cp_ends.specs.Whole.{IsWhole}
 use Rattle.cp_ends.specs.declared.found.Found.{Found}
 use Rattle.cp_ends.specs.declared.origin.Origin.{Origin}
 use Rattle.cp_ends.specs.declared.origin.Origin.TheVariants.{Start, Choice}
-use Rattle.cp_waits.specs.Legs.{Leg, first_leg, choice_leg, GoesRound, ComesTo}
+use Rattle.cp_ends.specs.Legs.{Leg, first_leg, choice_leg}
+use Rattle.cp_waits.specs.Legs.{GoesRound, ComesTo}
 use Rattle.cp_waits.specs.Sets.{has}
 use Rattle.cp_waits.specs.Walks.{first_edge, end_edge}
 use Rattle.cp_waits.specs.declared.graph.Edge.{Edge}
@@ -96,7 +97,10 @@ pub record IsGraphOf {S : Type 0} (sys : System S) (inside waiting : S → ℕ �
 abbrev pub IsSlotGraphOf : Tables → Gates → ℕ → List (Machine × List ℕ) → Graph → Type 0
 IsSlotGraphOf r gates steps states g = IsGraphOf (silent_slots r gates) in_call_on_slots waits_on_slots steps states g
 
--- where all states were found, and not more than can be counted, it is their graph
-abbrev pub IsGraphOfAll : Tables → Gates → ℕ → Found → Graph → Type 0
-IsGraphOfAll r gates steps found g =
-    (most : ℕ) (f : SlotFindings) → most < 2 ^ 32 → Holds r found f → IsWhole (slots r gates) without_output steps most f → IsSlotGraphOf r gates steps f.states g
+-- all states were found, and it is their graph
+pub record HasGraph (r : Tables) (gates : Gates) (steps : ℕ) (found : Found) (g : Graph) : Type 0 where
+  pub most : ℕ
+  pub findings : SlotFindings
+  pub holds : Holds r found findings
+  pub whole : IsWhole (slots r gates) without_output steps most findings
+  pub graph : IsSlotGraphOf r gates steps findings.states g

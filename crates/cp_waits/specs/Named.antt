@@ -1,5 +1,5 @@
 -- What the lines say of a program, on its own names.
-use Rattle.std.specs.Prelude.{◌≡◌, ◌⊎◌, ◌≤◌, ◌<◌, ◌^◌, ℕ, zero, suc, List, [], ◌∷◌, Bool, None, Contains, drop, get_or, length}
+use Rattle.std.specs.Prelude.{◌≡◌, ◌⊎◌, ◌≤◌, ◌<◌, ◌^◌, ℕ, zero, suc, List, [], ◌∷◌, Bool, true, Option, None, Some, Contains, drop, get_or, length}
 use Rattle.std.specs.List.{AllPairs}
 use Rattle.cp_tree.specs.Syntax.{Tree}
 use Rattle.cp_slots.specs.Tables.{Tables}
@@ -85,6 +85,11 @@ pub record TellWho (r : Tables) (gates : slot_gates.Gates) (steps : ℕ) (ends :
 -- where a search found all states
 abbrev pub TellOfAll : Tables → slot_gates.Gates → ℕ → Found → Waits → Type 0
 TellOfAll r gates steps found waits = (most : ℕ) (answer : IsAnswer r gates steps most found) → most < 2 ^ 32 → found.stopped ≡ None → TellWho r gates steps answer.findings.ends waits
+
+-- what is said of who may wait for ever, where that was asked: nothing where there are too many states
+abbrev pub TellAsked : Tables → slot_gates.Gates → ℕ → Bool → Found → Option Waits → Type 0
+TellAsked r gates steps asks found None = asks ≡ true → found.stopped ≡ None → ⊥
+TellAsked r gates steps asks found (Some waits) = (asks ≡ true) × (found.stopped ≡ None) × TellOfAll r gates steps found waits
 
 -- what is said of the graph of all states is so
 abbrev pub LinesMeaningLaw : Type 0

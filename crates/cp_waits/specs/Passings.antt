@@ -1,10 +1,9 @@
 -- What a passing says of what was seen of a stretch.
-use Rattle.std.specs.Prelude.{◌≡◌, ◌⊎◌, ◌<◌, ◌↔◌, ◌++◌, ◌∷◌, ℕ, List, [], Bool, true}
+use Rattle.std.specs.Prelude.{◌≡◌, ◌⊎◌, ◌<◌, ◌↔◌, ℕ, List, Bool, true}
 use Rattle.std.specs.List.{AllByRecursion as Each}
 use Rattle.cp_slots.specs.Tables.{Tables}
 use Rattle.cp_machine.specs.System.{Machine}
 use Rattle.cp_machine.specs.declared.gates.Gates.{Gates}
-use Rattle.cp_run.specs.Fold.{Fold}
 use Rattle.cp_run.specs.System.{System}
 use Rattle.cp_endless.specs.Fair.{IsServed}
 use Rattle.cp_endless.specs.Moments.{Moment, AnyOf}
@@ -28,7 +27,3 @@ pub record Seen {S : Type 0} (sys : System S) (inside waiting : S → ℕ → Bo
 -- of the slot machine that shows nothing
 abbrev pub HasSeen : Tables → Gates → List Machine → List (Moment Machine) → PassingSets → Type 0
 HasSeen r gates due ms p = Seen (silent_slots r gates) in_call_on_slots waits_on_slots due ms p
-
--- after due choices and moments, each step is one moment more
-abbrev pub seer : {S : Type 0} → Fold S (List S × List (Moment S))
-seer = record { on_step = λ s p event t x. (x.0, x.1 ++ record { state = s; mover = p } ∷ []); on_admission = λ p t x. x; on_choice = λ s p x. x }

@@ -1,42 +1,51 @@
-//! From the states that were found to who may wait for ever.
+//! From a program to what is found of it, and who may wait for ever.
 
-ghost use Rattle.std.specs.Prelude.{IfOk};
+ghost use Rattle.std.specs.Prelude.{◌≤◌, IfOk};
 ghost use Rattle.cp_ends.specs.Holds.{HasFindings};
-ghost use Rattle.cp_waits.specs.Named.{TellOfAll};
+ghost use Rattle.cp_ends.specs.Whole.{IsAnswer};
+ghost use Rattle.cp_waits.specs.Named.{TellAsked};
 
-use crate::building::graph_of;
+use crate::building::{FoundGraph, search_graph};
 use crate::waiting::{Waits, who_waits};
-use cp_ends::Found;
-use cp_progress::{ObserveProgress, Unobserved};
+use cp_ends::{Found, search_ends_with};
+use cp_progress::ObserveProgress;
 use cp_run::Limits;
 use cp_slots::Resolved;
 use std::alloc::{AllocError, Global};
 
-/// Looks for each process whether it may wait for ever. Where all states were found, each line shows a fair schedule without end in which
-/// its process waits, and who has no line waits for ever in none.
-pub fn find_waits(
-    alloc: Global,
-    program: &Resolved,
-    limits: Limits,
-    found: &Found,
-) -> Result<Waits, AllocError>
-    requires kept { HasFindings program.now found.now }
-    ensures { IfOk result (λ waits. TellOfAll program.now limits.gates limits.steps found.now waits) }
-{
-    find_waits_with(alloc, program, limits, found, &mut Unobserved)
+/// What a search finds, and who may wait for ever, where that is asked and there are not too many states.
+#[derive(Drop)]
+pub struct FoundWaits {
+    pub found: Found,
+    pub waits: Option<Waits>,
 }
 
-/// The same, where an observer is told how far the choices between the states were taken once more.
-pub fn find_waits_with<O: ObserveProgress>(
+/// Searches for ends, and, where that is asked, looks for each process whether it may wait for ever. Where all states were found, each line
+/// shows a fair schedule without end in which its process waits, and who has no line waits for ever in none. An observer is told how far the
+/// search has come.
+pub fn find_waits<O: ObserveProgress>(
     alloc: Global,
     program: &Resolved,
     limits: Limits,
-    found: &Found,
+    most: u32,
+    asks_waits: bool,
     observer: &mut O,
-) -> Result<Waits, AllocError>
-    requires kept { HasFindings program.now found.now }
-    ensures { IfOk result (λ waits. TellOfAll program.now limits.gates limits.steps found.now waits) }
+) -> Result<FoundWaits, AllocError>
+    ensures answer { 1 ≤ most → IfOk result (λ x. IsAnswer program.now limits.gates limits.steps most x.found) }
+    ensures kept { IfOk result (λ x. HasFindings program.now x.found) }
+    ensures waits { IfOk result (λ x. TellAsked program.now limits.gates limits.steps asks_waits x.found x.waits) }
 {
-    let graph = graph_of(alloc, program, limits, found, observer)?;
-    who_waits(alloc, &graph, &found.states)
+    if !asks_waits {
+        let found = search_ends_with(alloc, program, limits, most, observer)?;
+        return Ok(FoundWaits { found, waits: None });
+    }
+    let FoundGraph { found, graph } = search_graph(alloc, program, limits, most, observer)?;
+    if found.stopped.is_some() {
+        return Ok(FoundWaits { found, waits: None });
+    }
+    let waits = who_waits(alloc, &graph, &found.states)?;
+    Ok(FoundWaits {
+        found,
+        waits: Some(waits),
+    })
 }

@@ -15,9 +15,8 @@ pub mod set;
 pub mod trails;
 pub mod traps;
 pub mod waiting;
-pub mod watching;
 
-pub use finding::{find_waits, find_waits_with};
+pub use finding::{FoundWaits, find_waits};
 pub use laws::law_lines_mean;
 pub use report::waits_report;
 pub use set::Set;

@@ -12,7 +12,9 @@ ghost use Rattle.cp_waits.specs.Sets.{has};
 ghost use Rattle.cp_waits.specs.Keeps.{keeps, lacks};
 
 use crate::set::Set;
+use cp_ends::sight::Sight;
 use cp_machine::{Entry, State};
+use cp_slots::Resolved;
 
 /// What processes do at the moments of a stretch: at the choice before it, and before each of its steps.
 #[derive(Clone, Copy)]
@@ -29,11 +31,11 @@ pub struct PassingSets {
     pub served: Set,
 }
 
-impl PassingSets {
-    /// There was no moment yet.
-    pub fn new(everybody: Set) -> PassingSets
-        ensures { (r : Tables) (gates : slot_gates.Gates) → ((q : ℕ) → q < length r.processes → has everybody q ≡ true) → HasSeen r gates [] [] result }
-    {
+impl Sight for PassingSets {
+    ghost sees = { λ p r gates due ms. HasSeen r gates due ms p };
+
+    fn begin(program: &Resolved) -> PassingSets {
+        let everybody = Set::below(program.processes());
         PassingSets {
             wait: everybody,
             wait_once: Set::nobody(),
@@ -43,21 +45,25 @@ impl PassingSets {
         }
     }
 
-    /// One moment more, before a step of a process.
-    pub fn add(&mut self, state: &State, mover: u8)
-        ensures { (r : Tables) (gates : slot_gates.Gates) (due : List Machine) (ms : List (Moment Machine)) → IsStateOf r state.now → HasSeen r gates due ms self.old → HasSeen r gates due (ms ++ record { state = machine_of state.now; mover = mover } ∷ []) self.new }
-    {
+    fn see_due(&mut self, state: &State) {
+        self.see(state);
+    }
+
+    fn add(&mut self, state: &State, mover: u8) {
         self.see(state);
         self.serve(state, mover);
     }
 
-    /// The due choice before the first moment.
-    pub fn see_due(&mut self, state: &State)
-        ensures { (r : Tables) (gates : slot_gates.Gates) → IsStateOf r state.now → HasSeen r gates [] [] self.old → HasSeen r gates (machine_of state.now ∷ []) [] self.new }
-    {
-        self.see(state);
+    fn then(&mut self, other: &PassingSets) {
+        self.wait = self.wait.and(other.wait);
+        self.wait_once = self.wait_once.or(other.wait_once);
+        self.stay = self.stay.and(other.stay);
+        self.step = self.step.or(other.step);
+        self.served = self.served.or(other.served);
     }
+}
 
+impl PassingSets {
     fn see(&mut self, state: &State)
         ensures wait { (q : ℕ) → q < length state.now.processes.items → has self.new.wait q ≡ (has self.old.wait q && waits_on_slots (machine_of state.now) q) }
         ensures wait_once { (q : ℕ) → q < length state.now.processes.items → has self.new.wait_once q ≡ (has self.old.wait_once q || waits_on_slots (machine_of state.now) q) }
@@ -80,17 +86,6 @@ impl PassingSets {
     {
         self.step = self.step.with(mover);
         self.served = self.served.or(those_not_ready(state).with(mover));
-    }
-
-    /// The moments of another one come after these.
-    pub fn then(&mut self, other: &PassingSets)
-        ensures { (r : Tables) (gates : slot_gates.Gates) (due : List Machine) (ms ns : List (Moment Machine)) → HasSeen r gates due ms self.old → HasSeen r gates [] ns other.now → HasSeen r gates due (ms ++ ns) self.new }
-    {
-        self.wait = self.wait.and(other.wait);
-        self.wait_once = self.wait_once.or(other.wait_once);
-        self.stay = self.stay.and(other.stay);
-        self.step = self.step.or(other.step);
-        self.served = self.served.or(other.served);
     }
 }
 

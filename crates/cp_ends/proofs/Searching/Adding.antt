@@ -5,9 +5,9 @@ use Rattle.std.proofs.lemmas.Bool.{ltb-true, ltb-false, le-ltb}
 use Rattle.std.proofs.lemmas.List.Elements.{All-nil, All-cons, All-head, All-tail, All-push, All-weaker, All-get_or, Contains-push}
 use Rattle.std.proofs.lemmas.List.Quantifiers.{all_pairs_push}
 use Rattle.cp_ends.specs.Firsts.{is_up_to, HasWord}
-use Rattle.cp_ends.specs.Searched.{has, with_first, with_values}
+use Rattle.cp_ends.specs.Searched.{Grows, has, with_first, with_values}
 use Rattle.cp_ends.proofs.Searching.Words.{up_to_same, up_to_joined}
-use Rattle.cp_ends.proofs.Searching.Lists.{Before, Grows, all_at, before_grown, contains_cases, contains_first, contains_later, grows_joined, grows_push, grows_same, place_of}
+use Rattle.cp_ends.proofs.Searching.Lists.{Before, all_at, before_grown, contains_cases, contains_first, contains_later, grows_joined, grows_push, grows_same, place_of}
 
 -- each has a word for which P holds, once, in the order of the words, which go up to `last`
 pub record AreGood {A : Type 0} (P : A → List ℕ → Type 0) (found : List (A × List ℕ)) (last : List ℕ) : Type 0 where

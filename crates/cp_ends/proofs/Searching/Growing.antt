@@ -4,8 +4,8 @@ use Rattle.std.specs.Prelude.{Option, Some, None, slice_get, if◌then◌else◌
 use Rattle.std.proofs.lemmas.Bool.{cases_lt}
 use Rattle.std.proofs.lemmas.Option.{slice_get_past}
 use Rattle.cp_ends.specs.Graph.{Goal, Place, End, Arrival, Graph}
-use Rattle.cp_ends.specs.Searched.{Findings, Tests, with_goal, with_values, arrived, gone_on, gone_on_from, searched}
-use Rattle.cp_ends.proofs.Searching.Lists.{Grows, grown_at, grown_length, grows_joined, grows_same}
+use Rattle.cp_ends.specs.Searched.{Findings, Grows, Tests, with_goal, with_values, arrived, gone_on, gone_on_from, searched}
+use Rattle.cp_ends.proofs.Searching.Lists.{grown_at, grown_length, grows_joined, grows_same}
 use Rattle.cp_ends.proofs.Searching.Adding.{IsKept, first_grows, kept_stays}
 
 -- what was found stays found
@@ -66,7 +66,7 @@ module _ {S E V : Type 0} (g : Graph S E V) (t : Tests S E V) where
 
   -- ---- places are kept
 
-  searched_more : (n : ℕ) → Extends t (searched g t n) (searched g t (suc n))
+  pub searched_more : (n : ℕ) → Extends t (searched g t n) (searched g t (suc n))
   unfolding searched
   searched_more n = by (slice_get (searched g t n).states n)
     where

@@ -4,6 +4,7 @@ use Rattle.std.specs.Prelude.{◌≢◌, All, AllPairs, Contains, Option, Some, 
 use Rattle.cp_ends.proofs.Vocabulary.{cases_lt, append-nil, is_up_to}
 use Rattle.std.proofs.lemmas.List.Elements.{All-get_or, Contains-append_left, Contains-append_right, Contains-append_cases, Contains-push_cases}
 use Rattle.std.proofs.lemmas.Option.{same_Some, slice_get_read, slice_get_within, get_or_from_slice_get}
+use Rattle.cp_ends.specs.Searched.{Grows}
 use Rattle.cp_ends.proofs.Searching.Words.{up_to_joined}
 use Rattle.cp_resolved.proofs.names.Entries.{still_there as at_front}
 
@@ -38,10 +39,6 @@ contains_cases x y xs h = by (Contains-append_cases (x ∷ []) xs y h)
     by (inr on) = inr on
 
 -- ---- lists that grow
-
--- the second list is the first with more at its end
-abbrev pub Grows : {X : Type 0} → List X → List X → Type 0
-Grows {X} xs ys = (more : List X) × (ys ≡ xs ++ more)
 
 pub grows_same : {X : Type 0} (xs : List X) → Grows xs xs
 grows_same xs = ([], sym (append-nil xs))

@@ -1,8 +1,11 @@
 //! Whether all of some expectations hold of schedules of any length.
 
-ghost use Rattle.std.specs.Prelude.{◌≡◌, ◌≤◌, ◌<◌, ◌^◌, ℕ, IfOk, false, true};
-ghost use Rattle.cp_ends.specs.Holds.{HasFindings};
+ghost use Rattle.std.specs.Prelude.{◌≡◌, ◌≤◌, ◌<◌, ◌^◌, ℕ, Bool, IfOk, false, true};
+ghost use Rattle.cp_slots.specs.Tables.{Tables};
+ghost use Rattle.cp_machine.specs.declared.gates.Gates as slot_gates;
 ghost use Rattle.cp_ends.specs.Whole.{IsAnswer};
+ghost use Rattle.cp_ends.specs.declared.found.Found.{Found};
+ghost use Rattle.cp_waits.specs.Named.{TellAsked};
 ghost use Rattle.cp_verdict.specs.endless.Knowledge.{IsKnown, KnowsWaits};
 ghost use Rattle.cp_verdict.specs.endless.Marked as spec;
 ghost use Rattle.cp_verdict.specs.declared.endless.verdict.EndsMark.TheVariants.{Misread};
@@ -12,13 +15,12 @@ use crate::endless::knowing::knowledge_of;
 use crate::endless::known::KnownEnds;
 use crate::endless::saying::{MarkedEnds, note_on, open_words, sayings_of};
 use crate::endless::verdict::{EndsVerdict, mark_of, verdict_on};
-use cp_ends::{Found, search_ends_with};
 use cp_legend::Legend;
 use cp_machine::Gates;
 use cp_progress::ObserveProgress;
 use cp_run::Limits;
 use cp_slots::Resolved;
-use cp_waits::{Waiting, Waits, find_waits_with};
+use cp_waits::{FoundWaits, Waiting, Waits, find_waits};
 use std::alloc::{AllocError, Global};
 
 /// The program that is marked, and how many states there may be.
@@ -95,29 +97,20 @@ fn knowledge<O: ObserveProgress>(
         most,
         ..
     } = subject;
-    let found = search_ends_with(alloc, program, limits, most, observer)?;
-    let waits = waits_of(alloc, program, limits, &found, asks, observer)?;
-    knowledge_of(alloc, program, &found, waits)
+    let FoundWaits { found, waits } = find_waits(alloc, program, limits, most, asks, observer)?;
+    knowledge_of(alloc, program, &found, lines_of(waits))
 }
 
-// Who may wait for ever, where that is asked, all states are found, and it is settled.
-fn waits_of<O: ObserveProgress>(
-    alloc: Global,
-    program: &Resolved,
-    limits: Limits,
-    found: &Found,
-    asks: bool,
-    observer: &mut O,
-) -> Result<Option<Vec<Waiting>>, AllocError>
-    requires kept { HasFindings program.now found.now }
-    ensures { IfOk result (λ waits. (most : ℕ) → most < 2 ^ 32 → IsAnswer program.now limits.gates limits.steps most found.now → KnowsWaits program.now limits.gates limits.steps waits) }
+// Who may wait for ever, where that was asked and is settled.
+fn lines_of(waits: Option<Waits>) -> Option<Vec<Waiting>>
+    ensures { (r : Tables) (gates : slot_gates.Gates) (steps most : ℕ) (asks : Bool) (found : Found) → most < 2 ^ 32 → IsAnswer r gates steps most found → TellAsked r gates steps asks found waits → KnowsWaits r gates steps result }
 {
-    if !asks || found.stopped.is_some() {
-        return Ok(None);
-    }
-    match find_waits_with(alloc, program, limits, found, observer)? {
-        Waits::Known(list) => Ok(Some(list)),
-        Waits::NotSettled(_) => Ok(None),
+    let Some(told) = waits else {
+        return None;
+    };
+    match told {
+        Waits::Known(list) => Some(list),
+        Waits::NotSettled(_) => None,
     }
 }
 

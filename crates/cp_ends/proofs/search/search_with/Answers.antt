@@ -1,14 +1,9 @@
-use Rattle.cp_ends.proofs.Vocabulary.{◌∙◌, ◌++◌, [], refl, ap, arith, slot_graph, SlotArrival, searched}
-use Rattle.cp_ends.proofs.GoingOn.{nothing, search_answer, start_found, stop_noted}
+use Rattle.cp_ends.proofs.Vocabulary.{slot_graph}
+use Rattle.cp_ends.proofs.GoingOn.{search_answer, stop_noted}
 use Rattle.cp_ends.proofs.search.search_with.Goals as goal
 
-pub visit_all-requires-clause-begun : goal.visit_all-requires-clause-begun
-unfolding searched
-visit_all-requires-clause-begun g c =
-    let job = c.args.job.now in
-    let r = job.program.now in
-    let a : SlotArrival = (slot_graph r job.limits.gates job.limits.steps).start in
-    start_found r job.most c.arrive.new.self.found a c.in_ok-arrive.field-0 c.requires.most (c.in_ok-arrive.ensures nothing [] a (record { holds = c.new-visit.ensures.found r; few = omega arith }) refl tt c.in_ok-arrival.ensures.goal (c.in_ok-arrival.ensures.shown ∙ ap (λ l. l ++ a.shown) c.new-visit.ensures.told))
+pub open-requires-clause-nothing : goal.open-requires-clause-nothing
+open-requires-clause-nothing g c = c.new-visit.ensures c.args.job.now.program.now
 
 pub returns : goal.returns
 returns g c =

@@ -1,17 +1,24 @@
-use Rattle.std.proofs.Common.{ℕ, Option, subst}
-use Rattle.std.proofs.lemmas.Result.{IfOk-weaker}
+use Rattle.std.proofs.Common.{ℕ, Option, arith, subst}
 use Rattle.cp_ends.specs.Told.{IsDepth}
-use Rattle.cp_tool.proofs.Finding.{cut_reported, whole_reported, waits_reported}
+use Rattle.cp_waits.specs.Named.{TellAsked}
+use Rattle.cp_tool.proofs.Finding.{cut_reported, unasked, waits_reported, whole_reported}
 use Rattle.cp_tool.proofs.ends.report_of.Goals as goal
 
-pub returns-in_ok-ends_report-in-Some : goal.returns-in_ok-ends_report-in-Some
-returns-in_ok-ends_report-in-Some g c = λ t read ok is x to d.
-    cut_reported c.args.options.now t c.args.program.now read ok is x.findings to c.in-Some.field-0 c.in_ok-ends_report-in-Some.field-0.text (subst (λ (s : Option ℕ). IsDepth x.findings s to) c.in-Some.is d) (c.in_ok-ends_report-in-Some.ensures c.args.program.now x.findings to x.holds d)
+pub returns-in-Some : goal.returns-in-Some
+returns-in-Some c = λ t read ok is o x to told d.
+    (let r = c.args.program.now in
+    let found = c.args.found.now.found in
+    let waits = c.in-Some.waits in
+    let asked = subst (TellAsked r o.gates o.steps o.waits found) c.in-Some.is told in
+    waits_reported o t r read ok is x.findings to found waits c.verdict_on.result c.in_ok-waits_report.field-0.text asked d c.verdict_on.ensures (c.in_ok-waits_report.ensures r x.findings to x.holds d) (asked.2 o.states x (omega arith) asked.1))
 
-pub returns-then-options : goal.returns-then-options
-returns-then-options g c =
-    IfOk-weaker c.waits_answer.result _ _ (λ a all t read ok is x to d. waits_reported c.args.options.now t c.args.program.now read ok is x.findings to a.verdict a.text c.if-options.true (subst (λ (s : Option ℕ). IsDepth x.findings s to) c.in-None.is d) (all t read ok is x)) c.waits_answer.ensures
+pub returns-in-None : goal.returns-in-None
+returns-in-None c = λ t read ok is o x to told d.
+    (let r = c.args.program.now in
+    let found = c.args.found.now.found in
+    let quiet = subst (TellAsked r o.gates o.steps o.waits found) c.in_default.is told in
+    whole_reported o t r read ok is x.findings to c.in_ok-text.field-0.text (unasked o.waits (λ asked. quiet asked c.in-None.is)) (subst (λ (s : Option ℕ). IsDepth x.findings s to) c.in-None.is d) (c.in_ok-text.ensures r x.findings to x.holds d))
 
-pub returns-in_ok-ends_report-in-None : goal.returns-in_ok-ends_report-in-None
-returns-in_ok-ends_report-in-None g c = λ t read ok is x to d.
-    whole_reported c.args.options.now t c.args.program.now read ok is x.findings to c.in_ok-ends_report-in-None.field-0.text c.if-options.false (subst (λ (s : Option ℕ). IsDepth x.findings s to) c.in-None.is d) (c.in_ok-ends_report-in-None.ensures c.args.program.now x.findings to x.holds d)
+pub returns-in-Some-stopped : goal.returns-in-Some-stopped
+returns-in-Some-stopped c = λ t read ok is o x to told d.
+    cut_reported o t c.args.program.now read ok is x.findings to c.in-Some-stopped.field-0 c.in_ok-text.field-0.text (subst (λ (s : Option ℕ). IsDepth x.findings s to) c.in-Some-stopped.is d) (c.in_ok-text.ensures c.args.program.now x.findings to x.holds d)

@@ -1,10 +1,31 @@
-use Rattle.cp_waits.proofs.Visiting.{graph_visited, never_stopped}
+use Rattle.cp_waits.proofs.Words.{◌∙◌, [], sym, subst, machine_of, silent_slots, in_call_on_slots, waits_on_slots, Comes, first_leg}
+use Rattle.cp_waits.proofs.Adding.{graph_begun}
+use Rattle.cp_waits.proofs.Standing.{first_of_stretch}
+use Rattle.cp_waits.proofs.Visiting.{graph_noted}
 use Rattle.cp_waits.proofs.building.build_graph.Goals as goal
 
+pub open-requires-clause-nothing : goal.open-requires-clause-nothing
+open-requires-clause-nothing g c = c.new.ensures c.args.job.now.program.now
+
 pub visit_all-requires-clause-begun : goal.visit_all-requires-clause-begun
-visit_all-requires-clause-begun g c = record { visited = c.requires.visited; kept = c.requires.kept; graph = λ states all. c.in_ok-graph.ensures.graph states }
+visit_all-requires-clause-begun g c =
+    let job = c.args.job.now in
+    let r = job.program.now in
+    let gates = job.limits.gates in
+    let steps = job.limits.steps in
+    let quiet = silent_slots r gates in
+    let told = c.open.new.self.told in
+    let last = machine_of c.open.new.state in
+    let count = c.new-2.ensures.processes ∙ c.processes.ensures.value in
+    let comes : Comes r gates steps (first_leg quiet steps) [] told.seen c.halt-halt.result last = subst (λ h. Comes r gates steps (first_leg quiet steps) [] told.seen h last) (sym c.halt-halt.ensures) c.in_ok-arrived.ensures.leg in
+    let still = c.in_ok-note_standstill.ensures.still r gates steps (first_leg quiet steps) [] told.seen last c.processes.ensures.sound.few count (first_of_stretch quiet steps) comes in
+    record {
+      ends = c.in_ok-arrived.ensures.begun;
+      graph = λ states more. graph_begun quiet in_call_on_slots waits_on_slots steps states c.new-2.result _ c.new-2.ensures.standstills c.new-2.ensures.edges c.new-2.ensures.ends count still c.note_standstill.ensures.processes c.note_standstill.ensures.ends c.note_standstill.ensures.edges;
+    }
 
 pub returns : goal.returns
 returns g c =
     let job = c.args.job.now in
-    graph_visited g.S.Visited.is_visited job.program.now job.limits.gates job.limits.steps job.most c.args.found.now _ _ c.requires.most c.requires.only (never_stopped _ _ c.in_ok-visit_all.ensures.searched)
+    let stopped = c.in_ok-stopped.stopped in
+    graph_noted job.program.now job.limits.gates job.limits.steps job.most c.visit_all.new.visit.graph c.visit_all.new.visit.ends.found stopped stopped c.in_ok-stopped.ensures.searched

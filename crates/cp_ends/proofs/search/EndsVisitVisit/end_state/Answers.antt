@@ -1,5 +1,5 @@
-use Rattle.cp_ends.proofs.Vocabulary.{ℕ, subst, arith, slot_graph, ends_tests, searched, HoldsFew}
-use Rattle.cp_ends.proofs.GoingOn.{all_taken}
+use Rattle.cp_ends.proofs.Vocabulary.{◌≡◌, ◌+◌, ◌∙◌, subst, ap, arith, suc, slot_graph, ends_tests, searched, HoldsFew}
+use Rattle.cp_ends.proofs.GoingOn.{all_gone}
 use Rattle.cp_ends.proofs.search.EndsVisitVisit.end_state.Goals as goal
 
 pub returns : goal.returns
@@ -8,4 +8,6 @@ returns g c =
     let r = job.program.now in
     let gr = slot_graph r job.limits.gates job.limits.steps in
     let found = c.args.self.now.found in
-    subst (λ (n : ℕ). HoldsFew r job.most found (searched gr ends_tests n)) (omega arith) (all_taken r gr job.most found c.args._at c.requires.0 c.requires.1)
+    let at = c.args._at in
+    let next : suc at ≡ at + 1 = omega arith in
+    subst (HoldsFew r job.most found) (all_gone r gr job.most found at c.requires.0 c.requires.1 ∙ ap (searched gr ends_tests) next) c.requires.1.holds

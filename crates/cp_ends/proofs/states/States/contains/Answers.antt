@@ -1,6 +1,0 @@
-use Rattle.std.proofs.Common.{◌∙◌}
-use Rattle.cp_ends.proofs.Keeping.{found_same, owned}
-use Rattle.cp_ends.proofs.states.States.contains.Goals as goal
-
-pub returns : goal.returns
-returns c = λ r states m h own row. c.contains_key.ensures ∙ found_same r c.args.self.now.store c.args.self.now.known.entries states c.args.row.now m h.rows (owned r c.args.self.now states h) own row
