@@ -1,4 +1,3 @@
-pub mod ByTheBook
 pub mod Merging
 pub mod Two
 pub mod Entering

@@ -4,7 +4,7 @@ use crate::placing::{outermost_call, wait_of, whole_story};
 use crate::subject::{Reach, Telling, ToldEnd};
 use cp_ends::End;
 use cp_ends::found::MOST_VALUES;
-use cp_machine::{ErrorName, Discipline};
+use cp_machine::{ErrorName, Gates};
 use cp_prose::Prose;
 use cp_run::{MOST_STEPS, OutcomeKind};
 use cp_story::{
@@ -107,14 +107,28 @@ fn push_ends(telling: Telling<'_>, text: &mut Prose) {
         " end is possible\n\n",
         " ends are possible\n\n",
     );
-    for end in ends {
+    for (place, end) in ends.iter().enumerate() {
+        push_place_number(text, place, ends.len());
         push_end(telling, text, end);
     }
     text.put_char('\n');
 }
 
+// The number of an end or a wait, by its place among so many, with which it can be shown.
+fn push_place_number(text: &mut Prose, place: usize, count: usize) {
+    let number = place.saturating_add(1);
+    for least in [10usize, 100, 1_000] {
+        text.put(if number < least && count >= least {
+            " "
+        } else {
+            ""
+        });
+    }
+    text.put_display(number);
+    text.put(".  ");
+}
+
 fn push_end(telling: Telling<'_>, text: &mut Prose, end: &ToldEnd) {
-    text.put("  ");
     push_kind(telling, text, end.end);
     text.put_char('\n');
     push_words(telling, text, telling.findings.word_name(), &end.word);
@@ -246,7 +260,8 @@ fn push_waits(telling: Telling<'_>, text: &mut Prose) {
         " process may wait for ever while others go on\n\n",
         " processes may wait for ever while others go on\n\n",
     );
-    for waiting in list {
+    for (place, waiting) in list.iter().enumerate() {
+        push_place_number(text, place, list.len());
         push_waiting(telling, text, waiting);
     }
     text.put_char('\n');
@@ -254,7 +269,6 @@ fn push_waits(telling: Telling<'_>, text: &mut Prose) {
 
 // A sentence on a process that may wait for ever, where it waits, and the words that show it.
 fn push_waiting(telling: Telling<'_>, text: &mut Prose, waiting: &Waiting) {
-    text.put("  ");
     push_process(telling, text, waiting.process);
     text.put(match waiting.how {
         How::Throughout => " may wait for ever",
@@ -354,7 +368,7 @@ fn push_complete(telling: Telling<'_>, text: &mut Prose, before: &str, count: us
 fn push_too_many(telling: Telling<'_>, text: &mut Prose, choices: usize) {
     text.put("too many states: there may be ");
     push_number(text, telling.subject.most as usize);
-    if telling.subject.limits.discipline.gates == Gates::First {
+    if telling.subject.limits.gates == Gates::First {
         text.put(", also with kernel calls at once");
     }
     text.put("\nall schedules of at most ");

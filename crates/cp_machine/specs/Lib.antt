@@ -1,7 +1,6 @@
 pub mod Alike
 pub mod Bodies
 pub mod Calls
-pub mod Discipline
 pub mod Fits
 pub mod Kernel
 pub mod Kinds

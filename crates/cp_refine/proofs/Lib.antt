@@ -1,5 +1,4 @@
 pub mod Alike
-pub mod Disciplines
 pub mod Forgetting
 pub mod HoldsInReached
 pub mod Meaning

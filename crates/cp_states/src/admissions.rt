@@ -9,7 +9,7 @@ ghost use Rattle.cp_states.specs.Kept.{AreKept};
 use crate::admission::Admission;
 use crate::guards::{are_guards, copies_of_guards, hash_of_guards, take_guards};
 use crate::index::{HashIndex, MOST};
-use cp_machine::{Discipline, Gate};
+use cp_machine::{Gate, Gates};
 use std::alloc::{AllocError, Global};
 
 /// What the monitors of states have, each with a number.
@@ -36,49 +36,38 @@ impl Admissions {
 
     // Whether this is the number of what monitors have.
     #[inline(always)]
-    fn is_at(&self, at: usize, guards: &[Gate], pending: Option<u8>, discipline: Discipline) -> bool
-        ensures one { result ≡ true → IsAmong none_gated (map admitted_by self.now.all.items) at (gated_by guards.now pending discipline) }
-        ensures same { IsAmong none_gated (map admitted_by self.now.all.items) at (gated_by guards.now pending discipline) → result ≡ true }
+    fn is_at(&self, at: usize, guards: &[Gate], pending: Option<u8>, gates: Gates) -> bool
+        ensures one { result ≡ true → IsAmong none_gated (map admitted_by self.now.all.items) at (gated_by guards.now pending gates) }
+        ensures same { IsAmong none_gated (map admitted_by self.now.all.items) at (gated_by guards.now pending gates) → result ≡ true }
     {
-        at < self.all.len() && self.all[at].is(guards, pending, discipline)
+        at < self.all.len() && self.all[at].is(guards, pending, gates)
     }
 
     #[inline(always)]
-    fn find(
-        &self,
-        hash: u32,
-        guards: &[Gate],
-        pending: Option<u8>,
-        discipline: Discipline,
-    ) -> Option<u32>
-        requires { hash ≡ gated_hash (gated_by guards.now pending discipline) }
-        ensures found { IfSome result (λ n. IsAmong none_gated (map admitted_by self.now.all.items) n (gated_by guards.now pending discipline)) }
-        ensures absent { IfNone result ((n : ℕ) → IsAmong none_gated (map admitted_by self.now.all.items) n (gated_by guards.now pending discipline) → ⊥) }
+    fn find(&self, hash: u32, guards: &[Gate], pending: Option<u8>, gates: Gates) -> Option<u32>
+        requires { hash ≡ gated_hash (gated_by guards.now pending gates) }
+        ensures found { IfSome result (λ n. IsAmong none_gated (map admitted_by self.now.all.items) n (gated_by guards.now pending gates)) }
+        ensures absent { IfNone result ((n : ℕ) → IsAmong none_gated (map admitted_by self.now.all.items) n (gated_by guards.now pending gates) → ⊥) }
     {
         self.index.find(
             hash,
             |at|
-                ensures one { result ≡ true → IsAmong none_gated (map admitted_by self.entry.now.all.items) at (gated_by guards.entry.now pending discipline) }
-                ensures same { IsAmong none_gated (map admitted_by self.entry.now.all.items) at (gated_by guards.entry.now pending discipline) → result ≡ true }
-            { self.is_at(at, guards, pending, discipline) },
+                ensures one { result ≡ true → IsAmong none_gated (map admitted_by self.entry.now.all.items) at (gated_by guards.entry.now pending gates) }
+                ensures same { IsAmong none_gated (map admitted_by self.entry.now.all.items) at (gated_by guards.entry.now pending gates) → result ≡ true }
+            { self.is_at(at, guards, pending, gates) },
         )
     }
 
     /// The number of what monitors have, if it is there.
-    pub fn number(
-        &self,
-        guards: &[Gate],
-        pending: Option<u8>,
-        discipline: Discipline,
-    ) -> Option<u32>
-        ensures found { IfSome result (λ n. IsAmong none_gated (map admitted_by self.now.all.items) n (gated_by guards.now pending discipline)) }
-        ensures absent { IfNone result ((n : ℕ) → IsAmong none_gated (map admitted_by self.now.all.items) n (gated_by guards.now pending discipline) → ⊥) }
+    pub fn number(&self, guards: &[Gate], pending: Option<u8>, gates: Gates) -> Option<u32>
+        ensures found { IfSome result (λ n. IsAmong none_gated (map admitted_by self.now.all.items) n (gated_by guards.now pending gates)) }
+        ensures absent { IfNone result ((n : ℕ) → IsAmong none_gated (map admitted_by self.now.all.items) n (gated_by guards.now pending gates) → ⊥) }
     {
         self.find(
-            hash_of_guards(guards, pending, discipline),
+            hash_of_guards(guards, pending, gates),
             guards,
             pending,
-            discipline,
+            gates,
         )
     }
 
@@ -89,15 +78,15 @@ impl Admissions {
         alloc: Global,
         guards: &[Gate],
         pending: Option<u8>,
-        discipline: Discipline,
+        gates: Gates,
     ) -> Result<u32, AllocError>
-        ensures number { IfOk result (λ n. IsAmong none_gated (map admitted_by self.new.all.items) n (gated_by guards.now pending discipline)) }
+        ensures number { IfOk result (λ n. IsAmong none_gated (map admitted_by self.new.all.items) n (gated_by guards.now pending gates)) }
         ensures kept { KeepItems none_gated (map admitted_by self.old.all.items) (map admitted_by self.new.all.items) }
     {
-        let hash = hash_of_guards(guards, pending, discipline);
-        match self.find(hash, guards, pending, discipline) {
+        let hash = hash_of_guards(guards, pending, gates);
+        match self.find(hash, guards, pending, gates) {
             Some(number) => Ok(number),
-            None => self.add(alloc, hash, guards, pending, discipline),
+            None => self.add(alloc, hash, guards, pending, gates),
         }
     }
 
@@ -109,11 +98,11 @@ impl Admissions {
         hash: u32,
         guards: &[Gate],
         pending: Option<u8>,
-        discipline: Discipline,
+        gates: Gates,
     ) -> Result<u32, AllocError>
-        requires hash { hash ≡ gated_hash (gated_by guards.now pending discipline) }
-        requires new { (n : ℕ) → IsAmong none_gated (map admitted_by self.old.all.items) n (gated_by guards.now pending discipline) → ⊥ }
-        ensures number { IfOk result (λ n. IsAmong none_gated (map admitted_by self.new.all.items) n (gated_by guards.now pending discipline)) }
+        requires hash { hash ≡ gated_hash (gated_by guards.now pending gates) }
+        requires new { (n : ℕ) → IsAmong none_gated (map admitted_by self.old.all.items) n (gated_by guards.now pending gates) → ⊥ }
+        ensures number { IfOk result (λ n. IsAmong none_gated (map admitted_by self.new.all.items) n (gated_by guards.now pending gates)) }
         ensures kept { KeepItems none_gated (map admitted_by self.old.all.items) (map admitted_by self.new.all.items) }
     {
         let number = self.all.len();
@@ -126,7 +115,7 @@ impl Admissions {
         self.all.push_reserved(Admission {
             guards,
             pending,
-            discipline,
+            gates,
         });
         Ok(number as u32)
     }
@@ -139,17 +128,17 @@ impl Admissions {
         known: u32,
         guards: &mut Vec<Gate>,
         pending: &mut Option<u8>,
-        discipline: &mut Discipline,
+        gates: &mut Gates,
     )
         requires number { number < length self.now.all.items }
-        requires known { IsAmong none_gated (map admitted_by self.now.all.items) known (gated_by guards.old.items pending.old discipline.old) }
+        requires known { IsAmong none_gated (map admitted_by self.now.all.items) known (gated_by guards.old.items pending.old gates.old) }
         requires count { length (slice_index_or (map admitted_by self.now.all.items) number none_gated).monitors ≡ length guards.old.items }
-        ensures same { gated_by guards.new.items pending.new discipline.new ≡ slice_index_or (map admitted_by self.now.all.items) number none_gated }
+        ensures same { gated_by guards.new.items pending.new gates.new ≡ slice_index_or (map admitted_by self.now.all.items) number none_gated }
     {
         if number == known {
             return;
         }
-        self.take_anew(number, guards, pending, discipline);
+        self.take_anew(number, guards, pending, gates);
     }
 
     /// Monitors become what has a number.
@@ -159,15 +148,15 @@ impl Admissions {
         number: u32,
         guards: &mut Vec<Gate>,
         pending: &mut Option<u8>,
-        discipline: &mut Discipline,
+        gates: &mut Gates,
     )
         requires number { number < length self.now.all.items }
         requires count { length (slice_index_or (map admitted_by self.now.all.items) number none_gated).monitors ≡ length guards.old.items }
-        ensures same { gated_by guards.new.items pending.new discipline.new ≡ slice_index_or (map admitted_by self.now.all.items) number none_gated }
+        ensures same { gated_by guards.new.items pending.new gates.new ≡ slice_index_or (map admitted_by self.now.all.items) number none_gated }
     {
         let from = &self.all[number as usize];
         take_guards(guards, &from.guards);
         *pending = from.pending;
-        *discipline = from.discipline;
+        *gates = from.gates;
     }
 }

@@ -21,9 +21,7 @@ fn has_same_monitors(state: &State, other: &State) -> bool
 {
     let guards = state.guards.as_slice();
     let others = other.guards.as_slice();
-    state.pending == other.pending
-        && state.discipline == other.discipline
-        && are_guards(guards, others)
+    state.pending == other.pending && state.gates == other.gates && are_guards(guards, others)
 }
 
 /// The different parts of states, each with a number.
@@ -161,7 +159,7 @@ impl Store {
         before: &State,
         row: &mut StateRow,
     ) -> Result<(), AllocError>
-        ensures row { IfOk result (λ _. (m : Machine) → IsRowOf self.old row.old.numbers m → gated m ≡ gated (machine_of before.now) → IsRowOf self.new row.new.numbers (record m { monitors = (machine_of state.now).monitors; pending = (machine_of state.now).pending; discipline = (machine_of state.now).discipline })) }
+        ensures row { IfOk result (λ _. (m : Machine) → IsRowOf self.old row.old.numbers m → gated m ≡ gated (machine_of before.now) → IsRowOf self.new row.new.numbers (record m { monitors = (machine_of state.now).monitors; pending = (machine_of state.now).pending; gates = (machine_of state.now).gates })) }
         ensures kept { KeepParts self.old self.new }
     {
         let guards = state.guards.as_slice();
@@ -170,7 +168,7 @@ impl Store {
         }
         row.numbers[ADMISSION] = self
             .admissions
-            .number_of(alloc, guards, state.pending, state.discipline)?;
+            .number_of(alloc, guards, state.pending, state.gates)?;
         Ok(())
     }
 
@@ -292,7 +290,7 @@ impl Store {
         let phases = self.phases.number_of(alloc, &state.phases)?;
         let admission = self
             .admissions
-            .number_of(alloc, &state.guards, state.pending, state.discipline)?;
+            .number_of(alloc, &state.guards, state.pending, state.gates)?;
         Ok(StateRow {
             numbers: [
                 output, permanents, bindings, phases, admission, 0, 0, 0, 0, 0, 0, 0, 0, 0, 0, 0,
@@ -312,7 +310,7 @@ impl Store {
         let phases = self.phases.number(&state.phases)?;
         let admission = self
             .admissions
-            .number(&state.guards, state.pending, state.discipline)?;
+            .number(&state.guards, state.pending, state.gates)?;
         Some(StateRow {
             numbers: [
                 output, permanents, bindings, phases, admission, 0, 0, 0, 0, 0, 0, 0, 0, 0, 0, 0,
@@ -422,7 +420,7 @@ impl Store {
             known.numbers[ADMISSION],
             &mut state.guards,
             &mut state.pending,
-            &mut state.discipline,
+            &mut state.gates,
         );
         self.threads.take_all(row, known, &mut state.processes);
     }
@@ -445,7 +443,7 @@ impl Store {
             row.numbers[ADMISSION],
             &mut state.guards,
             &mut state.pending,
-            &mut state.discipline,
+            &mut state.gates,
         );
         self.threads.take_each(row, &mut state.processes);
     }

@@ -1,6 +1,7 @@
 //! Why words are refused, in a line for people.
 
 use crate::command::command;
+use crate::command_line::before_help;
 use crate::numbers::parse_number;
 use crate::schedule::word_of;
 use clap::ArgMatches;
@@ -30,10 +31,23 @@ pub fn reason_for<'a>(
         Ok(matches) => value_reason(alloc, &matches),
         Err(error) => match error.kind() {
             ErrorKind::OutOfMemory => Err(AllocError),
+            ErrorKind::DisplayHelp => reason_before_help(alloc, words),
             _ => {
                 let message = format!(in alloc; "{error}")?;
                 word_reason(alloc, message.as_str(), reading)
             }
+        },
+    }
+}
+
+// The same of the words before the first that asks for help: where that is refused, one of these gives no option.
+fn reason_before_help<'a>(alloc: Global, words: &'a [&'a str]) -> Result<String, AllocError> {
+    let command = command(alloc)?;
+    match command.try_get_matches_from(&words[..before_help(words)]) {
+        Ok(matches) => value_reason(alloc, &matches),
+        Err(error) => match error.kind() {
+            ErrorKind::OutOfMemory => Err(AllocError),
+            _ => Ok(String::new(alloc)),
         },
     }
 }
@@ -91,11 +105,7 @@ fn value_reason(alloc: Global, matches: &ArgMatches<'_>) -> Result<String, Alloc
     if !schedule.is_empty() {
         return Ok(schedule);
     }
-    let gates = gates_reason(alloc, matches)?;
-    if !gates.is_empty() {
-        return Ok(gates);
-    }
-    signals_reason(alloc, matches)
+    gates_reason(alloc, matches)
 }
 
 // Which words are given that can't stand together.
@@ -121,13 +131,6 @@ fn clash_reason(matches: &ArgMatches<'_>) -> &'static str {
     }
     if (waits | at_once) && matches.get_str("gates") == Some("any") {
         return "--gates any: not beside --waits or --at-once";
-    }
-    let signals = matches.get_str("signals").unwrap_or("return");
-    if at_once && (signals == "continue" || signals == "wait") {
-        return "--at-once: only beside --signals return";
-    }
-    if signals == "wait" && matches.get_str("gates") == Some("any") {
-        return "--gates any: not beside --signals wait";
     }
     ""
 }
@@ -216,13 +219,6 @@ fn schedule_reason(alloc: Global, matches: &ArgMatches<'_>) -> Result<String, Al
     format!(in alloc;
         "--schedule {text}: `none`, or up to {most} numbers 0 to 15 joined by periods"
     )
-}
-
-fn signals_reason(alloc: Global, matches: &ArgMatches<'_>) -> Result<String, AllocError> {
-    match matches.get_str("signals") {
-        None | Some("return") | Some("continue") | Some("wait") => Ok(String::new(alloc)),
-        Some(text) => format!(in alloc; "--signals {text}: `return`, `continue` or `wait`"),
-    }
 }
 
 fn gates_reason(alloc: Global, matches: &ArgMatches<'_>) -> Result<String, AllocError> {

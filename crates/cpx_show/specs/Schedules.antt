@@ -34,7 +34,7 @@ pub record IsJobOf (job : Job) (o : Options) (r : Tables) : Type 0 where
   pub program : job.program.now ≡ r
   pub choices : job.limits.choices ≡ o.choices
   pub steps : job.limits.steps ≡ o.steps
-  pub gates : job.limits.discipline ≡ o.discipline
+  pub gates : job.limits.gates ≡ o.gates
 
 -- the first schedule of the outcome with a number, or a simplest one
 abbrev pub IsOfOutcome : (simplest : Bool) → Job → (number : ℕ) → First → Type 0
@@ -54,16 +54,15 @@ pub record IsWordAsked (a : Asked) (r : Tables) (word : List ℕ) : Type 0 where
 abbrev pub trace_form : (json : Bool) → ScheduleForm
 trace_form json = if json then form.Json else form.Lines
 
--- The text of a story: its lines, with the last line of the plain trace; or its object of JSON, with the lines of the source. Of a picture nothing is said.
+-- The text of a story: its lines, with the last line of the plain trace; or its object of JSON, with the lines of the source.
 abbrev pub IsWrittenAs : ScheduleForm → Tables → Legend → (source : List (List ℕ)) → (word : List ℕ) → Story → List ℕ → Type 0
 IsWrittenAs form.Lines r l source word story text = text ≡ story_text l story (end_text r.names word (answer_of story.end))
 IsWrittenAs form.Json r l source word story text = text ≡ line_of (story_data l story word source)
-IsWrittenAs (form.Picture view) r l source word story text = Unit {0}
 
 -- the text of the story of a word
 pub record IsStoryText (f : ScheduleForm) (o : Options) (r : Tables) (l : Legend) (source : List (List ℕ)) (word : List ℕ) (text : List ℕ) : Type 0 where
   pub story : Story
-  pub so : IsStoryOf l r o.discipline o.choices o.steps word story
+  pub so : IsStoryOf l r o.gates o.choices o.steps word story
   pub written : IsWrittenAs f r l source word story text
 
 -- The schedule that is asked for is told so, where there is one. Of rounds nothing is said.
