@@ -15,7 +15,6 @@ ghost use Rattle.cp_story.specs.Views.{changed_of, decision_of, given_of, happen
 
 use crate::cause_objects::put_error_cause;
 use crate::event::{Change, Choice, Happening, OpenCall, Returned, StoryEvent};
-use crate::reason_objects::put_reasons;
 use crate::story::{Story, Wait};
 use crate::words::{error_words, kind_words, output_words, push_shown};
 use cp_legend::{Legend, Member, SourceValue as Written};
@@ -115,7 +114,6 @@ fn story_object(
     whole.put("end", end(alloc, legend, story)?)?;
     put_outcome(alloc, legend, &mut whole, story, word)?;
     whole.put("final", waits(alloc, legend, &story.waits)?)?;
-    put_reasons(alloc, legend, &mut whole, &story.reasons)?;
     whole.put("source", lines(alloc, source)?)?;
     Ok(whole)
 }
