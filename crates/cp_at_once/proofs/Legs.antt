@@ -1,5 +1,5 @@
 -- A leg, step by step.
-use Rattle.cp_at_once.proofs.Words.{◌≡◌, ◌∙◌, ℕ, Bool, [], true, false, refl, sym, ap, subst, Tables, Gates, KeepBodies, silent_slots, without_output}
+use Rattle.cp_at_once.proofs.Words.{◌≡◌, ◌∙◌, ℕ, Bool, [], true, false, refl, sym, ap, subst, Tables, Discipline, KeepBodies, silent_slots, without_output}
 use Rattle.cp_machine.specs.declared.event.Event.{Event}
 use Rattle.cp_machine.specs.declared.event.Event.TheVariants.{Local, Kernel, Ended}
 use Rattle.cp_machine.specs.Statements.{Stepped, local}
@@ -23,21 +23,21 @@ call_is (Kernel call) h = refl
 call_is Ended h = refl
 call_is x h = absurd (cc)
 
-module _ (r : Tables) (gates : Gates) (p : ℕ) where
+module _ (r : Tables) (discipline : Discipline) (p : ℕ) where
   -- the last step
-  pub ends_here : (m n : Machine) (e : Event) → step_at r m p ≡ record { machine = n; event = e } → ends_quietly e ≡ true → EndsQuietly r gates m p n
+  pub ends_here : (m n : Machine) (e : Event) → step_at r m p ≡ record { machine = n; event = e } → ends_quietly e ≡ true → EndsQuietly r discipline m p n
   ends_here m n e steps quiet =
       let is : (step_at r m p).event ≡ e = ap (λ (x : Stepped). x.event) steps in
       let q : is_quiet (step_at r m p).event ≡ true = ap is_quiet is ∙ quiet_is e quiet in
       let c : is_call (step_at r m p).event ≡ true = ap is_call is ∙ call_is e quiet in
-      subst (λ t. QuietLeg (silent_slots r gates) (λ k o. is_quiet ((silent_slots r gates).event k o) ≡ true) m p (without_output t)) (ap (λ (x : Stepped). x.machine) steps) (calls_quietly m p q c)
+      subst (λ t. QuietLeg (silent_slots r discipline) (λ k o. is_quiet ((silent_slots r discipline).event k o) ≡ true) m p (without_output t)) (ap (λ (x : Stepped). x.machine) steps) (calls_quietly m p q c)
 
   -- a local step before the others
-  pub ends_later : (m n t : Machine) → m.output ≡ [] → step_at r m p ≡ local n → EndsQuietly r gates n p t → EndsQuietly r gates m p t
+  pub ends_later : (m n t : Machine) → m.output ≡ [] → step_at r m p ≡ local n → EndsQuietly r discipline n p t → EndsQuietly r discipline m p t
   ends_later m n t none steps rest =
       let is : (step_at r m p).event ≡ Local = ap (λ (x : Stepped). x.event) steps in
       let to : n ≡ without_output (step_at r m p).machine = silent_already n (local_output r m n p [] none steps) ∙ ap (λ (x : Stepped). without_output x.machine) (sym steps) in
-      after_quiet m p (without_output t) (ap is_quiet is) is (subst (λ k. QuietLeg (silent_slots r gates) (λ j o. is_quiet ((silent_slots r gates).event j o) ≡ true) k p (without_output t)) to rest)
+      after_quiet m p (without_output t) (ap is_quiet is) is (subst (λ k. QuietLeg (silent_slots r discipline) (λ j o. is_quiet ((silent_slots r discipline).event j o) ≡ true) k p (without_output t)) to rest)
 
 -- ---- who has not moved
 

@@ -24,7 +24,7 @@ use Rattle.cp_machine.specs.Statements.{Stepped, fault, local, with_value}
 use Rattle.cp_machine.specs.Step.{act, take_top}
 use Rattle.cp_machine.specs.System.{IsStateOf, Machine, machine_of, step_at}
 use Rattle.cp_machine.specs.declared.event.Event.TheVariants.{Local}
-use Rattle.cp_machine.specs.declared.gates.Gates.{Gates}
+use Rattle.cp_machine.specs.declared.discipline.Discipline.{Discipline}
 use Rattle.cp_machine.specs.declared.process.Entry.{Entry}
 use Rattle.cp_machine.specs.declared.process.Entry.TheVariants.{Rest}
 use Rattle.cp_machine.specs.declared.process.ProcessState.{ProcessState}
@@ -36,18 +36,18 @@ use Rattle.cp_at_once_laws.specs.Quiet.{is_quiet}
 use Rattle.cp_at_once.specs.Entering.{IsMonitorCall, inner_list}
 
 -- a leg of which no step is an enter or a run error
-abbrev pub Quiet : Tables → Gates → Machine → ℕ → Machine → Type 0
-Quiet r gates = QuietLeg (silent_slots r gates) (λ k q. is_quiet ((silent_slots r gates).event k q) ≡ true)
+abbrev pub Quiet : Tables → Discipline → Machine → ℕ → Machine → Type 0
+Quiet r discipline = QuietLeg (silent_slots r discipline) (λ k q. is_quiet ((silent_slots r discipline).event k q) ≡ true)
 
 -- after a local step such a leg goes on
-goes_on : (r : Tables) (gates : Gates) (n : Machine) (p : ℕ) (after : Machine) → (step_at r n p).event ≡ Local → Quiet r gates n p after → Quiet r gates (without_output (step_at r n p).machine) p after
-goes_on r gates _ _ _ is (calls_quietly s q quiet call) = let no : false ≡ true = ap is_call (sym is) ∙ call in absurd (false≢true no)
-goes_on r gates _ _ _ is (after_quiet s q t quiet event rest) = rest
+goes_on : (r : Tables) (discipline : Discipline) (n : Machine) (p : ℕ) (after : Machine) → (step_at r n p).event ≡ Local → Quiet r discipline n p after → Quiet r discipline (without_output (step_at r n p).machine) p after
+goes_on r discipline _ _ _ is (calls_quietly s q quiet call) = let no : false ≡ true = ap is_call (sym is) ∙ call in absurd (false≢true no)
+goes_on r discipline _ _ _ is (after_quiet s q t quiet event rest) = rest
 
 -- and it does not begin with another step
-not_loud : (r : Tables) (gates : Gates) (n : Machine) (p : ℕ) (after : Machine) → is_quiet (step_at r n p).event ≡ false → Quiet r gates n p after → ⊥
-not_loud r gates _ _ _ loud (calls_quietly s q quiet call) = false≢true (sym loud ∙ quiet)
-not_loud r gates _ _ _ loud (after_quiet s q t quiet event rest) = false≢true (sym loud ∙ quiet)
+not_loud : (r : Tables) (discipline : Discipline) (n : Machine) (p : ℕ) (after : Machine) → is_quiet (step_at r n p).event ≡ false → Quiet r discipline n p after → ⊥
+not_loud r discipline _ _ _ loud (calls_quietly s q quiet call) = false≢true (sym loud ∙ quiet)
+not_loud r discipline _ _ _ loud (after_quiet s q t quiet event rest) = false≢true (sym loud ∙ quiet)
 
 module _ (r : Tables) (n : Machine) (p at : ℕ) (item : Item) (es : List Entry) where
   -- a list inside an item comes on top by a local step
@@ -76,17 +76,17 @@ module _ (r : Tables) (n : Machine) (p at : ℕ) (item : Item) (es : List Entry)
   enters _ is = absurd is
 
 -- each quiet leg of a machine leads through one in which this item is the topmost entry, in the same frame and with the same bindings
-pub record Stands (r : Tables) (gates : Gates) (bindings : List ℕ) (frame : Frame) (p at : ℕ) (after : Machine) : Type 0 where
+pub record Stands (r : Tables) (discipline : Discipline) (bindings : List ℕ) (frame : Frame) (p at : ℕ) (after : Machine) : Type 0 where
   pub machine : Machine
   pub below : List Entry
   pub there : p < length machine.threads
   pub stack : (thread_at machine.threads p).stack ≡ Rest at ∷ below
   pub frame_is : (thread_at machine.threads p).frame ≡ frame
   pub bindings_are : machine.bindings ≡ bindings
-  pub leg : Quiet r gates machine p after
+  pub leg : Quiet r discipline machine p after
 
-module _ (r : Tables) (gates : Gates) (bindings : List ℕ) (frame : Frame) (p at : ℕ) (after : Machine) (x : Stands r gates bindings frame p at after) where
-  pub stands_inside : (list : ℕ) → inner_list (item_at r at).action ≡ Some list → Stands r gates bindings frame p list after
+module _ (r : Tables) (discipline : Discipline) (bindings : List ℕ) (frame : Frame) (p at : ℕ) (after : Machine) (x : Stands r discipline bindings frame p at after) where
+  pub stands_inside : (list : ℕ) → inner_list (item_at r at).action ≡ Some list → Stands r discipline bindings frame p list after
   stands_inside list is =
       let n = x.machine in
       let on = inside r n p at (item_at r at) x.below (item_at r at).action list is in
@@ -99,7 +99,7 @@ module _ (r : Tables) (gates : Gates) (bindings : List ℕ) (frame : Frame) (p a
         stack = ap (λ (t : Thread). t.stack) thread;
         frame_is = ap (λ (t : Thread). t.frame) thread ∙ x.frame_is;
         bindings_are = x.bindings_are;
-        leg = subst (λ (s : Stepped). Quiet r gates (without_output s.machine) p after) steps (goes_on r gates n p after (ap (λ (s : Stepped). s.event) steps) x.leg);
+        leg = subst (λ (s : Stepped). Quiet r discipline (without_output s.machine) p after) steps (goes_on r discipline n p after (ap (λ (s : Stepped). s.event) steps) x.leg);
       }
 
   pub stands_quietly : IsMonitorCall r bindings frame (item_at r at).action → ⊥
@@ -108,7 +108,7 @@ module _ (r : Tables) (gates : Gates) (bindings : List ℕ) (frame : Frame) (p a
       let here : IsMonitorCall r n.bindings (thread_at n.threads p).frame (item_at r at).action =
       subst (λ f. IsMonitorCall r n.bindings f (item_at r at).action) (sym x.frame_is) (subst (λ b. IsMonitorCall r b frame (item_at r at).action) (sym x.bindings_are) is) in
       let loud : is_quiet (step_at r n p).event ≡ false = ap (λ l. is_quiet (take_top r n p l).event) x.stack ∙ enters r n p at (item_at r at) x.below (item_at r at).action here in
-      not_loud r gates n p after loud x.leg
+      not_loud r discipline n p after loud x.leg
 
 -- a list inside an item is one of the program
 pub inside_there : (r : Tables) (at list : ℕ) → IsSound r → at < length r.items → inner_list (item_at r at).action ≡ Some list → list < length r.items
@@ -142,5 +142,5 @@ module _ (r : Tables) (s : State) (pid top : ℕ) (own : IsStateOf r s) (lt : pi
   pub top_there : top < length r.items
   top_there = (rest_stands r s pid top stack.0 lt own.fits stack.1).nests.place
 
-  pub top_stands : (gates : Gates) (after : Machine) → Quiet r gates (machine_of s) pid after → Stands r gates s.bindings.items p.frame pid top after
-  top_stands gates after leg = record { machine = machine_of s; below = stack.0; there = within s pid lt; stack = stack.1; frame_is = ap (λ (t : Thread). t.frame) thread; bindings_are = refl; leg = leg }
+  pub top_stands : (discipline : Discipline) (after : Machine) → Quiet r discipline (machine_of s) pid after → Stands r discipline s.bindings.items p.frame pid top after
+  top_stands discipline after leg = record { machine = machine_of s; below = stack.0; there = within s pid lt; stack = stack.1; frame_is = ap (λ (t : Thread). t.frame) thread; bindings_are = refl; leg = leg }

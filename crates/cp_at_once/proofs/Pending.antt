@@ -1,7 +1,7 @@
 -- Where the first of a line goes in, nobody is ever to be let in.
 use Rattle.std.proofs.Common.{◌≡◌, ℕ, zero, suc, List, [], ◌∷◌, Option, Some, None, is_some, if◌then◌else◌, Bool, true, false, refl, subst, ap}
 use Rattle.cp_slots.specs.Tables.{Tables}
-use Rattle.cp_at_once.proofs.Words.{First, same_Some, silent_slots}
+use Rattle.cp_at_once.proofs.Words.{by_the_book, same_Some, silent_slots}
 use Rattle.cp_machine.specs.Machine.{Machine, is_pending}
 use Rattle.cp_machine.specs.Step.{step_at}
 use Rattle.cp_machine.proofs.StepKeeps.{step_keeps}
@@ -19,11 +19,11 @@ choosing s t e = cc
 
 -- where the first of a line goes in, and nobody is to be let in
 abbrev pub IsFree : Machine → Type 0
-IsFree m = (m.gates ≡ First) × (m.pending ≡ None)
+IsFree m = (m.discipline ≡ by_the_book) × (m.pending ≡ None)
 
 pub step_free : (r : Tables) (m : Machine) (pid : ℕ) → IsFree m → IsFree (step_at r m pid).machine
 step_free r m pid =
-    step_keeps (λ gates pending ts. (gates ≡ First) × (pending ≡ None)) pid (λ gates pending ts x h. h) (λ gates pending ts p h. h) (λ pending ts monitor h. absurd (let bad = h.0 in cc)) r m
+    step_keeps (λ discipline pending ts. (discipline ≡ by_the_book) × (pending ≡ None)) pid (λ discipline pending ts x h. h) (λ discipline pending ts p h. h) (λ discipline pending ts p cell monitor at h. h) (λ discipline pending ts monitor any h. absurd (let bad = sym any ∙ ap (λ d. d.gates) h.0 in cc)) r m
 
 -- ---- a run
 
@@ -32,7 +32,7 @@ not_pending o e = ap is_some e
 
 module _ (r : Tables) (steps : ℕ) where
   abbrev quiet : System Machine
-  quiet = silent_slots r First
+  quiet = silent_slots r by_the_book
 
   stretch_free : (n : ℕ) (m : Machine) (p : ℕ) (t : Machine) → IsFree m → stretch quiet n m p ≡ Choosing t → IsFree t
   unfolding stretch

@@ -2,7 +2,7 @@
 use Rattle.std.proofs.Common.{◌≡◌, ◌∙◌, ◌⊎◌, inl, inr, ⊎_elim, ◌+◌, ◌<◌, ◌≤◌, ℕ, zero, suc, List, [], ◌∷◌, ◌++◌, Bool, true, false, if◌then◌else◌, length, Option, None, Some, refl, sym, ap, subst, arith}
 use Rattle.std.specs.Prelude.{Contains, slice_get}
 use Rattle.std.proofs.lemmas.Bool.{cases_lt}
-use Rattle.cp_at_once.proofs.Words.{slice_get_within, Tables, First, Shown, Machine, is_pending, slots, silent_slots, without_output, slot_graph, Goal, Place}
+use Rattle.cp_at_once.proofs.Words.{slice_get_within, Tables, by_the_book, Shown, Machine, is_pending, slots, silent_slots, without_output, slot_graph, Goal, Place}
 use Rattle.cp_at_once.proofs.Words.{same_key, SlotArrival, has, End, HasLeg, FoundAtOnce}
 use Rattle.cp_run.specs.declared.outcome.OutcomeKind.{OutcomeKind}
 use Rattle.cp_run.specs.declared.outcome.OutcomeKind.TheVariants.{StepLimit}
@@ -76,13 +76,13 @@ module _ {S : Type 0} (sys : System S) where
 
 module _ (r : Tables) (steps : ℕ) (found : FoundAtOnce) (states : States) (uncut : knows_end found (Over StepLimit) ≡ false) where
   abbrev sys : System Machine
-  sys = slots r First
+  sys = slots r by_the_book
 
   abbrev quiet : System Machine
-  quiet = silent_slots r First
+  quiet = silent_slots r by_the_book
 
   abbrev Leg : Machine → ℕ → Type 0
-  Leg = HasLeg r First
+  Leg = HasLeg r by_the_book
 
   abbrev pub is_kept : Machine → Type 0
   is_kept m = has same_key states m ≡ true
@@ -187,10 +187,10 @@ module _ (r : Tables) (steps : ℕ) (found : FoundAtOnce) (states : States) (unc
   Followed c = IsFollowed quiet steps (IsQuietOnSlots r) is_kept known alone spins shown c
 
   abbrev Here : ℕ → Machine → Type 0
-  Here c = Follows (slot_graph r First steps) Leg found states c
+  Here c = Follows (slot_graph r by_the_book steps) Leg found states c
 
   -- where nobody is to be let in, a choice begins its stretch
-  begins : (P : Machine → Type 0) (s : Machine) (p : ℕ) → is_pending s ≡ false → IsGone found P ((slot_graph r First steps).on s p) → IsGone found P (stretch_arrival sys without_output same_key steps s p)
+  begins : (P : Machine → Type 0) (s : Machine) (p : ℕ) → is_pending s ≡ false → IsGone found P ((slot_graph r by_the_book steps).on s p) → IsGone found P (stretch_arrival sys without_output same_key steps s p)
   begins P s p free k = subst (IsGone found P) (next_free sys without_output same_key steps s p free) k
 
   follows_there : (c : ℕ) (s : Machine) → Here c s → Followed c s
@@ -201,7 +201,7 @@ module _ (r : Tables) (steps : ℕ) (found : FoundAtOnce) (states : States) (unc
         k.0,
         may_there s k.0 k.1,
         record { after = k.2.after; leg = k.2.leg; phases = k.2.phases },
-        taken (Followed c) s k.0 (begins (Followed c) s k.0 k.2.free (gone_on (Here c) (Followed c) (follows_there c) ((slot_graph r First steps).on s k.0) k.3)),
+        taken (Followed c) s k.0 (begins (Followed c) s k.0 k.2.free (gone_on (Here c) (Followed c) (follows_there c) ((slot_graph r by_the_book steps).on s k.0) k.3)),
       )
 
   -- the kept state that is this one
@@ -213,14 +213,14 @@ module _ (r : Tables) (steps : ℕ) (found : FoundAtOnce) (states : States) (unc
       by true e h on = (0, x, refl, key_same x.0 m e)
       by false e h on = let k = on h in (suc k.0, k.1, k.2, k.3)
 
-  module _ (t : IsGoneThrough (slot_graph r First steps) Leg 8 (length states) found states) (free : (i : ℕ) (x : Machine × List ℕ) → slice_get states i ≡ Some x → is_pending x.0 ≡ false) where
+  module _ (t : IsGoneThrough (slot_graph r by_the_book steps) Leg 8 (length states) found states) (free : (i : ℕ) (x : Machine × List ℕ) → slice_get states i ≡ Some x → is_pending x.0 ≡ false) where
     on : (s : Machine) (p : ℕ) → is_kept s → may quiet s p ≡ true → IsTaken quiet steps known alone spins shown (Followed 8) s p
     on s p kept m =
         let k = kept_at states s kept in
-        let done : IsDone (slot_graph r First steps) Leg 8 found states k.1.0 = t.on k.0 k.1 (slice_get_within states k.0 k.1 k.2) k.2 in
-        let at : IsDone (slot_graph r First steps) Leg 8 found states s = subst (IsDone (slot_graph r First steps) Leg 8 found states) k.3 done in
+        let done : IsDone (slot_graph r by_the_book steps) Leg 8 found states k.1.0 = t.on k.0 k.1 (slice_get_within states k.0 k.1 k.2) k.2 in
+        let at : IsDone (slot_graph r by_the_book steps) Leg 8 found states s = subst (IsDone (slot_graph r by_the_book steps) Leg 8 found states) k.3 done in
         let nobody : is_pending s ≡ false = ap is_pending (sym k.3) ∙ free k.0 k.1 k.2 in
-        taken (Followed 8) s p (begins (Followed 8) s p nobody (gone_on (Here 8) (Followed 8) (follows_there 8) ((slot_graph r First steps).on s p) (at p (may_back s p m))))
+        taken (Followed 8) s p (begins (Followed 8) s p nobody (gone_on (Here 8) (Followed 8) (follows_there 8) ((slot_graph r by_the_book steps).on s p) (at p (may_back s p m))))
 
     start_by : (b : Turn) → IsGone found (Here 8) (arrival_by quiet.start (stretch_arrival sys without_output same_key steps quiet.start) b) →
         IsOpeningKnown (Followed 8) (IsTaken quiet steps known alone spins shown (Followed 8)) known quiet.start b
@@ -228,7 +228,7 @@ module _ (r : Tables) (steps : ℕ) (found : FoundAtOnce) (states : States) (unc
     start_by turn.Due k = follows_there 8 quiet.start k.goal
     start_by (turn.Goes q) k = taken (Followed 8) quiet.start q (gone_on (Here 8) (Followed 8) (follows_there 8) (stretch_arrival sys without_output same_key steps quiet.start q) k)
 
-    start_is : IsGone found (Here 8) (slot_graph r First steps).start → IsGone found (Here 8) (arrival_by quiet.start (stretch_arrival sys without_output same_key steps quiet.start) (turn_at quiet quiet.start false 0))
+    start_is : IsGone found (Here 8) (slot_graph r by_the_book steps).start → IsGone found (Here 8) (arrival_by quiet.start (stretch_arrival sys without_output same_key steps quiet.start) (turn_at quiet quiet.start false 0))
     unfolding first_arrival
     start_is k = k
 

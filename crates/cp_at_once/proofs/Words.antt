@@ -19,8 +19,8 @@ pub use Rattle.cp_ends.specs.declared.end.End.{End}
 pub use Rattle.cp_machine.proofs.CallOutcomes.{none_well}
 pub use Rattle.cp_machine.specs.Bodies.{KeepBodies}
 pub use Rattle.cp_machine.specs.System.{IsStateOf, Machine, is_pending, machine_of, output_of}
-pub use Rattle.cp_machine.specs.declared.gates.Gates.{Gates}
-pub use Rattle.cp_machine.specs.declared.gates.Gates.TheVariants.{First}
+pub use Rattle.cp_machine.specs.declared.discipline.Discipline.{Discipline}
+pub use Rattle.cp_at_once_laws.specs.OnSlots.{by_the_book}
 pub use Rattle.cp_machine.specs.declared.shown.Shown.{Shown}
 unfoldable pub use Rattle.cp_run.specs.Run.{may}
 pub use Rattle.cp_run.specs.Slots.{slots}

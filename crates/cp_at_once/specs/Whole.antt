@@ -1,8 +1,8 @@
 -- What a search that makes calls at once answers: true words, and, where each kept state was gone on from and no stretch was cut, nothing is left out.
 use Rattle.std.specs.Prelude.{◌≡◌, ◌≤◌, ℕ, List, All, true, false, length}
 use Rattle.cp_slots.specs.Tables.{Tables}
-use Rattle.cp_machine.specs.declared.gates.Gates.{Gates}
-use Rattle.cp_machine.specs.declared.gates.Gates.TheVariants.{First}
+use Rattle.cp_machine.specs.declared.discipline.Discipline.{Discipline}
+use Rattle.cp_at_once_laws.specs.OnSlots.{by_the_book}
 use Rattle.cp_machine.specs.declared.shown.Shown.{Shown}
 use Rattle.cp_machine.specs.System.{Machine}
 use Rattle.cp_run.specs.declared.outcome.OutcomeKind.{OutcomeKind}
@@ -36,25 +36,25 @@ values_known found v = knows_value found v ≡ true
 
 -- With at most 8 legs at once in a row, each choice in a kept state was followed, and what that leads to was found: on slots, and so on the program's own names.
 pub record IsComplete (r : Tables) (steps : ℕ) (found : FoundAtOnce) (states : List (Machine × List ℕ)) : Type 0 where
-  pub search : SearchesAtOnce (silent_slots r First) steps 8 (IsQuietOnSlots r) (λ m. has same_key states m ≡ true) (ends_known found) (alone_known found) (spins_known found) (Tells r (values_known found))
+  pub search : SearchesAtOnce (silent_slots r by_the_book) steps 8 (IsQuietOnSlots r) (λ m. has same_key states m ≡ true) (ends_known found) (alone_known found) (spins_known found) (Tells r (values_known found))
   pub meaning : OfItsPrograms r (λ t. LeavesNone t (ends_known found) (alone_known found) (spins_known found) (values_known found))
 
 -- One state more than may be kept is led to.
-pub record HasTooMany (r : Tables) (gates : Gates) (steps most : ℕ) (states : List (Machine × List ℕ)) : Type 0 where
+pub record HasTooMany (r : Tables) (discipline : Discipline) (steps most : ℕ) (states : List (Machine × List ℕ)) : Type 0 where
   pub full : length states ≡ most
   pub state : Machine
   pub word : List ℕ
-  pub leads : LeadsToState (slots r gates) without_output steps state word
+  pub leads : LeadsToState (slots r discipline) without_output steps state word
   pub new : has same_key states state ≡ false
 
 -- The kept states, the ends and the values are led to by their words. Where no state was one too many, and no stretch was cut, they are complete.
-pub record IsAnswer (r : Tables) (gates : Gates) (steps most : ℕ) (found : FoundAtOnce) : Type 0 where
+pub record IsAnswer (r : Tables) (discipline : Discipline) (steps most : ℕ) (found : FoundAtOnce) : Type 0 where
   pub states : List (Machine × List ℕ)
   pub kept : AreStates r found.kept.known.entries states
   pub rows : AreRows found.kept.store found.kept.known.entries states
   pub few : length states ≤ most
-  pub reached : All (λ x. LeadsToState (slots r gates) without_output steps x.0 x.1) states
-  pub ends : All (λ e. HasWord states e.origin (EndsSo (silent_slots r gates) steps e.end)) found.ends.items
-  pub values : All (λ v. HasWord states v.origin (ShowsSo (slots r gates) without_output steps v.value)) found.values.items
-  pub whole : found.is_whole ≡ true → gates ≡ First → knows_end found (Over StepLimit) ≡ false → IsComplete r steps found states
-  pub too_many : found.is_whole ≡ false → HasTooMany r gates steps most states
+  pub reached : All (λ x. LeadsToState (slots r discipline) without_output steps x.0 x.1) states
+  pub ends : All (λ e. HasWord states e.origin (EndsSo (silent_slots r discipline) steps e.end)) found.ends.items
+  pub values : All (λ v. HasWord states v.origin (ShowsSo (slots r discipline) without_output steps v.value)) found.values.items
+  pub whole : found.is_whole ≡ true → discipline ≡ by_the_book → knows_end found (Over StepLimit) ≡ false → IsComplete r steps found states
+  pub too_many : found.is_whole ≡ false → HasTooMany r discipline steps most states

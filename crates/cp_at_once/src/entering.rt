@@ -2,7 +2,7 @@
 
 ghost use Rattle.std.specs.Prelude.{◌≡◌, true};
 ghost use Rattle.cp_machine.specs.System.{machine_of, is_ready, IsStateOf};
-ghost use Rattle.cp_machine.specs.declared.gates.Gates.{Gates};
+ghost use Rattle.cp_machine.specs.declared.discipline.Discipline.{Discipline};
 ghost use Rattle.cp_at_once.specs.Entering as spec;
 ghost use Rattle.cp_at_once.specs.Legs.{HasLeg};
 
@@ -57,7 +57,7 @@ fn is_monitor_call(program: &Resolved, bindings: &[usize], frame: Frame, action:
 pub fn enters_next(program: &Resolved, state: &State, pid: u8) -> bool
     requires own { IsStateOf program.now state.now }
     requires ready { is_ready (machine_of state.now) pid ≡ true }
-    ensures { (gates : Gates) → result ≡ true → HasLeg program.now gates (machine_of state.now) pid → ⊥ }
+    ensures { (discipline : Discipline) → result ≡ true → HasLeg program.now discipline (machine_of state.now) pid → ⊥ }
 {
     let process = &state.processes[pid as usize];
     let Some(&Entry::Rest(top)) = process.stack.last() else {

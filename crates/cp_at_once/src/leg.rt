@@ -37,7 +37,7 @@ fn take_leg<S: Ledger>(
     requires free { is_pending (machine_of state.old) ≡ false }
     requires quiet { output_of (machine_of state.old) ≡ [] }
     ensures own { IsStateOf program.now state.new }
-    ensures leg { ends_quietly result ≡ true → EndsQuietly program.now limits.gates (machine_of state.old) pid (machine_of state.new) }
+    ensures leg { ends_quietly result ≡ true → EndsQuietly program.now limits.discipline (machine_of state.old) pid (machine_of state.new) }
     ensures kept { (moved : ℕ → Bool) (before : Machine) → KeepBodies moved before (machine_of state.old) → moved pid ≡ true → KeepBodies moved before (machine_of state.new) }
 {
     for _ in 0..limits.steps {
@@ -72,7 +72,7 @@ fn has_quiet_leg<S: Ledger>(
     requires kept { KeepBodies (has_moved moved.now) (machine_of state.now) (machine_of ahead.old) }
     ensures ahead { IsStateOf program.now ahead.new }
     ensures kept { (moved : ℕ → Bool) → moved pid ≡ true → KeepBodies moved (machine_of state.now) (machine_of ahead.new) }
-    ensures leg { result ≡ true → HasLeg program.now limits.gates (machine_of state.now) pid }
+    ensures leg { result ≡ true → HasLeg program.now limits.discipline (machine_of state.now) pid }
 {
     ahead.take_moved(state, moved);
     let event = take_leg(program, limits, ahead, pid, steps);
@@ -97,8 +97,8 @@ pub fn process_at_once<S: Ledger>(
     requires ahead { IsStateOf program.now ahead.old }
     requires quiet { output_of (machine_of state.now) ≡ [] }
     ensures ahead { IsStateOf program.now ahead.new }
-    ensures leg { IfSome result (λ p. HasLeg program.now limits.gates (machine_of state.now) p) }
-    ensures may { IfSome result (λ p. may (slots program.now limits.gates) (machine_of state.now) p ≡ true) }
+    ensures leg { IfSome result (λ p. HasLeg program.now limits.discipline (machine_of state.now) p) }
+    ensures may { IfSome result (λ p. may (slots program.now limits.discipline) (machine_of state.now) p ≡ true) }
 {
     if state.pending().is_some() {
         return None;

@@ -45,7 +45,7 @@ pub fn search_at_once(
     limits: Limits,
     most: u32,
 ) -> Result<FoundAtOnce, AllocError>
-    ensures { IfOk result (λ found. IsAnswer program.now limits.gates limits.steps most found) }
+    ensures { IfOk result (λ found. IsAnswer program.now limits.discipline limits.steps most found) }
 {
     search_at_once_with(alloc, program, limits, most, &mut Unobserved)
 }
@@ -58,7 +58,7 @@ pub fn search_at_once_with<O: ObserveProgress>(
     most: u32,
     observer: &mut O,
 ) -> Result<FoundAtOnce, AllocError>
-    ensures { IfOk result (λ found. IsAnswer program.now limits.gates limits.steps most found) }
+    ensures { IfOk result (λ found. IsAnswer program.now limits.discipline limits.steps most found) }
 {
     let job = SearchJob {
         alloc,
@@ -77,9 +77,9 @@ fn search_with<O: ObserveProgress, S: Ledger>(
     requires name { blank.name ≡ S.name }
     requires parts { blank.parts ≡ S.parts }
     requires one { S.parts ≡ 1 }
-    ensures { IfOk result (λ found. Answers job.now.program.now (slot_graph job.now.program.now job.now.limits.gates job.now.limits.steps) (HasLeg job.now.program.now job.now.limits.gates) job.now.most 8 found found.is_whole) }
+    ensures { IfOk result (λ found. Answers job.now.program.now (slot_graph job.now.program.now job.now.limits.discipline job.now.limits.steps) (HasLeg job.now.program.now job.now.limits.discipline) job.now.most 8 found found.is_whole) }
 {
-    let mut state = State::start(job.alloc, job.program, job.limits.gates)?;
+    let mut state = State::start(job.alloc, job.program, job.limits.discipline)?;
     let found = FoundAtOnce::new(job.alloc, &state)?;
     let told = Told::new(job.alloc, Unseen);
     let mut search: SearchAtOnce<S> = SearchAtOnce {
@@ -122,7 +122,7 @@ impl<S: Ledger> SearchAtOnce<S> {
         requires ahead { IsStateOf job.now.program.now self.old.ahead }
         requires numbers { length origin.numbers.items ≤ 1 }
         ensures own { IsStateOf job.now.program.now state.new }
-        ensures found { IfOk result (λ is_room. (states : List (Machine × List ℕ)) (word : List ℕ) (a : SlotArrival) → Holds job.now.program.now (slot_graph job.now.program.now job.now.limits.gates job.now.limits.steps) job.now.most self.old.found states → IsWordOf states origin word → ArrivesAt (slot_graph job.now.program.now job.now.limits.gates job.now.limits.steps) word a → goal_at arrival (machine_of state.old) ≡ a.goal → self.old.told.values.items ≡ a.shown → GoesOn job.now.program.now (slot_graph job.now.program.now job.now.limits.gates job.now.limits.steps) (HasLeg job.now.program.now job.now.limits.gates) job.now.most 8 self.old.found states self.new.found a is_room) }
+        ensures found { IfOk result (λ is_room. (states : List (Machine × List ℕ)) (word : List ℕ) (a : SlotArrival) → Holds job.now.program.now (slot_graph job.now.program.now job.now.limits.discipline job.now.limits.steps) job.now.most self.old.found states → IsWordOf states origin word → ArrivesAt (slot_graph job.now.program.now job.now.limits.discipline job.now.limits.steps) word a → goal_at arrival (machine_of state.old) ≡ a.goal → self.old.told.values.items ≡ a.shown → GoesOn job.now.program.now (slot_graph job.now.program.now job.now.limits.discipline job.now.limits.steps) (HasLeg job.now.program.now job.now.limits.discipline) job.now.most 8 self.old.found states self.new.found a is_room) }
         ensures ahead { IsStateOf job.now.program.now self.new.ahead }
     {
         let mut arrival = arrival;
@@ -201,13 +201,13 @@ impl<S: Ledger> Visit for SearchAtOnce<S> {
     ghost use Rattle.cp_at_once.specs.Following.{Answers, GoesThrough, Within};
     ghost use Rattle.cp_at_once.specs.Legs.{HasLeg};
 
-    ghost before = { λ v job n. IsStateOf job.program.now v.ahead × GoesThrough job.program.now (slot_graph job.program.now job.limits.gates job.limits.steps) (HasLeg job.program.now job.limits.gates) job.most 8 n v.found };
+    ghost before = { λ v job n. IsStateOf job.program.now v.ahead × GoesThrough job.program.now (slot_graph job.program.now job.limits.discipline job.limits.steps) (HasLeg job.program.now job.limits.discipline) job.most 8 n v.found };
 
-    ghost within = { λ v job at m done. IsStateOf job.program.now v.ahead × Within job.program.now (slot_graph job.program.now job.limits.gates job.limits.steps) (HasLeg job.program.now job.limits.gates) job.most 8 v.found at m done };
+    ghost within = { λ v job at m done. IsStateOf job.program.now v.ahead × Within job.program.now (slot_graph job.program.now job.limits.discipline job.limits.steps) (HasLeg job.program.now job.limits.discipline) job.most 8 v.found at m done };
 
-    ghost over = { λ v job. Answers job.program.now (slot_graph job.program.now job.limits.gates job.limits.steps) (HasLeg job.program.now job.limits.gates) job.most 8 v.found true };
+    ghost over = { λ v job. Answers job.program.now (slot_graph job.program.now job.limits.discipline job.limits.steps) (HasLeg job.program.now job.limits.discipline) job.most 8 v.found true };
 
-    ghost stops = { λ v job at. Answers job.program.now (slot_graph job.program.now job.limits.gates job.limits.steps) (HasLeg job.program.now job.limits.gates) job.most 8 v.found false };
+    ghost stops = { λ v job at. Answers job.program.now (slot_graph job.program.now job.limits.discipline job.limits.steps) (HasLeg job.program.now job.limits.discipline) job.most 8 v.found false };
 
     fn len(&self) -> usize {
         self.found.kept.len()

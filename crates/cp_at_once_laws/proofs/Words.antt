@@ -36,7 +36,7 @@ pub use Rattle.cp_meaning.specs.Places.{Target, View, component_there, component
 pub use Rattle.cp_meaning.specs.Places.{with_permanents}
 pub use Rattle.cp_meaning.specs.Readings.{is_ready}
 pub use Rattle.cp_meaning.specs.Scopes.{Meaning, continue_procedure, delay_procedure, display_procedure, routine_meaning, standard_meaning}
-pub use Rattle.cp_meaning.specs.State.{Component, ComponentStatus, Environment, Gates, Process, Shown, State, Status, any_gates, component_at, delayed, first_gates}
+pub use Rattle.cp_meaning.specs.State.{Component, ComponentStatus, Discipline, Environment, Gates, Process, Shown, State, Status, any_gates, book_discipline, component_at, delayed, first_gates}
 pub use Rattle.cp_meaning.specs.State.{is_inside, no_component, process_at, ready, unstarted}
 pub use Rattle.cp_meaning.specs.Steps.{first_components, opening, own_begun, process_first, processes_from, settled, step_of, view_of}
 pub use Rattle.cp_meaning.specs.Systems.{SystemMeaning, system_of}
@@ -55,7 +55,6 @@ pub use Rattle.cp_resolved.specs.Judging.{tokens_of}
 pub use Rattle.cp_machine.specs.Machine.{Machine}
 pub use Rattle.cp_machine.specs.declared.event.Event.{Event}
 pub use Rattle.cp_machine.specs.declared.event.Event.TheVariants.{Ended, Fault, Kernel, Local, OutputFull}
-pub use Rattle.cp_machine.specs.declared.gates.Gates.TheVariants.{First}
 pub use Rattle.cp_run.specs.Run.{Choosing, Halted, Node, node_at, settled_turn, turn_after, turn_at}
 unfoldable pub use Rattle.cp_run.specs.Run.{chosen, may, opened, stretch}
 pub use Rattle.cp_run.specs.Slots.{slots}
@@ -82,6 +81,7 @@ pub use Rattle.cp_endless.specs.Silent.{named_without_output, silent_slots}
 pub use Rattle.cp_at_once_laws.specs.AtOnce.{Comes, Commutes, Fails, GoalStays, Leg, Marks, NobodyReady, OwnGoal, PicksQuiet, QuietLeg, Spins, after_local, after_quiet}
 pub use Rattle.cp_at_once_laws.specs.AtOnce.{after_steps, calls, calls_quietly, done, fails, goes, is_call, later_fails, meets}
 pub use Rattle.cp_at_once_laws.specs.Found.{ShowsValue}
+pub use Rattle.cp_at_once_laws.specs.OnSlots.{by_the_book}
 pub use Rattle.cp_at_once_laws.specs.Quiet.{IsQuietStep, IsSomewhere, is_quiet, names}
 pub use Rattle.cp_at_once_laws.specs.Search.{ComesOut, GoesRound, SearchesAtOnce}
 pub use Rattle.cp_at_once_laws.specs.Through.{FollowsEach, FollowsOne, GoesThrough, HasQuietLeg, IsPlain, IsTurnKnown}

@@ -1,3 +1,4 @@
+pub mod ByTheBook
 pub mod Merging
 pub mod Two
 pub mod Entering

@@ -3,7 +3,7 @@ use Rattle.std.specs.Prelude.{◌≡◌, ℕ, Contains, Bool, false, Option}
 use Rattle.cp_tree.specs.Read.{IsRead}
 use Rattle.cp_tree.specs.Syntax.{Tree}
 use Rattle.cp_lawful.specs.Accepted.{IsAccepted}
-use Rattle.cp_meaning.specs.State.{first_gates, State}
+use Rattle.cp_meaning.specs.State.{book_discipline, State}
 use Rattle.cp_machine.specs.declared.event.Event.{Event}
 use Rattle.cp_machine.specs.declared.shown.Shown.{Shown}
 use Rattle.cp_refine.specs.Named.{named}
@@ -16,7 +16,7 @@ IsOver t waiting s = ((p : ℕ) → (names t).is_ready s p ≡ false) × ((names
 
 -- the step shows this value
 abbrev pub ShowsValue : Tree → Shown → State → ℕ → Type 0
-ShowsValue t v s p = Contains ((named t first_gates).output ((named t first_gates).step s p)) v
+ShowsValue t v s p = Contains ((named t book_discipline).output ((named t book_discipline).step s p)) v
 
 -- what is looked for is found from the start exactly where a schedule of any length comes to it
 pub record IsFound (t : Tree) (pick : State → Option ℕ) (row : ℕ → State → ℕ) (c : ℕ) (waiting : Bool) (Goal : State → ℕ → Type 0) : Type 0 where

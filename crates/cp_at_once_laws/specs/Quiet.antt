@@ -3,7 +3,7 @@ use Rattle.std.specs.Prelude.{◌≡◌, ℕ, List, Bool, true, false}
 use Rattle.cp_tree.specs.Read.{IsRead}
 use Rattle.cp_tree.specs.Syntax.{Tree}
 use Rattle.cp_lawful.specs.Accepted.{IsAccepted}
-use Rattle.cp_meaning.specs.State.{component_at, first_gates, State}
+use Rattle.cp_meaning.specs.State.{component_at, book_discipline, State}
 use Rattle.cp_machine.specs.declared.event.Event.{Event}
 use Rattle.cp_machine.specs.declared.event.Event.TheVariants.{Local, Kernel, Ended, Fault, OutputFull}
 use Rattle.cp_machine.specs.declared.event.Kernel.{Kernel as Call}
@@ -13,9 +13,9 @@ use Rattle.cp_refine.specs.Running.{Happening, IsMet}
 use Rattle.cp_endless.specs.Silent.{silent_named}
 use Rattle.cp_at_once_laws.specs.AtOnce.{Commutes}
 
--- the meaning that shows nothing, where the first of a line goes in
+-- the meaning that shows nothing, where the first of a line goes in and the caller of `continue` returns at once
 abbrev pub names : Tree → System State
-names t = silent_named t first_gates
+names t = silent_named t book_discipline
 
 -- a state that is met, whatever has happened
 pub record IsSomewhere (t : Tree) (s : State) : Type 0 where

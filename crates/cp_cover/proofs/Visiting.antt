@@ -1,7 +1,7 @@
 -- How a layer is gone on from, state after state and choice after choice.
 use Rattle.std.proofs.Common.{◌≡◌, ◌≤◌, ◌+◌, ℕ, suc, List, [], ◌∷◌, ◌++◌, Bool, true, false, None, Some, length, refl, sym, ap, subst, arith}
 use Rattle.std.specs.Prelude.{Option, is_some, slice_get}
-use Rattle.cp_machine.specs.declared.gates.Gates.{Gates}
+use Rattle.cp_machine.specs.declared.discipline.Discipline.{Discipline}
 use Rattle.cp_run.specs.Run.{Node, may, those_below, chosen, opened}
 use Rattle.cp_run.specs.Slots.{slots}
 use Rattle.cp_search.specs.Searched.{IsSearched}
@@ -18,12 +18,12 @@ not_stopped over stops None e h = h
 not_stopped over stops (Some at) e h = absurd (cc)
 
 -- the same limits
-pub known_as : (r : Tables) (gates other : Gates) (steps more most d e : ℕ) (marks : List CoverMark) (layer : List ReachedKey) → gates ≡ other → steps ≡ more → d ≡ e → IsKnown r (slots r gates) steps most d marks layer → IsKnown r (slots r other) more most e marks layer
-known_as r gates other steps more most d e marks layer g s same h =
+pub known_as : (r : Tables) (discipline other : Discipline) (steps more most d e : ℕ) (marks : List CoverMark) (layer : List ReachedKey) → discipline ≡ other → steps ≡ more → d ≡ e → IsKnown r (slots r discipline) steps most d marks layer → IsKnown r (slots r other) more most e marks layer
+known_as r discipline other steps more most d e marks layer g s same h =
     subst
-    (λ (x : Gates). IsKnown r (slots r x) more most e marks layer)
+    (λ (x : Discipline). IsKnown r (slots r x) more most e marks layer)
     g
-    (subst (λ (x : ℕ). IsKnown r (slots r gates) x most e marks layer) s (subst (λ (x : ℕ). IsKnown r (slots r gates) steps most x marks layer) same h))
+    (subst (λ (x : ℕ). IsKnown r (slots r discipline) x most e marks layer) s (subst (λ (x : ℕ). IsKnown r (slots r discipline) steps most x marks layer) same h))
 
 module _ (r : Tables) (sys : System Machine) (steps most : ℕ) where
   pub known_first : (old marks : List CoverMark) (before layer : List ReachedKey) (node : Node Machine) → 1 ≤ most → old ≡ [] → Adds old (opened_marks sys steps) marks → before ≡ [] → opened sys steps ≡ node → AddsNode r before node layer → IsKnown r sys steps most 0 marks layer

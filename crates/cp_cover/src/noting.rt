@@ -101,11 +101,11 @@ impl Observe for Marks {
         false
     }
 
-    ghost holds = { λ marks r gates now seen. Adds [] seen marks.known.keys };
+    ghost holds = { λ marks r discipline now seen. Adds [] seen marks.known.keys };
 
-    ghost fold = { λ r gates. marker };
+    ghost fold = { λ r discipline. marker };
 
-    ghost expects = { λ marks r gates before process seen. (is_ready before process ≡ true) × Adds [] (seen ++ item_marks (thread_at before.threads process).stack) marks.known.keys };
+    ghost expects = { λ marks r discipline before process seen. (is_ready before process ≡ true) × Adds [] (seen ++ item_marks (thread_at before.threads process).stack) marks.known.keys };
 
     #[inline(always)]
     fn expect_step(
@@ -143,7 +143,7 @@ impl Observe for Marks {
     fn see_choice(&mut self, _program: &Resolved, _limits: Limits, _state: &State, _number: u8) {}
 
     // Whoever made a local step waits nowhere.
-    ghost passes = { λ unseen marks r gates before after process seen step h. adds_local r before after process seen marks.known.keys step h.0 h.1 };
+    ghost passes = { λ unseen marks r discipline before after process seen step h. adds_local r before after process seen marks.known.keys step h.0 h.1 };
 }
 
 /// Takes a due choice, and notes what the stretch after it comes to.
@@ -156,10 +156,10 @@ pub fn note_choice<S: Ledger>(
     marks: &mut Marks,
 ) -> Result<Halt<OutcomeKind>, AllocError>
     requires own { IsStateOf program.now state.old }
-    requires may { may (slots program.now limits.gates) (machine_of state.old) process ≡ true }
-    ensures node { IfOk result (λ h. chosen (slots program.now limits.gates) limits.steps (machine_of state.old) process ≡ node_of h (machine_of state.new)) }
+    requires may { may (slots program.now limits.discipline) (machine_of state.old) process ≡ true }
+    ensures node { IfOk result (λ h. chosen (slots program.now limits.discipline) limits.steps (machine_of state.old) process ≡ node_of h (machine_of state.new)) }
     ensures own { IsStateOf program.now state.new }
-    ensures marks { IfOk result (λ _. Adds marks.old.known.keys (chosen_marks (slots program.now limits.gates) limits.steps (machine_of state.old) process) marks.new.known.keys) }
+    ensures marks { IfOk result (λ _. Adds marks.old.known.keys (chosen_marks (slots program.now limits.discipline) limits.steps (machine_of state.old) process) marks.new.known.keys) }
 {
     let turn = observe_choice(program, limits, state, process, steps, marks)?;
     Ok(halt_at(turn))
@@ -174,10 +174,10 @@ pub fn note_opening<S: Ledger>(
     marks: &mut Marks,
 ) -> Result<Halt<OutcomeKind>, AllocError>
     requires own { IsStateOf program.now state.old }
-    requires start { machine_of state.old ≡ opening program.now limits.gates }
-    ensures node { IfOk result (λ h. opened (slots program.now limits.gates) limits.steps ≡ node_of h (machine_of state.new)) }
+    requires start { machine_of state.old ≡ opening program.now limits.discipline }
+    ensures node { IfOk result (λ h. opened (slots program.now limits.discipline) limits.steps ≡ node_of h (machine_of state.new)) }
     ensures own { IsStateOf program.now state.new }
-    ensures marks { IfOk result (λ _. Adds marks.old.known.keys (opened_marks (slots program.now limits.gates) limits.steps) marks.new.known.keys) }
+    ensures marks { IfOk result (λ _. Adds marks.old.known.keys (opened_marks (slots program.now limits.discipline) limits.steps) marks.new.known.keys) }
 {
     let turn = observe_opening(program, limits, state, steps, marks)?;
     Ok(halt_at(turn))

@@ -51,7 +51,7 @@ pub fn find_coverage<O: ObserveProgress>(
     most: u32,
     observer: &mut O,
 ) -> Result<Coverage, AllocError>
-    ensures reached { IfOk result (λ c. AreReached (slots program.now limits.gates) limits.steps c.choices c.marks.known.keys) }
+    ensures reached { IfOk result (λ c. AreReached (slots program.now limits.discipline) limits.steps c.choices c.marks.known.keys) }
     ensures choices { IfOk result (λ c. c.choices ≤ limits.choices) }
 {
     let most = if most == 0 { 1 } else { most };
@@ -73,11 +73,11 @@ fn find_with<O: ObserveProgress, S: Ledger>(
     requires parts { blank.parts ≡ S.parts }
     requires one { S.parts ≡ 1 }
     requires most { 1 ≤ job.now.most }
-    ensures reached { IfOk result (λ c. AreReached (slots job.now.program.now job.now.limits.gates) job.now.limits.steps c.choices c.marks.known.keys) }
+    ensures reached { IfOk result (λ c. AreReached (slots job.now.program.now job.now.limits.discipline) job.now.limits.steps c.choices c.marks.known.keys) }
     ensures choices { IfOk result (λ c. c.choices ≤ job.now.limits.choices) }
 {
     let mut visit: CoverVisit<S> = CoverVisit::new(job.alloc, blank);
-    let mut state = State::start(job.alloc, job.program, job.limits.gates)?;
+    let mut state = State::start(job.alloc, job.program, job.limits.discipline)?;
     visit.open(job, &mut state)?;
     let mut next = state.copy(job.alloc)?;
     for depth in 0..job.limits.choices {
@@ -125,12 +125,12 @@ impl<S: Ledger> CoverVisit<S> {
     // Finds the layer of no choice, from the opening state.
     fn open(&mut self, job: &SearchJob<'_>, state: &mut State) -> Result<(), AllocError>
         requires own { IsStateOf job.now.program.now state.old }
-        requires start { machine_of state.old ≡ opening job.now.program.now job.now.limits.gates }
+        requires start { machine_of state.old ≡ opening job.now.program.now job.now.limits.discipline }
         requires no_marks { self.old.marks.known.keys ≡ [] }
         requires no_next { self.old.next.known.keys ≡ [] }
         requires most { 1 ≤ job.now.most }
         ensures own { IsStateOf job.now.program.now state.new }
-        ensures known { IfOk result (λ _. IsKnown job.now.program.now (slots job.now.program.now job.now.limits.gates) job.now.limits.steps job.now.most 0 self.new.marks.known.keys self.new.next.known.keys) }
+        ensures known { IfOk result (λ _. IsKnown job.now.program.now (slots job.now.program.now job.now.limits.discipline) job.now.limits.steps job.now.most 0 self.new.marks.known.keys self.new.next.known.keys) }
     {
         let halt = note_opening(
             job.program,
@@ -145,8 +145,8 @@ impl<S: Ledger> CoverVisit<S> {
 
     // The layer that was found, of as many choices as the job says, is now the one to be gone on from.
     fn begin_layer(&mut self, job: &SearchJob<'_>)
-        requires { IsKnown job.now.program.now (slots job.now.program.now job.now.limits.gates) job.now.limits.steps job.now.most job.now.limits.choices self.old.marks.known.keys self.old.next.known.keys }
-        ensures { IsBegun job.now.program.now (slots job.now.program.now job.now.limits.gates) job.now.limits.steps job.now.most job.now.limits.choices self.new.layer.known.keys 0 self.new.marks.known.keys self.new.next.known.keys }
+        requires { IsKnown job.now.program.now (slots job.now.program.now job.now.limits.discipline) job.now.limits.steps job.now.most job.now.limits.choices self.old.marks.known.keys self.old.next.known.keys }
+        ensures { IsBegun job.now.program.now (slots job.now.program.now job.now.limits.discipline) job.now.limits.steps job.now.most job.now.limits.choices self.new.layer.known.keys 0 self.new.marks.known.keys self.new.next.known.keys }
     {
         self.layer = mem::replace(&mut self.next, Layer::new(job.alloc));
         self.depth = job.limits.choices;
@@ -157,11 +157,11 @@ impl<S: Ledger> Visit for CoverVisit<S> {
     ghost use Rattle.cp_run.specs.Slots.{slots};
     ghost use Rattle.cp_cover.specs.Visited.{IsBegun, IsWhole, Within};
 
-    ghost before = { λ v job n. IsBegun job.program.now (slots job.program.now job.limits.gates) job.limits.steps job.most job.limits.choices v.layer.known.keys n v.marks.known.keys v.next.known.keys };
+    ghost before = { λ v job n. IsBegun job.program.now (slots job.program.now job.limits.discipline) job.limits.steps job.most job.limits.choices v.layer.known.keys n v.marks.known.keys v.next.known.keys };
 
-    ghost within = { λ v job at m done. Within job.program.now (slots job.program.now job.limits.gates) job.limits.steps job.most job.limits.choices v.layer.known.keys at m done v.marks.known.keys v.next.known.keys };
+    ghost within = { λ v job at m done. Within job.program.now (slots job.program.now job.limits.discipline) job.limits.steps job.most job.limits.choices v.layer.known.keys at m done v.marks.known.keys v.next.known.keys };
 
-    ghost over = { λ v job. IsWhole job.program.now (slots job.program.now job.limits.gates) job.limits.steps job.most job.limits.choices v.layer.known.keys v.marks.known.keys v.next.known.keys };
+    ghost over = { λ v job. IsWhole job.program.now (slots job.program.now job.limits.discipline) job.limits.steps job.most job.limits.choices v.layer.known.keys v.marks.known.keys v.next.known.keys };
 
     ghost stops = { λ v job at. Unit {0} };
 

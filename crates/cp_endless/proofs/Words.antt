@@ -17,7 +17,7 @@ pub use Rattle.cp_machine.specs.Stack.{rest_of}
 pub use Rattle.cp_machine.specs.Step.{step_at}
 pub use Rattle.cp_machine.specs.declared.event.Event.{Event}
 pub use Rattle.cp_machine.specs.declared.event.Event.TheVariants.{Kernel, Local, OutputFull}
-pub use Rattle.cp_machine.specs.declared.gates.Gates.{Gates}
+pub use Rattle.cp_machine.specs.declared.discipline.Discipline.{Discipline}
 pub use Rattle.cp_machine.specs.declared.process.Entry.{Entry}
 pub use Rattle.cp_machine.specs.declared.shown.Shown.{Shown}
 pub use Rattle.cp_machine.specs.declared.state.TheConstants.{MOST_SHOWN}

@@ -7,12 +7,12 @@ use Rattle.cp_slots.specs.Tables.{Tables}
 use Rattle.cp_lawful.specs.Accepted.{IsAccepted}
 use Rattle.cp_machine.specs.Machine.{Machine}
 use Rattle.cp_machine.specs.declared.shown.Shown.{Shown}
-use Rattle.cp_meaning.specs.State.{Gates}
+use Rattle.cp_meaning.specs.State.{Discipline}
 use Rattle.cp_run.specs.declared.outcome.OutcomeKind.{OutcomeKind}
 use Rattle.cp_run.specs.Slots.{slots}
 use Rattle.cp_run.specs.System.{System}
 use Rattle.cp_run.specs.Table.{table}
-use Rattle.cp_refine.specs.Named.{named, gates_of}
+use Rattle.cp_refine.specs.Named.{named, discipline_of}
 use Rattle.cp_endless.specs.Reachable.{EndsAfter, IsPossible}
 use Rattle.cp_endless.specs.Settled.{AreAllEnds, IsSettled}
 use Rattle.cp_endless.specs.Shown.{ShowsAfter}
@@ -23,8 +23,8 @@ use Rattle.cp_endless.specs.Traps.{IsStuckAfter}
 use Rattle.cp_endless.specs.WaitsForEver.{MayWaitForEver, NeverWaitsForEver, MayLinger}
 
 -- of every program that is read and accepted, and every table of slots that stands for it
-abbrev pub OfPrograms : (Tree → Tables → Gates → ℕ → Type 0) → Type 0
-OfPrograms P = (t : Tree) (r : Tables) (g : Gates) → IsRead t.program → IsAccepted t → plain r ≡ laid t → (steps : ℕ) → P t r g steps
+abbrev pub OfPrograms : (Tree → Tables → Discipline → ℕ → Type 0) → Type 0
+OfPrograms P = (t : Tree) (r : Tables) (g : Discipline) → IsRead t.program → IsAccepted t → plain r ≡ laid t → (steps : ℕ) → P t r g steps
 
 -- ---- ends and values
 
@@ -61,22 +61,22 @@ pub record LingersTheSame {S T : Type 0} (a : System S) (b : System T) (ia : S �
 -- ---- the laws
 
 -- the meaning of a program and its slot machine, where nothing is shown
-pub record MeansTheSame (t : Tree) (r : Tables) (g : Gates) (steps : ℕ) : Type 0 where
-  pub ends : EndsTheSame (silent_named t g) (silent_slots r (gates_of g)) steps
-  pub values : ShowsTheSame (named t g) (slots r (gates_of g)) named_without_output without_output steps
-  pub waits : WaitsTheSame (silent_named t g) (silent_slots r (gates_of g)) waits_on_names waits_on_slots steps
-  pub lingers : LingersTheSame (silent_named t g) (silent_slots r (gates_of g)) in_call_on_names in_call_on_slots waits_on_names waits_on_slots steps
+pub record MeansTheSame (t : Tree) (r : Tables) (g : Discipline) (steps : ℕ) : Type 0 where
+  pub ends : EndsTheSame (silent_named t g) (silent_slots r (discipline_of g)) steps
+  pub values : ShowsTheSame (named t g) (slots r (discipline_of g)) named_without_output without_output steps
+  pub waits : WaitsTheSame (silent_named t g) (silent_slots r (discipline_of g)) waits_on_names waits_on_slots steps
+  pub lingers : LingersTheSame (silent_named t g) (silent_slots r (discipline_of g)) in_call_on_names in_call_on_slots waits_on_names waits_on_slots steps
 
 abbrev pub EndlessMeaningLaw : Type 0
 EndlessMeaningLaw = OfPrograms MeansTheSame
 
 -- What is settled of the program, on its own names: the ends are exactly those that are possible where nothing is shown; no row of any table,
 -- whatever the number of choices, ends otherwise; and a word that leads to an end is a schedule with this end, where as many choices are allowed.
-pub record IsSettledOf (t : Tree) (g : Gates) (steps : ℕ) (ends : List OutcomeKind) : Type 0 where
+pub record IsSettledOf (t : Tree) (g : Discipline) (steps : ℕ) (ends : List OutcomeKind) : Type 0 where
   pub all : AreAllEnds (silent_named t g) steps ends
   pub tables : (choices : ℕ) → HasKnownEnds ends (table (named t g) choices steps)
   pub witness : (word : List ℕ) (kind : OutcomeKind) → EndsAfter (silent_named t g) steps word kind → (choices : ℕ) → length word ≤ choices → RunsTo (named t g) choices steps word kind
 
 -- what is settled of the slot machine is so of the program
 abbrev pub SettledMeaningLaw : Type 0
-SettledMeaningLaw = OfPrograms (λ t r g steps. (states : List Machine) (ends : List OutcomeKind) → IsSettled (silent_slots r (gates_of g)) steps states ends → IsSettledOf t g steps ends)
+SettledMeaningLaw = OfPrograms (λ t r g steps. (states : List Machine) (ends : List OutcomeKind) → IsSettled (silent_slots r (discipline_of g)) steps states ends → IsSettledOf t g steps ends)

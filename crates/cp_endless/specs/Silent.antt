@@ -4,7 +4,7 @@ use Rattle.cp_tree.specs.Syntax.{Tree}
 use Rattle.cp_tree.specs.declared.declaration.SystemKind.{SystemKind}
 use Rattle.cp_tree.specs.declared.declaration.SystemKind.TheVariants as system_kind
 use Rattle.cp_slots.specs.Tables.{Tables}
-use Rattle.cp_machine.specs.declared.gates.Gates as slot_gates
+use Rattle.cp_machine.specs.declared.discipline.Discipline as slot_discipline
 use Rattle.cp_machine.specs.declared.process.Entry.{Entry}
 use Rattle.cp_machine.specs.declared.process.Entry.TheVariants.{Rest, Successor, Return, InitEnd}
 use Rattle.cp_machine.specs.declared.state.TheConstants.{MOST_SHOWN}
@@ -23,7 +23,7 @@ use Rattle.cp_endless.specs.Forgetting.{forgetting_system, OutputDecidesNothing}
 abbrev pub named_without_output : meaning.State → meaning.State
 named_without_output s = record s { output = [] }
 
-abbrev pub silent_named : Tree → meaning.Gates → System meaning.State
+abbrev pub silent_named : Tree → meaning.Discipline → System meaning.State
 silent_named t g = forgetting_system (named t g) named_without_output
 
 -- ---- a process is at a gate or delayed
@@ -72,8 +72,8 @@ pub record ShowsLess (m n : Machine) : Type 0 where
 
 -- what the slot machine displayed decides nothing, but whether its output is full
 abbrev pub SlotsForgetLaw : Type 0
-SlotsForgetLaw = (r : Tables) (gates : slot_gates.Gates) → OutputDecidesNothing (slots r gates) without_output ShowsLess
+SlotsForgetLaw = (r : Tables) (discipline : slot_discipline.Discipline) → OutputDecidesNothing (slots r discipline) without_output ShowsLess
 
 -- who is ready stays ready until its own step
 abbrev pub SlotsStayReadyLaw : Type 0
-SlotsStayReadyLaw = (r : Tables) (gates : slot_gates.Gates) → StaysReady (slots r gates) × StaysReady (silent_slots r gates)
+SlotsStayReadyLaw = (r : Tables) (discipline : slot_discipline.Discipline) → StaysReady (slots r discipline) × StaysReady (silent_slots r discipline)

@@ -3,7 +3,7 @@
 ghost use Rattle.std.specs.Prelude.{ℕ, List, Bool, Contains};
 ghost use Rattle.cp_slots.specs.Tables.{Tables};
 ghost use Rattle.cp_machine.specs.System.{Machine};
-ghost use Rattle.cp_machine.specs.declared.gates.Gates.{Gates};
+ghost use Rattle.cp_machine.specs.declared.discipline.Discipline.{Discipline};
 ghost use Rattle.cp_meaning.specs.State.{State};
 ghost use Rattle.cp_run.specs.Slots.{slots};
 ghost use Rattle.cp_run.specs.System.{System};
@@ -38,12 +38,12 @@ pub fn law_ends_to()
 
 /// However many choices a table has, none of its rows ends otherwise than the closed states tell.
 pub fn law_tables()
-    ensures { (r : Tables) (gates : Gates) (states : List Machine) → TablesLaw (slots r gates) without_output (Contains states) }
+    ensures { (r : Tables) (discipline : Discipline) (states : List Machine) → TablesLaw (slots r discipline) without_output (Contains states) }
 {}
 
 /// A word that leads to an end is a schedule with this end, unless its output is full before.
 pub fn law_witness()
-    ensures { (r : Tables) (gates : Gates) → WitnessLaw (slots r gates) without_output }
+    ensures { (r : Tables) (discipline : Discipline) → WitnessLaw (slots r discipline) without_output }
 {}
 
 /// No word shows a value that is not listed; and no word of at most so many choices, where states are gone on from layer by layer.

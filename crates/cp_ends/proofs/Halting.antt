@@ -1,7 +1,7 @@
 -- Where a stretch comes to, by where it stands after as many steps as the limit, and what is told of it.
 use Rattle.std.proofs.Common.{◌≡◌, ◌∙◌, ◌+◌, ℕ, zero, suc, List, [], ◌++◌, Bool, true, false, if◌then◌else◌, length, take, Option, None, Some, refl, sym, ap, arith}
 use Rattle.cp_ends.proofs.Vocabulary.{append-nil, append_assoc, same_Some, ◌||◌, Shown, Turn, System, settled_turn, stretch, turn_after, each}
-use Rattle.cp_ends.proofs.Vocabulary.{forgetting_system, Moment, moments_by, stretch_moments, spot_after, spot_by, shown_at, Goal, End, Arrival, goal_of, StepLimit, has_call, is_call, Tables, Gates, Machine, silent_slots}
+use Rattle.cp_ends.proofs.Vocabulary.{forgetting_system, Moment, moments_by, stretch_moments, spot_after, spot_by, shown_at, Goal, End, Arrival, goal_of, StepLimit, has_call, is_call, Tables, Discipline, Machine, silent_slots}
 use Rattle.std.proofs.Math.Seq.{take-append_seam}
 use Rattle.cp_run.specs.Code.{halt_at, node_of}
 use Rattle.cp_run.specs.Fold.{Fold, fold_chosen, fold_opened, fold_stretch, fold_turn, walked, walked_chosen, walked_opened}
@@ -105,12 +105,12 @@ module _ {S : Type 0} (sys : System S) where
   spot_walked (suc n) s (Goes p) = spot_walked n (sys.step s p) (turn_after sys (sys.step s p) p (sys.event s p))
 
 -- and nothing is displayed there
-pub quiet_walked : (r : Tables) (gates : Gates) (n : ℕ) (m : Machine) (turn : Turn) → m.output ≡ [] → (walked (silent_slots r gates) n m turn).0.output ≡ []
+pub quiet_walked : (r : Tables) (discipline : Discipline) (n : ℕ) (m : Machine) (turn : Turn) → m.output ≡ [] → (walked (silent_slots r discipline) n m turn).0.output ≡ []
 unfolding walked
-quiet_walked r gates zero m turn e = e
-quiet_walked r gates (suc n) m (Over kind) e = e
-quiet_walked r gates (suc n) m Due e = e
-quiet_walked r gates (suc n) m (Goes p) e = let t = (silent_slots r gates).step m p in quiet_walked r gates n t (turn_after (silent_slots r gates) t p ((silent_slots r gates).event m p)) refl
+quiet_walked r discipline zero m turn e = e
+quiet_walked r discipline (suc n) m (Over kind) e = e
+quiet_walked r discipline (suc n) m Due e = e
+quiet_walked r discipline (suc n) m (Goes p) e = let t = (silent_slots r discipline).step m p in quiet_walked r discipline n t (turn_after (silent_slots r discipline) t p ((silent_slots r discipline).event m p)) refl
 
 -- what a stretch comes to if it stands there then, and what it shows
 pub record Comes {S : Type 0} (sys quiet : System S) (eq : S → S → Bool) (steps : ℕ) (whole : Arrival S code.End Shown) (on : List Shown × Bool → List Shown × Bool) (w : S × Turn) : Type 0 where

@@ -1,6 +1,6 @@
 -- Where legs come to, by where their stretches stand after as many steps as the limit, and what is seen of them.
 use Rattle.std.proofs.Common.{◌≡◌, ◌∙◌, ◌<◌, ℕ, zero, suc, Bool, true, false, if◌then◌else◌, List, [], ◌∷◌, ◌++◌, Option, None, Some, append-nil, append_assoc, refl, sym, ap, subst}
-use Rattle.cp_ends.proofs.Vocabulary.{Turn, System, Moment, Tables, Gates, Machine, silent_slots, same_key, same_Some as some_same}
+use Rattle.cp_ends.proofs.Vocabulary.{Turn, System, Moment, Tables, Discipline, Machine, silent_slots, same_key, same_Some as some_same}
 use Rattle.cp_run.specs.declared.outcome.Halt.TheVariants.{Choice, Ended}
 use Rattle.cp_run.specs.declared.outcome.OutcomeKind.{OutcomeKind}
 use Rattle.cp_run.specs.declared.outcome.Turn.TheVariants.{Over, Due, Goes}
@@ -168,16 +168,16 @@ module _ {S : Type 0} (sys : System S) where
 -- ---- the round of a stretch that was cut
 
 -- it comes again as is found
-pub comes_back : (r : Tables) (gates : Gates) (steps : ℕ) (m : Machine) (p : ℕ) (found : Option ℕ) → return_within (silent_slots r gates) same_key m p steps ≡ found → IsFound (silent_slots r gates) same_key key_same key_self m p steps found
-comes_back r gates steps m p found is = subst (IsFound (silent_slots r gates) same_key key_same key_self m p steps) is (return_found (silent_slots r gates) same_key key_same key_self m p steps)
+pub comes_back : (r : Tables) (discipline : Discipline) (steps : ℕ) (m : Machine) (p : ℕ) (found : Option ℕ) → return_within (silent_slots r discipline) same_key m p steps ≡ found → IsFound (silent_slots r discipline) same_key key_same key_self m p steps found
+comes_back r discipline steps m p found is = subst (IsFound (silent_slots r discipline) same_key key_same key_self m p steps) is (return_found (silent_slots r discipline) same_key key_same key_self m p steps)
 
 -- where a stretch came to of which all steps are made
-pub leg_cut : {W : Type 0} (r : Tables) (gates : Gates) (sees : W → List Machine → List (Moment Machine) → Type 0) (steps : ℕ) (due : List Machine) (old new : W) (again : Option W) (s m t : Machine) (first : Turn) (q : ℕ) →
-    walked (silent_slots r gates) steps s first ≡ (m, Goes q) → sees old due ((turn_leg (silent_slots r gates) steps s first).moments steps) → SeesRound sees r gates steps m q old new again →
-    ComesTo (silent_slots r gates) sees steps (turn_leg (silent_slots r gates) steps s first) due new (Ended again) t
-leg_cut r gates sees steps due old new None s m t first q there seen round =
-    let quiet = silent_slots r gates in
+pub leg_cut : {W : Type 0} (r : Tables) (discipline : Discipline) (sees : W → List Machine → List (Moment Machine) → Type 0) (steps : ℕ) (due : List Machine) (old new : W) (again : Option W) (s m t : Machine) (first : Turn) (q : ℕ) →
+    walked (silent_slots r discipline) steps s first ≡ (m, Goes q) → sees old due ((turn_leg (silent_slots r discipline) steps s first).moments steps) → SeesRound sees r discipline steps m q old new again →
+    ComesTo (silent_slots r discipline) sees steps (turn_leg (silent_slots r discipline) steps s first) due new (Ended again) t
+leg_cut r discipline sees steps due old new None s m t first q there seen round =
+    let quiet = silent_slots r discipline in
     cut_for_good quiet sees steps due new s m first q t there round.0 (subst (λ w. sees w due ((turn_leg quiet steps s first).moments steps)) (sym round.1) seen)
-leg_cut r gates sees steps due old new (Some again) s m t first q there seen round =
-    let quiet = silent_slots r gates in
+leg_cut r discipline sees steps due old new (Some again) s m t first q there seen round =
+    let quiet = silent_slots r discipline in
     comes_again quiet sees steps due new s m first q round.0 t again there round.1 round.2 round.3 (round.4 due ((turn_leg quiet steps s first).moments steps) seen)

@@ -28,7 +28,7 @@ unfoldable pub use Rattle.cp_layout.specs.Laid.{laid}
 pub use Rattle.cp_machine.specs.Statements.{Stepped}
 pub use Rattle.cp_machine.specs.System.{IsStateOf, Machine, is_pending, is_ready, machine_of, output_of}
 pub use Rattle.cp_machine.specs.declared.event.Event.{Event}
-pub use Rattle.cp_machine.specs.declared.gates.Gates.{Gates}
+pub use Rattle.cp_machine.specs.declared.discipline.Discipline.{Discipline}
 pub use Rattle.cp_machine.specs.declared.shown.Shown.{Shown}
 pub use Rattle.cp_run.specs.Run.{Choosing, Halted, Node, node_at, settled_turn, those_below, turn_after}
 unfoldable pub use Rattle.cp_run.specs.Run.{chosen, opened, may, stretch}

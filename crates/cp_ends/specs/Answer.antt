@@ -1,7 +1,7 @@
 -- What a search of the code answers: what the search through the graph of the slot machine finds.
 use Rattle.std.specs.Prelude.{◌≡◌, ◌<◌, ◌≤◌, ℕ, List, [], ◌∷◌, ◌++◌, Bool, true, false, Option, None, Some, length, slice_get}
 use Rattle.cp_slots.specs.Tables.{Tables}
-use Rattle.cp_machine.specs.declared.gates.Gates.{Gates}
+use Rattle.cp_machine.specs.declared.discipline.Discipline.{Discipline}
 use Rattle.cp_machine.specs.declared.shown.Shown.{Shown}
 use Rattle.cp_machine.specs.contracts.shown.ShownPartialEq.TheImpl as shown_eq
 use Rattle.cp_machine.specs.System.{Machine}
@@ -24,8 +24,8 @@ use Rattle.cp_ends.specs.declared.found.Found.{Found}
 abbrev pub ends_tests : Tests Machine End Shown
 ends_tests = record { state = same_key; end = (end_eq.ghosts).eq; value = (shown_eq.ghosts).eq; most = 1001 }
 
-abbrev pub slot_graph : Tables → Gates → ℕ → Graph Machine End Shown
-slot_graph r gates steps = ends_graph (slots r gates) without_output same_key steps
+abbrev pub slot_graph : Tables → Discipline → ℕ → Graph Machine End Shown
+slot_graph r discipline steps = ends_graph (slots r discipline) without_output same_key steps
 
 -- the values of an arrival are found, and not yet where it arrives
 abbrev pub with_shown : SlotFindings → List ℕ → SlotArrival → SlotFindings

@@ -2,7 +2,7 @@
 use Rattle.std.specs.Prelude.{◌≡◌, ◌+◌, ◌++◌, ◌∷◌, ℕ, suc, List, [], ◌<◌, false, Option, None, Some}
 use Rattle.cp_slots.specs.Tables.{Tables}
 use Rattle.cp_machine.specs.System.{Machine}
-use Rattle.cp_machine.specs.declared.gates.Gates.{Gates}
+use Rattle.cp_machine.specs.declared.discipline.Discipline.{Discipline}
 use Rattle.cp_run.specs.System.{System}
 use Rattle.cp_run.specs.Fold.{Fold}
 use Rattle.cp_run.specs.Run.{Node, Halted, Choosing, node_at, stretch, opened, chosen, turn_at}
@@ -67,11 +67,11 @@ with_round again (Ended e) = Ended again
 
 -- Some steps after it is in this state before a step of this process, but no more than the limit, a stretch is so again: then `again` is what is
 -- seen of it, and `new` what is seen once round more than `old`.
-abbrev pub SeesRound : {W : Type 0} → (W → List Machine → List (Moment Machine) → Type 0) → Tables → Gates → ℕ → Machine → ℕ → W → W → Option W → Type 0
-SeesRound sees r gates steps s p old new None = ((k : ℕ) → k < steps → spot_after (silent_slots r gates) (suc k) s p ≡ Some (s, p) → ⊥) × (new ≡ old)
-SeesRound sees r gates steps s p old new (Some again) =
-    (k : ℕ) × (k < steps) × (spot_after (silent_slots r gates) (suc k) s p ≡ Some (s, p)) × sees again [] (stretch_moments (silent_slots r gates) (suc k) s p) ×
-    ((due : List Machine) (ms : List (Moment Machine)) → sees old due ms → sees new due (ms ++ stretch_moments (silent_slots r gates) (suc k) s p))
+abbrev pub SeesRound : {W : Type 0} → (W → List Machine → List (Moment Machine) → Type 0) → Tables → Discipline → ℕ → Machine → ℕ → W → W → Option W → Type 0
+SeesRound sees r discipline steps s p old new None = ((k : ℕ) → k < steps → spot_after (silent_slots r discipline) (suc k) s p ≡ Some (s, p) → ⊥) × (new ≡ old)
+SeesRound sees r discipline steps s p old new (Some again) =
+    (k : ℕ) × (k < steps) × (spot_after (silent_slots r discipline) (suc k) s p ≡ Some (s, p)) × sees again [] (stretch_moments (silent_slots r discipline) (suc k) s p) ×
+    ((due : List Machine) (ms : List (Moment Machine)) → sees old due ms → sees new due (ms ++ stretch_moments (silent_slots r discipline) (suc k) s p))
 
 -- after due choices and moments, each step is one moment more
 abbrev pub seer : {S : Type 0} → Fold S (List S × List (Moment S))

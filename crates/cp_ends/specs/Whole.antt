@@ -9,12 +9,12 @@ use Rattle.cp_slots.specs.Tables.{Tables}
 use Rattle.cp_lawful.specs.Accepted.{IsAccepted}
 use Rattle.cp_meaning.specs.State as named
 use Rattle.cp_machine.specs.System.{Machine}
-use Rattle.cp_machine.specs.declared.gates.Gates.{Gates}
+use Rattle.cp_machine.specs.declared.discipline.Discipline.{Discipline}
 use Rattle.cp_machine.specs.declared.shown.Shown.{Shown}
 use Rattle.cp_run.specs.Slots.{slots}
 use Rattle.cp_run.specs.System.{System}
 use Rattle.cp_run.specs.Run.{Choosing}
-use Rattle.cp_refine.specs.Named.{named_gates}
+use Rattle.cp_refine.specs.Named.{named_discipline}
 use Rattle.cp_endless.specs.Forgetting.{forgetting_system}
 use Rattle.cp_endless.specs.Reachable.{LeadsTo}
 use Rattle.cp_endless.specs.Silent.{without_output}
@@ -54,12 +54,12 @@ pub record IsCutShort {S : Type 0} (sys : System S) (forget : S → S) (steps mo
   pub values : AreFirstOnes (suc MOST_VALUES) (Within d (ShowsSo sys forget steps)) (those_within d f.values)
 
 -- a search that stopped has gone on from each state before the one of this number
-abbrev pub IsAnswerBy : Tables → Gates → (steps most : ℕ) → Findings Machine End Shown → Option ℕ → Type 0
-IsAnswerBy r gates steps most f None = IsWhole (slots r gates) without_output steps most f
-IsAnswerBy r gates steps most f (Some at) = (x : Machine × List ℕ) × (slice_get f.states at ≡ Some x) × IsCutShort (slots r gates) without_output steps most (length x.1) f
+abbrev pub IsAnswerBy : Tables → Discipline → (steps most : ℕ) → Findings Machine End Shown → Option ℕ → Type 0
+IsAnswerBy r discipline steps most f None = IsWhole (slots r discipline) without_output steps most f
+IsAnswerBy r discipline steps most f (Some at) = (x : Machine × List ℕ) × (slice_get f.states at ≡ Some x) × IsCutShort (slots r discipline) without_output steps most (length x.1) f
 
 -- the same on a program's own names
-abbrev pub IsMeantBy : Tree → named.Gates → (steps : ℕ) → Findings Machine End Shown → Option ℕ → Type 0
+abbrev pub IsMeantBy : Tree → named.Discipline → (steps : ℕ) → Findings Machine End Shown → Option ℕ → Type 0
 IsMeantBy t g steps f None = IsAnswerOnNames t g steps (suc MOST_VALUES) f.ends f.values
 IsMeantBy t g steps f (Some at) =
     (x : Machine × List ℕ) × (slice_get f.states at ≡ Some x) ×
@@ -70,8 +70,8 @@ abbrev pub OfItsPrograms : Tables → (Tree → Type 0) → Type 0
 OfItsPrograms r P = (t : Tree) → IsRead t.program → IsAccepted t → plain r ≡ laid t → P t
 
 -- What the code found is what words lead to, in the slot machine and in the meaning of its program.
-pub record IsAnswer (r : Tables) (gates : Gates) (steps most : ℕ) (found : Found) : Type 0 where
+pub record IsAnswer (r : Tables) (discipline : Discipline) (steps most : ℕ) (found : Found) : Type 0 where
   pub findings : Findings Machine End Shown
   pub holds : Holds r found findings
-  pub answer : IsAnswerBy r gates steps most findings found.stopped
-  pub meaning : OfItsPrograms r (λ t. IsMeantBy t (named_gates gates) steps findings found.stopped)
+  pub answer : IsAnswerBy r discipline steps most findings found.stopped
+  pub meaning : OfItsPrograms r (λ t. IsMeantBy t (named_discipline discipline) steps findings found.stopped)

@@ -37,8 +37,8 @@ fn arrive<S: Ledger, P: Sight>(
     requires quiet { output_of (machine_of state.old) ≡ [] }
     ensures own { IsStateOf program.now state.new }
     ensures quiet { IfOk result (λ _. output_of (machine_of state.new) ≡ []) }
-    ensures comes { IfOk result (λ h. halt_arrival (slots program.now limits.gates) (silent_slots program.now limits.gates) same_key limits.steps told.old.values.items (machine_of state.old) turn ≡ record { goal = goal_at h (machine_of state.new); shown = told.new.values.items }) }
-    ensures leg { IfOk result (λ h. (s : Machine) (first : Turn) (due : List Machine) → walked (silent_slots program.now limits.gates) limits.steps s first ≡ (machine_of state.old, turn) → P.sees told.old.seen program.now limits.gates due ((turn_leg (silent_slots program.now limits.gates) limits.steps s first).moments limits.steps) → ComesTo (silent_slots program.now limits.gates) (λ w. P.sees w program.now limits.gates) limits.steps (turn_leg (silent_slots program.now limits.gates) limits.steps s first) due told.new.seen (with_round told.new.again h) (machine_of state.new)) }
+    ensures comes { IfOk result (λ h. halt_arrival (slots program.now limits.discipline) (silent_slots program.now limits.discipline) same_key limits.steps told.old.values.items (machine_of state.old) turn ≡ record { goal = goal_at h (machine_of state.new); shown = told.new.values.items }) }
+    ensures leg { IfOk result (λ h. (s : Machine) (first : Turn) (due : List Machine) → walked (silent_slots program.now limits.discipline) limits.steps s first ≡ (machine_of state.old, turn) → P.sees told.old.seen program.now limits.discipline due ((turn_leg (silent_slots program.now limits.discipline) limits.steps s first).moments limits.steps) → ComesTo (silent_slots program.now limits.discipline) (λ w. P.sees w program.now limits.discipline) limits.steps (turn_leg (silent_slots program.now limits.discipline) limits.steps s first) due told.new.seen (with_round told.new.again h) (machine_of state.new)) }
 {
     told.again = None;
     match turn {
@@ -62,13 +62,13 @@ pub fn choose<S: Ledger, P: Sight>(
     steps: &mut Ticks<S>,
 ) -> Result<Halt<End>, AllocError>
     requires own { IsStateOf program.now state.old }
-    requires may { may (slots program.now limits.gates) (machine_of state.old) process ≡ true }
+    requires may { may (slots program.now limits.discipline) (machine_of state.old) process ≡ true }
     requires quiet { output_of (machine_of state.old) ≡ [] }
     ensures own { IsStateOf program.now state.new }
     ensures quiet { IfOk result (λ _. output_of (machine_of state.new) ≡ []) }
-    ensures goal { IfOk result (λ h. goal_at h (machine_of state.new) ≡ (next_arrival (slots program.now limits.gates) without_output same_key limits.steps (machine_of state.old) process).goal) }
-    ensures shown { IfOk result (λ _. told.new.values.items ≡ told.old.values.items ++ (next_arrival (slots program.now limits.gates) without_output same_key limits.steps (machine_of state.old) process).shown) }
-    ensures leg { IfOk result (λ h. ComesTo (silent_slots program.now limits.gates) (λ w. P.sees w program.now limits.gates) limits.steps (choice_leg (silent_slots program.now limits.gates) limits.steps (machine_of state.old) process) (machine_of state.old ∷ []) told.new.seen (with_round told.new.again h) (machine_of state.new)) }
+    ensures goal { IfOk result (λ h. goal_at h (machine_of state.new) ≡ (next_arrival (slots program.now limits.discipline) without_output same_key limits.steps (machine_of state.old) process).goal) }
+    ensures shown { IfOk result (λ _. told.new.values.items ≡ told.old.values.items ++ (next_arrival (slots program.now limits.discipline) without_output same_key limits.steps (machine_of state.old) process).shown) }
+    ensures leg { IfOk result (λ h. ComesTo (silent_slots program.now limits.discipline) (λ w. P.sees w program.now limits.discipline) limits.steps (choice_leg (silent_slots program.now limits.discipline) limits.steps (machine_of state.old) process) (machine_of state.old ∷ []) told.new.seen (with_round told.new.again h) (machine_of state.new)) }
 {
     told.seen = P::begin(program);
     told.seen.see_due(state);
@@ -86,12 +86,12 @@ pub fn open<S: Ledger, P: Sight>(
     steps: &mut Ticks<S>,
 ) -> Result<Halt<End>, AllocError>
     requires own { IsStateOf program.now state.old }
-    requires start { machine_of state.old ≡ opening program.now limits.gates }
+    requires start { machine_of state.old ≡ opening program.now limits.discipline }
     ensures own { IsStateOf program.now state.new }
     ensures quiet { IfOk result (λ _. output_of (machine_of state.new) ≡ []) }
-    ensures goal { IfOk result (λ h. goal_at h (machine_of state.new) ≡ (first_arrival (slots program.now limits.gates) without_output same_key limits.steps).goal) }
-    ensures shown { IfOk result (λ _. told.new.values.items ≡ told.old.values.items ++ (first_arrival (slots program.now limits.gates) without_output same_key limits.steps).shown) }
-    ensures leg { IfOk result (λ h. ComesTo (silent_slots program.now limits.gates) (λ w. P.sees w program.now limits.gates) limits.steps (first_leg (silent_slots program.now limits.gates) limits.steps) [] told.new.seen (with_round told.new.again h) (machine_of state.new)) }
+    ensures goal { IfOk result (λ h. goal_at h (machine_of state.new) ≡ (first_arrival (slots program.now limits.discipline) without_output same_key limits.steps).goal) }
+    ensures shown { IfOk result (λ _. told.new.values.items ≡ told.old.values.items ++ (first_arrival (slots program.now limits.discipline) without_output same_key limits.steps).shown) }
+    ensures leg { IfOk result (λ h. ComesTo (silent_slots program.now limits.discipline) (λ w. P.sees w program.now limits.discipline) limits.steps (first_leg (silent_slots program.now limits.discipline) limits.steps) [] told.new.seen (with_round told.new.again h) (machine_of state.new)) }
 {
     told.seen = P::begin(program);
     let turn = observe_opening(program, limits, state, steps, told)?;

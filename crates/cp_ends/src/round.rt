@@ -41,8 +41,8 @@ pub fn end_of_cut<S: Ledger, P: Sight>(
     requires quiet { output_of (machine_of state.old) ≡ [] }
     ensures own { IsStateOf program.now state.new }
     ensures quiet { IfOk result (λ _. output_of (machine_of state.new) ≡ []) }
-    ensures cut { IfOk result (λ e. cut_arrival (slots program.now limits.gates) (silent_slots program.now limits.gates) told.old.values.items (machine_of state.old) pid (return_within (silent_slots program.now limits.gates) same_key (machine_of state.old) pid limits.steps) ≡ record { goal = graph.End e; shown = told.new.values.items }) }
-    ensures seen { IfOk result (λ _. SeesRound (λ w. P.sees w program.now limits.gates) program.now limits.gates limits.steps (machine_of state.old) pid told.old.seen told.new.seen told.new.again) }
+    ensures cut { IfOk result (λ e. cut_arrival (slots program.now limits.discipline) (silent_slots program.now limits.discipline) told.old.values.items (machine_of state.old) pid (return_within (silent_slots program.now limits.discipline) same_key (machine_of state.old) pid limits.steps) ≡ record { goal = graph.End e; shown = told.new.values.items }) }
+    ensures seen { IfOk result (λ _. SeesRound (λ w. P.sees w program.now limits.discipline) program.now limits.discipline limits.steps (machine_of state.old) pid told.old.seen told.new.seen told.new.again) }
 {
     let count = told.values.len();
     let before = told.seen;
@@ -82,9 +82,9 @@ pub fn observe_round<S: Ledger, O: Observe<Error = AllocError>>(
     requires quiet { output_of (machine_of state.old) ≡ [] }
     ensures own { IsStateOf program.now state.new }
     ensures quiet { IfOk result (λ _. output_of (machine_of state.new) ≡ []) }
-    ensures round { IfOk result (λ is_round. is_round ≡ true → (k : ℕ) × (k < limits.steps) × (return_within (silent_slots program.now limits.gates) same_key (machine_of state.old) pid limits.steps ≡ Some k) × (spot_after (silent_slots program.now limits.gates) (suc k) (machine_of state.old) pid ≡ Some (machine_of state.new, pid)) × (same_key (machine_of state.new) (machine_of state.old) ≡ true) × ((x : O.Seen) → O.holds observer.old program.now limits.gates (machine_of state.old) x → O.holds observer.new program.now limits.gates (machine_of state.new) (fold_stretch (silent_slots program.now limits.gates) (O.fold program.now limits.gates) (suc k) (machine_of state.old) pid x))) }
-    ensures none { IfOk result (λ is_round. is_round ≡ false → return_within (silent_slots program.now limits.gates) same_key (machine_of state.old) pid limits.steps ≡ None) }
-    ensures seen { IfOk result (λ _. (n : ℕ) × ((x : O.Seen) → O.holds observer.old program.now limits.gates (machine_of state.old) x → O.holds observer.new program.now limits.gates (machine_of state.new) (fold_stretch (silent_slots program.now limits.gates) (O.fold program.now limits.gates) n (machine_of state.old) pid x))) }
+    ensures round { IfOk result (λ is_round. is_round ≡ true → (k : ℕ) × (k < limits.steps) × (return_within (silent_slots program.now limits.discipline) same_key (machine_of state.old) pid limits.steps ≡ Some k) × (spot_after (silent_slots program.now limits.discipline) (suc k) (machine_of state.old) pid ≡ Some (machine_of state.new, pid)) × (same_key (machine_of state.new) (machine_of state.old) ≡ true) × ((x : O.Seen) → O.holds observer.old program.now limits.discipline (machine_of state.old) x → O.holds observer.new program.now limits.discipline (machine_of state.new) (fold_stretch (silent_slots program.now limits.discipline) (O.fold program.now limits.discipline) (suc k) (machine_of state.old) pid x))) }
+    ensures none { IfOk result (λ is_round. is_round ≡ false → return_within (silent_slots program.now limits.discipline) same_key (machine_of state.old) pid limits.steps ≡ None) }
+    ensures seen { IfOk result (λ _. (n : ℕ) × ((x : O.Seen) → O.holds observer.old program.now limits.discipline (machine_of state.old) x → O.holds observer.new program.now limits.discipline (machine_of state.new) (fold_stretch (silent_slots program.now limits.discipline) (O.fold program.now limits.discipline) n (machine_of state.old) pid x))) }
 {
     let mut first = ReachedKey {
         bytes: Vec::new(alloc),
@@ -124,9 +124,9 @@ fn take_step<S: Ledger, O: Observe>(
     ensures own { IsStateOf program.now state.new }
     ensures ready { IfOk result (λ t. IfGoes t (λ q. is_ready (machine_of state.new) q ≡ true)) }
     ensures free { IfOk result (λ t. IfGoes t (λ q. is_pending (machine_of state.new) ≡ false)) }
-    ensures state { IfOk result (λ _. machine_of state.new ≡ (silent_slots program.now limits.gates).step (machine_of state.old) pid) }
-    ensures turn { IfOk result (λ t. t ≡ turn_after (silent_slots program.now limits.gates) (machine_of state.new) pid ((silent_slots program.now limits.gates).event (machine_of state.old) pid)) }
-    ensures seen { IfOk result (λ _. (x : O.Seen) → O.holds observer.old program.now limits.gates (machine_of state.old) x → O.holds observer.new program.now limits.gates (machine_of state.new) ((O.fold program.now limits.gates).on_step (machine_of state.old) pid ((silent_slots program.now limits.gates).event (machine_of state.old) pid) (machine_of state.new) x)) }
+    ensures state { IfOk result (λ _. machine_of state.new ≡ (silent_slots program.now limits.discipline).step (machine_of state.old) pid) }
+    ensures turn { IfOk result (λ t. t ≡ turn_after (silent_slots program.now limits.discipline) (machine_of state.new) pid ((silent_slots program.now limits.discipline).event (machine_of state.old) pid)) }
+    ensures seen { IfOk result (λ _. (x : O.Seen) → O.holds observer.old program.now limits.discipline (machine_of state.old) x → O.holds observer.new program.now limits.discipline (machine_of state.new) ((O.fold program.now limits.discipline).on_step (machine_of state.old) pid ((silent_slots program.now limits.discipline).event (machine_of state.old) pid) (machine_of state.new) x)) }
 {
     if expect_step(program, limits, state, pid, steps, observer)? {
         return Ok(Turn::Goes(pid));

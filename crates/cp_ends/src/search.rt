@@ -45,7 +45,7 @@ pub fn search_ends(
     limits: Limits,
     most: u32,
 ) -> Result<Found, AllocError>
-    ensures answer { 1 ≤ most → IfOk result (λ found. IsAnswer program.now limits.gates limits.steps most found) }
+    ensures answer { 1 ≤ most → IfOk result (λ found. IsAnswer program.now limits.discipline limits.steps most found) }
     ensures kept { IfOk result (λ found. HasFindings program.now found) }
 {
     search_ends_with(alloc, program, limits, most, &mut Unobserved)
@@ -59,7 +59,7 @@ pub fn search_ends_with<O: ObserveProgress>(
     most: u32,
     observer: &mut O,
 ) -> Result<Found, AllocError>
-    ensures answer { 1 ≤ most → IfOk result (λ found. IsAnswer program.now limits.gates limits.steps most found) }
+    ensures answer { 1 ≤ most → IfOk result (λ found. IsAnswer program.now limits.discipline limits.steps most found) }
     ensures kept { IfOk result (λ found. HasFindings program.now found) }
 {
     let states = if most == 0 { 1 } else { most };
@@ -81,10 +81,10 @@ fn search_with<O: ObserveProgress, S: Ledger>(
     requires parts { blank.parts ≡ S.parts }
     requires one { S.parts ≡ 1 }
     requires most { 1 ≤ job.now.most }
-    ensures { IfOk result (λ found. IsSearch job.now.program.now (slot_graph job.now.program.now job.now.limits.gates job.now.limits.steps) job.now.most found found.stopped) }
+    ensures { IfOk result (λ found. IsSearch job.now.program.now (slot_graph job.now.program.now job.now.limits.discipline job.now.limits.steps) job.now.most found found.stopped) }
 {
     let mut visit: EndsVisit<S, Unseen> = EndsVisit::new(job.alloc, Unseen, blank);
-    let mut state = State::start(job.alloc, job.program, job.limits.gates)?;
+    let mut state = State::start(job.alloc, job.program, job.limits.discipline)?;
     visit.open(job, &mut state)?;
     let mut next = state.copy(job.alloc)?;
     visit.found.stopped = visit_all(job, &mut visit, &mut state, &mut next, observer)?;
@@ -109,12 +109,12 @@ impl<S: Ledger, P: Sight> EndsVisit<S, P> {
     /// Follows the opening stretch, and notes where it arrives. Before it nothing is found.
     pub fn open(&mut self, job: &SearchJob<'_>, state: &mut State) -> Result<Arrived, AllocError>
         requires own { IsStateOf job.now.program.now state.old }
-        requires start { machine_of state.old ≡ opening job.now.program.now job.now.limits.gates }
+        requires start { machine_of state.old ≡ opening job.now.program.now job.now.limits.discipline }
         requires most { 1 ≤ job.now.most }
         requires nothing { Holds job.now.program.now self.old.found nothing }
         ensures own { IsStateOf job.now.program.now state.new }
-        ensures begun { IfOk result (λ _. HoldsFew job.now.program.now job.now.most self.new.found (searched (slot_graph job.now.program.now job.now.limits.gates job.now.limits.steps) ends_tests 0)) }
-        ensures leg { IfOk result (λ arrived. ComesTo (silent_slots job.now.program.now job.now.limits.gates) (λ w. P.sees w job.now.program.now job.now.limits.gates) job.now.limits.steps (first_leg (silent_slots job.now.program.now job.now.limits.gates) job.now.limits.steps) [] self.new.told.seen (with_round self.new.told.again (halt_of arrived)) (machine_of state.new)) }
+        ensures begun { IfOk result (λ _. HoldsFew job.now.program.now job.now.most self.new.found (searched (slot_graph job.now.program.now job.now.limits.discipline job.now.limits.steps) ends_tests 0)) }
+        ensures leg { IfOk result (λ arrived. ComesTo (silent_slots job.now.program.now job.now.limits.discipline) (λ w. P.sees w job.now.program.now job.now.limits.discipline) job.now.limits.steps (first_leg (silent_slots job.now.program.now job.now.limits.discipline) job.now.limits.steps) [] self.new.told.seen (with_round self.new.told.again (halt_of arrived)) (machine_of state.new)) }
     {
         self.told.values.clear();
         let halt = open(
@@ -139,13 +139,13 @@ impl<S: Ledger, P: Sight> EndsVisit<S, P> {
     ) -> Result<Arrived, AllocError>
         requires own { IsStateOf job.now.program.now state.old }
         requires below { process < processes_of job.now.program.now }
-        requires may { may (slots job.now.program.now job.now.limits.gates) (machine_of state.old) process ≡ true }
-        requires within { IsWithin job.now.program.now (slot_graph job.now.program.now job.now.limits.gates job.now.limits.steps) job.now.most self.old.found at (machine_of state.old) (those_below process (may (slots job.now.program.now job.now.limits.gates) (machine_of state.old))) }
+        requires may { may (slots job.now.program.now job.now.limits.discipline) (machine_of state.old) process ≡ true }
+        requires within { IsWithin job.now.program.now (slot_graph job.now.program.now job.now.limits.discipline job.now.limits.steps) job.now.most self.old.found at (machine_of state.old) (those_below process (may (slots job.now.program.now job.now.limits.discipline) (machine_of state.old))) }
         ensures own { IsStateOf job.now.program.now state.new }
-        ensures within { IfOk result (λ arrived. has_room arrived ≡ true → IsWithin job.now.program.now (slot_graph job.now.program.now job.now.limits.gates job.now.limits.steps) job.now.most self.new.found at (machine_of state.old) (those_below process (may (slots job.now.program.now job.now.limits.gates) (machine_of state.old)) ++ process ∷ [])) }
-        ensures stops { IfOk result (λ arrived. has_room arrived ≡ false → IsStopped job.now.program.now (slot_graph job.now.program.now job.now.limits.gates job.now.limits.steps) job.now.most self.new.found at) }
-        ensures number { IfOk result (λ arrived. (number : ℕ) (from : Machine × List ℕ) → arrived ≡ At number → slice_get (searched (slot_graph job.now.program.now job.now.limits.gates job.now.limits.steps) ends_tests at).states at ≡ Some from → HasNumber (gone_with (slot_graph job.now.program.now job.now.limits.gates job.now.limits.steps) from (those_below process (may (slots job.now.program.now job.now.limits.gates) (machine_of state.old)) ++ process ∷ []) (searched (slot_graph job.now.program.now job.now.limits.gates job.now.limits.steps) ends_tests at)).states (machine_of state.new) number) }
-        ensures leg { IfOk result (λ arrived. ComesTo (silent_slots job.now.program.now job.now.limits.gates) (λ w. P.sees w job.now.program.now job.now.limits.gates) job.now.limits.steps (choice_leg (silent_slots job.now.program.now job.now.limits.gates) job.now.limits.steps (machine_of state.old) process) (machine_of state.old ∷ []) self.new.told.seen (with_round self.new.told.again (halt_of arrived)) (machine_of state.new)) }
+        ensures within { IfOk result (λ arrived. has_room arrived ≡ true → IsWithin job.now.program.now (slot_graph job.now.program.now job.now.limits.discipline job.now.limits.steps) job.now.most self.new.found at (machine_of state.old) (those_below process (may (slots job.now.program.now job.now.limits.discipline) (machine_of state.old)) ++ process ∷ [])) }
+        ensures stops { IfOk result (λ arrived. has_room arrived ≡ false → IsStopped job.now.program.now (slot_graph job.now.program.now job.now.limits.discipline job.now.limits.steps) job.now.most self.new.found at) }
+        ensures number { IfOk result (λ arrived. (number : ℕ) (from : Machine × List ℕ) → arrived ≡ At number → slice_get (searched (slot_graph job.now.program.now job.now.limits.discipline job.now.limits.steps) ends_tests at).states at ≡ Some from → HasNumber (gone_with (slot_graph job.now.program.now job.now.limits.discipline job.now.limits.steps) from (those_below process (may (slots job.now.program.now job.now.limits.discipline) (machine_of state.old)) ++ process ∷ []) (searched (slot_graph job.now.program.now job.now.limits.discipline job.now.limits.steps) ends_tests at)).states (machine_of state.new) number) }
+        ensures leg { IfOk result (λ arrived. ComesTo (silent_slots job.now.program.now job.now.limits.discipline) (λ w. P.sees w job.now.program.now job.now.limits.discipline) job.now.limits.steps (choice_leg (silent_slots job.now.program.now job.now.limits.discipline) job.now.limits.steps (machine_of state.old) process) (machine_of state.old ∷ []) self.new.told.seen (with_round self.new.told.again (halt_of arrived)) (machine_of state.new)) }
     {
         self.told.values.clear();
         let halt = choose(
@@ -171,13 +171,13 @@ impl<S: Ledger, P: Sight> Visit for EndsVisit<S, P> {
     ghost use Rattle.cp_ends.specs.Searched.{searched};
     ghost use Rattle.cp_ends.specs.Visited.{IsWhole, IsWithin};
 
-    ghost before = { λ v job n. HoldsFew job.program.now job.most v.found (searched (slot_graph job.program.now job.limits.gates job.limits.steps) ends_tests n) };
+    ghost before = { λ v job n. HoldsFew job.program.now job.most v.found (searched (slot_graph job.program.now job.limits.discipline job.limits.steps) ends_tests n) };
 
-    ghost within = { λ v job at m done. IsWithin job.program.now (slot_graph job.program.now job.limits.gates job.limits.steps) job.most v.found at m done };
+    ghost within = { λ v job at m done. IsWithin job.program.now (slot_graph job.program.now job.limits.discipline job.limits.steps) job.most v.found at m done };
 
-    ghost over = { λ v job. IsWhole job.program.now (slot_graph job.program.now job.limits.gates job.limits.steps) job.most v.found };
+    ghost over = { λ v job. IsWhole job.program.now (slot_graph job.program.now job.limits.discipline job.limits.steps) job.most v.found };
 
-    ghost stops = { λ v job at. IsStopped job.program.now (slot_graph job.program.now job.limits.gates job.limits.steps) job.most v.found at };
+    ghost stops = { λ v job at. IsStopped job.program.now (slot_graph job.program.now job.limits.discipline job.limits.steps) job.most v.found at };
 
     fn len(&self) -> usize {
         self.found.states.len()

@@ -8,27 +8,27 @@ pub trait Sight: Copy + Drop {
     ghost use Rattle.std.specs.Prelude.{◌∷◌, ◌++◌, List, []};
     ghost use Rattle.cp_slots.specs.Tables.{Tables};
     ghost use Rattle.cp_machine.specs.System.{Machine, machine_of, IsStateOf};
-    ghost use Rattle.cp_machine.specs.declared.gates.Gates.{Gates};
+    ghost use Rattle.cp_machine.specs.declared.discipline.Discipline.{Discipline};
     ghost use Rattle.cp_endless.specs.Moments.{Moment};
 
     /// This is what is seen of these due choices and of the moments after them.
-    ghost sees: { Self → Tables → Gates → List Machine → List (Moment Machine) → Type 0 };
+    ghost sees: { Self → Tables → Discipline → List Machine → List (Moment Machine) → Type 0 };
 
     /// Nothing was seen yet.
     fn begin(program: &Resolved) -> Self
-        ensures { (gates : Gates) → sees result program.now gates [] [] };
+        ensures { (discipline : Discipline) → sees result program.now discipline [] [] };
 
     /// The due choice before the first moment.
     fn see_due(&mut self, state: &State)
-        ensures { (r : Tables) (gates : Gates) → IsStateOf r state.now → sees self.old r gates [] [] → sees self.new r gates (machine_of state.now ∷ []) [] };
+        ensures { (r : Tables) (discipline : Discipline) → IsStateOf r state.now → sees self.old r discipline [] [] → sees self.new r discipline (machine_of state.now ∷ []) [] };
 
     /// One moment more, before a step of a process.
     fn add(&mut self, state: &State, mover: u8)
-        ensures { (r : Tables) (gates : Gates) (due : List Machine) (ms : List (Moment Machine)) → IsStateOf r state.now → sees self.old r gates due ms → sees self.new r gates due (ms ++ record { state = machine_of state.now; mover = mover } ∷ []) };
+        ensures { (r : Tables) (discipline : Discipline) (due : List Machine) (ms : List (Moment Machine)) → IsStateOf r state.now → sees self.old r discipline due ms → sees self.new r discipline due (ms ++ record { state = machine_of state.now; mover = mover } ∷ []) };
 
     /// The moments of another one come after these.
     fn then(&mut self, other: &Self)
-        ensures { (r : Tables) (gates : Gates) (due : List Machine) (ms ns : List (Moment Machine)) → sees self.old r gates due ms → sees other.now r gates [] ns → sees self.new r gates due (ms ++ ns) };
+        ensures { (r : Tables) (discipline : Discipline) (due : List Machine) (ms ns : List (Moment Machine)) → sees self.old r discipline due ms → sees other.now r discipline [] ns → sees self.new r discipline due (ms ++ ns) };
 }
 
 /// Nothing is seen.
@@ -36,7 +36,7 @@ pub trait Sight: Copy + Drop {
 pub struct Unseen;
 
 impl Sight for Unseen {
-    ghost sees = { λ unseen r gates due ms. Unit {0} };
+    ghost sees = { λ unseen r discipline due ms. Unit {0} };
 
     #[inline(always)]
     fn begin(_program: &Resolved) -> Unseen {

@@ -66,11 +66,11 @@ impl<P: Sight> Observe for Told<P> {
         false
     }
 
-    ghost holds = { λ told r gates now x. (told.values.items ≡ x.0.0) × (told.is_called ≡ x.0.1) × (output_of now ≡ []) × P.sees told.seen r gates x.1.0 x.1.1 };
+    ghost holds = { λ told r discipline now x. (told.values.items ≡ x.0.0) × (told.is_called ≡ x.0.1) × (output_of now ≡ []) × P.sees told.seen r discipline x.1.0 x.1.1 };
 
-    ghost fold = { λ r gates. beside (teller (slots r gates)) seer };
+    ghost fold = { λ r discipline. beside (teller (slots r discipline)) seer };
 
-    ghost expects = { λ told r gates before process x. (told.values.items ≡ x.0.0) × (told.is_called ≡ x.0.1) × (output_of before ≡ []) × P.sees told.seen r gates x.1.0 (x.1.1 ++ record { state = before; mover = process } ∷ []) };
+    ghost expects = { λ told r discipline before process x. (told.values.items ≡ x.0.0) × (told.is_called ≡ x.0.1) × (output_of before ≡ []) × P.sees told.seen r discipline x.1.0 (x.1.1 ++ record { state = before; mover = process } ∷ []) };
 
     #[inline(always)]
     fn expect_step(
@@ -111,5 +111,5 @@ impl<P: Sight> Observe for Told<P> {
 
     fn see_choice(&mut self, _program: &Resolved, _limits: Limits, _state: &State, _number: u8) {}
 
-    ghost passes = { λ unseen told r gates before after process x step h. (h.0 ∙ sym (append-nil x.0.0) ∙ ap (λ l. x.0.0 ++ l) (sym (ap (λ (y : Stepped). y.machine.output) step ∙ local_output r before after process [] h.2 step)), h.1, refl, h.3) };
+    ghost passes = { λ unseen told r discipline before after process x step h. (h.0 ∙ sym (append-nil x.0.0) ∙ ap (λ l. x.0.0 ++ l) (sym (ap (λ (y : Stepped). y.machine.output) step ∙ local_output r before after process [] h.2 step)), h.1, refl, h.3) };
 }

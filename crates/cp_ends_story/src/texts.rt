@@ -4,7 +4,7 @@ use crate::placing::{outermost_call, wait_of, whole_story};
 use crate::subject::{Reach, Telling, ToldEnd};
 use cp_ends::End;
 use cp_ends::found::MOST_VALUES;
-use cp_machine::{ErrorName, Gates};
+use cp_machine::{ErrorName, Discipline};
 use cp_prose::Prose;
 use cp_run::{MOST_STEPS, OutcomeKind};
 use cp_story::{
@@ -354,7 +354,7 @@ fn push_complete(telling: Telling<'_>, text: &mut Prose, before: &str, count: us
 fn push_too_many(telling: Telling<'_>, text: &mut Prose, choices: usize) {
     text.put("too many states: there may be ");
     push_number(text, telling.subject.most as usize);
-    if telling.subject.limits.gates == Gates::First {
+    if telling.subject.limits.discipline.gates == Gates::First {
         text.put(", also with kernel calls at once");
     }
     text.put("\nall schedules of at most ");

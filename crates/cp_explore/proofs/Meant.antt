@@ -1,11 +1,11 @@
 -- The rows of the machine are those of the meaning, which lets no two processes into one monitor.
 use Rattle.std.proofs.Common.{◌≡◌, ◌∙◌, ℕ, List, map, Result, Ok, Err, IfOk, ap, sym}
 use Rattle.cp_slots.specs.Tables.{Tables}
-use Rattle.cp_machine.specs.declared.gates.Gates.{Gates}
+use Rattle.cp_machine.specs.declared.discipline.Discipline.{Discipline}
 use Rattle.cp_run.specs.Slots.{slots}
 use Rattle.cp_run.specs.Table.{Line, table}
 use Rattle.cp_lawful.proofs.Accepting.{keeps_exclusion}
-use Rattle.cp_refine.specs.Named.{named_gates}
+use Rattle.cp_refine.specs.Named.{named_discipline}
 use Rattle.cp_refine.proofs.Meaning.{runs_as_meant}
 use Rattle.cp_explore.specs.Meant.{AreExclusive, AreMeant, AreTallied}
 use Rattle.cp_merged.specs.Tallies.{tally}
@@ -15,16 +15,16 @@ use Rattle.cp_walk.specs.Rows.{line_of}
 use Rattle.cp_walk.specs.declared.fault.ExploreFault.{ExploreFault}
 use Rattle.cp_walk.specs.declared.row.Table.{Table}
 
-pub meant : (r : Tables) (gates : Gates) (choices steps : ℕ) (lines : List Line) → lines ≡ table (slots r gates) choices steps → AreMeant r gates choices steps lines
-meant r gates choices steps lines e t read ok same = e ∙ sym (runs_as_meant t r gates read ok same choices steps).tables
+pub meant : (r : Tables) (discipline : Discipline) (choices steps : ℕ) (lines : List Line) → lines ≡ table (slots r discipline) choices steps → AreMeant r discipline choices steps lines
+meant r discipline choices steps lines e t read ok same = e ∙ sym (runs_as_meant t r discipline read ok same choices steps).tables
 
 -- where there are any
-pub meant_rows : (answer : Result Table ExploreFault) (r : Tables) (gates : Gates) (choices steps : ℕ) → IfOk answer (λ t. map line_of t.rows ≡ table (slots r gates) choices steps) → IfOk answer (λ t. AreMeant r gates choices steps (map line_of t.rows))
-meant_rows (Ok t) r gates choices steps h = meant r gates choices steps (map line_of t.rows) h
-meant_rows (Err fault) r gates choices steps h = tt
+pub meant_rows : (answer : Result Table ExploreFault) (r : Tables) (discipline : Discipline) (choices steps : ℕ) → IfOk answer (λ t. map line_of t.rows ≡ table (slots r discipline) choices steps) → IfOk answer (λ t. AreMeant r discipline choices steps (map line_of t.rows))
+meant_rows (Ok t) r discipline choices steps h = meant r discipline choices steps (map line_of t.rows) h
+meant_rows (Err fault) r discipline choices steps h = tt
 
-pub tallied : (r : Tables) (gates : Gates) (choices steps : ℕ) (tallies : List Tally) → tallies ≡ tally same_outcome (table (slots r gates) choices steps) → AreTallied r gates choices steps tallies
-tallied r gates choices steps tallies e t read ok same = e ∙ sym (ap (λ (lines : List Line). tally same_outcome lines) (runs_as_meant t r gates read ok same choices steps).tables)
+pub tallied : (r : Tables) (discipline : Discipline) (choices steps : ℕ) (tallies : List Tally) → tallies ≡ tally same_outcome (table (slots r discipline) choices steps) → AreTallied r discipline choices steps tallies
+tallied r discipline choices steps tallies e t read ok same = e ∙ sym (ap (λ (lines : List Line). tally same_outcome lines) (runs_as_meant t r discipline read ok same choices steps).tables)
 
-pub are_exclusive : (r : Tables) (gates : Gates) → AreExclusive r gates
-are_exclusive r gates t read ok same = keeps_exclusion t ok (named_gates gates)
+pub are_exclusive : (r : Tables) (discipline : Discipline) → AreExclusive r discipline
+are_exclusive r discipline t read ok same = keeps_exclusion t ok (named_discipline discipline)

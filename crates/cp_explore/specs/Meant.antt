@@ -5,9 +5,9 @@ use Rattle.cp_tree.specs.Syntax.{Tree}
 use Rattle.cp_layout.specs.Laid.{plain, laid}
 use Rattle.cp_slots.specs.Tables.{Tables}
 use Rattle.cp_lawful.specs.Accepted.{IsAccepted, KeepsExclusion}
-use Rattle.cp_machine.specs.declared.gates.Gates.{Gates}
+use Rattle.cp_machine.specs.declared.discipline.Discipline.{Discipline}
 use Rattle.cp_run.specs.Table.{Line, table}
-use Rattle.cp_refine.specs.Named.{named, named_gates}
+use Rattle.cp_refine.specs.Named.{named, named_discipline}
 use Rattle.cp_walk.specs.Groups.{Tally}
 use Rattle.cp_walk.specs.Report.{same_outcome}
 use Rattle.cp_merged.specs.Tallies.{tally}
@@ -17,13 +17,13 @@ abbrev pub OfPrograms : Tables → (Tree → Type 0) → Type 0
 OfPrograms r P = (t : Tree) → ∥ IsRead t.program ∥₁ → IsAccepted t → plain r ≡ laid t → P t
 
 -- the rows are the table of its meaning
-abbrev pub AreMeant : Tables → Gates → (choices steps : ℕ) → List Line → Type 0
-AreMeant r gates choices steps lines = OfPrograms r (λ t. lines ≡ table (named t (named_gates gates)) choices steps)
+abbrev pub AreMeant : Tables → Discipline → (choices steps : ℕ) → List Line → Type 0
+AreMeant r discipline choices steps lines = OfPrograms r (λ t. lines ≡ table (named t (named_discipline discipline)) choices steps)
 
 -- the tallies are those of this table
-abbrev pub AreTallied : Tables → Gates → (choices steps : ℕ) → List Tally → Type 0
-AreTallied r gates choices steps tallies = OfPrograms r (λ t. tallies ≡ tally same_outcome (table (named t (named_gates gates)) choices steps))
+abbrev pub AreTallied : Tables → Discipline → (choices steps : ℕ) → List Tally → Type 0
+AreTallied r discipline choices steps tallies = OfPrograms r (λ t. tallies ≡ tally same_outcome (table (named t (named_discipline discipline)) choices steps))
 
 -- in every state that the program reaches, at most one process is inside each monitor or initialises it
-abbrev pub AreExclusive : Tables → Gates → Type 0
-AreExclusive r gates = OfPrograms r (λ t. KeepsExclusion t (named_gates gates))
+abbrev pub AreExclusive : Tables → Discipline → Type 0
+AreExclusive r discipline = OfPrograms r (λ t. KeepsExclusion t (named_discipline discipline))

@@ -22,10 +22,10 @@ pub fn explore_merged<O: ObserveProgress>(
     states: usize,
     observer: &mut O,
 ) -> Result<Tallies, MergeFault>
-    ensures tallies { IfOk result (λ ts. map tally_of ts ≡ tally same_outcome (table (slots job.entry.program.now job.entry.limits.gates) job.entry.limits.choices job.entry.limits.steps)) }
-    ensures meaning { IfOk result (λ ts. AreTallied job.entry.program.now job.entry.limits.gates job.entry.limits.choices job.entry.limits.steps (map tally_of ts)) }
-    ensures within { IfOk result (λ ts. FitsBefore (slots job.entry.program.now job.entry.limits.gates) job.entry.limits.choices job.entry.limits.steps states (job.entry.limits.choices + 1)) }
-    ensures fault { IfErr result (λ e. IsDueFault (slots job.entry.program.now job.entry.limits.gates) job.entry.limits.choices job.entry.limits.steps states e) }
+    ensures tallies { IfOk result (λ ts. map tally_of ts ≡ tally same_outcome (table (slots job.entry.program.now job.entry.limits.discipline) job.entry.limits.choices job.entry.limits.steps)) }
+    ensures meaning { IfOk result (λ ts. AreTallied job.entry.program.now job.entry.limits.discipline job.entry.limits.choices job.entry.limits.steps (map tally_of ts)) }
+    ensures within { IfOk result (λ ts. FitsBefore (slots job.entry.program.now job.entry.limits.discipline) job.entry.limits.choices job.entry.limits.steps states (job.entry.limits.choices + 1)) }
+    ensures fault { IfErr result (λ e. IsDueFault (slots job.entry.program.now job.entry.limits.discipline) job.entry.limits.choices job.entry.limits.steps states e) }
 {
     explore_merged_with(alloc, job, states, observer)
 }

@@ -19,11 +19,11 @@ pub fn explore_one<L: Ledger>(
     calls: &mut Ticks<L>,
 ) -> Result<Table, ExploreFault>
     requires { job.limits.choices ≤ 20 }
-    ensures table { IfOk result (λ t. map line_of t.rows ≡ table (slots job.entry.program.now job.entry.limits.gates) job.entry.limits.choices job.entry.limits.steps) }
-    ensures meaning { IfOk result (λ t. AreMeant job.entry.program.now job.entry.limits.gates job.entry.limits.choices job.entry.limits.steps (map line_of t.rows)) }
-    ensures exclusive { AreExclusive job.entry.program.now job.entry.limits.gates }
+    ensures table { IfOk result (λ t. map line_of t.rows ≡ table (slots job.entry.program.now job.entry.limits.discipline) job.entry.limits.choices job.entry.limits.steps) }
+    ensures meaning { IfOk result (λ t. AreMeant job.entry.program.now job.entry.limits.discipline job.entry.limits.choices job.entry.limits.steps (map line_of t.rows)) }
+    ensures exclusive { AreExclusive job.entry.program.now job.entry.limits.discipline }
     ensures few { IfOk result (λ t. length t.rows ≤ 50000) }
-    ensures many { IfErr result (λ e. IsTooMany e → 50000 < length (table (slots job.entry.program.now job.entry.limits.gates) job.entry.limits.choices job.entry.limits.steps)) }
+    ensures many { IfErr result (λ e. IsTooMany e → 50000 < length (table (slots job.entry.program.now job.entry.limits.discipline) job.entry.limits.choices job.entry.limits.steps)) }
     ensures calls { IfOk result (λ t. calls.new ≤ calls.old + beginnings (words_of_rows t.rows)) }
 {
     walk_on_one_thread(alloc, job, calls)

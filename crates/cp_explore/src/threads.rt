@@ -20,11 +20,11 @@ pub fn explore<X: Threads + Sync, G: Gate + Sync>(
     gate: &G,
 ) -> Result<Table, ExploreFault>
     requires workers { (0 < workers) × (workers ≤ 16) }
-    ensures table { IfOk result (λ t. map line_of t.rows ≡ table (slots cutting.now.job.program.now cutting.now.job.limits.gates) cutting.now.job.limits.choices cutting.now.job.limits.steps) }
-    ensures meaning { IfOk result (λ t. AreMeant cutting.now.job.program.now cutting.now.job.limits.gates cutting.now.job.limits.choices cutting.now.job.limits.steps (map line_of t.rows)) }
-    ensures exclusive { AreExclusive cutting.now.job.program.now cutting.now.job.limits.gates }
+    ensures table { IfOk result (λ t. map line_of t.rows ≡ table (slots cutting.now.job.program.now cutting.now.job.limits.discipline) cutting.now.job.limits.choices cutting.now.job.limits.steps) }
+    ensures meaning { IfOk result (λ t. AreMeant cutting.now.job.program.now cutting.now.job.limits.discipline cutting.now.job.limits.choices cutting.now.job.limits.steps (map line_of t.rows)) }
+    ensures exclusive { AreExclusive cutting.now.job.program.now cutting.now.job.limits.discipline }
     ensures few { IfOk result (λ t. length t.rows ≤ 50000) }
-    ensures many { result ≡ Err ExploreFault.TooManyRows → 50000 < length (table (slots cutting.now.job.program.now cutting.now.job.limits.gates) cutting.now.job.limits.choices cutting.now.job.limits.steps) }
+    ensures many { result ≡ Err ExploreFault.TooManyRows → 50000 < length (table (slots cutting.now.job.program.now cutting.now.job.limits.discipline) cutting.now.job.limits.choices cutting.now.job.limits.steps) }
 {
     explore_observed(rt, alloc, cutting, workers, gate, &mut Unobserved)
 }
@@ -39,11 +39,11 @@ pub fn explore_observed<X: Threads + Sync, G: Gate + Sync, O: ObserveProgress>(
     observer: &mut O,
 ) -> Result<Table, ExploreFault>
     requires workers { (0 < workers) × (workers ≤ 16) }
-    ensures table { IfOk result (λ t. map line_of t.rows ≡ table (slots cutting.now.job.program.now cutting.now.job.limits.gates) cutting.now.job.limits.choices cutting.now.job.limits.steps) }
-    ensures meaning { IfOk result (λ t. AreMeant cutting.now.job.program.now cutting.now.job.limits.gates cutting.now.job.limits.choices cutting.now.job.limits.steps (map line_of t.rows)) }
-    ensures exclusive { AreExclusive cutting.now.job.program.now cutting.now.job.limits.gates }
+    ensures table { IfOk result (λ t. map line_of t.rows ≡ table (slots cutting.now.job.program.now cutting.now.job.limits.discipline) cutting.now.job.limits.choices cutting.now.job.limits.steps) }
+    ensures meaning { IfOk result (λ t. AreMeant cutting.now.job.program.now cutting.now.job.limits.discipline cutting.now.job.limits.choices cutting.now.job.limits.steps (map line_of t.rows)) }
+    ensures exclusive { AreExclusive cutting.now.job.program.now cutting.now.job.limits.discipline }
     ensures few { IfOk result (λ t. length t.rows ≤ 50000) }
-    ensures many { result ≡ Err ExploreFault.TooManyRows → 50000 < length (table (slots cutting.now.job.program.now cutting.now.job.limits.gates) cutting.now.job.limits.choices cutting.now.job.limits.steps) }
+    ensures many { result ≡ Err ExploreFault.TooManyRows → 50000 < length (table (slots cutting.now.job.program.now cutting.now.job.limits.discipline) cutting.now.job.limits.choices cutting.now.job.limits.steps) }
 {
     walk_on_threads(rt, alloc, cutting, workers, gate, observer)
 }

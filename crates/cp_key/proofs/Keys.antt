@@ -6,8 +6,11 @@ use Rattle.std.proofs.lemmas.List.Folds.{flat_map-map}
 use Rattle.cp_store.specs.declared.memory.Address.{Address}
 use Rattle.cp_store.specs.declared.memory.Address.TheVariants.{Permanent, Local}
 use Rattle.cp_store.specs.declared.memory.Frame.{Frame}
-use Rattle.cp_machine.specs.declared.gates.Gates.{Gates}
-use Rattle.cp_machine.specs.declared.gates.Gates.TheVariants.{First, Any}
+use Rattle.cp_machine.specs.declared.discipline.Discipline.{Discipline}
+use Rattle.cp_machine.specs.declared.discipline.Gates.{Gates}
+use Rattle.cp_machine.specs.declared.discipline.Gates.TheVariants.{First, Any}
+use Rattle.cp_machine.specs.declared.discipline.Signals.{Signals}
+use Rattle.cp_machine.specs.declared.discipline.Signals.TheVariants as signals
 use Rattle.cp_machine.specs.declared.process.Entry.{Entry}
 use Rattle.cp_machine.specs.declared.process.Entry.TheVariants.{Rest, Successor, Return, InitEnd}
 use Rattle.cp_machine.specs.declared.process.Status.{Status}
@@ -17,7 +20,7 @@ use Rattle.cp_machine.specs.declared.shown.Shown.TheVariants.{Integer, Char, Tru
 use Rattle.cp_machine.specs.declared.state.Phase.{Phase}
 use Rattle.cp_machine.specs.declared.state.Phase.TheVariants.{Uninitialised, Initialising, Initialised}
 use Rattle.cp_machine.specs.Bodies.{Body, body_of}
-use Rattle.cp_key.specs.Key.{option_key, address_key, frame_key, entry_key, status_key, phase_key, gates_key, shown_key, body_key, threads_key, monitor_key, rest_key, key_of, core_key}
+use Rattle.cp_key.specs.Key.{option_key, address_key, frame_key, entry_key, status_key, phase_key, gates_key, signals_key, discipline_key, shown_key, body_key, threads_key, monitor_key, rest_key, key_of, core_key}
 use Rattle.cp_key.specs.Known.{TellsItsEnd}
 use Rattle.cp_key.proofs.NumberKeys.{Code, byte, short, number, integer}
 
@@ -186,6 +189,22 @@ gates_back Any rest = refl
 gates : Code gates_key
 gates = record { read = gates_read; back = gates_back }
 
+signals_read : List ℕ → Signals × List ℕ
+signals_read [] = (signals.Return, [])
+signals_read (k ∷ ns) = cond (eqb k 0) (signals.Return, ns) (cond (eqb k 1) (signals.Continue, ns) (signals.Wait, ns))
+
+signals_back : (x : Signals) (rest : List ℕ) → signals_read (signals_key x ++ rest) ≡ (x, rest)
+unfolding signals_read
+signals_back signals.Return rest = refl
+signals_back signals.Continue rest = refl
+signals_back signals.Wait rest = refl
+
+signalling : Code signals_key
+signalling = record { read = signals_read; back = signals_back }
+
+discipline : Code discipline_key
+discipline = seen_as discipline_key (both gates signalling) (λ d. (d.gates, d.signals)) (λ p. record { gates = p.0; signals = p.1 }) (λ d. refl) (λ d. refl)
+
 shown_read : List ℕ → Shown × List ℕ
 shown_read [] = (Truth false, [])
 shown_read (k ∷ ns) = cond (eqb k 0) (of_kind integer Integer ns) (cond (eqb k 1) (of_kind byte Char ns) (cond (eqb k 2) (Truth false, ns) (cond (eqb k 3) (Truth true, ns) (of_kind short Constant ns))))
@@ -255,18 +274,18 @@ threads = record { read = read_threads; back = back }
 monitor : Code monitor_key
 monitor = seen_as monitor_key (both (option byte) (list byte)) (λ m. (m.holder, m.line)) (λ p. record { holder = p.0; line = p.1 }) (λ m. refl) (λ m. refl)
 
-rest : Code (both_key (list_key monitor_key) (both_key (option_key byte_key) gates_key))
-rest = both (list monitor) (both (option byte) gates)
+rest : Code (both_key (list_key monitor_key) (both_key (option_key byte_key) discipline_key))
+rest = both (list monitor) (both (option byte) discipline)
 
 machine : Code key_of
 unfolding key_of rest_key
-machine = seen_as key_of (both (list shown) (both (list integer) (both (list number) (both (list phase) (both threads rest))))) (λ m. (m.output, (m.permanents, (m.bindings, (m.phases, (m.threads, (m.monitors, (m.pending, m.gates)))))))) (λ p. record { output = p.0; permanents = p.1.0; bindings = p.1.1.0; phases = p.1.1.1.0; threads = p.1.1.1.1.0; monitors = p.1.1.1.1.1.0; pending = p.1.1.1.1.1.1.0; gates = p.1.1.1.1.1.1.1 }) (λ m. refl) (λ m. refl)
+machine = seen_as key_of (both (list shown) (both (list integer) (both (list number) (both (list phase) (both threads rest))))) (λ m. (m.output, (m.permanents, (m.bindings, (m.phases, (m.threads, (m.monitors, (m.pending, m.discipline)))))))) (λ p. record { output = p.0; permanents = p.1.0; bindings = p.1.1.0; phases = p.1.1.1.0; threads = p.1.1.1.1.0; monitors = p.1.1.1.1.1.0; pending = p.1.1.1.1.1.1.0; discipline = p.1.1.1.1.1.1.1 }) (λ m. refl) (λ m. refl)
 
 -- all that a machine has but what it displayed, after how much that is
-abbrev core_of : Machine → ℕ × (List ℤ × (List ℕ × (List Phase × (List Thread × (List Monitor × (Option ℕ × Gates))))))
-core_of m = (length m.output, (m.permanents, (m.bindings, (m.phases, (m.threads, (m.monitors, (m.pending, m.gates)))))))
+abbrev core_of : Machine → ℕ × (List ℤ × (List ℕ × (List Phase × (List Thread × (List Monitor × (Option ℕ × Discipline))))))
+core_of m = (length m.output, (m.permanents, (m.bindings, (m.phases, (m.threads, (m.monitors, (m.pending, m.discipline)))))))
 
-parts : Code (both_key number_key (both_key (list_key integer_key) (both_key (list_key number_key) (both_key (list_key phase_key) (both_key threads_key (both_key (list_key monitor_key) (both_key (option_key byte_key) gates_key)))))))
+parts : Code (both_key number_key (both_key (list_key integer_key) (both_key (list_key number_key) (both_key (list_key phase_key) (both_key threads_key (both_key (list_key monitor_key) (both_key (option_key byte_key) discipline_key)))))))
 parts = both number (both (list integer) (both (list number) (both (list phase) (both threads rest))))
 
 core_same : (m n : Machine) → core_key m ≡ core_key n → core_of m ≡ core_of n
@@ -275,7 +294,7 @@ core_same m n e = ap (λ r. r.0) (sym (parts.back (core_of m) []) ∙ ap parts.r
 
 -- states whose cores have one key are the same but for what they displayed
 pub core_tells : (m n : Machine) → core_key m ≡ core_key n → n ≡ record m { output = n.output }
-core_tells m n e = ap (λ p. record { permanents = p.1.0; bindings = p.1.1.0; phases = p.1.1.1.0; threads = p.1.1.1.1.0; monitors = p.1.1.1.1.1.0; pending = p.1.1.1.1.1.1.0; gates = p.1.1.1.1.1.1.1; output = n.output }) (sym (core_same m n e))
+core_tells m n e = ap (λ p. record { permanents = p.1.0; bindings = p.1.1.0; phases = p.1.1.1.0; threads = p.1.1.1.1.0; monitors = p.1.1.1.1.1.0; pending = p.1.1.1.1.1.1.0; discipline = p.1.1.1.1.1.1.1; output = n.output }) (sym (core_same m n e))
 
 -- and that is as much
 pub core_counts : (m n : Machine) → core_key m ≡ core_key n → length m.output ≡ length n.output

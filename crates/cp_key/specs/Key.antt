@@ -4,8 +4,11 @@ use Rattle.std.specs.List.{flat_map}
 use Rattle.cp_store.specs.declared.memory.Address.{Address}
 use Rattle.cp_store.specs.declared.memory.Address.TheVariants.{Permanent, Local}
 use Rattle.cp_store.specs.declared.memory.Frame.{Frame}
-use Rattle.cp_machine.specs.declared.gates.Gates.{Gates}
-use Rattle.cp_machine.specs.declared.gates.Gates.TheVariants.{First, Any}
+use Rattle.cp_machine.specs.declared.discipline.Discipline.{Discipline}
+use Rattle.cp_machine.specs.declared.discipline.Gates.{Gates}
+use Rattle.cp_machine.specs.declared.discipline.Gates.TheVariants.{First, Any}
+use Rattle.cp_machine.specs.declared.discipline.Signals.{Signals}
+use Rattle.cp_machine.specs.declared.discipline.Signals.TheVariants as signals
 use Rattle.cp_machine.specs.declared.process.Entry.{Entry}
 use Rattle.cp_machine.specs.declared.process.Entry.TheVariants.{Rest, Successor, Return, InitEnd}
 use Rattle.cp_machine.specs.declared.process.Status.{Status}
@@ -59,6 +62,14 @@ abbrev pub gates_key : Gates → List ℕ
 gates_key First = 0 ∷ []
 gates_key Any = 1 ∷ []
 
+abbrev pub signals_key : Signals → List ℕ
+signals_key signals.Return = 0 ∷ []
+signals_key signals.Continue = 1 ∷ []
+signals_key signals.Wait = 2 ∷ []
+
+abbrev pub discipline_key : Discipline → List ℕ
+discipline_key d = gates_key d.gates ++ signals_key d.signals
+
 abbrev pub shown_key : Shown → List ℕ
 shown_key (Integer z) = 0 ∷ integer_key z
 shown_key (Char c) = 1 ∷ byte_key c
@@ -82,7 +93,7 @@ monitor_key m = option_key byte_key m.holder ++ list_key byte_key m.line
 
 -- the monitors, and what is pending
 unfoldable pub rest_key : Machine → List ℕ
-rest_key m = list_key monitor_key m.monitors ++ (option_key byte_key m.pending ++ gates_key m.gates)
+rest_key m = list_key monitor_key m.monitors ++ (option_key byte_key m.pending ++ discipline_key m.discipline)
 
 -- all but the output
 abbrev pub hidden_key : Machine → List ℕ

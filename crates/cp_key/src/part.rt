@@ -2,12 +2,12 @@
 
 ghost use Rattle.std.specs.Prelude.{◌≡◌, ◌∷◌, ◌++◌, ℕ, List, IfOk, IsTrue};
 ghost use Rattle.cp_key.specs.Numbers.{number_key, short_key};
-ghost use Rattle.cp_key.specs.Key.{IsSmall, address_key, entry_key, frame_key, gates_key, option_key, phase_key, shown_key, status_key};
+ghost use Rattle.cp_key.specs.Key.{IsSmall, address_key, discipline_key, entry_key, frame_key, gates_key, option_key, phase_key, shown_key, signals_key, status_key};
 
 use crate::keyed::Keyed;
 use crate::number::{freeze_short, thaw_short};
 use crate::reader::KeyReader;
-use cp_machine::{Entry, Gates, Phase, Shown, Status};
+use cp_machine::{Discipline, Entry, Gates, Phase, Shown, Signals, Status};
 use cp_store::{Address, Frame};
 use std::alloc::AllocError;
 
@@ -99,6 +99,46 @@ impl Keyed for Gates {
             0 => Gates::First,
             _ => Gates::Any,
         }
+    }
+}
+
+impl Keyed for Signals {
+    ghost key_of = { signals_key };
+
+    #[inline(always)]
+    fn freeze(self, key: &mut Vec<u8>) -> Result<(), AllocError> {
+        key.push(match self {
+            Signals::Return => 0,
+            Signals::Continue => 1,
+            Signals::Wait => 2,
+        })?;
+        Ok(())
+    }
+
+    #[inline(always)]
+    fn thaw(key: &mut KeyReader) -> Signals {
+        match key.byte() {
+            0 => Signals::Return,
+            1 => Signals::Continue,
+            _ => Signals::Wait,
+        }
+    }
+}
+
+impl Keyed for Discipline {
+    ghost key_of = { discipline_key };
+
+    #[inline(always)]
+    fn freeze(self, key: &mut Vec<u8>) -> Result<(), AllocError> {
+        self.gates.freeze(key)?;
+        self.signals.freeze(key)
+    }
+
+    #[inline(always)]
+    fn thaw(key: &mut KeyReader) -> Discipline {
+        let gates = Gates::thaw(key);
+        let signals = Signals::thaw(key);
+        Discipline { gates, signals }
     }
 }
 

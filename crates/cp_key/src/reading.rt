@@ -15,7 +15,7 @@ use crate::bodies::{Bodies, Parts};
 use crate::keyed::{Keyed, thaw_list, thaw_numbers};
 use crate::reader::KeyReader;
 use arrayvec::ArrayVec;
-use cp_machine::{Gate, Gates, MOST_SHOWN, Moved, ProcessState, State, Status, Watch};
+use cp_machine::{Discipline, Gate, MOST_SHOWN, Moved, ProcessState, State, Status, Watch};
 use cp_store::Frame;
 
 /// A state becomes the one of the same program that has a key. It takes no memory. Answers the parts that are in the key. Those that
@@ -56,7 +56,7 @@ fn thaw_state<'a>(
     let bodies = thaw_processes(key, &known.bodies, &mut state.processes, moved);
     thaw_guards(key, &mut state.guards);
     state.pending = Option::thaw(key);
-    state.gates = Gates::thaw(key);
+    state.discipline = Discipline::thaw(key);
     Parts {
         permanents,
         bindings,

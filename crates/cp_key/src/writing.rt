@@ -157,7 +157,7 @@ fn freeze_rest(state: &State, key: &mut Vec<u8>) -> Result<(), AllocError>
 {
     freeze_guards(&state.guards, key)?;
     state.pending.freeze(key)?;
-    state.gates.freeze(key)
+    state.discipline.freeze(key)
 }
 
 fn freeze_processes(

@@ -1,6 +1,6 @@
 -- What the crates above need of the machine.
 use Rattle.std.proofs.Common.{◌≡◌, ◌∙◌, ℕ, ◌<◌, ◌≤◌, Bool, true, false, List, length, is_some as std_is_some, Option, None, Some, refl, sym, ap, arith, filter}
-use Rattle.cp_machine.proofs.Words.{range_with_len, Tables, Gates, State, Status, Ready, admitted_at, still, unstarted_thread}
+use Rattle.cp_machine.proofs.Words.{range_with_len, Tables, Discipline, State, Status, Ready, admitted_at, still, unstarted_thread}
 use Rattle.std.proofs.lemmas.List.{length-map, get_or-set_same}
 use Rattle.cp_machine.specs.Machine.{thread_of, Thread, thread_at, no_thread, is_at_gate, is_ready_status, in_line_of, is_some}
 use Rattle.cp_machine.specs.System.{Machine, machine_of, opening, is_ready, in_line, waiting_of, is_pending, admitted, IsStateOf}
@@ -48,10 +48,10 @@ pub admitted_free : (m n : Machine) (p : ℕ) → in_line m p ≡ true → n ≡
 admitted_free m n p h e = ap is_pending e ∙ admitted_at_free m.pending m p (thread_at m.threads p).status h
 
 -- in the opening state process 0 is ready
-pub opening_ready : (r : Tables) (gates : Gates) (m : Machine) → 1 ≤ length r.processes → m ≡ opening r gates → is_ready m 0 ≡ true
-opening_ready r gates m some e =
-    let n : 0 < length (still r gates).threads = omega (arith, some, length-map r.processes (unstarted_thread r)) in
-    ap (λ x. is_ready x 0) e ∙ ap (λ t. is_ready_status t.status) (get_or-set_same (still r gates).threads 0 (record (thread_at (still r gates).threads 0) { status = Ready }) no_thread n)
+pub opening_ready : (r : Tables) (discipline : Discipline) (m : Machine) → 1 ≤ length r.processes → m ≡ opening r discipline → is_ready m 0 ≡ true
+opening_ready r discipline m some e =
+    let n : 0 < length (still r discipline).threads = omega (arith, some, length-map r.processes (unstarted_thread r)) in
+    ap (λ x. is_ready x 0) e ∙ ap (λ t. is_ready_status t.status) (get_or-set_same (still r discipline).threads 0 (record (thread_at (still r discipline).threads 0) { status = Ready }) no_thread n)
 
 -- whether a monitor is pending, by the answer of a reading
 pending_as : (o : Option ℕ) (b : Bool) → std_is_some o ≡ b → is_some o ≡ b

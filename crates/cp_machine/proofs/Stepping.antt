@@ -13,7 +13,10 @@ use Rattle.cp_store.specs.Sets as sets
 use Rattle.cp_machine.specs.declared.event.Event.TheVariants.{Ended as Over, OutputFull}
 use Rattle.cp_machine.specs.declared.event.Kernel.{Kernel as KernelCall}
 use Rattle.cp_machine.specs.declared.event.Kernel.TheVariants as call
-use Rattle.cp_machine.specs.Calls.{opened, left, called, called_in, called_by, start_inside, started, returned, delayed_in, delay_at, continued_from, continue_at}
+use Rattle.cp_machine.specs.Calls.{opened, left, called, called_in, called_by, start_inside, started, returned, delayed_in, delay_at, continued_from, continued_in, continue_by, continue_at}
+use Rattle.cp_machine.specs.declared.discipline.Signals.{Signals}
+use Rattle.cp_machine.specs.declared.discipline.Signals.TheVariants as signals
+use Rattle.cp_machine.specs.Kernel.{signalled}
 use Rattle.cp_machine.specs.Statements.{show, shown_as}
 
 -- ---- what is shown of a step
@@ -38,6 +41,7 @@ pub record Walking (r : Tables) (m : Machine) (pid : ℕ) (o : List Shown) (S : 
   pub leaves : (monitor : ℕ) (n : Machine) → Q n → Calls S o call.Leave (λ x. let_in x monitor) n
   pub delays : (monitor cell : ℕ) (n : Machine) → Q n → Calls S o call.Delay (λ x. delayed x pid monitor cell) n
   pub continues : (monitor cell : ℕ) (n : Machine) → Q n → Calls S o call.Continue (λ x. continued x monitor cell) n
+  pub signals : (component monitor : ℕ) → (component_at r component).kind ≡ kind.Monitor monitor → (cell : ℕ) (n : Machine) → Q n → Calls S o call.Continue (λ x. signalled x pid monitor cell) n
   pub ends : Does S o (λ x. record { machine = with_status x pid Ended; event = Over }) m
   pub shows : (rest : List Entry) (v : Shown) → Does S o (λ x. show x pid rest v) m
 
@@ -101,8 +105,18 @@ module _ (r : Tables) (m : Machine) (pid : ℕ) (o : List Shown) (S : Stepped �
   continued_from_both n cell (Return caller result (Some monitor) ∷ es) h = w.continues monitor cell (left r n pid caller result es) (left_known n caller result es h)
   continued_from_both n cell _ h = w.goes n h
 
+  continued_in_both : (cell component : ℕ) (k : ComponentKind) (rest : List Entry) → (component_at r component).kind ≡ k → Both (λ x. continued_in x pid cell k rest) m
+  continued_in_both cell component (kind.Monitor monitor) rest is = w.signals component monitor is cell _ (stack_known rest)
+  continued_in_both cell component kind.Class rest is = w.goes _ (stack_known rest)
+  continued_in_both cell component (kind.Process number) rest is = w.goes _ (stack_known rest)
+
+  continue_by_both : (signals : Signals) (cell : ℕ) (next : Option ℕ) (es : List Entry) → Both (λ x. continue_by signals r x pid cell next es) m
+  continue_by_both signals.Return cell next es = continued_from_both (with_stack m pid (from_end es)) cell (from_end es) (stack_known (from_end es))
+  continue_by_both signals.Continue cell next es = continued_in_both cell (thread_at m.threads pid).frame.component _ (rest_of next es) refl
+  continue_by_both signals.Wait cell next es = continued_in_both cell (thread_at m.threads pid).frame.component _ (rest_of next es) refl
+
   continue_at_both : (next : Option ℕ) (es : List Entry) (a : Address) → Both (λ x. continue_at r x pid next es a) m
-  continue_at_both next es (address.Permanent cell) = continued_from_both (with_stack m pid (from_end es)) cell (from_end es) (stack_known (from_end es))
+  continue_at_both next es (address.Permanent cell) = continue_by_both m.discipline.signals cell next es
   continue_at_both next es (address.Local cell) = w.goes _ (stack_known _)
 
   -- ---- a step, where it is shown of starts

@@ -1,6 +1,6 @@
 -- A step changes the body of the process that takes it alone; the others change their status at most.
 use Rattle.std.proofs.Common.{◌≡◌, ℕ, ◌∙◌, ◌⊎◌, inl, inr, List, length, Option, Some, None, Bool, true, false, refl, sym, ap, get_or-set_other}
-use Rattle.cp_machine.proofs.Words.{slice_set, cases_eq, length-set, Tables, Gates, Status, Ready, admitted, admitted_at, step_at, Machine, Thread, thread_at, no_thread}
+use Rattle.cp_machine.proofs.Words.{slice_set, cases_eq, length-set, Tables, Discipline, Status, Ready, AtGate, admitted, admitted_at, step_at, Machine, Thread, thread_at, no_thread}
 use Rattle.cp_machine.proofs.ListLemmas.{set_related}
 use Rattle.cp_machine.proofs.StepKeeps.{step_keeps}
 use Rattle.cp_machine.specs.Bodies.{body_of, body_at, KeepBodies}
@@ -24,20 +24,20 @@ status_body ts p status = set_related (λ (t u : Thread). body_of u ≡ body_of 
 
 -- a step changes no other process's body
 pub step_others : (r : Tables) (m : Machine) (pid : ℕ) → OthersKeep pid m (step_at r m pid).machine
-step_others r m pid = step_keeps (λ gates pending ts. ThreadsKeep pid m.threads ts) pid changed readied (λ pending ts monitor h. h) r m (record { count = refl; bodies = λ q ne. refl })
+step_others r m pid = step_keeps (λ discipline pending ts. ThreadsKeep pid m.threads ts) pid changed (λ discipline pending ts p h. restated ts p Ready h) (λ discipline pending ts p cell monitor at h. restated ts p (AtGate monitor) h) (λ discipline pending ts monitor any h. h) r m (record { count = refl; bodies = λ q ne. refl })
   where
-    changed : (gates : Gates) (pending : Option ℕ) (ts : List Thread) (x : Thread) → ThreadsKeep pid m.threads ts → ThreadsKeep pid m.threads (slice_set ts pid x)
-    changed gates pending ts x h =
+    changed : (discipline : Discipline) (pending : Option ℕ) (ts : List Thread) (x : Thread) → ThreadsKeep pid m.threads ts → ThreadsKeep pid m.threads (slice_set ts pid x)
+    changed discipline pending ts x h =
         record {
           count = length-set ts pid x ∙ h.count;
           bodies = λ q ne. ap body_of (get_or-set_other ts pid q x no_thread ne) ∙ h.bodies q ne;
         }
 
-    readied : (gates : Gates) (pending : Option ℕ) (ts : List Thread) (p : ℕ) → ThreadsKeep pid m.threads ts → ThreadsKeep pid m.threads (slice_set ts p (record (thread_at ts p) { status = Ready }))
-    readied gates pending ts p h =
+    restated : (ts : List Thread) (p : ℕ) (status : Status) → ThreadsKeep pid m.threads ts → ThreadsKeep pid m.threads (slice_set ts p (record (thread_at ts p) { status = status }))
+    restated ts p status h =
         record {
-          count = length-set ts p (record (thread_at ts p) { status = Ready }) ∙ h.count;
-          bodies = λ q ne. status_body ts p Ready q ∙ h.bodies q ne;
+          count = length-set ts p (record (thread_at ts p) { status = status }) ∙ h.count;
+          bodies = λ q ne. status_body ts p status q ∙ h.bodies q ne;
         }
 
 -- ---- admission

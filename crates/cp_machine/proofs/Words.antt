@@ -54,8 +54,9 @@ pub use Rattle.cp_machine.specs.Statements.{until, while_do, with_value}
 pub use Rattle.cp_machine.specs.Step.{act, is_local, step_at, take_top}
 pub use Rattle.cp_machine.specs.declared.event.Event.{Event}
 pub use Rattle.cp_machine.specs.declared.event.Event.TheVariants.{Kernel}
-pub use Rattle.cp_machine.specs.declared.gates.Gates.{Gates}
-pub use Rattle.cp_machine.specs.declared.gates.Gates.TheVariants.{Any, First}
+pub use Rattle.cp_machine.specs.declared.discipline.Discipline.{Discipline}
+pub use Rattle.cp_machine.specs.declared.discipline.Gates.{Gates}
+pub use Rattle.cp_machine.specs.declared.discipline.Gates.TheVariants.{Any, First}
 pub use Rattle.cp_machine.specs.declared.process.Entry.{Entry}
 pub use Rattle.cp_machine.specs.declared.process.Entry.TheVariants.{InitEnd, Rest, Return, Successor}
 pub use Rattle.cp_machine.specs.declared.process.ProcessState.{ProcessState}

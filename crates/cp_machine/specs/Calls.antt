@@ -13,13 +13,15 @@ use Rattle.cp_store.specs.declared.argument.Bound.{Bound}
 use Rattle.cp_store.specs.declared.memory.Frame.{Frame}
 use Rattle.cp_store.specs.Memory.{onward}
 use Rattle.cp_store.specs.Values.{is_true}
+use Rattle.cp_machine.specs.declared.discipline.Signals.{Signals}
+use Rattle.cp_machine.specs.declared.discipline.Signals.TheVariants as signals
 use Rattle.cp_machine.specs.declared.event.Event.TheVariants.{Kernel}
 use Rattle.cp_machine.specs.declared.event.Kernel.TheVariants.{Enter, Leave, Delay, Continue, StartProcess}
 use Rattle.cp_machine.specs.declared.process.Entry.{Entry}
 use Rattle.cp_machine.specs.declared.process.Entry.TheVariants.{Return, InitEnd}
 use Rattle.cp_machine.specs.declared.process.Status.TheVariants.{Ready}
 use Rattle.cp_machine.specs.declared.state.Phase.TheVariants.{Initialising, Initialised}
-use Rattle.cp_machine.specs.Kernel.{let_in, entered, delayed, continued}
+use Rattle.cp_machine.specs.Kernel.{let_in, entered, delayed, continued, signalled}
 use Rattle.cp_machine.specs.Machine.{Machine, Thread, thread_at, phase_at, is_initialised, is_uninitialised, is_unstarted, with_thread, with_stack, with_status, with_phase}
 use Rattle.cp_machine.specs.Memory.{component_of, arguments_of, frame_opened, frame_bound, parameters_bound, address_of}
 use Rattle.cp_machine.specs.Stack.{rest_of, from_end}
@@ -152,9 +154,19 @@ continued_from r m pid cell (Return caller result (Some monitor) ∷ es) =
     record { machine = continued (left r m pid caller result es) monitor cell; event = Kernel Continue }
 continued_from r m pid cell _ = local m
 
--- the rest of the entry is removed
+-- the statement alone is removed, and the kernel goes on
+abbrev pub continued_in : Machine → (pid cell : ℕ) → ComponentKind → List Entry → Stepped
+continued_in m pid cell (kind.Monitor monitor) rest = record { machine = signalled (with_stack m pid rest) pid monitor cell; event = Kernel Continue }
+continued_in m pid cell kind.Class rest = local (with_stack m pid rest)
+continued_in m pid cell (kind.Process number) rest = local (with_stack m pid rest)
+
+-- by the discipline: the rest of the entry is removed, or the statement alone
+abbrev pub continue_by : Signals → Tables → Machine → (pid cell : ℕ) → (next : Option ℕ) → List Entry → Stepped
+continue_by signals.Return r m pid cell next es = continued_from r (with_stack m pid (from_end es)) pid cell (from_end es)
+continue_by _ r m pid cell next es = continued_in m pid cell (component_at r (thread_at m.threads pid).frame.component).kind (rest_of next es)
+
 abbrev pub continue_at : Tables → Machine → (pid : ℕ) → (next : Option ℕ) → List Entry → Address → Stepped
-continue_at r m pid next es (address.Permanent cell) = continued_from r (with_stack m pid (from_end es)) pid cell (from_end es)
+continue_at r m pid next es (address.Permanent cell) = continue_by m.discipline.signals r m pid cell next es
 continue_at r m pid next es (address.Local cell) = local (with_stack m pid (rest_of next es))
 
 abbrev pub continue : Tables → Machine → (pid line : ℕ) → Place → (next : Option ℕ) → List Entry → Stepped

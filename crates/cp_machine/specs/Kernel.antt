@@ -1,7 +1,9 @@
 -- The kernel: who goes into a monitor, who waits, and who goes on.
 use Rattle.std.specs.Prelude.{ℕ, ◌∷◌, [], ◌++◌, List, position, Option, Some, None, pos, slice_set}
-use Rattle.cp_machine.specs.declared.gates.Gates.{Gates}
-use Rattle.cp_machine.specs.declared.gates.Gates.TheVariants.{First, Any}
+use Rattle.cp_machine.specs.declared.discipline.Gates.{Gates}
+use Rattle.cp_machine.specs.declared.discipline.Gates.TheVariants.{First, Any}
+use Rattle.cp_machine.specs.declared.discipline.Signals.{Signals}
+use Rattle.cp_machine.specs.declared.discipline.Signals.TheVariants.{Wait}
 use Rattle.cp_machine.specs.declared.process.Status.TheVariants.{Ready, AtGate, Delayed}
 use Rattle.cp_machine.specs.Machine.{Machine, monitor_at, is_delayed_at, with_status, with_monitor, with_pending}
 
@@ -31,7 +33,7 @@ let_in_by First m monitor line = first_in m monitor line
 let_in_by Any m monitor line = one_in m monitor line
 
 abbrev pub let_in : Machine → ℕ → Machine
-let_in m monitor = let_in_by m.gates m monitor (monitor_at m monitor).line
+let_in m monitor = let_in_by m.discipline.gates m monitor (monitor_at m monitor).line
 
 -- ---- enter
 
@@ -60,3 +62,22 @@ resumed (Some q) m monitor = goes_in m monitor q (monitor_at m monitor).line
 
 abbrev pub continued : Machine → (monitor cell : ℕ) → Machine
 continued m monitor cell = resumed (waits_in m cell) (record m { permanents = slice_set m.permanents cell (pos 0) }) monitor
+
+-- ---- continue where the caller does not return
+
+-- a process comes to the end of the line
+abbrev pub joined : Machine → (monitor pid : ℕ) → Machine
+joined m monitor pid = with_monitor (with_status m pid (AtGate monitor)) monitor (record { holder = (monitor_at m monitor).holder; line = (monitor_at m monitor).line ++ pid ∷ [] })
+
+-- the caller is the first of the line, and who was resumed goes in
+abbrev pub changed_places : Machine → (monitor caller resumed : ℕ) → Machine
+changed_places m monitor caller resumed = goes_in (with_status m caller (AtGate monitor)) monitor resumed (caller ∷ (monitor_at m monitor).line)
+
+-- the caller goes on, and who waited is in the line; or the two change places; where nobody waited, the caller goes on
+abbrev pub signalled_by : Signals → Option ℕ → Machine → (pid monitor : ℕ) → Machine
+signalled_by signals None m pid monitor = m
+signalled_by Wait (Some q) m pid monitor = changed_places m monitor pid q
+signalled_by signals (Some q) m pid monitor = joined m monitor q
+
+abbrev pub signalled : Machine → (pid monitor cell : ℕ) → Machine
+signalled m pid monitor cell = signalled_by m.discipline.signals (waits_in m cell) (record m { permanents = slice_set m.permanents cell (pos 0) }) pid monitor

@@ -1,6 +1,7 @@
 pub mod Alike
 pub mod Bodies
 pub mod Calls
+pub mod Discipline
 pub mod Fits
 pub mod Kernel
 pub mod Kinds

@@ -3,7 +3,7 @@ use Rattle.std.specs.Prelude.{drop, ℕ, [], ◌∷◌, List, length, Option, So
 use Rattle.std.specs.List.{filter, range_with_len, list_any}
 use Rattle.cp_store.specs.declared.memory.Address.{Address}
 use Rattle.cp_store.specs.declared.memory.Frame.{Frame}
-use Rattle.cp_machine.specs.declared.gates.Gates.{Gates}
+use Rattle.cp_machine.specs.declared.discipline.Discipline.{Discipline}
 use Rattle.cp_machine.specs.declared.process.Entry.{Entry}
 use Rattle.cp_machine.specs.declared.process.ProcessState.{ProcessState}
 use Rattle.cp_machine.specs.declared.process.Status.{Status}
@@ -38,7 +38,7 @@ pub record Machine : Type 0 where
   pub threads : List Thread
   pub monitors : List Monitor
   pub pending : Option ℕ
-  pub gates : Gates
+  pub discipline : Discipline
   pub output : List Shown
 
 -- ---- what a state of the code is seen as
@@ -65,7 +65,7 @@ machine_of s =
       threads = map thread_of s.processes.items;
       monitors = map monitor_of s.guards.items;
       pending = s.pending;
-      gates = s.gates;
+      discipline = s.discipline;
       output = s.output.items;
     }
 

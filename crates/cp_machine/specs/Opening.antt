@@ -2,7 +2,7 @@
 use Rattle.std.specs.Prelude.{position, remove, ℕ, [], List, length, Option, Some, None, map, replicate, ◌==◌}
 use Rattle.cp_slots.specs.Tables.{Tables, component_at, routine_at}
 use Rattle.cp_slots.specs.declared.tables.Process as slots
-use Rattle.cp_machine.specs.declared.gates.Gates.{Gates}
+use Rattle.cp_machine.specs.declared.discipline.Discipline.{Discipline}
 use Rattle.cp_machine.specs.declared.process.Status.TheVariants.{Unstarted, Ready}
 use Rattle.cp_machine.specs.declared.state.Phase.TheVariants.{Uninitialised}
 use Rattle.cp_machine.specs.Machine.{Machine, Thread, monitor_at, no_monitor, with_status, with_monitor, with_pending}
@@ -24,8 +24,8 @@ unstarted_thread r p =
     (routine_at r p.routine)
 
 -- every process unstarted, and every component uninitialised
-abbrev pub still : Tables → Gates → Machine
-still r gates =
+abbrev pub still : Tables → Discipline → Machine
+still r discipline =
     record {
       permanents = r.permanents;
       bindings = no_bindings (length r.permanents);
@@ -33,12 +33,12 @@ still r gates =
       threads = map (unstarted_thread r) r.processes;
       monitors = replicate r.monitors no_monitor;
       pending = None;
-      gates = gates;
+      discipline = discipline;
       output = [];
     }
 
-abbrev pub opening : Tables → Gates → Machine
-opening r gates = with_status (still r gates) 0 Ready
+abbrev pub opening : Tables → Discipline → Machine
+opening r discipline = with_status (still r discipline) 0 Ready
 
 -- ---- admission
 

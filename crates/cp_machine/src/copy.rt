@@ -30,7 +30,7 @@ impl State {
             processes,
             guards,
             pending: self.pending,
-            gates: self.gates,
+            discipline: self.discipline,
             output,
             bounds,
         })
@@ -75,7 +75,7 @@ fn take_state<W: Watch>(to: &mut State, from: &State, watch: &W)
     take_processes(&mut to.processes, &from.processes, watch);
     take_guards(&mut to.guards, &from.guards);
     to.pending = from.pending;
-    to.gates = from.gates;
+    to.discipline = from.discipline;
     take_list(&mut to.output, &from.output);
 }
 

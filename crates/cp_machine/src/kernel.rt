@@ -1,12 +1,12 @@
 //! The kernel: who goes into a monitor, who waits, and who goes on.
 
-ghost use Rattle.std.specs.Prelude.{◌≡◌, ◌<◌, ◌∷◌, [], IfNone, IfSome, length, position, slice_set};
+ghost use Rattle.std.specs.Prelude.{◌≡◌, ◌<◌, ◌∷◌, [], IfNone, IfSome, Some, length, position, slice_set};
 ghost use Rattle.cp_slots.specs.Tables.{Tables};
 ghost use Rattle.cp_machine.specs.Fits.{AreFirstKnown, HaveGateRoom, IsReserved};
 ghost use Rattle.cp_machine.specs.Kernel as spec;
 ghost use Rattle.cp_machine.specs.Machine.{is_delayed_at, machine_of, monitor_at};
 
-use crate::gates::Gates;
+use crate::discipline::{Gates, Signals};
 use crate::memory::set_status;
 use crate::process::{ProcessState, Status};
 use crate::state::{Gate, State};
@@ -18,7 +18,7 @@ pub fn let_in(state: &mut State, monitor: u8)
     ensures after { machine_of state.new ≡ spec.let_in (machine_of state.old) monitor }
     ensures reserved { (r : Tables) → IsReserved r state.old → IsReserved r state.new }
 {
-    match state.gates {
+    match state.discipline.gates {
         Gates::First => let_first_in(state, monitor),
         Gates::Any => let_one_in(state, monitor),
     }
@@ -125,6 +125,66 @@ fn hand_over(state: &mut State, monitor: u8, pid: u8)
     let guard = &mut state.guards[monitor as usize];
     guard.holder = Some(pid);
     set_status(state, pid, Status::Ready);
+}
+
+/// The caller goes on in the monitor, or waits until it is let in again; who waits in the queue of a permanent cell is resumed.
+pub fn signal(state: &mut State, pid: u8, monitor: u8, cell: usize)
+    requires pid { pid < length state.old.processes.items }
+    requires gate { monitor < length state.old.guards.items }
+    requires cell { cell < length state.old.permanents.items }
+    requires line { HaveGateRoom (machine_of state.old) }
+    ensures after { machine_of state.new ≡ spec.signalled (machine_of state.old) pid monitor cell }
+    ensures reserved { (r : Tables) → IsReserved r state.old → IsReserved r state.new }
+{
+    let waiter = waiter_of(state, cell);
+    mark_queue(&mut state.permanents, cell, 0);
+    if let Some(resumed) = waiter {
+        bring_to_gate(state, pid, monitor, resumed);
+    }
+}
+
+// Who was resumed comes to the gate, or the caller does.
+fn bring_to_gate(state: &mut State, pid: u8, monitor: u8, resumed: u8)
+    requires pid { pid < length state.old.processes.items }
+    requires resumed { resumed < length state.old.processes.items }
+    requires gate { monitor < length state.old.guards.items }
+    requires line { HaveGateRoom (machine_of state.old) }
+    ensures after { machine_of state.new ≡ spec.signalled_by state.old.discipline.signals (Some resumed) (machine_of state.old) pid monitor }
+    ensures reserved { (r : Tables) → IsReserved r state.old → IsReserved r state.new }
+{
+    match state.discipline.signals {
+        Signals::Wait => change_places(state, monitor, pid, resumed),
+        Signals::Return | Signals::Continue => join_line(state, monitor, resumed),
+    }
+}
+
+// A process comes to the end of the line.
+fn join_line(state: &mut State, monitor: u8, pid: u8)
+    requires pid { pid < length state.old.processes.items }
+    requires gate { monitor < length state.old.guards.items }
+    requires line { HaveGateRoom (machine_of state.old) }
+    ensures after { machine_of state.new ≡ spec.joined (machine_of state.old) monitor pid }
+    ensures reserved { (r : Tables) → IsReserved r state.old → IsReserved r state.new }
+{
+    let guard = &mut state.guards[monitor as usize];
+    guard.line.push(pid);
+    set_status(state, pid, Status::AtGate(monitor));
+}
+
+// The caller is the first of the line, and who was resumed is ready and inside.
+fn change_places(state: &mut State, monitor: u8, caller: u8, resumed: u8)
+    requires caller { caller < length state.old.processes.items }
+    requires resumed { resumed < length state.old.processes.items }
+    requires gate { monitor < length state.old.guards.items }
+    requires line { HaveGateRoom (machine_of state.old) }
+    ensures after { machine_of state.new ≡ spec.changed_places (machine_of state.old) monitor caller resumed }
+    ensures reserved { (r : Tables) → IsReserved r state.old → IsReserved r state.new }
+{
+    let guard = &mut state.guards[monitor as usize];
+    guard.line.insert(0, caller);
+    guard.holder = Some(resumed);
+    set_status(state, caller, Status::AtGate(monitor));
+    set_status(state, resumed, Status::Ready);
 }
 
 // Who waits in the queue of a permanent cell.

@@ -4,10 +4,10 @@
 mod admit;
 mod call;
 mod copy;
+pub mod discipline;
 mod end;
 pub mod event;
 mod frame;
-pub mod gates;
 mod kernel;
 mod local;
 mod loops;
@@ -27,8 +27,8 @@ pub mod stepper;
 mod take;
 pub mod ticks;
 
+pub use discipline::{Discipline, Gates, Signals};
 pub use event::{ErrorName, Event, Kernel, RunError};
-pub use gates::Gates;
 pub use local::local_step;
 pub use moved::{Moved, Unwatched, Watch};
 pub use process::{Entry, ProcessState, Status};

@@ -187,6 +187,7 @@ fn perform_wait(
 ) -> Result<Event, ErrorName>
     requires taken { (at : ℕ) × IsTaken program.now state.old pid at item.now }
     requires kind { IsTrue (is_of_queue item.now.action) }
+    requires line { HaveGateRoom (machine_of state.old) }
     ensures after { (at : ℕ) → act program.now (machine_of state.old) pid at item.now item.now.action (under (machine_of state.old) pid) ≡ outcome result (machine_of state.new) pid item.now.line }
     ensures reserved { IsReserved program.now state.new }
 {

@@ -4,12 +4,13 @@ ghost use Rattle.std.specs.Prelude.{◌≡◌, ◌<◌, ◌≤◌, drop, length,
 ghost use Rattle.cp_slots.specs.Fits.{IsSound};
 ghost use Rattle.cp_slots.specs.Tables.{Tables, component_at};
 ghost use Rattle.cp_machine.specs.Calls as spec;
-ghost use Rattle.cp_machine.specs.Fits.{AreFirstKnown, IsBusy, IsReserved, StackFits, ThreadFits};
+ghost use Rattle.cp_machine.specs.Fits.{AreFirstKnown, HaveGateRoom, IsBusy, IsReserved, StackFits, ThreadFits};
 ghost use Rattle.cp_machine.specs.Machine.{machine_of, thread_at, under, with_stack};
 ghost use Rattle.cp_machine.specs.Reach.{CanReach, StackReaches, ThreadReaches};
 ghost use Rattle.cp_machine.specs.Stack.{above, from_end, is_inner as is_inner_of, rest_of, top_first};
 ghost use Rattle.cp_machine.specs.Statements as statements;
 
+use crate::discipline::Signals;
 use crate::event::{ErrorName, Event, Kernel};
 use crate::frame::leave;
 use crate::kernel;
@@ -164,7 +165,69 @@ fn continue_from(program: &Resolved, state: &mut State, pid: u8, cell: usize) ->
     }
 }
 
-/// `continue`: the rest of the entry procedure and its end are removed.
+// The statement alone is removed, in a monitor.
+fn continue_in(state: &mut State, pid: u8, item: &Item, cell: usize, monitor: u8) -> Event
+    requires pid { pid < length state.old.processes.items }
+    requires busy { IsBusy state.old pid }
+    requires cell { cell < length state.old.permanents.items }
+    requires monitor { monitor < length state.old.guards.items }
+    requires line { HaveGateRoom (machine_of state.old) }
+    ensures after { spec.continued_in (machine_of state.old) pid cell (ComponentKind.Monitor monitor) (rest_of item.now.next (under (machine_of state.old) pid)) ≡ record { machine = machine_of state.new; event = result } }
+    ensures reserved { (r : Tables) → IsReserved r state.old → IsReserved r state.new }
+{
+    replace(state, pid, None, item.next);
+    kernel::signal(state, pid, monitor, cell);
+    Event::Kernel(Kernel::Continue)
+}
+
+// The statement alone is removed.
+fn continue_on(program: &Resolved, state: &mut State, pid: u8, item: &Item, cell: usize) -> Event
+    requires pid { pid < length state.old.processes.items }
+    requires busy { IsBusy state.old pid }
+    requires cell { cell < length state.old.permanents.items }
+    requires guards { length state.old.guards.items ≡ program.now.monitors }
+    requires sound { IsSound program.now }
+    requires component { (thread_at (machine_of state.old).threads pid).frame.component < length program.now.components }
+    requires line { HaveGateRoom (machine_of state.old) }
+    ensures after { spec.continued_in (machine_of state.old) pid cell (component_at program.now (thread_at (machine_of state.old).threads pid).frame.component).kind (rest_of item.now.next (under (machine_of state.old) pid)) ≡ record { machine = machine_of state.new; event = result } }
+    ensures reserved { (r : Tables) → IsReserved r state.old → IsReserved r state.new }
+{
+    let component = frame_of(state, pid).component;
+    match program.component(component).kind {
+        ComponentKind::Monitor(monitor) => continue_in(state, pid, item, cell, monitor),
+        ComponentKind::Class | ComponentKind::Process(_) => {
+            replace(state, pid, None, item.next);
+            Event::Local
+        }
+    }
+}
+
+// By the discipline: the rest of the entry procedure and its end are removed, or the statement alone.
+fn continue_at(program: &Resolved, state: &mut State, pid: u8, item: &Item, cell: usize) -> Event
+    requires pid { pid < length state.old.processes.items }
+    requires busy { IsBusy state.old pid }
+    requires cell { cell < length state.old.permanents.items }
+    requires fits { ThreadFits program.now (thread_at (machine_of state.old).threads pid) }
+    requires below { StackFits program.now (thread_at (machine_of state.old).threads pid).frame (under (machine_of state.old) pid) }
+    requires reaches { StackReaches program.now (thread_at (machine_of state.old).threads pid).references (thread_at (machine_of state.old).threads pid).frame (under (machine_of state.old) pid) }
+    requires guards { length state.old.guards.items ≡ program.now.monitors }
+    requires sound { IsSound program.now }
+    requires component { (thread_at (machine_of state.old).threads pid).frame.component < length program.now.components }
+    requires lines { AreFirstKnown (machine_of state.old) }
+    requires line { HaveGateRoom (machine_of state.old) }
+    ensures after { spec.continue_by (machine_of state.old).discipline.signals program.now (machine_of state.old) pid cell item.now.next (under (machine_of state.old) pid) ≡ record { machine = machine_of state.new; event = result } }
+    ensures reserved { (r : Tables) → IsReserved r state.old → IsReserved r state.new }
+{
+    match state.discipline.signals {
+        Signals::Return => {
+            unwind(state, pid);
+            continue_from(program, state, pid, cell)
+        }
+        Signals::Continue | Signals::Wait => continue_on(program, state, pid, item, cell),
+    }
+}
+
+/// `continue`.
 #[inline(never)]
 pub fn continue_with(
     program: &Resolved,
@@ -180,15 +243,15 @@ pub fn continue_with(
     requires below { StackFits program.now (thread_at (machine_of state.old).threads pid).frame (under (machine_of state.old) pid) }
     requires reaches { StackReaches program.now (thread_at (machine_of state.old).threads pid).references (thread_at (machine_of state.old).threads pid).frame (under (machine_of state.old) pid) }
     requires guards { length state.old.guards.items ≡ program.now.monitors }
+    requires sound { IsSound program.now }
+    requires component { (thread_at (machine_of state.old).threads pid).frame.component < length program.now.components }
     requires lines { AreFirstKnown (machine_of state.old) }
+    requires line { HaveGateRoom (machine_of state.old) }
     ensures after { spec.continue program.now (machine_of state.old) pid item.now.line place.now item.now.next (under (machine_of state.old) pid) ≡ statements.outcome result (machine_of state.new) pid item.now.line }
     ensures reserved { (r : Tables) → IsReserved r state.old → IsReserved r state.new }
 {
     match address_of(state, pid, place)? {
-        Address::Permanent(cell) => {
-            unwind(state, pid);
-            Ok(continue_from(program, state, pid, cell))
-        }
+        Address::Permanent(cell) => Ok(continue_at(program, state, pid, item, cell)),
         Address::Local(_) => {
             replace(state, pid, None, item.next);
             Ok(Event::Local)

@@ -11,7 +11,7 @@ ghost use Rattle.cp_machine.specs.Stack.{rest_of, top_first};
 ghost use Rattle.cp_machine.specs.declared.state.Phase.TheVariants.{Uninitialised};
 
 use crate::copy::copy_of_list;
-use crate::gates::Gates;
+use crate::discipline::Discipline;
 use crate::memory::set_status;
 use crate::process::{Entry, ProcessState, Status};
 use crate::shown::Shown;
@@ -23,19 +23,27 @@ use std::alloc::{AllocError, Global};
 
 impl State {
     /// The opening state, with all its memory.
-    pub fn start(alloc: Global, program: &Resolved, gates: Gates) -> Result<State, AllocError>
-        ensures opening { IfOk result (λ s. machine_of s ≡ opening program.now gates) }
+    pub fn start(
+        alloc: Global,
+        program: &Resolved,
+        discipline: Discipline,
+    ) -> Result<State, AllocError>
+        ensures opening { IfOk result (λ s. machine_of s ≡ opening program.now discipline) }
         ensures own { IfOk result (λ s. IsStateOf program.now s) }
     {
-        let mut state = still_state(alloc, program, gates)?;
+        let mut state = still_state(alloc, program, discipline)?;
         set_status(&mut state, 0, Status::Ready);
         Ok(state)
     }
 }
 
 // The state in which every process is unstarted.
-fn still_state(alloc: Global, program: &Resolved, gates: Gates) -> Result<State, AllocError>
-    ensures still { IfOk result (λ s. machine_of s ≡ still program.now gates) }
+fn still_state(
+    alloc: Global,
+    program: &Resolved,
+    discipline: Discipline,
+) -> Result<State, AllocError>
+    ensures still { IfOk result (λ s. machine_of s ≡ still program.now discipline) }
     ensures reserved { IfOk result (λ s. IsReserved program.now s) }
     ensures sound { IfOk result (λ s. IsSound program.now) }
 {
@@ -49,7 +57,7 @@ fn still_state(alloc: Global, program: &Resolved, gates: Gates) -> Result<State,
         processes,
         guards,
         pending: None,
-        gates,
+        discipline,
         output,
         bounds,
     })

@@ -3,7 +3,7 @@
 ghost use Rattle.std.specs.Prelude.{◌≤◌, length};
 
 use crate::admit::admit_process;
-use crate::gates::Gates;
+use crate::discipline::Discipline;
 use crate::process::ProcessState;
 use crate::reading::any_waits;
 use crate::shown::Shown;
@@ -63,7 +63,7 @@ pub struct State {
     pub processes: Vec<ProcessState>,
     pub guards: Vec<Gate>,
     pub pending: Option<u8>,
-    pub gates: Gates,
+    pub discipline: Discipline,
     pub output: Vec<Shown>,
     /// Room for evaluated arguments.
     pub bounds: Vec<Bound>,

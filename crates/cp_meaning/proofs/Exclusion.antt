@@ -4,7 +4,7 @@ use Rattle.cp_meaning.proofs.Words.{SystemKind, Program, Outcome, items_of_all, 
 use Rattle.cp_tree.specs.declared.declaration.SystemKind.TheVariants as system_kind
 use Rattle.cp_meaning.specs.Values.{is_member}
 use Rattle.cp_meaning.specs.Systems.{SystemMeaning, declared, own_meaning, or_own, system_of, program_system}
-use Rattle.cp_meaning.specs.State.{initialising, initialised, Component, component_at, own_statement, Call, Item, end, ready, at_gate, Process, process_at, Gates, State, is_inside, initialises, Place}
+use Rattle.cp_meaning.specs.State.{initialising, initialised, Component, component_at, own_statement, Call, Item, end, ready, at_gate, Process, process_at, Discipline, State, is_inside, initialises, Place}
 use Rattle.cp_meaning.specs.Steps.{first_component, unstarted_process, process_first, processes_from, own_begun, opening, settled, without, admitted_to}
 use Rattle.cp_meaning.proofs.Frames.{frames, entry_in, initial_in, fit-initial, plain-fit, ItemsFit, Descends, system_at}
 use Rattle.cp_meaning.proofs.PlainItems.{plain_all}
@@ -80,7 +80,7 @@ no_line : (p : Program) (ls : List Listed) (m : ℕ) → line_at (map (first_com
 no_line p (l ∷ ls) (suc m) = no_line p ls m
 no_line p _ _ = refl
 
-pub opening_orderly : (p : Program) (g : Gates) → OrderlyState (opening p g)
+pub opening_orderly : (p : Program) (g : Discipline) → OrderlyState (opening p g)
 unfolding AllNew
 opening_orderly p g =
     let cs = map (first_component p) (components_of p) in

@@ -1,6 +1,6 @@
 -- Several steps in a row, for the worked programs.
 use Rattle.std.specs.Prelude.{ℕ, zero, suc, ℤ, Bool, true, false, if◌then◌else◌, List, [], ◌∷◌, map}
-use Rattle.cp_meaning.proofs.Words.{Program, Process, first_gates, State, is_inside, opening, step_of, admitted}
+use Rattle.cp_meaning.proofs.Words.{Program, Process, book_discipline, State, is_inside, opening, step_of, admitted}
 use Rattle.cp_meaning.specs.Kernel.{Event, local_event, ended_event, fault_event, output_full, Stepped}
 
 abbrev pub is_local : Event → Bool
@@ -30,7 +30,7 @@ Ending = Event × List ℤ
 -- the last event of the program's own process, and what is shown then
 abbrev pub ending : Program → Ending
 ending p =
-    let r = up_to is_last 200 p 0 (opening p first_gates) in
+    let r = up_to is_last 200 p 0 (opening p book_discipline) in
     (r.event, numbers_of r.state)
 
 -- ---- traces

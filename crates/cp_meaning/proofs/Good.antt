@@ -37,7 +37,8 @@ MoveFits cs fs gs ends = NoneEntered cs fs gs
 MoveFits cs fs gs (starts d e) = NoneEntered cs fs gs × ((component_at cs d).kind ≡ system_kind.Process)
 MoveFits cs fs gs (enters n) = IsMonitor cs n × (entry_in n gs ≡ true) × ((m : ℕ) → IsMonitor cs m → (n ≡ m → ⊥) → entry_in m gs ≡ true → entry_in m fs ≡ true)
 MoveFits cs fs gs (leaves n) = NoneEntered cs fs gs × Left cs fs gs n
-MoveFits cs fs gs (continues n o) = NoneEntered cs fs gs × Left cs fs gs n
+MoveFits cs fs gs (continues n o calls items) =
+    NoneEntered cs fs gs × Left cs fs gs n × (frames calls ≡ fs) × ItemsFit fs items × ((m : ℕ) → initial_in m fs ≡ true → initial_in m gs ≡ true)
 MoveFits cs fs gs (delays n) = NoneEntered cs fs gs × (IsMonitor cs n → (entry_in n fs ≡ true) ⊎ (initial_in n fs ≡ true))
 
 -- from the components cs and open calls fs of a process to ds and gs

@@ -1,16 +1,17 @@
 -- Each kernel rule keeps what holds in reached states.
-use Rattle.std.proofs.Common.{◌≡◌, ℕ, zero, suc, ◌<◌, ◌==◌, ◌∙◌, ◌⊎◌, inl, inr, Bool, true, false, ◌||◌, if◌then◌else◌, List, [], ◌∷◌, ◌++◌, length, slice_set, Option, Some, None, ap, sym, refl, subst, arith, eqb-true, eq-eqb, length-set}
+use Rattle.std.proofs.Common.{◌≡◌, ℕ, zero, suc, ◌<◌, ◌==◌, ◌∙◌, ◌⊎◌, inl, inr, Bool, true, false, ◌&&◌, ◌||◌, if◌then◌else◌, List, [], ◌∷◌, ◌++◌, length, slice_set, Option, Some, None, ap, sym, refl, subst, arith, eqb-true, eq-eqb, length-set}
 use Rattle.std.proofs.lemmas.Bool.{cases_eq}
 use Rattle.cp_tree.specs.declared.declaration.SystemKind.TheVariants as system_kind
 use Rattle.cp_meaning.proofs.Words.{Program, system_of, items_of_all, with_permanents, Move, stays, enters, leaves, delays, continues, starts, shows, ends, Doing}
-use Rattle.cp_meaning.specs.State.{Environment, uninitialised, initialising, initialised, Component, component_at, own_statement, end, Status, unstarted, ready, at_gate, delayed, ended, Process, process_at, State, waits_at, is_inside}
-use Rattle.cp_meaning.specs.Kernel.{output_room, moved_to, made_ready, let_in, is_anybody_inside, entering, is_delayed_in, continuing, process_of, begun, starting_as, starting, displaying, kernel_step}
-use Rattle.cp_meaning.proofs.Frames.{frames, entry_in, initial_in, descends_same, plain-fit}
+use Rattle.cp_tree.specs.declared.declaration.SystemKind.{SystemKind}
+use Rattle.cp_meaning.specs.State.{Environment, uninitialised, initialising, initialised, Component, component_at, own_statement, Call, Item, end, Status, unstarted, ready, at_gate, delayed, ended, Process, process_at, Signals, return_signals, continue_signals, wait_signals, State, has_entry, waits_at, is_inside}
+use Rattle.cp_meaning.specs.Kernel.{output_room, with_line, with_process_status, is_monitor, waits_inside, at_gate_last, notifying, at_gate_first, going_on, signalling, moved_to, made_ready, let_in, is_anybody_inside, entering, is_delayed_in, continuing, process_of, begun, starting_as, starting, displaying, kernel_step}
+use Rattle.cp_meaning.proofs.Frames.{frames, entry_in, initial_in, entry-frames, ItemsFit, Descends, descends_same, plain-fit}
 use Rattle.cp_meaning.proofs.PlainItems.{plain_all}
-use Rattle.cp_meaning.proofs.Good.{IsMonitor, status_at, NoneEntered, Left, Good}
+use Rattle.cp_meaning.proofs.Good.{IsMonitor, status_at, NonEmpty, StatusMoves, NoneEntered, Left, Good}
 use Rattle.cp_meaning.proofs.Stored.{SameComponents, permanents_kept}
 use Rattle.cp_meaning.proofs.Orderly.{inside_parts, inside_from, ProcessFits, IsAbsent, LineFits, line_at, Nobody, initialises_now, Orderly, SameKinds, which, within_set, replaced, absent_by_status, line_set, line_more, relined}
-use Rattle.cp_meaning.proofs.LineLaw.{OrderlyState, queue_waits, resumed, let_in_law}
+use Rattle.cp_meaning.proofs.LineLaw.{OrderlyState, queue_waits, resumed, comes_to_gate, let_in_law}
 
 pub nobody_told : (m : ℕ) (ps : List Process) → is_anybody_inside m ps ≡ false → Nobody ps m
 nobody_told m [] h q lt i = omega arith
@@ -138,7 +139,7 @@ module _ (p : Program) (s : State) (pid : ℕ) (old : Orderly s.components s.pro
       now : Orderly ds (after (at_gate n))
       now = moved (enters n) good (at_gate n) go
 
-  resumed_law : (m r : ℕ) (t : State) (b : Bool) → is_delayed_in m (process_at t.processes r).status ≡ b → Orderly t.components t.processes → (IsMonitor t.components m → Nobody t.processes m) → t.pending ≡ None → OrderlyState (if b then made_ready t r else let_in t.gates t m)
+  resumed_law : (m r : ℕ) (t : State) (b : Bool) → is_delayed_in m (process_at t.processes r).status ≡ b → Orderly t.components t.processes → (IsMonitor t.components m → Nobody t.processes m) → t.pending ≡ None → OrderlyState (if b then made_ready t r else let_in t.discipline.gates t m)
   resumed_law m r t true e now nobody free =
       let st = delayed_told m (process_at t.processes r).status e in
       record {
@@ -146,10 +147,10 @@ module _ (p : Program) (s : State) (pid : ℕ) (old : Orderly s.components s.pro
             (λ j. absent_by_status t.components t.processes j r (line_at t.components j) (λ h. (let bad : delayed m ≡ at_gate j = sym st ∙ h in cc)) (now.lines j));
         pending = λ n h. absurd (let bad : None ≡ Some n = sym free ∙ h in cc);
       }
-  resumed_law m r t false e now nobody free = let_in_law t.gates t m now nobody free
+  resumed_law m r t false e now nobody free = let_in_law t.discipline.gates t m now nobody free
 
   continuing_law : (m : ℕ) (o : Option ℕ) (t : State) → Orderly t.components t.processes → (IsMonitor t.components m → Nobody t.processes m) → t.pending ≡ None → OrderlyState (continuing t m o)
-  continuing_law m None t now nobody free = let_in_law t.gates t m now nobody free
+  continuing_law m None t now nobody free = let_in_law t.discipline.gates t m now nobody free
   continuing_law m (Some r) t now nobody free = resumed_law m r t (is_delayed_in m (process_at t.processes r).status) refl now nobody free
 
   -- ---- a process begins
@@ -192,12 +193,200 @@ module _ (p : Program) (s : State) (pid : ℕ) (old : Orderly s.components s.pro
   displaying_law true x good = record { orderly = old; pending = λ m h. not_pending m h }
   displaying_law false x good = record { orderly = goes_on (shows x) good ready good.moves; pending = λ m h. not_pending m h }
 
-  pub kernel_step_law : (move : Move) → Good cs (frames me.calls) (frames d.calls) ds d.items move → OrderlyState (kernel_step p s pid d move).state
-  kernel_step_law stays good = record { orderly = goes_on stays good ready good.moves; pending = λ m h. not_pending m h }
-  kernel_step_law (enters n) good = entering_law n (is_anybody_inside n s.processes) refl good
-  kernel_step_law (leaves n) good = let_in_law s.gates (moved_to ready s pid d) n (goes_on (leaves n) good ready good.moves.0) (nobody_left (leaves n) good n good.moves.1) none
-  kernel_step_law (delays n) good = let_in_law s.gates (moved_to (delayed n) s pid d) n (goes_on (delays n) good (delayed n) good.moves.0) (nobody_delayed (delays n) good n good.moves.1) none
-  kernel_step_law (continues n o) good = continuing_law n o (moved_to ready s pid d) (goes_on (continues n o) good ready good.moves.0) (nobody_left (continues n o) good n good.moves.1) none
-  kernel_step_law (starts c e) good = starting_law c (process_of c (after ready)) e (goes_on (starts c e) good ready good.moves.0) (good.layout.kind c ∙ good.moves.1)
-  kernel_step_law (shows x) good = displaying_law (length s.output == output_room) x good
-  kernel_step_law ends good = record { orderly = goes_on ends good ended good.moves; pending = λ m h. not_pending m h }
+-- ---- continue where the caller goes on
+
+both_true : (a b : Bool) → (a && b) ≡ true → (a ≡ true) × (b ≡ true)
+both_true true true h = (refl, refl)
+both_true a b h = cc
+
+monitor_told : (kind : SystemKind) → is_monitor kind ≡ true → kind ≡ system_kind.Monitor
+monitor_told system_kind.Monitor h = refl
+monitor_told kind h = cc
+
+-- who waits in a queue of the monitor, in an entry call of it
+record WaitsInside (s : State) (m r : ℕ) : Type 0 where
+  monitor : IsMonitor s.components m
+  entry : entry_in m (frames (process_at s.processes r).calls) ≡ true
+  status : (process_at s.processes r).status ≡ delayed m
+
+inside_told : (s : State) (m r : ℕ) → waits_inside s m r ≡ true → WaitsInside s m r
+inside_told s m r h =
+    let one = both_true (is_monitor (component_at s.components m).kind && has_entry m (process_at s.processes r).calls) (is_delayed_in m (process_at s.processes r).status) h in
+    let two = both_true (is_monitor (component_at s.components m).kind) (has_entry m (process_at s.processes r).calls) one.0 in
+    record {
+      monitor = monitor_told (component_at s.components m).kind two.0;
+      entry = sym (entry-frames m (process_at s.processes r).calls) ∙ two.1;
+      status = delayed_told m (process_at s.processes r).status one.1;
+    }
+
+-- who is delayed has begun, and stands in no line
+delayed_there : (m r : ℕ) (ps : List Process) → (process_at ps r).status ≡ delayed m → r < length ps
+delayed_there m r ps st = begun_process ps r (λ h. (let bad : delayed m ≡ unstarted = sym st ∙ h in cc))
+
+delayed_absent : (m r : ℕ) (cs : List Component) (ps : List Process) → Orderly cs ps → (process_at ps r).status ≡ delayed m → (j : ℕ) → IsAbsent r (line_at cs j)
+delayed_absent m r cs ps now st j = absent_by_status cs ps j r (line_at cs j) (λ h. (let bad : delayed m ≡ at_gate j = sym st ∙ h in cc)) (now.lines j)
+
+set_here : (ps : List Process) (r : ℕ) (x : Process) → r < length ps → process_at (slice_set ps r x) r ≡ x
+set_here ps r x lt = go (which ps r r x lt)
+  where
+    go : ((r ≡ r) × (process_at (slice_set ps r x) r ≡ x)) ⊎ ((r ≡ r → ⊥) × (process_at (slice_set ps r x) r ≡ process_at ps r)) → process_at (slice_set ps r x) r ≡ x
+    go (inl h) = h.1
+    go (inr h) = absurd (h.0 refl)
+
+-- who was resumed is the last of the line
+last_law : (m r : ℕ) (t : State) → WaitsInside t m r → Orderly t.components t.processes → t.pending ≡ None → OrderlyState (at_gate_last t m r)
+last_law m r t w now free =
+    record {
+      orderly = relined t.components (slice_set t.processes r x) m _ there (
+        line_more t.components (slice_set t.processes r x) m r (line_at t.components m) w.monitor (rw (length-set t.processes r x) lt) (ap (λ p. p.status) here)
+        (ap (λ p. entry_in m (frames p.calls)) here ∙ w.entry) (absent m) (there.lines m));
+      pending = λ n h. absurd (let bad : None ≡ Some n = sym free ∙ h in cc);
+    }
+  where
+    x : Process
+    x = with_process_status (process_at t.processes r) (at_gate m)
+
+    lt : r < length t.processes
+    lt = delayed_there m r t.processes w.status
+
+    absent : (j : ℕ) → IsAbsent r (line_at t.components j)
+    absent = delayed_absent m r t.components t.processes now w.status
+
+    here : process_at (slice_set t.processes r x) r ≡ x
+    here = set_here t.processes r x lt
+
+    there : Orderly t.components (slice_set t.processes r x)
+    there = comes_to_gate t.components t.processes m r now lt (queue_waits m (process_at t.processes r).status w.status) absent
+
+notifying_law : (m : ℕ) (o : Option ℕ) (t : State) → Orderly t.components t.processes → t.pending ≡ None → OrderlyState (notifying t m o)
+notifying_law m None t now free = record { orderly = now; pending = λ n h. absurd (let bad : None ≡ Some n = sym free ∙ h in cc) }
+notifying_law m (Some r) t now free = go (waits_inside t m r) refl
+  where
+    go : (b : Bool) → waits_inside t m r ≡ b → OrderlyState (if b then at_gate_last t m r else t)
+    go true e = last_law m r t (inside_told t m r e) now free
+    go false e = record { orderly = now; pending = λ n h. absurd (let bad : None ≡ Some n = sym free ∙ h in cc) }
+
+module _ (p : Program) (s : State) (pid : ℕ) (old : Orderly s.components s.processes) (none : s.pending ≡ None) (lt : pid < length s.processes) (is_ready : (process_at s.processes pid).status ≡ ready) (d : Doing) where
+  abbrev caller : Process
+  caller = process_at s.processes pid
+
+  -- ---- what its item left, where the caller goes on
+
+  module _ (n : ℕ) (o : Option ℕ) (calls : List Call) (items : List Item) (good : Good s.components (frames caller.calls) (frames d.calls) d.components d.items (continues n o calls items)) where
+    same : frames calls ≡ frames caller.calls
+    same = good.moves.2
+
+    mine : ProcessFits s.components caller
+    mine = old.processes pid lt
+
+    was_entry : (m : ℕ) → entry_in m (frames calls) ≡ true → entry_in m (frames caller.calls) ≡ true
+    was_entry m h = subst (λ fs. entry_in m fs ≡ true) same h
+
+    was_initial : (m : ℕ) → initial_in m (frames calls) ≡ true → initial_in m (frames caller.calls) ≡ true
+    was_initial m h = subst (λ fs. initial_in m fs ≡ true) same h
+
+    still_initialised : (m : ℕ) → entry_in m (frames calls) ≡ true → status_at d.components m ≡ initialised
+    still_initialised m h = go (good.status m)
+      where
+        then_it_was : status_at s.components m ≡ initialised
+        then_it_was = mine.entering m (was_entry m h)
+
+        go : StatusMoves s.components d.components (frames caller.calls) m → status_at d.components m ≡ initialised
+        go (inl e) = e ∙ then_it_was
+        go (inr (inl e)) = absurd (let bad : uninitialised ≡ initialised = sym e.0 ∙ then_it_was in cc)
+        go (inr (inr e)) = absurd (let bad : initialising ≡ initialised = sym e.0 ∙ then_it_was in cc)
+
+    going_good : Good s.components (frames caller.calls) (frames calls) d.components items stays
+    going_good =
+        record {
+          layout = good.layout;
+          open_calls = subst NonEmpty (sym same) (mine.open_calls (λ h. (let bad : ready ≡ unstarted = sym is_ready ∙ h in cc)));
+          fits = subst (λ fs. ItemsFit fs items) (sym same) good.moves.3;
+          order = subst (Descends s.components) (sym same) mine.order;
+          status = good.status;
+          starting = λ m h. good.starting m (good.moves.4 m (was_initial m h));
+          entering = still_initialised;
+          fresh = λ m h. inl (was_initial m h);
+          moves = λ m mon h. was_entry m h;
+        }
+
+    abbrev goer : Doing
+    goer = going_on d calls items
+
+    gone_on : (status : Status) → Orderly d.components (after p s pid old none lt is_ready goer status)
+    gone_on status = goes_on p s pid old none lt is_ready goer stays going_good status going_good.moves
+
+    -- ---- who waited goes in, and the caller is the first of the line
+
+    module _ (r : ℕ) (w : WaitsInside s n r) where
+      abbrev gone : List Process
+      gone = after p s pid old none lt is_ready goer (at_gate n)
+
+      abbrev lined : List Component
+      lined = with_line d.components n (pid ∷ line_at d.components n)
+
+      entered : entry_in n (frames caller.calls) ≡ true
+      entered = (good.moves.1 w.monitor).0
+
+      monitor_still : IsMonitor d.components n
+      monitor_still = good.layout.kind n ∙ w.monitor
+
+      itself : process_at gone pid ≡ become p s pid old none lt is_ready goer (at_gate n)
+      itself = here p s pid old none lt is_ready goer (at_gate n)
+
+      first_there : Orderly lined gone
+      first_there =
+          relined d.components gone n (pid ∷ line_at d.components n) (gone_on (at_gate n)) (
+            monitor_still,
+            rw (length-set s.processes pid (become p s pid old none lt is_ready goer (at_gate n))) lt,
+            ap (λ q. q.status) itself,
+            ap (λ q. entry_in n (frames q.calls)) itself ∙ subst (λ fs. entry_in n fs ≡ true) (sym same) entered,
+            subst (IsAbsent pid) (sym (good.layout.line n)) (absent p s pid old none lt is_ready goer n),
+            (gone_on (at_gate n)).lines n,
+          )
+
+      other : r ≡ pid → ⊥
+      other e = (let bad : delayed n ≡ ready = sym w.status ∙ ap (λ q. (process_at s.processes q).status) e ∙ is_ready in cc)
+
+      still_delayed : (process_at gone r).status ≡ delayed n
+      still_delayed = go (which s.processes pid r (become p s pid old none lt is_ready goer (at_gate n)) (delayed_there n r s.processes w.status))
+        where
+          go : ((r ≡ pid) × (process_at gone r ≡ become p s pid old none lt is_ready goer (at_gate n))) ⊎ ((r ≡ pid → ⊥) × (process_at gone r ≡ process_at s.processes r)) → (process_at gone r).status ≡ delayed n
+          go (inl e) = absurd (other e.0)
+          go (inr e) = ap (λ q. q.status) e.1 ∙ w.status
+
+      nobody : Nobody gone n
+      nobody q lq h = go (which s.processes pid q (become p s pid old none lt is_ready goer (at_gate n)) (within_set s.processes pid q _ lq))
+        where
+          go : ((q ≡ pid) × (process_at gone q ≡ become p s pid old none lt is_ready goer (at_gate n))) ⊎ ((q ≡ pid → ⊥) × (process_at gone q ≡ process_at s.processes q)) → ⊥
+          go (inl e) = (let bad : true ≡ false = sym (eq-eqb n n refl) ∙ (inside_parts n (become p s pid old none lt is_ready goer (at_gate n)) (sym (ap (is_inside n) e.1) ∙ h)).1 in absurd cc)
+          go (inr e) = nobody_other p s pid old none lt is_ready goer stays going_good n q (at_gate n) monitor_still lq e.1 e.0 h (was_inside p s pid old none lt is_ready goer n entered)
+
+      yielded_law : OrderlyState (made_ready (at_gate_first s pid n goer) r)
+      yielded_law =
+          record {
+            orderly = resumed lined gone n r first_there (delayed_there n r gone still_delayed) (queue_waits n (process_at gone r).status still_delayed) (λ mon. nobody) (delayed_absent n r lined gone first_there still_delayed);
+            pending = λ m h. absurd (let bad : None ≡ Some m = sym none ∙ h in cc);
+          }
+
+  signalling_law : (signals : Signals) (n : ℕ) (o : Option ℕ) (calls : List Call) (items : List Item) → Good s.components (frames caller.calls) (frames d.calls) d.components d.items (continues n o calls items) → OrderlyState (signalling signals s pid d n o calls items)
+  signalling_law return_signals n o calls items good =
+      continuing_law p s pid old none lt is_ready d n o (moved_to ready s pid d) (goes_on p s pid old none lt is_ready d (continues n o calls items) good ready good.moves.0)
+      (nobody_left p s pid old none lt is_ready d (continues n o calls items) good n good.moves.1) none
+  signalling_law continue_signals n o calls items good = notifying_law n o (moved_to ready s pid (going_on d calls items)) (gone_on n o calls items good ready) none
+  signalling_law wait_signals n None calls items good = record { orderly = gone_on n None calls items good ready; pending = λ m h. absurd (let bad : None ≡ Some m = sym none ∙ h in cc) }
+  signalling_law wait_signals n (Some r) calls items good = go (waits_inside s n r) refl
+    where
+      go : (b : Bool) → waits_inside s n r ≡ b → OrderlyState (if b then made_ready (at_gate_first s pid n (going_on d calls items)) r else moved_to ready s pid (going_on d calls items))
+      go true e = yielded_law n (Some r) calls items good r (inside_told s n r e)
+      go false e = record { orderly = gone_on n (Some r) calls items good ready; pending = λ m h. absurd (let bad : None ≡ Some m = sym none ∙ h in cc) }
+
+  pub kernel_step_law : (move : Move) → Good s.components (frames caller.calls) (frames d.calls) d.components d.items move → OrderlyState (kernel_step p s pid d move).state
+  kernel_step_law stays good = record { orderly = goes_on p s pid old none lt is_ready d stays good ready good.moves; pending = λ m h. not_pending p s pid old none lt is_ready d m h }
+  kernel_step_law (enters n) good = entering_law p s pid old none lt is_ready d n (is_anybody_inside n s.processes) refl good
+  kernel_step_law (leaves n) good = let_in_law s.discipline.gates (moved_to ready s pid d) n (goes_on p s pid old none lt is_ready d (leaves n) good ready good.moves.0) (nobody_left p s pid old none lt is_ready d (leaves n) good n good.moves.1) none
+  kernel_step_law (delays n) good = let_in_law s.discipline.gates (moved_to (delayed n) s pid d) n (goes_on p s pid old none lt is_ready d (delays n) good (delayed n) good.moves.0) (nobody_delayed p s pid old none lt is_ready d (delays n) good n good.moves.1) none
+  kernel_step_law (continues n o calls items) good = signalling_law s.discipline.signals n o calls items good
+  kernel_step_law (starts c e) good = starting_law p s pid old none lt is_ready d c (process_of c (after p s pid old none lt is_ready d ready)) e (goes_on p s pid old none lt is_ready d (starts c e) good ready good.moves.0) (good.layout.kind c ∙ good.moves.1)
+  kernel_step_law (shows x) good = displaying_law p s pid old none lt is_ready d (length s.output == output_room) x good
+  kernel_step_law ends good = record { orderly = goes_on p s pid old none lt is_ready d ends good ended good.moves; pending = λ m h. not_pending p s pid old none lt is_ready d m h }

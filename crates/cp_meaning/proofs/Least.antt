@@ -1,6 +1,6 @@
 -- Variables begin as the least values of their types, and lines are served in order, by computing.
 use Rattle.std.specs.Prelude.{◌≡◌, [], ◌∷◌, refl, pos, negsuc}
-use Rattle.cp_meaning.proofs.Words.{first_gates, enter_event, leave_event, delay_event, start_event, display_event, ended_event, opening}
+use Rattle.cp_meaning.proofs.Words.{book_discipline, enter_event, leave_event, delay_event, start_event, display_event, ended_event, opening}
 use Rattle.cp_meaning.proofs.Following.{ending, goes, traced}
 use Rattle.cp_meaning.proofs.LeastPrograms.{least_of_subrange, sign_of_mod, class_begins_least, monitor_begins_least, local_variables_begin_least, process_begins_least, line_in_order, delay_lets_line_in}
 
@@ -26,7 +26,7 @@ local_variables_begin_least-ends = refl
 
 -- type t = 3..5; p = process(n: integer); var x: array [1..2] of t; begin display(x[n]) end; var a: p; begin init a(2) end.
 pub process_begins_least-goes :
-    traced process_begins_least ([]) (opening process_begins_least first_gates) (goes 0 ∷ goes 0 ∷ goes 1 ∷ goes 1 ∷ []) ≡ (
+    traced process_begins_least ([]) (opening process_begins_least book_discipline) (goes 0 ∷ goes 0 ∷ goes 1 ∷ goes 1 ∷ []) ≡ (
       (
           (start_event, ([])) ∷
           (ended_event, ([])) ∷
@@ -39,7 +39,7 @@ process_begins_least-goes = refl
 
 -- type m = monitor; procedure entry go(n: integer); begin display(n) end; begin end; p = process(x: m; n: integer); begin x.go(n) end; var x: m; a, b, c: p; begin init x, a(x, 1), b(x, 2), c(x, 3) end.
 pub line_in_order-goes :
-    traced line_in_order (1 ∷ []) (opening line_in_order first_gates) (goes 0 ∷ goes 0 ∷ goes 0 ∷ goes 0 ∷ goes 1 ∷ goes 2 ∷ goes 3 ∷ goes 1 ∷ goes 1 ∷ goes 2 ∷ goes 2 ∷ goes 3 ∷ goes 3 ∷ []) ≡ (
+    traced line_in_order (1 ∷ []) (opening line_in_order book_discipline) (goes 0 ∷ goes 0 ∷ goes 0 ∷ goes 0 ∷ goes 1 ∷ goes 2 ∷ goes 3 ∷ goes 1 ∷ goes 1 ∷ goes 2 ∷ goes 2 ∷ goes 3 ∷ goes 3 ∷ []) ≡ (
       (
           (start_event, (([]) ∷ [])) ∷
           (start_event, (([]) ∷ [])) ∷
@@ -61,7 +61,7 @@ line_in_order-goes = refl
 
 -- type m = monitor; var q: queue; procedure entry hold; begin delay(q) end; procedure entry go(n: integer); begin display(n) end; begin end; a = process(x: m); begin x.hold end; b = process(x: m; n: integer); begin x.go(n) end; var x: m; r: a; s, t: b; begin init x, r(x), s(x, 1), t(x, 2) end.
 pub delay_lets_line_in-goes :
-    traced delay_lets_line_in (1 ∷ []) (opening delay_lets_line_in first_gates) (goes 0 ∷ goes 0 ∷ goes 0 ∷ goes 0 ∷ goes 1 ∷ goes 2 ∷ goes 3 ∷ goes 1 ∷ goes 2 ∷ goes 2 ∷ goes 3 ∷ goes 3 ∷ []) ≡ (
+    traced delay_lets_line_in (1 ∷ []) (opening delay_lets_line_in book_discipline) (goes 0 ∷ goes 0 ∷ goes 0 ∷ goes 0 ∷ goes 1 ∷ goes 2 ∷ goes 3 ∷ goes 1 ∷ goes 2 ∷ goes 2 ∷ goes 3 ∷ goes 3 ∷ []) ≡ (
       (
           (start_event, (([]) ∷ [])) ∷
           (start_event, (([]) ∷ [])) ∷

@@ -1,5 +1,5 @@
 -- That a process goes in from a line or out of a queue keeps what holds in reached states.
-use Rattle.std.proofs.Common.{◌≡◌, ℕ, ◌<◌, ◌≤◌, ◌==◌, ◌∙◌, ◌⊎◌, inl, inr, Bool, true, false, List, [], ◌∷◌, length, slice_set, Option, Some, None, ap, sym, refl, subst, arith, eqb-true}
+use Rattle.std.proofs.Common.{◌≡◌, ℕ, ◌<◌, ◌≤◌, ◌==◌, ◌∙◌, ◌⊎◌, inl, inr, Bool, true, false, List, [], ◌∷◌, length, slice_set, Option, Some, None, ap, sym, refl, subst, arith, eqb-true, eq-eqb}
 use Rattle.std.proofs.lemmas.Bool.{cases_eq}
 use Rattle.cp_tree.specs.declared.declaration.SystemKind.TheVariants as system_kind
 use Rattle.cp_meaning.specs.State.{Component, Status, unstarted, ready, at_gate, delayed, Process, process_at, Gates, first_gates, any_gates, State, waits_at, is_inside}
@@ -38,20 +38,29 @@ same_gate : (m j : ℕ) → at_gate m ≡ at_gate j → m ≡ j
 unfolding gate_of
 same_gate m j e = ap gate_of e
 
--- process q goes on inside m
-pub resumed : (cs : List Component) (ps : List Process) (m q : ℕ) → Orderly cs ps → q < length ps → WaitsFor m (process_at ps q).status → (IsMonitor cs m → Nobody ps m) → ((j : ℕ) → IsAbsent q (line_at cs j)) → Orderly cs (slice_set ps q (with_process_status (process_at ps q) ready))
-resumed cs ps m q old lt waits nobody absent =
+-- process q, which waits for m, has another status
+restated : (cs : List Component) (ps : List Process) (m q : ℕ) (status : Status) → Orderly cs ps → q < length ps → WaitsFor m (process_at ps q).status → (waits_at m status ≡ false → IsMonitor cs m → Nobody ps m) → ((j : ℕ) → IsAbsent q (line_at cs j)) →
+    Orderly cs (slice_set ps q (with_process_status (process_at ps q) status))
+restated cs ps m q status old lt waits nobody absent =
     replaced cs cs ps q x old (same_kinds cs) (λ j. inl refl) (inl lt) fits (λ j h k lk hk. old.one_initial j k q lk lt hk h) (λ j mon h k lk hk. inside j mon h k lk hk (cases_eq m j)) (λ j. line_set cs cs ps q x j (line_at cs j) refl (absent j) (old.lines j))
   where
     x : Process
-    x = with_process_status (process_at ps q) ready
+    x = with_process_status (process_at ps q) status
 
     fits : ProcessFits cs x
     fits = let p = old.processes q lt in record { fits = p.fits; order = p.order; open_calls = λ h. p.open_calls waits.begun; starting = p.starting; entering = p.entering }
 
     inside : (j : ℕ) → IsMonitor cs j → is_inside j x ≡ true → (k : ℕ) → k < length ps → is_inside j (process_at ps k) ≡ true → (m ≡ j) ⊎ (m ≡ j → ⊥) → k ≡ q
-    inside j mon h k lk hk (inl e) = absurd (nobody (subst (IsMonitor cs) (sym e) mon) k lk (subst (λ i. is_inside i (process_at ps k) ≡ true) (sym e) hk))
+    inside j mon h k lk hk (inl e) = absurd (nobody (ap (λ i. waits_at i status) e ∙ (inside_parts j x h).1) (subst (IsMonitor cs) (sym e) mon) k lk (subst (λ i. is_inside i (process_at ps k) ≡ true) (sym e) hk))
     inside j mon h k lk hk (inr ne) = old.one_inside j mon k q lk lt hk (inside_from j (process_at ps q) (inside_parts j x h).0 (waits.alone j ne))
+
+-- process q goes on inside m
+pub resumed : (cs : List Component) (ps : List Process) (m q : ℕ) → Orderly cs ps → q < length ps → WaitsFor m (process_at ps q).status → (IsMonitor cs m → Nobody ps m) → ((j : ℕ) → IsAbsent q (line_at cs j)) → Orderly cs (slice_set ps q (with_process_status (process_at ps q) ready))
+resumed cs ps m q old lt waits nobody absent = restated cs ps m q ready old lt waits (λ h. nobody) absent
+
+-- process q waits at the gate of m
+pub comes_to_gate : (cs : List Component) (ps : List Process) (m q : ℕ) → Orderly cs ps → q < length ps → WaitsFor m (process_at ps q).status → ((j : ℕ) → IsAbsent q (line_at cs j)) → Orderly cs (slice_set ps q (with_process_status (process_at ps q) (at_gate m)))
+comes_to_gate cs ps m q old lt waits absent = restated cs ps m q (at_gate m) old lt waits (λ h. absurd (let bad : true ≡ false = sym (eq-eqb m m refl) ∙ h in cc)) absent
 
 -- process q of the line of m goes in, and the others are the line
 pub gone_in : (cs : List Component) (ps : List Process) (m q : ℕ) (line : List ℕ) → Orderly cs ps → IsMonitor cs m → q < length ps → (process_at ps q).status ≡ at_gate m → IsAbsent q line → LineFits cs ps m line → (IsMonitor cs m → Nobody ps m) →

@@ -1,13 +1,13 @@
 -- The lines that run errors name, by computing.
 use Rattle.std.specs.Prelude.{◌≡◌, ℕ, List, [], ◌∷◌, refl}
-use Rattle.cp_meaning.proofs.Words.{Program, first_gates}
+use Rattle.cp_meaning.proofs.Words.{Program, book_discipline}
 use Rattle.cp_meaning.specs.Steps.{opening, line_at}
 use Rattle.cp_meaning.proofs.Following.{is_last, up_to}
 use Rattle.cp_meaning.proofs.LinedPrograms.{call_line, for_line, until_line, test_line, display_line, start_line, case_line, inner_line}
 
 -- the line of the item at which the program's own process ends in a run error
 abbrev pub line_of_error : Program → List ℕ → ℕ
-line_of_error p lines = line_at (record { program = p; lines = lines }) (up_to is_last 200 p 0 (opening p first_gates)).state 0
+line_of_error p lines = line_at (record { program = p; lines = lines }) (up_to is_last 200 p 0 (opening p book_discipline)).state 0
 
 -- type s = 1..2; function f(n: s): integer; begin end; begin display(1 +\nf(3)) end.
 pub call_line-is : line_of_error call_line (1 ∷ 1 ∷ 1 ∷ 1 ∷ 1 ∷ 1 ∷ 1 ∷ 1 ∷ 1 ∷ 1 ∷ 1 ∷ 1 ∷ 1 ∷ 1 ∷ 1 ∷ 1 ∷ 1 ∷ 1 ∷ 1 ∷ 1 ∷ 1 ∷ 1 ∷ 1 ∷ 1 ∷ 1 ∷ 2 ∷ 2 ∷ 2 ∷ 2 ∷ 2 ∷ 2 ∷ 2 ∷ []) ≡ 2

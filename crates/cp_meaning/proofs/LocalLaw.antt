@@ -275,12 +275,15 @@ module _ (p : Program) (c : Call) (calls : List Call) (cs : List Component) (pid
   continued_good entry_routine items q e f =
       let u = stored v q (queue_value None) in
       let w : View = record { program = p; calls = callers u.calls; components = u.components } in
-      ended_good w (after_return items) (continues c.component (waiting_in (value_at v q))) (frames-callers u.calls ∙ ap below (stored_frames v q (queue_value None))) (stored_components v q (queue_value None))
+      ended_good w (after_return items) (continues c.component (waiting_in (value_at v q)) u.calls items) (frames-callers u.calls ∙ ap below (stored_frames v q (queue_value None))) (stored_components v q (queue_value None))
       (λ b. (let bad : entry_routine ≡ own_statement = sym e ∙ b in cc))
       (after_fits c.component items (subst (λ k. ItemsFit ((k, c.component) ∷ frames calls) items) e f)) (
         fewer_entries,
         λ mon. subst (λ k. (entry_in c.component ((k, c.component) ∷ frames calls) ≡ true) × (entry_in c.component (frames calls) ≡ false)) (sym e)
             (left_entry c.component (frames calls) (subst (λ k. Descends cs ((k, c.component) ∷ frames calls)) e order)),
+        stored_frames v q (queue_value None),
+        f,
+        λ m h. subst (λ k. initial_in m ((k, c.component) ∷ frames calls) ≡ true) e h,
       )
   continued_good _ items q e f = items_good v items stays alike f same_entries
 

@@ -8,12 +8,12 @@ use Rattle.cp_meaning.specs.Outcome.{ErrorName}
 use Rattle.cp_meaning.specs.Types.{Ty, array_over, is_within}
 use Rattle.cp_meaning.specs.Scopes.{Meaning, local_variable, permanent_variable, find}
 use Rattle.cp_meaning.specs.Declarations.{Parameter, RoutineMeaning}
-use Rattle.cp_meaning.specs.State.{Holder, in_call, in_component, Place, Content, refers, Environment, uninitialised, initialising, initialised, Component, component_at, no_component, CallKind, entry_routine, is_entry_kind, Call, current, Item, Status, unstarted, ready, at_gate, delayed, ended, Process, process_at, State}
+use Rattle.cp_meaning.specs.State.{Holder, in_call, in_component, Place, Content, refers, Environment, uninitialised, initialising, initialised, Component, component_at, no_component, CallKind, entry_routine, is_entry_kind, Call, current, Item, Status, unstarted, ready, at_gate, delayed, ended, Process, process_at, Signals, return_signals, continue_signals, wait_signals, State}
 use Rattle.cp_meaning.specs.Places.{View, Target, call_above, with_environment_of, plain_place, referred, target_meant, target_named}
 use Rattle.cp_meaning.specs.Expressions.{value, target_value, selected, chosen, with_element_of}
 use Rattle.cp_meaning.specs.Calls.{bound, bound_argument, is_uninitialised, entered_as, initialised_in, started_as}
 use Rattle.cp_meaning.specs.LocalRules.{continued_from, leaving_move, return_move, returned}
-use Rattle.cp_meaning.specs.Kernel.{output_room, moved_to, is_anybody_inside, entering, process_of, begun, with_begun, starting_as, starting, displaying, kernel_step}
+use Rattle.cp_meaning.specs.Kernel.{output_room, made_ready, waits_inside, notifying, at_gate_first, going_on, signalling, moved_to, is_anybody_inside, entering, process_of, begun, with_begun, starting_as, starting, displaying, kernel_step}
 use Rattle.cp_meaning.specs.Ownership.{HoldsComponent, HoldsPlace, HoldsCalls, ChangesHeld, OthersKept}
 use Rattle.cp_meaning.specs.Steps.{settled, view_of}
 use Rattle.cp_meaning.proofs.Frames.{at_set}
@@ -22,7 +22,7 @@ use Rattle.cp_meaning.proofs.Stored.{field_kept}
 use Rattle.cp_meaning.proofs.Orderly.{which}
 use Rattle.cp_meaning.proofs.LocalLaw.{uninitialised_told}
 use Rattle.cp_meaning.proofs.Held.{permanents_at, permanents_set, nothing_append}
-use Rattle.cp_meaning.proofs.OwnKernel.{Keeps, keeps_all, lined, let_in_keeps, continuing_keeps, process_found}
+use Rattle.cp_meaning.proofs.OwnKernel.{Keeps, keeps_all, lined, let_in_keeps, continuing_keeps, notifying_keeps, lined_readied, process_found}
 use Rattle.cp_meaning.proofs.Taken.{AllOf, whatever, bind_known, bind_all, if_all, Rules, takes_all}
 
 -- ---- the names of parameters
@@ -70,7 +70,7 @@ module _ (p : Program) (s : State) (pid : ℕ) where
   MoveNamed (enters n) = Unit {0}
   MoveNamed (leaves n) = Unit {0}
   MoveNamed (delays n) = Unit {0}
-  MoveNamed (continues n o) = Unit {0}
+  MoveNamed (continues n o calls items) = Unit {0}
   MoveNamed (shows x) = Unit {0}
   MoveNamed ends = Unit {0}
 
@@ -352,15 +352,33 @@ module _ (p : Program) (s : State) (pid : ℕ) where
         let f = process_found c (moved_to ready s pid d).processes r is in
         starting_as_changes c r e (process_at (moved_to ready s pid d).processes r).status h f.0 f.1 refl
 
-    kernel_changes : (move : Move) → Changes ds move → StepChanges (kernel_step p s pid d move).state
-    kernel_changes stays h = steps_moved stays h ready
-    kernel_changes (enters n) h = entering_changes n (is_anybody_inside n s.processes) h
-    kernel_changes (leaves n) h = steps_to (leaves n) h ready _ (let_in_keeps [] s.gates (moved_to ready s pid d) n)
-    kernel_changes (delays n) h = steps_to (delays n) h (delayed n) _ (let_in_keeps [] s.gates (moved_to (delayed n) s pid d) n)
-    kernel_changes (continues n o) h = steps_to (continues n o) h ready _ (continuing_keeps [] (moved_to ready s pid d) n o)
-    kernel_changes (starts c e) h = starting_changes c (process_of c (moved_to ready s pid d).processes) e h refl
-    kernel_changes (shows x) h = displaying_changes (length s.output == output_room) x h
-    kernel_changes ends h = steps_moved ends h ended
+  -- the variables that a continue changes are the same where the caller goes on
+  going_changes : (d : Doing) (n : ℕ) (o : Option ℕ) (calls : List Call) (items : List Item) → Changes d.components (continues n o calls items) → Changes d.components stays
+  going_changes d n o calls items h = record { changed = h.changed; starting = tt }
+
+  signalling_changes : (lt : pid < length s.processes) (d : Doing) (signals : Signals) (n : ℕ) (o : Option ℕ) (calls : List Call) (items : List Item) → Changes d.components (continues n o calls items) → StepChanges (signalling signals s pid d n o calls items)
+  signalling_changes lt d return_signals n o calls items h = steps_to lt d (continues n o calls items) h ready _ (continuing_keeps [] (moved_to ready s pid d) n o)
+  signalling_changes lt d continue_signals n o calls items h = steps_to lt (going_on d calls items) stays (going_changes d n o calls items h) ready _ (notifying_keeps [] (moved_to ready s pid (going_on d calls items)) n o)
+  signalling_changes lt d wait_signals n None calls items h = steps_moved lt (going_on d calls items) stays (going_changes d n None calls items h) ready
+  signalling_changes lt d wait_signals n (Some r) calls items h = go (waits_inside s n r)
+    where
+      e : Doing
+      e = going_on d calls items
+
+      go : (b : Bool) → StepChanges (if b then made_ready (at_gate_first s pid n e) r else moved_to ready s pid e)
+      go true = steps_to lt e stays (going_changes d n (Some r) calls items h) (at_gate n) _ (lined_readied [] (moved_to (at_gate n) s pid e) n r _)
+      go false = steps_moved lt e stays (going_changes d n (Some r) calls items h) ready
+
+  module _ (lt : pid < length s.processes) (d : Doing) where
+    kernel_changes : (move : Move) → Changes d.components move → StepChanges (kernel_step p s pid d move).state
+    kernel_changes stays h = steps_moved lt d stays h ready
+    kernel_changes (enters n) h = entering_changes lt d n (is_anybody_inside n s.processes) h
+    kernel_changes (leaves n) h = steps_to lt d (leaves n) h ready _ (let_in_keeps [] s.discipline.gates (moved_to ready s pid d) n)
+    kernel_changes (delays n) h = steps_to lt d (delays n) h (delayed n) _ (let_in_keeps [] s.discipline.gates (moved_to (delayed n) s pid d) n)
+    kernel_changes (continues n o calls items) h = signalling_changes lt d s.discipline.signals n o calls items h
+    kernel_changes (starts c e) h = starting_changes lt d c (process_of c (moved_to ready s pid d).processes) e h refl
+    kernel_changes (shows x) h = displaying_changes lt d (length s.output == output_room) x h
+    kernel_changes ends h = steps_moved lt d ends h ended
 
   settled_changes : pid < length s.processes → (o : Outcome Doing) → AllOf DoingChanges o → StepChanges (settled p s pid o).state
   settled_changes lt (Ok d) h = kernel_changes lt d d.move h

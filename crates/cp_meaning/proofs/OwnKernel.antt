@@ -2,9 +2,9 @@
 use Rattle.std.proofs.Common.{◌≡◌, ℕ, suc, ◌<◌, ◌==◌, ◌∙◌, ◌⊎◌, inl, inr, Bool, true, false, if◌then◌else◌, List, [], ◌∷◌, ◌++◌, length, slice_set, Option, Some, None, ap, sym, refl, subst, arith, eqb-true}
 use Rattle.cp_tree.specs.declared.declaration.SystemKind.TheVariants as system_kind
 use Rattle.cp_meaning.proofs.Words.{Program, Name, system_of, content_of, with_permanents, owner_of}
-use Rattle.cp_meaning.specs.State.{refers, knows, Environment, Component, component_at, Status, unstarted, ready, at_gate, delayed, ended, Process, process_at, Gates, first_gates, any_gates, State}
+use Rattle.cp_meaning.specs.State.{refers, knows, Environment, Component, component_at, Status, unstarted, ready, at_gate, delayed, ended, Process, process_at, Gates, Signals, return_signals, continue_signals, wait_signals, Call, Item, first_gates, any_gates, State}
 use Rattle.cp_meaning.specs.Move.{Move, stays, enters, leaves, delays, continues, starts, shows, ends, Doing}
-use Rattle.cp_meaning.specs.Kernel.{output_room, line_of, with_line_of, moved_to, with_process_status, made_ready, first_in, one_in, let_in, is_anybody_inside, entering, is_delayed_in, continuing, after, process_of, begun, with_begun, starting_as, starting, displaying, kernel_step}
+use Rattle.cp_meaning.specs.Kernel.{output_room, with_processes, line_of, with_line_of, waits_inside, at_gate_last, notifying, at_gate_first, going_on, signalling, moved_to, with_process_status, made_ready, first_in, one_in, let_in, is_anybody_inside, entering, is_delayed_in, continuing, after, process_of, begun, with_begun, starting_as, starting, displaying, kernel_step}
 use Rattle.cp_meaning.proofs.Frames.{frames}
 use Rattle.cp_meaning.proofs.Good.{status_at}
 use Rattle.cp_meaning.proofs.Stored.{field_kept}
@@ -59,21 +59,24 @@ lined base s m line =
       calls = λ q lt. refl;
     }
 
-readied_calls : (ps : List Process) (r : ℕ) → SameCalls ps (slice_set ps r (with_process_status (process_at ps r) ready))
-readied_calls ps r q lt = go (which ps r q _ lt)
+restated_calls : (ps : List Process) (r : ℕ) (status : Status) → SameCalls ps (slice_set ps r (with_process_status (process_at ps r) status))
+restated_calls ps r status q lt = go (which ps r q _ lt)
   where
-    go : ((q ≡ r) × (process_at (slice_set ps r (with_process_status (process_at ps r) ready)) q ≡ with_process_status (process_at ps r) ready)) ⊎ ((q ≡ r → ⊥) × (process_at (slice_set ps r (with_process_status (process_at ps r) ready)) q ≡ process_at ps q)) →
-        (process_at (slice_set ps r (with_process_status (process_at ps r) ready)) q).calls ≡ (process_at ps q).calls
+    go : ((q ≡ r) × (process_at (slice_set ps r (with_process_status (process_at ps r) status)) q ≡ with_process_status (process_at ps r) status)) ⊎ ((q ≡ r → ⊥) × (process_at (slice_set ps r (with_process_status (process_at ps r) status)) q ≡ process_at ps q)) →
+        (process_at (slice_set ps r (with_process_status (process_at ps r) status)) q).calls ≡ (process_at ps q).calls
     go (inl h) = ap (λ p. p.calls) h.1 ∙ ap (λ j. (process_at ps j).calls) (sym h.0)
     go (inr h) = ap (λ p. p.calls) h.1
 
-readied : (base : List Component) (s : State) (r : ℕ) → Keeps base s (made_ready s r)
-readied base s r =
+restated : (base : List Component) (s : State) (r : ℕ) (status : Status) → Keeps base s (with_processes s (slice_set s.processes r (with_process_status (process_at s.processes r) status)))
+restated base s r status =
     record {
       owned = λ h. (record { tree = h.tree; classes = h.classes; earlier = h.earlier; processes = owned_set base s.processes r _ h.processes (λ lt. (let p = h.processes r lt in record { held = p.held; bottom = p.bottom; component = p.component })) });
       variables = λ n. (refl, refl);
-      calls = readied_calls s.processes r;
+      calls = restated_calls s.processes r status;
     }
+
+readied : (base : List Component) (s : State) (r : ℕ) → Keeps base s (made_ready s r)
+readied base s r = restated base s r ready
 
 gone_in : (base : List Component) (s : State) (m q : ℕ) (line : List ℕ) → OwnedState base s → OwnedState base (with_line_of (made_ready s q) m line)
 gone_in base s m q line h = (lined base (made_ready s q) m line).owned ((readied base s q).owned h)
@@ -83,7 +86,7 @@ goes_in base s m q line =
     record {
       owned = gone_in base s m q line;
       variables = (lined base (made_ready s q) m line).variables;
-      calls = readied_calls s.processes q;
+      calls = restated_calls s.processes q ready;
     }
 
 first_keeps : (base : List Component) (line : List ℕ) (s : State) (m : ℕ) → Keeps base s (first_in line s m)
@@ -100,12 +103,35 @@ let_in_keeps base first_gates s m = first_keeps base (line_of s m) s m
 let_in_keeps base any_gates s m = one_keeps base (line_of s m) s m
 
 pub continuing_keeps : (base : List Component) (s : State) (m : ℕ) (o : Option ℕ) → Keeps base s (continuing s m o)
-continuing_keeps base s m None = let_in_keeps base s.gates s m
+continuing_keeps base s m None = let_in_keeps base s.discipline.gates s m
 continuing_keeps base s m (Some r) = go (is_delayed_in m (process_at s.processes r).status)
   where
-    go : (b : Bool) → Keeps base s (if b then made_ready s r else let_in s.gates s m)
+    go : (b : Bool) → Keeps base s (if b then made_ready s r else let_in s.discipline.gates s m)
     go true = readied base s r
-    go false = let_in_keeps base s.gates s m
+    go false = let_in_keeps base s.discipline.gates s m
+
+last_at_gate : (base : List Component) (s : State) (m r : ℕ) → Keeps base s (at_gate_last s m r)
+last_at_gate base s m r =
+    let t = with_processes s (slice_set s.processes r (with_process_status (process_at s.processes r) (at_gate m))) in
+    let line = lined base t m (line_of s m ++ r ∷ []) in
+    record { owned = λ h. line.owned ((restated base s r (at_gate m)).owned h); variables = line.variables; calls = restated_calls s.processes r (at_gate m) }
+
+pub notifying_keeps : (base : List Component) (s : State) (m : ℕ) (o : Option ℕ) → Keeps base s (notifying s m o)
+notifying_keeps base s m None = keeps_all base s
+notifying_keeps base s m (Some r) = go (waits_inside s m r)
+  where
+    go : (b : Bool) → Keeps base s (if b then at_gate_last s m r else s)
+    go true = last_at_gate base s m r
+    go false = keeps_all base s
+
+-- a line, and then a process that is ready
+pub lined_readied : (base : List Component) (s : State) (m r : ℕ) (line : List ℕ) → Keeps base s (made_ready (with_line_of s m line) r)
+lined_readied base s m r line =
+    record {
+      owned = λ h. (readied base (with_line_of s m line) r).owned ((lined base s m line).owned h);
+      variables = (lined base s m line).variables;
+      calls = restated_calls s.processes r ready;
+    }
 
 pub process_found : (d : ℕ) (ps : List Process) (r : ℕ) → process_of d ps ≡ Some r → (r < length ps) × ((process_at ps r).component ≡ d)
 process_found d [] r h = absurd (let bad : None ≡ Some r = h in cc)
@@ -201,23 +227,47 @@ module _ (p : Program) (s : State) (pid : ℕ) (base : List Component) (old : Ow
       let f = process_found c (moved_to ready s pid d).processes r is in
       starting_as_steps c r e (process_at (moved_to ready s pid d).processes r).status h its_kind f.0 f.1 refl
 
+-- the caller of a continue as it is where it goes on
+going_owned : (base : List Component) (mine : ℕ) (d : Doing) (n : ℕ) (o : Option ℕ) (calls : List Call) (items : List Item) → Owned base mine d.calls d.components (continues n o calls items) → Owned base mine calls d.components stays
+going_owned base mine d n o calls items h = record { tree = h.tree; held = h.starting.0; bottom = h.starting.1; classes = h.classes; earlier = h.earlier; starting = tt }
+
+module _ (p : Program) (s : State) (pid : ℕ) (base : List Component) (old : OwnedState base s) (lt : pid < length s.processes) (is_ready : (process_at s.processes pid).status ≡ ready) (d : Doing) where
+  signalling_owned : (signals : Signals) (n : ℕ) (o : Option ℕ) (calls : List Call) (items : List Item) → Owned base (process_at s.processes pid).component d.calls d.components (continues n o calls items) → OwnedState base (signalling signals s pid d n o calls items)
+  signalling_owned return_signals n o calls items h = steps_to p s pid base old lt is_ready d (continues n o calls items) h ready _ (continuing_keeps base (moved_to ready s pid d) n o)
+  signalling_owned continue_signals n o calls items h =
+      let on = going_owned base _ d n o calls items h in
+      steps_to p s pid base old lt is_ready (going_on d calls items) stays on ready _ (notifying_keeps base (moved_to ready s pid (going_on d calls items)) n o)
+  signalling_owned wait_signals n None calls items h = moved_owned p s pid base old lt is_ready (going_on d calls items) stays (going_owned base _ d n None calls items h) ready
+  signalling_owned wait_signals n (Some r) calls items h = go (waits_inside s n r)
+    where
+      on : Owned base (process_at s.processes pid).component calls d.components stays
+      on = going_owned base _ d n (Some r) calls items h
+
+      e : Doing
+      e = going_on d calls items
+
+      go : (b : Bool) → OwnedState base (if b then made_ready (at_gate_first s pid n e) r else moved_to ready s pid e)
+      go true = steps_to p s pid base old lt is_ready e stays on (at_gate n) _ (lined_readied base (moved_to (at_gate n) s pid e) n r _)
+      go false = moved_owned p s pid base old lt is_ready e stays on ready
+
+module _ (p : Program) (s : State) (pid : ℕ) (base : List Component) (old : OwnedState base s) (lt : pid < length s.processes) (is_ready : (process_at s.processes pid).status ≡ ready) (d : Doing) where
   -- the component of a process that is started is a process
   abbrev pub StartsProcess : Move → Type 0
-  StartsProcess (starts c e) = kind_at ds c ≡ system_kind.Process
+  StartsProcess (starts c e) = kind_at d.components c ≡ system_kind.Process
   StartsProcess stays = Unit {0}
   StartsProcess (enters n) = Unit {0}
   StartsProcess (leaves n) = Unit {0}
   StartsProcess (delays n) = Unit {0}
-  StartsProcess (continues n o) = Unit {0}
+  StartsProcess (continues n o calls items) = Unit {0}
   StartsProcess (shows x) = Unit {0}
   StartsProcess ends = Unit {0}
 
-  pub kernel_step_owned : (move : Move) → Owned base me.component d.calls ds move → StartsProcess move → OwnedState base (kernel_step p s pid d move).state
-  kernel_step_owned stays h k = moved_owned stays h ready
-  kernel_step_owned (enters n) h k = entering_steps n (is_anybody_inside n s.processes) h
-  kernel_step_owned (leaves n) h k = steps_to (leaves n) h ready _ (let_in_keeps base s.gates (moved_to ready s pid d) n)
-  kernel_step_owned (delays n) h k = steps_to (delays n) h (delayed n) _ (let_in_keeps base s.gates (moved_to (delayed n) s pid d) n)
-  kernel_step_owned (continues n o) h k = steps_to (continues n o) h ready _ (continuing_keeps base (moved_to ready s pid d) n o)
-  kernel_step_owned (starts c e) h k = starting_steps c (process_of c (moved_to ready s pid d).processes) e h k refl
-  kernel_step_owned (shows x) h k = displaying_steps (length s.output == output_room) x h
-  kernel_step_owned ends h k = moved_owned ends h ended
+  pub kernel_step_owned : (move : Move) → Owned base (process_at s.processes pid).component d.calls d.components move → StartsProcess move → OwnedState base (kernel_step p s pid d move).state
+  kernel_step_owned stays h k = moved_owned p s pid base old lt is_ready d stays h ready
+  kernel_step_owned (enters n) h k = entering_steps p s pid base old lt is_ready d n (is_anybody_inside n s.processes) h
+  kernel_step_owned (leaves n) h k = steps_to p s pid base old lt is_ready d (leaves n) h ready _ (let_in_keeps base s.discipline.gates (moved_to ready s pid d) n)
+  kernel_step_owned (delays n) h k = steps_to p s pid base old lt is_ready d (delays n) h (delayed n) _ (let_in_keeps base s.discipline.gates (moved_to (delayed n) s pid d) n)
+  kernel_step_owned (continues n o calls items) h k = signalling_owned p s pid base old lt is_ready d s.discipline.signals n o calls items h
+  kernel_step_owned (starts c e) h k = starting_steps p s pid base old lt is_ready d c (process_of c (moved_to ready s pid d).processes) e h k refl
+  kernel_step_owned (shows x) h k = displaying_steps p s pid base old lt is_ready d (length s.output == output_room) x h
+  kernel_step_owned ends h k = moved_owned p s pid base old lt is_ready d ends h ended

@@ -23,18 +23,18 @@ use Rattle.cp_meaning.proofs.ComponentTree.{path_at, kind_at, SameTree, tree_aft
 use Rattle.cp_meaning.proofs.Held.{HeldBy, HeldPlace, RefersHeld, HeldCalls, Bottom, permanents_at, ClassesKnown, held_more, place_more, held_alike, length-frames, kind_past, IsValue, cons_content, append_content, least_values, least_result_value, stored_held, EarlierKnown, known_set, stored_known, stored_tree}
 use Rattle.cp_meaning.proofs.Taken.{AllOf, bind_known, bind_all, if_all, Rules, takes_all}
 
--- what a started process is given: components that it may know
-abbrev pub MoveOwned : List Component → Move → Type 0
-MoveOwned base (starts c e) =
+-- what a started process is given: components that it may know; the open calls of a caller that goes on
+abbrev pub MoveOwned : List Component → (me : ℕ) → Move → Type 0
+MoveOwned base me (starts c e) =
     c < length base → (d : ℕ) (x : Name) → content_of x e ≡ Some (knows d) →
     (kind_at base d ≡ system_kind.Class → owner_of base d ≡ owner_of base c) × ((kind_at base d ≡ system_kind.Process → ⊥) → system_at base d < system_at base c)
-MoveOwned base stays = Unit {0}
-MoveOwned base (enters n) = Unit {0}
-MoveOwned base (leaves n) = Unit {0}
-MoveOwned base (delays n) = Unit {0}
-MoveOwned base (continues n o) = Unit {0}
-MoveOwned base (shows x) = Unit {0}
-MoveOwned base ends = Unit {0}
+MoveOwned base me stays = Unit {0}
+MoveOwned base me (enters n) = Unit {0}
+MoveOwned base me (leaves n) = Unit {0}
+MoveOwned base me (delays n) = Unit {0}
+MoveOwned base me (continues n o calls items) = HeldCalls base me calls × Bottom me (frames calls)
+MoveOwned base me (shows x) = Unit {0}
+MoveOwned base me ends = Unit {0}
 
 pub record Owned (base : List Component) (me : ℕ) (calls : List Call) (ds : List Component) (move : Move) : Type 0 where
   pub tree : SameTree base ds
@@ -42,7 +42,7 @@ pub record Owned (base : List Component) (me : ℕ) (calls : List Call) (ds : Li
   pub bottom : Bottom me (frames calls)
   pub classes : ClassesKnown base ds
   pub earlier : EarlierKnown base ds
-  pub starting : MoveOwned base move
+  pub starting : MoveOwned base me move
 
 abbrev pub OwnedBy : List Component → ℕ → Outcome Doing → Type 0
 OwnedBy base me o = AllOf (λ (d : Doing). Owned base me d.calls d.components d.move) o
@@ -86,7 +86,7 @@ module _ (p : Program) (c : Call) (calls : List Call) (cs : List Component) (pid
         still_earlier = stored_known _ v q w earlier;
       }
 
-  items_owned : (u : View) (items : List Item) (move : Move) → Alike u → MoveOwned base move → OwnedDoing (with_move (with_items u items) move)
+  items_owned : (u : View) (items : List Item) (move : Move) → Alike u → MoveOwned base me move → OwnedDoing (with_move (with_items u items) move)
   items_owned u items move a m =
       record { tree = a.still; held = a.still_held; bottom = subst (Bottom me) (sym a.same_frames) bottom; classes = a.still_known; earlier = a.still_earlier; starting = m }
 
@@ -336,7 +336,7 @@ module _ (p : Program) (c : Call) (calls : List Call) (cs : List Component) (pid
       go (inl t) = inner (append_content x e (least_of r.variables) (refers q) t)
       go (inr t) = no_reference x q (least_result_value x r.result (refers q) t)
 
-  opened_owned : (d : ℕ) (kind : CallKind) (r : RoutineMeaning) (o : Option Name) (items : List Item) (e : Environment) (move : Move) → HeldBy base me ((kind, d) ∷ fs) d → d < length base → RefersHeld base me fs e → MoveOwned base move →
+  opened_owned : (d : ℕ) (kind : CallKind) (r : RoutineMeaning) (o : Option Name) (items : List Item) (e : Environment) (move : Move) → HeldBy base me ((kind, d) ∷ fs) d → d < length base → RefersHeld base me fs e → MoveOwned base me move →
       OwnedDoing (with_move (opened v d kind r o items e) move)
   opened_owned d kind r o items e move h lt refs m =
       record { tree = tree; held = (h, lt, opened_refers r e refs, held); bottom = bottom; classes = classes; earlier = earlier; starting = m }
@@ -441,14 +441,14 @@ module _ (p : Program) (c : Call) (calls : List Call) (cs : List Component) (pid
   rest_bottom : Bottom me (frames calls)
   rest_bottom = bottom_rest (c.kind, c.component) (frames calls) bottom
 
-  leaving_owned : (k : SystemKind) (m : ℕ) → MoveOwned base (Rattle.cp_meaning.specs.LocalRules.leaving_move k m)
+  leaving_owned : (k : SystemKind) (m : ℕ) → MoveOwned base me (Rattle.cp_meaning.specs.LocalRules.leaving_move k m)
   leaving_owned system_kind.Monitor m = tt
   leaving_owned _ m = tt
 
-  back_owned : MoveOwned base (return_move cs c)
+  back_owned : MoveOwned base me (return_move cs c)
   back_owned = go (Rattle.cp_meaning.specs.State.is_entry_kind c.kind)
     where
-      go : (b : Bool) → MoveOwned base (if b then Rattle.cp_meaning.specs.LocalRules.leaving_move (component_at cs c.component).kind c.component else stays)
+      go : (b : Bool) → MoveOwned base me (if b then Rattle.cp_meaning.specs.LocalRules.leaving_move (component_at cs c.component).kind c.component else stays)
       go true = leaving_owned (component_at cs c.component).kind c.component
       go false = tt
 
@@ -469,7 +469,7 @@ module _ (p : Program) (c : Call) (calls : List Call) (cs : List Component) (pid
         bottom = subst (Bottom me) (sym (frames-callers u.calls ∙ ap below (stored_frames v q (queue_value None)))) rest_bottom;
         classes = a.still_known;
         earlier = a.still_earlier;
-        starting = tt;
+        starting = (a.still_held, subst (Bottom me) (sym (stored_frames v q (queue_value None))) bottom);
       }
   continued_owned _ items q h = items_owned v items stays alike tt
 

@@ -1,6 +1,6 @@
 -- The opening state of a program whose components have distinct paths.
 use Rattle.std.proofs.Common.{◌≡◌, ℕ, zero, suc, ◌<◌, ◌≤◌, ◌+◌, ◌⊎◌, inl, inr, List, [], ◌∷◌, length, map, Some, None, refl, arith}
-use Rattle.cp_meaning.proofs.Words.{SystemKind, Program, Name, SystemMeaning, system_of, Content, refers, knows, Component, component_at, Process, Gates, content_of}
+use Rattle.cp_meaning.proofs.Words.{SystemKind, Program, Name, SystemMeaning, system_of, Content, refers, knows, Component, component_at, Process, Discipline, content_of}
 use Rattle.cp_meaning.proofs.Words.{least_of, begun, Listed, components_of}
 use Rattle.cp_tree.specs.declared.declaration.SystemKind.TheVariants as system_kind
 use Rattle.cp_meaning.specs.Steps.{parameter_variables, first_environment, first_component, first_components, unstarted_process, process_first, processes_from, own_begun, opening}
@@ -59,7 +59,7 @@ first_within (c ∷ cs) h = omega arith
 is_cons : (c : Component) (cs : List Component) → c ∷ cs ≡ [] → ⊥
 is_cons c cs e = absurd cc
 
-pub opening_owned : (p : Program) (g : Gates) → OwnedState (first_components p) (opening p g)
+pub opening_owned : (p : Program) (g : Discipline) → OwnedState (first_components p) (opening p g)
 opening_owned p g =
     let base = first_components p in
     record {

@@ -2,7 +2,7 @@
 use Rattle.std.proofs.Common.{◌≡◌, ℕ, ◌<◌, ◌≤◌, ◌==◌, ◌∙◌, ◌⊎◌, inl, inr, Bool, true, false, ◌&&◌, List, [], ◌∷◌, length, Option, Some, None, Ok, Err, ap, sym, refl, subst, arith, eqb-true}
 use Rattle.cp_tree.specs.declared.declaration.SystemKind.TheVariants as system_kind
 use Rattle.cp_meaning.proofs.Words.{Program, Outcome, content_of, Move, starts, Doing, takes, line_of, IsExclusive, IsWellFormed}
-use Rattle.cp_meaning.specs.State.{Holder, in_call, in_component, Component, component_at, CallKind, own_statement, local_routine, Call, Item, ready, unstarted, Process, process_at, Gates, State, has_entry, initialises}
+use Rattle.cp_meaning.specs.State.{Holder, in_call, in_component, Component, component_at, CallKind, own_statement, local_routine, Call, Item, ready, unstarted, Process, process_at, Discipline, State, has_entry, initialises}
 use Rattle.cp_meaning.specs.Steps.{first_components, opening, settled, step_of, without, admitted_to, admitted, IsReached, at_first, by_step, by_admission, by_forgetting}
 use Rattle.cp_meaning.specs.Ownership.{owner_of, HoldsComponent, HoldsPlace, HoldsCalls, below_or_same, CallsDescend, IsLawfulProcess, IsLawful, VariablesKept}
 use Rattle.cp_meaning.specs.OwnershipLaw.{Ownership}
@@ -139,7 +139,7 @@ module _ (p : Program) (ok : IsWellFormed p) where
 
   -- ---- reached states
 
-  pub reached : (g : Gates) (s : State) → IsReached p g s → OwnedState base s × OrderlyState s
+  pub reached : (g : Discipline) (s : State) → IsReached p g s → OwnedState base s × OrderlyState s
   reached g _ at_first = (opening_owned p g, opening_orderly p g)
   reached g _ (by_step s pid before none lt is_ready) =
       let old = reached g s before in
@@ -152,13 +152,13 @@ module _ (p : Program) (ok : IsWellFormed p) where
       let old = reached g s before in
       (record { tree = old.0.tree; classes = old.0.classes; earlier = old.0.earlier; processes = old.0.processes }, record { orderly = old.1.orderly; pending = old.1.pending })
 
-  pub lawful : (g : Gates) (s : State) → IsReached p g s → IsLawful s
+  pub lawful : (g : Discipline) (s : State) → IsReached p g s → IsLawful s
   lawful g s before = let old = reached g s before in lawful_from base s old.0 old.1
 
-  pub exclusive : (g : Gates) (s : State) → IsReached p g s → IsExclusive s
+  pub exclusive : (g : Discipline) (s : State) → IsReached p g s → IsExclusive s
   exclusive g s before = orderly_exclusive s (reached g s before).1
 
-  pub ownership : (g : Gates) → Ownership p g
+  pub ownership : (g : Discipline) → Ownership p g
   ownership g =
       record {
         opening_lawful = lawful g (opening p g) at_first;

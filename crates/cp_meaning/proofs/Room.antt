@@ -2,7 +2,7 @@
 use Rattle.std.specs.Prelude.{◌≡◌, ℕ, [], length, refl, pos, codes, replicate}
 use Rattle.cp_tree.specs.Syntax.{number, no_expressions, more_expressions, designator, no_selectors, invoke, no_statements, more_statements, Program}
 use Rattle.cp_meaning.specs.Types.{integers}
-use Rattle.cp_meaning.specs.State.{first_gates, Shown, State}
+use Rattle.cp_meaning.specs.State.{book_discipline, Shown, State}
 use Rattle.cp_meaning.proofs.Words.{Event, display_event, output_full, opening, step_of}
 use Rattle.cp_meaning.proofs.Written.{named_at, just}
 
@@ -15,7 +15,7 @@ three = record { base = integers; number = pos 3 }
 
 -- the state before its only display, where n values were shown
 abbrev after_values : ℕ → State
-after_values n = record (opening displays_one first_gates) { output = replicate n three }
+after_values n = record (opening displays_one book_discipline) { output = replicate n three }
 
 -- the event of the display, and the number of values that are shown then
 abbrev displays_after : ℕ → Event × ℕ

@@ -20,7 +20,7 @@ pub use Rattle.cp_meaning.specs.Outcome.{Outcome, init_twice, no_case, not_init,
 pub use Rattle.cp_meaning.specs.Ownership.{IsParameterOf, IsStarted, is_parameter, owner_of}
 pub use Rattle.cp_meaning.specs.Places.{View, component_there, component_with, content_of, stored, with_call_environment, with_environment, with_environment_of}
 pub use Rattle.cp_meaning.specs.Places.{with_permanents}
-pub use Rattle.cp_meaning.specs.State.{Component, Content, Gates, Process, State, any_gates, component_at, first_gates, is_inside, knows, process_at, refers}
+pub use Rattle.cp_meaning.specs.State.{Component, Content, Discipline, Process, State, any_gates, component_at, book_discipline, by_gates, first_gates, is_inside, knows, process_at, refers}
 pub use Rattle.cp_meaning.specs.Steps.{admitted, first_components, opening, step_of}
 pub use Rattle.cp_meaning.specs.Systems.{SystemMeaning, system_of}
 pub use Rattle.cp_meaning.specs.Values.{Value, number_of, number_value, queue_value, waiting_in}

@@ -2,7 +2,7 @@
 use Rattle.std.specs.Prelude.{◌≡◌, ℕ, ◌<◌, Bool, true, ◌||◌, length}
 use Rattle.cp_tree.specs.declared.declaration.SystemKind.TheVariants as system_kind
 use Rattle.cp_tree.specs.Syntax.{Program}
-use Rattle.cp_meaning.specs.State.{component_at, Process, process_at, Gates, State, is_inside, initialises}
+use Rattle.cp_meaning.specs.State.{component_at, Process, process_at, Discipline, State, is_inside, initialises}
 use Rattle.cp_meaning.specs.Steps.{IsReached}
 use Rattle.cp_meaning.specs.WellFormed.{IsWellFormed}
 
@@ -19,4 +19,4 @@ IsExclusive s =
 
 -- in every reached state, whatever ready process steps
 abbrev pub ExclusiveLaw : Type 0
-ExclusiveLaw = (p : Program) → IsWellFormed p → (g : Gates) (s : State) → IsReached p g s → IsExclusive s
+ExclusiveLaw = (p : Program) → IsWellFormed p → (g : Discipline) (s : State) → IsReached p g s → IsExclusive s

@@ -1,9 +1,11 @@
 -- Kernel rules: one case for each kernel call, and for the other events (the book, chapters 8 and 9; the gates are this profile's).
-use Rattle.std.specs.Prelude.{ℕ, suc, ◌==◌, Bool, true, false, ◌||◌, if◌then◌else◌, List, [], ◌∷◌, ◌++◌, length, Option, Some, None, slice_set}
+use Rattle.std.specs.Prelude.{ℕ, suc, ◌==◌, Bool, true, false, ◌&&◌, ◌||◌, if◌then◌else◌, List, [], ◌∷◌, ◌++◌, length, Option, Some, None, slice_set}
+use Rattle.cp_tree.specs.declared.declaration.SystemKind.{SystemKind}
+use Rattle.cp_tree.specs.declared.declaration.SystemKind.TheVariants as system_kind
 use Rattle.cp_tree.specs.Syntax.{Program}
 use Rattle.cp_meaning.specs.Outcome.{ErrorName, init_twice}
 use Rattle.cp_meaning.specs.Systems.{SystemMeaning, system_of}
-use Rattle.cp_meaning.specs.State.{Environment, Component, component_at, own_statement, Call, end, Status, unstarted, ready, at_gate, delayed, ended, Process, process_at, Gates, first_gates, any_gates, Shown, State, is_inside}
+use Rattle.cp_meaning.specs.State.{Environment, Component, component_at, own_statement, Call, Item, end, Status, unstarted, ready, at_gate, delayed, ended, Process, process_at, Gates, first_gates, any_gates, Signals, return_signals, continue_signals, wait_signals, Shown, State, has_entry, is_inside}
 use Rattle.cp_meaning.specs.Lifting.{items_of_all}
 use Rattle.cp_meaning.specs.Places.{with_permanents}
 use Rattle.cp_meaning.specs.Move.{Move, stays, enters, leaves, delays, continues, starts, shows, ends, Doing}
@@ -100,12 +102,54 @@ abbrev pub is_delayed_in : ℕ → Status → Bool
 is_delayed_in m (delayed n) = n == m
 is_delayed_in m status = false
 
--- continue: the process that waits in the queue is ready and inside; else the line is let in. The test is a guard. An accepted program always passes it:
--- a queue is a variable of one monitor (C11), no parameter (C15) and never assigned (C6), and `delay` and `continue` stand in that monitor (C12); so it
--- has the number of a process exactly while that process is delayed in the monitor.
+-- ---- continue, by the discipline with which the state was started
+-- Each asks whether who waited in the queue is delayed in the monitor. The test is a guard. An accepted program always passes it: a queue is a variable of
+-- one monitor (C11), no parameter (C15) and never assigned (C6), and `delay` and `continue` stand in that monitor (C12); so it has the number of a process
+-- exactly while that process is delayed in the monitor.
+
+abbrev pub is_monitor : SystemKind → Bool
+is_monitor system_kind.Monitor = true
+is_monitor kind = false
+
+-- the guard of those disciplines by which somebody comes to the gate
+abbrev pub waits_inside : State → ℕ → ℕ → Bool
+waits_inside s m r =
+    is_monitor (component_at s.components m).kind && has_entry m (process_at s.processes r).calls && is_delayed_in m (process_at s.processes r).status
+
+-- the caller has returned: who waited is ready and inside; else the line is let in
 abbrev pub continuing : State → ℕ → Option ℕ → State
-continuing s m None = let_in s.gates s m
-continuing s m (Some r) = if is_delayed_in m (process_at s.processes r).status then made_ready s r else let_in s.gates s m
+continuing s m None = let_in s.discipline.gates s m
+continuing s m (Some r) = if is_delayed_in m (process_at s.processes r).status then made_ready s r else let_in s.discipline.gates s m
+
+-- q comes to the end of the line at the gate
+abbrev pub at_gate_last : State → ℕ → ℕ → State
+at_gate_last s m q = with_line_of (with_processes s (slice_set s.processes q (with_process_status (process_at s.processes q) (at_gate m)))) m (line_of s m ++ q ∷ [])
+
+-- the caller goes on: who waited comes to the end of the line
+abbrev pub notifying : State → ℕ → Option ℕ → State
+notifying s m None = s
+notifying s m (Some r) = if waits_inside s m r then at_gate_last s m r else s
+
+-- the caller waits at the gate, as the first of the line
+abbrev pub at_gate_first : State → ℕ → ℕ → Doing → State
+at_gate_first s pid m d = let t = moved_to (at_gate m) s pid d in with_line_of t m (pid ∷ line_of t m)
+
+-- who waited is ready and inside, and the caller waits until it is let in; where nobody waited, the caller goes on
+abbrev pub yielding : State → ℕ → ℕ → Doing → Option ℕ → State
+yielding s pid m d None = moved_to ready s pid d
+yielding s pid m d (Some r) =
+    if waits_inside s m r
+    then made_ready (at_gate_first s pid m d) r
+    else moved_to ready s pid d
+
+-- the caller as it is where it goes on
+abbrev pub going_on : Doing → List Call → List Item → Doing
+going_on d calls items = record d { calls = calls; items = items }
+
+abbrev pub signalling : Signals → State → ℕ → Doing → ℕ → Option ℕ → List Call → List Item → State
+signalling return_signals s pid d m o calls items = continuing (moved_to ready s pid d) m o
+signalling continue_signals s pid d m o calls items = notifying (moved_to ready s pid (going_on d calls items)) m o
+signalling wait_signals s pid d m o calls items = yielding s pid m (going_on d calls items) o
 
 -- the number after this one, if there is one
 abbrev pub after : Option ℕ → Option ℕ
@@ -158,9 +202,9 @@ displaying false s pid d x =
 abbrev pub kernel_step : Program → State → ℕ → Doing → Move → Stepped
 kernel_step p s pid d stays = record { state = moved_to ready s pid d; event = local_event }
 kernel_step p s pid d (enters m) = record { state = entering (is_anybody_inside m s.processes) s pid m d; event = enter_event }
-kernel_step p s pid d (leaves m) = record { state = let_in s.gates (moved_to ready s pid d) m; event = leave_event }
-kernel_step p s pid d (delays m) = record { state = let_in s.gates (moved_to (delayed m) s pid d) m; event = delay_event }
-kernel_step p s pid d (continues m o) = record { state = continuing (moved_to ready s pid d) m o; event = continue_event }
+kernel_step p s pid d (leaves m) = record { state = let_in s.discipline.gates (moved_to ready s pid d) m; event = leave_event }
+kernel_step p s pid d (delays m) = record { state = let_in s.discipline.gates (moved_to (delayed m) s pid d) m; event = delay_event }
+kernel_step p s pid d (continues m o calls items) = record { state = signalling s.discipline.signals s pid d m o calls items; event = continue_event }
 kernel_step p s pid d (starts c e) = starting p s pid d (process_of c (moved_to ready s pid d).processes) c e
 kernel_step p s pid d (shows x) = displaying (length s.output == output_room) s pid d x
 kernel_step p s pid d ends = record { state = moved_to ended s pid d; event = ended_event }

@@ -85,11 +85,11 @@ after_return [] = []
 after_return (return o ∷ items) = items
 after_return (i ∷ items) = after_return items
 
--- the entry procedure returns at once; what waited in the queue goes on
+-- nobody waits in the queue any more; the calls and items are those after the return, and the kernel has those of a caller that goes on
 abbrev pub continued_from : View → CallKind → List Item → Place → Doing
 continued_from v entry_routine items q =
     let u = stored v q (queue_value None) in
-    record { calls = callers u.calls; items = after_return items; components = u.components; move = continues (this_component v) (waiting_in (value_at v q)) }
+    record { calls = callers u.calls; items = after_return items; components = u.components; move = continues (this_component v) (waiting_in (value_at v q)) u.calls items }
 continued_from v kind items q = passed_over v items
 
 -- `display`: the value and its base go to the output

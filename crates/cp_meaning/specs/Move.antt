@@ -8,9 +8,10 @@ pub data Move : Type 0 where
   -- to a monitor's gate; out of a monitor
   enters : ℕ → Move
   leaves : ℕ → Move
-  -- in a queue of the monitor; what waited in the queue goes on
+  -- in a queue of the monitor
   delays : ℕ → Move
-  continues : ℕ → Option ℕ → Move
+  -- a continue in the monitor: who waits in the queue, and the calls and items of the caller where it goes on; the item itself is one after which it has returned
+  continues : ℕ → Option ℕ → List Call → List Item → Move
   -- a process with its parameters
   starts : ℕ → Environment → Move
   shows : Shown → Move

@@ -2,7 +2,7 @@
 use Rattle.std.specs.Prelude.{◌≡◌, ℕ, ◌<◌, length, Some, None, true}
 use Rattle.cp_tree.specs.Syntax.{Program}
 use Rattle.cp_meaning.specs.Values.{is_member}
-use Rattle.cp_meaning.specs.State.{ready, process_at, Gates, State}
+use Rattle.cp_meaning.specs.State.{ready, process_at, Discipline, State}
 use Rattle.cp_meaning.specs.Kernel.{line_of}
 use Rattle.cp_meaning.specs.Steps.{opening, step_of, admitted, IsReached}
 use Rattle.cp_meaning.specs.Ownership.{IsLawful, ChangesHeld, OthersKept, VariablesKept}
@@ -10,7 +10,7 @@ use Rattle.cp_meaning.specs.WellFormed.{IsWellFormed}
 
 -- The opening state is lawful, and each step and admission leads from a reached state that is lawful to a lawful one.
 -- From a lawful state, whether it is reached or not, a step changes only what is held, but for the parameters that a start binds, and an admission changes no variable.
-pub record Ownership (p : Program) (g : Gates) : Type 0 where
+pub record Ownership (p : Program) (g : Discipline) : Type 0 where
   pub opening_lawful : IsLawful (opening p g)
   pub steps_lawful : (s : State) (pid : ℕ) → IsReached p g s → IsLawful s → s.pending ≡ None → pid < length s.processes → (process_at s.processes pid).status ≡ ready → IsLawful (step_of p s pid).state
   pub admissions_lawful : (s : State) (m q : ℕ) → IsReached p g s → IsLawful s → s.pending ≡ Some m → is_member q (line_of s m) ≡ true → IsLawful (admitted s q)
@@ -20,4 +20,4 @@ pub record Ownership (p : Program) (g : Gates) : Type 0 where
 
 -- for every well-formed program, under both gates
 abbrev pub OwnershipLaw : Type 0
-OwnershipLaw = (p : Program) → IsWellFormed p → (g : Gates) → Ownership p g
+OwnershipLaw = (p : Program) → IsWellFormed p → (g : Discipline) → Ownership p g

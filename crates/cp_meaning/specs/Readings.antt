@@ -4,7 +4,7 @@ use Rattle.cp_tree.specs.declared.declaration.SystemKind.{SystemKind}
 use Rattle.cp_tree.specs.declared.declaration.SystemKind.TheVariants as system_kind
 use Rattle.cp_tree.specs.Syntax.{Program}
 use Rattle.cp_meaning.specs.Values.{is_member, counted_from}
-use Rattle.cp_meaning.specs.State.{Component, component_at, Status, ready, at_gate, delayed, Process, process_at, Gates, State, is_inside}
+use Rattle.cp_meaning.specs.State.{Component, component_at, Status, ready, at_gate, delayed, Process, process_at, Discipline, State, is_inside}
 use Rattle.cp_meaning.specs.Kernel.{line_of, after}
 use Rattle.cp_meaning.specs.Steps.{IsReached}
 use Rattle.cp_meaning.specs.WellFormed.{IsWellFormed}
@@ -64,5 +64,5 @@ monitors_of s = monitors_from 0 s.components
 -- whoever is inside a monitor is its holder
 abbrev pub HolderLaw : Type 0
 HolderLaw =
-    (p : Program) → IsWellFormed p → (g : Gates) (s : State) → IsReached p g s → (m q : ℕ) → (component_at s.components m).kind ≡ system_kind.Monitor →
+    (p : Program) → IsWellFormed p → (g : Discipline) (s : State) → IsReached p g s → (m q : ℕ) → (component_at s.components m).kind ≡ system_kind.Monitor →
     q < length s.processes → is_inside m (process_at s.processes q) ≡ true → holder_of s m ≡ Some q

@@ -103,6 +103,25 @@ pub data Gates : Type 0 where
   first_gates : Gates
   any_gates : Gates
 
+-- who goes on after a continue: who was resumed, and the caller returns; the caller; who was resumed, and the caller waits at the gate
+pub data Signals : Type 0 where
+  return_signals : Signals
+  continue_signals : Signals
+  wait_signals : Signals
+
+-- the rules by which processes go into a monitor and on in it
+pub record Discipline : Type 0 where
+  pub gates : Gates
+  pub signals : Signals
+
+-- the book's continue, with gates of either kind
+abbrev pub by_gates : Gates → Discipline
+by_gates g = record { gates = g; signals = return_signals }
+
+-- the book's continue, and the line in the order in which it came
+abbrev pub book_discipline : Discipline
+book_discipline = by_gates first_gates
+
 -- a displayed value
 pub record Shown : Type 0 where
   pub base : Base
@@ -113,7 +132,7 @@ pub record State : Type 0 where
   pub processes : List Process
   pub components : List Component
   pub output : List Shown
-  pub gates : Gates
+  pub discipline : Discipline
   pub pending : Option ℕ
 
 abbrev pub no_component : Component

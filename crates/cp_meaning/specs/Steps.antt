@@ -8,7 +8,7 @@ use Rattle.cp_meaning.specs.Values.{is_member}
 use Rattle.cp_meaning.specs.Declarations.{Variable, Parameter}
 use Rattle.cp_meaning.specs.Systems.{SystemMeaning, system_of}
 use Rattle.cp_meaning.specs.Components.{Listed, components_of}
-use Rattle.cp_meaning.specs.State.{Environment, uninitialised, Component, Item, statement_item, function_call, start_item, until, successor, return, init_end, end, unstarted, ready, Process, process_at, Gates, State}
+use Rattle.cp_meaning.specs.State.{Environment, uninitialised, Component, Item, statement_item, function_call, start_item, until, successor, return, init_end, end, unstarted, ready, Process, process_at, Discipline, State}
 use Rattle.cp_meaning.specs.Places.{View}
 use Rattle.cp_meaning.specs.Calls.{least_of}
 use Rattle.cp_meaning.specs.Move.{Doing}
@@ -60,8 +60,8 @@ abbrev pub first_components : Program → List Component
 first_components p = map (first_component p) (components_of p)
 
 -- the state in which a run begins: process 0 is ready, all others are unstarted
-abbrev pub opening : Program → Gates → State
-opening p g = record { processes = own_begun p (first_components p) (processes_from 0 (first_components p)); components = first_components p; output = []; gates = g; pending = None }
+abbrev pub opening : Program → Discipline → State
+opening p g = record { processes = own_begun p (first_components p) (processes_from 0 (first_components p)); components = first_components p; output = []; discipline = g; pending = None }
 
 -- ---- one step
 
@@ -136,7 +136,7 @@ admitted s q = admitted_to s.pending s q
 -- ---- reached states
 
 -- the opening state, what steps of ready processes and admissions lead to, and all of these without what was displayed
-pub data IsReached (p : Program) (g : Gates) : State → Type 0 where
+pub data IsReached (p : Program) (g : Discipline) : State → Type 0 where
   at_first : IsReached p g (opening p g)
   by_step : (s : State) (pid : ℕ) → IsReached p g s → s.pending ≡ None → pid < length s.processes → (process_at s.processes pid).status ≡ ready → IsReached p g (step_of p s pid).state
   by_admission : (s : State) (m q : ℕ) → IsReached p g s → s.pending ≡ Some m → is_member q (line_of s m) ≡ true → IsReached p g (admitted s q)

@@ -1,7 +1,7 @@
 -- What is added to a frontier of the code arrives at the front that it stands for.
 use Rattle.std.proofs.Common.{◌≡◌, ◌∙◌, inl, inr, ◌+◌, ◌<◌, ◌≤◌, ℕ, Bool, true, false, cond, if◌then◌else◌, List, [], ◌∷◌, ◌++◌, length, map, Some, refl, sym, ap, subst, arith}
 use Rattle.std.specs.Prelude.{nat_eq, IfSome, IfOk, Result, Ok, Err, ◌^◌}
-use Rattle.cp_merged.proofs.Words.{lookup, length-map, Tables, Machine, machine_of, output_of, IsStateOf, Gates, slots, node_of, Node, may, chosen, OutcomeKind, Halt}
+use Rattle.cp_merged.proofs.Words.{lookup, length-map, Tables, Machine, machine_of, output_of, IsStateOf, Discipline, slots, node_of, Node, may, chosen, OutcomeKind, Halt}
 use Rattle.cp_merged.proofs.Words.{State, IsMachineOf, IsRowOf, KeepParts, Store, row_on, Tally, same_outcome, keyed, end_of, EndKey, StateRow, nat_list_eq_equiv}
 use lib.Pointwise.{pointwise}
 use Rattle.cp_run.specs.declared.outcome.Halt.TheVariants.{Choice, Ended as HasEnded}
@@ -152,22 +152,22 @@ counts_small f n l = omega (arith, l)
 pub words_small : (f : Front Machine) (n : ℕ) → total f + n < 10 ^ 126 → words_of f.layer + n < 10 ^ 126
 words_small f n l = omega (arith, l)
 
-pub ended_holds : {A E : Type 0} (q : Result A E) (s new_s : Store) (es new_es : List (EndKey × code.Prefixes)) (ss new_ss : List (StateRow × code.Prefixes)) (kind : OutcomeKind) (x : code.Prefixes) (state : State) (halt : Halt OutcomeKind) → halt ≡ HasEnded kind → new_s ≡ s → new_ss ≡ ss → IfOk q (λ _. (ts : List Tally) → AreEnds es ts → AreEnds new_es (with_tally same_outcome ts (record { first = record { word = x.first.items; outcome = record { kind = kind; output = output_of (machine_of state) } }; count = x.count }))) → IfOk q (λ _. (r : Tables) (gates : Gates) (f : Front Machine) → IsStateOf r state → Holds r s es ss f → Holds r new_s new_es new_ss (arrived (slots r gates) same_outcome same_key x.first.items x.count (node_of halt (machine_of state)) f))
+pub ended_holds : {A E : Type 0} (q : Result A E) (s new_s : Store) (es new_es : List (EndKey × code.Prefixes)) (ss new_ss : List (StateRow × code.Prefixes)) (kind : OutcomeKind) (x : code.Prefixes) (state : State) (halt : Halt OutcomeKind) → halt ≡ HasEnded kind → new_s ≡ s → new_ss ≡ ss → IfOk q (λ _. (ts : List Tally) → AreEnds es ts → AreEnds new_es (with_tally same_outcome ts (record { first = record { word = x.first.items; outcome = record { kind = kind; output = output_of (machine_of state) } }; count = x.count }))) → IfOk q (λ _. (r : Tables) (discipline : Discipline) (f : Front Machine) → IsStateOf r state → Holds r s es ss f → Holds r new_s new_es new_ss (arrived (slots r discipline) same_outcome same_key x.first.items x.count (node_of halt (machine_of state)) f))
 ended_holds (Err e) s new_s es new_es ss new_ss kind x state halt is store same go = tt
-ended_holds (Ok u) s new_s es new_es ss new_ss kind x state halt is store same go = λ r gates f own h.
-    subst (λ (y : Halt OutcomeKind). Holds r new_s new_es new_ss (arrived (slots r gates) same_outcome same_key x.first.items x.count (node_of y (machine_of state)) f)) (sym is)
+ended_holds (Ok u) s new_s es new_es ss new_ss kind x state halt is store same go = λ r discipline f own h.
+    subst (λ (y : Halt OutcomeKind). Holds r new_s new_es new_ss (arrived (slots r discipline) same_outcome same_key x.first.items x.count (node_of y (machine_of state)) f)) (sym is)
     (record { ended = go f.ended h.ended; layer = subst (λ (t : Store). AreLeads r t new_ss f.layer) (sym store) (subst (λ (l : List (StateRow × code.Prefixes)). AreLeads r s l f.layer) (sym same) h.layer) })
 
-pub waits_holds : {A E : Type 0} (q : Result A E) (s new_s : Store) (es new_es : List (EndKey × code.Prefixes)) (ss new_ss : List (StateRow × code.Prefixes)) (x : code.Prefixes) (state : State) (halt : Halt OutcomeKind) → halt ≡ Choice → new_es ≡ es → IfOk q (λ _. (r : Tables) (xs : List (Lead Machine)) → IsStateOf r state → AreLeads r s ss xs → AreLeads r new_s new_ss (with_lead same_key xs (record { state = machine_of state; first = x.first.items; count = x.count }))) → IfOk q (λ _. (r : Tables) (gates : Gates) (f : Front Machine) → IsStateOf r state → Holds r s es ss f → Holds r new_s new_es new_ss (arrived (slots r gates) same_outcome same_key x.first.items x.count (node_of halt (machine_of state)) f))
+pub waits_holds : {A E : Type 0} (q : Result A E) (s new_s : Store) (es new_es : List (EndKey × code.Prefixes)) (ss new_ss : List (StateRow × code.Prefixes)) (x : code.Prefixes) (state : State) (halt : Halt OutcomeKind) → halt ≡ Choice → new_es ≡ es → IfOk q (λ _. (r : Tables) (xs : List (Lead Machine)) → IsStateOf r state → AreLeads r s ss xs → AreLeads r new_s new_ss (with_lead same_key xs (record { state = machine_of state; first = x.first.items; count = x.count }))) → IfOk q (λ _. (r : Tables) (discipline : Discipline) (f : Front Machine) → IsStateOf r state → Holds r s es ss f → Holds r new_s new_es new_ss (arrived (slots r discipline) same_outcome same_key x.first.items x.count (node_of halt (machine_of state)) f))
 waits_holds (Err e) s new_s es new_es ss new_ss x state halt is same go = tt
-waits_holds (Ok u) s new_s es new_es ss new_ss x state halt is same go = λ r gates f own h.
-    subst (λ (y : Halt OutcomeKind). Holds r new_s new_es new_ss (arrived (slots r gates) same_outcome same_key x.first.items x.count (node_of y (machine_of state)) f)) (sym is)
+waits_holds (Ok u) s new_s es new_es ss new_ss x state halt is same go = λ r discipline f own h.
+    subst (λ (y : Halt OutcomeKind). Holds r new_s new_es new_ss (arrived (slots r discipline) same_outcome same_key x.first.items x.count (node_of y (machine_of state)) f)) (sym is)
     (record { ended = subst (λ (l : List (EndKey × code.Prefixes)). AreEnds l f.ended) (sym same) h.ended; layer = go r f.layer own h.layer })
 
 -- words go one choice on
-pub choice_holds : {A E : Type 0} (q : Result A E) (r : Tables) (gates : Gates) (steps : ℕ) (s new_s : Store) (es new_es : List (EndKey × code.Prefixes)) (ss new_ss : List (StateRow × code.Prefixes)) (m : Machine) (word longer : List ℕ) (count p : ℕ) (node : Node Machine) → may (slots r gates) m p ≡ true → chosen (slots r gates) steps m p ≡ node → longer ≡ word ++ p ∷ [] → IfOk q (λ _. (f : Front Machine) → Holds r s es ss f → Holds r new_s new_es new_ss (arrived (slots r gates) same_outcome same_key longer count node f)) → IfOk q (λ _. (f : Front Machine) → Holds r s es ss f → Holds r new_s new_es new_ss (after_choice (slots r gates) same_outcome same_key steps (record { state = m; first = word; count = count }) p f))
-choice_holds (Err e) r gates steps s new_s es new_es ss new_ss m word longer count p node is to long go = tt
-choice_holds (Ok u) r gates steps s new_s es new_es ss new_ss m word longer count p node is to long go = λ f h.
-    subst (λ (b : Bool). Holds r new_s new_es new_ss (if b then arrived (slots r gates) same_outcome same_key (word ++ p ∷ []) count (chosen (slots r gates) steps m p) f else f)) (sym is)
-    (subst (λ (n : Node Machine). Holds r new_s new_es new_ss (arrived (slots r gates) same_outcome same_key (word ++ p ∷ []) count n f)) (sym to)
-    (subst (λ (w : List ℕ). Holds r new_s new_es new_ss (arrived (slots r gates) same_outcome same_key w count node f)) long (go f h)))
+pub choice_holds : {A E : Type 0} (q : Result A E) (r : Tables) (discipline : Discipline) (steps : ℕ) (s new_s : Store) (es new_es : List (EndKey × code.Prefixes)) (ss new_ss : List (StateRow × code.Prefixes)) (m : Machine) (word longer : List ℕ) (count p : ℕ) (node : Node Machine) → may (slots r discipline) m p ≡ true → chosen (slots r discipline) steps m p ≡ node → longer ≡ word ++ p ∷ [] → IfOk q (λ _. (f : Front Machine) → Holds r s es ss f → Holds r new_s new_es new_ss (arrived (slots r discipline) same_outcome same_key longer count node f)) → IfOk q (λ _. (f : Front Machine) → Holds r s es ss f → Holds r new_s new_es new_ss (after_choice (slots r discipline) same_outcome same_key steps (record { state = m; first = word; count = count }) p f))
+choice_holds (Err e) r discipline steps s new_s es new_es ss new_ss m word longer count p node is to long go = tt
+choice_holds (Ok u) r discipline steps s new_s es new_es ss new_ss m word longer count p node is to long go = λ f h.
+    subst (λ (b : Bool). Holds r new_s new_es new_ss (if b then arrived (slots r discipline) same_outcome same_key (word ++ p ∷ []) count (chosen (slots r discipline) steps m p) f else f)) (sym is)
+    (subst (λ (n : Node Machine). Holds r new_s new_es new_ss (arrived (slots r discipline) same_outcome same_key (word ++ p ∷ []) count n f)) (sym to)
+    (subst (λ (w : List ℕ). Holds r new_s new_es new_ss (arrived (slots r discipline) same_outcome same_key w count node f)) long (go f h)))

@@ -1,6 +1,6 @@
 -- A layer in the making: the front so far, and the leads that are still to go on.
 use Rattle.std.proofs.Common.{◌≡◌, ◌∙◌, ◌+◌, ◌*◌, ◌^◌, ◌<◌, ◌≤◌, lit<, ℕ, suc, List, [], ◌∷◌, length, map, refl, sym, ap, subst, arith}
-use Rattle.cp_merged.proofs.Words.{pow-le-pow_right, length-map, Tables, Machine, output_of, Shown, ChoiceLimit, Gates, slots, processes_of, IsMachineOf, IsRowOf}
+use Rattle.cp_merged.proofs.Words.{pow-le-pow_right, length-map, Tables, Machine, output_of, Shown, ChoiceLimit, Discipline, slots, processes_of, IsMachineOf, IsRowOf}
 use Rattle.cp_merged.proofs.Words.{KeepParts, Store, Tally, same_outcome, Lead, Front, after_choices, after_layer, at_limit, with_tally, front_at, by_layers, keyed}
 use Rattle.cp_merged.proofs.Words.{same_key, AreLeadsTo, AreLeads, AreEnds, Holds, words_of, counts, total, HasTooManyStates, EndKey, StateRow}
 use Rattle.std.specs.List.{AllByRecursion as Each}
@@ -55,9 +55,9 @@ limit_tally x = limited x.first (output_of x.state) x.count
 limit_same : (word : List ℕ) (output : List Shown) (count : ℕ) (x : Lead Machine) → word ≡ x.first → output ≡ output_of x.state → count ≡ x.count → limited word output count ≡ limit_tally x
 limit_same word output count x a b c = ap (λ w. limited w output count) a ∙ ap (λ o. limited x.first o count) b ∙ ap (λ k. limited x.first (output_of x.state) k) c
 
-module _ (r : Tables) (gates : Gates) (steps : ℕ) where
+module _ (r : Tables) (discipline : Discipline) (steps : ℕ) where
   abbrev made : ℕ → Front Machine
-  made d = front_at (slots r gates) same_outcome same_key steps d
+  made d = front_at (slots r discipline) same_outcome same_key steps d
 
   -- while layer d + 1 is made
   pub record Making (d : ℕ) (store : Store) (ends : List (EndKey × code.Prefixes)) (states rest : List (StateRow × code.Prefixes)) : Type 0 where
@@ -65,11 +65,11 @@ module _ (r : Tables) (gates : Gates) (steps : ℕ) where
     pub leads : List (Lead Machine)
     pub holds : Holds r store ends states front
     pub left : AreLeads r store rest leads
-    pub comes : after_layer (slots r gates) same_outcome same_key steps leads front ≡ made (d + 1)
+    pub comes : after_layer (slots r discipline) same_outcome same_key steps leads front ≡ made (d + 1)
     pub small : total front + 16 * words_of leads < 10 ^ 126
-    pub sound : IsFrontOf (slots r gates) same_outcome exact_outcomes same_key key_sound steps (suc d) front
-    pub lead : Each (IsLead (slots r gates) same_outcome exact_outcomes same_key key_sound steps d) leads
-    pub once : OneEach (slots r gates) same_outcome exact_outcomes same_key key_sound steps front.layer
+    pub sound : IsFrontOf (slots r discipline) same_outcome exact_outcomes same_key key_sound steps (suc d) front
+    pub lead : Each (IsLead (slots r discipline) same_outcome exact_outcomes same_key key_sound steps d) leads
+    pub once : OneEach (slots r discipline) same_outcome exact_outcomes same_key key_sound steps front.layer
 
   lead_same : (t : Machine) (w : List ℕ) (n : ℕ) (x : Lead Machine) → t ≡ x.state → w ≡ x.first → n ≡ x.count → record { state = t; first = w; count = n } ≡ x
   lead_same t w n x a b c = ap (λ s. lead_of s w n) a ∙ ap (λ v. lead_of x.state v n) b ∙ ap (λ k. lead_of x.state x.first k) c
@@ -82,7 +82,7 @@ module _ (r : Tables) (gates : Gates) (steps : ℕ) where
 
   small_at : (d : ℕ) → processes_of r ≤ 16 → d < 100 → counts (made d).ended + 0 + 16 * words_of (made d).layer < 10 ^ 126
   small_at d few l =
-      let t = total_at (slots r gates) same_outcome same_key steps few d in
+      let t = total_at (slots r discipline) same_outcome same_key steps few d in
       let p : 16 ^ suc d ≤ 16 ^ 100 = pow-le-pow_right {n = 16} (omega arith) {i = suc d} {j = 100} (omega (arith, l)) in
       let e : 16 ^ suc d ≡ 16 * 16 ^ d = grind arith in
       let b = below in
@@ -91,7 +91,7 @@ module _ (r : Tables) (gates : Gates) (steps : ℕ) where
   pub making_start : (d : ℕ) (store : Store) (ends : List (EndKey × code.Prefixes)) (states es : List (StateRow × code.Prefixes)) → processes_of r ≤ 16 → d < 100 → AreLeads r store es (made d).layer → Holds r store ends states (record { ended = (made d).ended; layer = [] }) → Making d store ends states es
   unfolding front_at
   making_start d store ends states es few l left holds =
-      let sound = is_front (slots r gates) same_outcome exact_outcomes same_key key_sound steps d in
+      let sound = is_front (slots r discipline) same_outcome exact_outcomes same_key key_sound steps d in
       record {
         front = record { ended = (made d).ended; layer = [] };
         leads = (made d).layer;
@@ -99,7 +99,7 @@ module _ (r : Tables) (gates : Gates) (steps : ℕ) where
         left = left;
         comes = ap made (next d);
         small = small_at d few l;
-        sound = (ends_later (slots r gates) same_outcome exact_outcomes same_key key_sound steps d (made d).ended sound.0, tt);
+        sound = (ends_later (slots r discipline) same_outcome exact_outcomes same_key key_sound steps d (made d).ended sound.0, tt);
         lead = sound.1;
         once = tt;
       }
@@ -110,34 +110,34 @@ module _ (r : Tables) (gates : Gates) (steps : ℕ) where
   pub making_next : (d : ℕ) (store : Store) (ends : List (EndKey × code.Prefixes)) (states es : List (StateRow × code.Prefixes)) (e : StateRow × code.Prefixes) (m : Making d store ends states (e ∷ es)) → IsNext r store e es m.leads
   making_next d store ends states es e m = next_lead r store e es m.leads m.left
 
-  pub making_more : (d : ℕ) (store new_store : Store) (ends new_ends : List (EndKey × code.Prefixes)) (states new_states es : List (StateRow × code.Prefixes)) (e : StateRow × code.Prefixes) (m : Making d store ends states (e ∷ es)) (t : Machine) → processes_of r ≤ 16 → KeepParts store new_store → t ≡ (making_next d store ends states es e m).lead.state → ((f : Front Machine) → Holds r store ends states f → Holds r new_store new_ends new_states (after_choices (slots r gates) same_outcome same_key steps (record { state = t; first = e.1.first.items; count = e.1.count }) (processes_of r) f)) → Making d new_store new_ends new_states es
+  pub making_more : (d : ℕ) (store new_store : Store) (ends new_ends : List (EndKey × code.Prefixes)) (states new_states es : List (StateRow × code.Prefixes)) (e : StateRow × code.Prefixes) (m : Making d store ends states (e ∷ es)) (t : Machine) → processes_of r ≤ 16 → KeepParts store new_store → t ≡ (making_next d store ends states es e m).lead.state → ((f : Front Machine) → Holds r store ends states f → Holds r new_store new_ends new_states (after_choices (slots r discipline) same_outcome same_key steps (record { state = t; first = e.1.first.items; count = e.1.count }) (processes_of r) f)) → Making d new_store new_ends new_states es
   unfolding making_next
   making_more d store new_store ends new_ends states new_states es e m t few kept at go =
       let n = next_lead r store e es m.leads m.left in
-      let here = subst (Each (IsLead (slots r gates) same_outcome exact_outcomes same_key key_sound steps d)) n.is m.lead in
-      let after = total_choices (slots r gates) same_outcome same_key steps n.lead (processes_of r) m.front in
+      let here = subst (Each (IsLead (slots r discipline) same_outcome exact_outcomes same_key key_sound steps d)) n.is m.lead in
+      let after = total_choices (slots r discipline) same_outcome same_key steps n.lead (processes_of r) m.front in
       let words = ap words_of n.is in
       let few16 = fewer (processes_of r) 16 n.lead.count few in
       let old = m.small in
       record {
-        front = after_choices (slots r gates) same_outcome same_key steps n.lead (processes_of r) m.front;
+        front = after_choices (slots r discipline) same_outcome same_key steps n.lead (processes_of r) m.front;
         leads = n.rest;
-        holds = subst (λ x. Holds r new_store new_ends new_states (after_choices (slots r gates) same_outcome same_key steps x (processes_of r) m.front)) (lead_same t e.1.first.items e.1.count n.lead at n.first n.count) (go m.front m.holds);
+        holds = subst (λ x. Holds r new_store new_ends new_states (after_choices (slots r discipline) same_outcome same_key steps x (processes_of r) m.front)) (lead_same t e.1.first.items e.1.count n.lead at n.first n.count) (go m.front m.holds);
         left = leads_on r store new_store (map keyed es) n.rest kept n.left;
-        comes = ap (λ xs. after_layer (slots r gates) same_outcome same_key steps xs m.front) (sym n.is) ∙ m.comes;
+        comes = ap (λ xs. after_layer (slots r discipline) same_outcome same_key steps xs m.front) (sym n.is) ∙ m.comes;
         small = omega (arith, after, words, few16, old);
-        sound = front_choices (slots r gates) same_outcome exact_outcomes same_key key_sound steps d n.lead (processes_of r) m.front here.0 m.sound;
+        sound = front_choices (slots r discipline) same_outcome exact_outcomes same_key key_sound steps d n.lead (processes_of r) m.front here.0 m.sound;
         lead = here.1;
-        once = once_choices (slots r gates) same_outcome exact_outcomes same_key key_sound steps n.lead (processes_of r) m.front m.once;
+        once = once_choices (slots r discipline) same_outcome exact_outcomes same_key key_sound steps n.lead (processes_of r) m.front m.once;
       }
 
   pub making_done : (d : ℕ) (store : Store) (ends : List (EndKey × code.Prefixes)) (states : List (StateRow × code.Prefixes)) → Making d store ends states [] → Holds r store ends states (made (d + 1))
-  making_done d store ends states m = subst (Holds r store ends states) (ap (λ xs. after_layer (slots r gates) same_outcome same_key steps xs m.front) (sym (no_lead r store m.leads m.left)) ∙ m.comes) m.holds
+  making_done d store ends states m = subst (Holds r store ends states) (ap (λ xs. after_layer (slots r discipline) same_outcome same_key steps xs m.front) (sym (no_lead r store m.leads m.left)) ∙ m.comes) m.holds
 
-  pub making_many : (d most : ℕ) (store : Store) (ends : List (EndKey × code.Prefixes)) (states left : List (StateRow × code.Prefixes)) → most < length states → Making d store ends states left → HasTooManyStates (slots r gates) steps most (d + 1)
+  pub making_many : (d most : ℕ) (store : Store) (ends : List (EndKey × code.Prefixes)) (states left : List (StateRow × code.Prefixes)) → most < length states → Making d store ends states left → HasTooManyStates (slots r discipline) steps most (d + 1)
   making_many d most store ends states left l m =
       let n = leads_length r store states m.front.layer m.holds.layer in
-      subst (HasTooManyStates (slots r gates) steps most) (next d) (states_many (slots r gates) same_outcome exact_outcomes same_key key_sound key_own steps most (suc d) m.front.layer (omega (arith, l, n)) m.sound.1 m.once)
+      subst (HasTooManyStates (slots r discipline) steps most) (next d) (states_many (slots r discipline) same_outcome exact_outcomes same_key key_sound key_own steps most (suc d) m.front.layer (omega (arith, l, n)) m.sound.1 m.once)
     where
       next : (n : ℕ) → suc n ≡ n + 1
       next n = omega arith
@@ -145,7 +145,7 @@ module _ (r : Tables) (gates : Gates) (steps : ℕ) where
   pub making_room : (d : ℕ) (store : Store) (ends : List (EndKey × code.Prefixes)) (states es : List (StateRow × code.Prefixes)) (e : StateRow × code.Prefixes) → d < 100 → Making d store ends states (e ∷ es) → length e.1.first.items < 100
   making_room d store ends states es e l m =
       let n = next_lead r store e es m.leads m.left in
-      let here = subst (Each (IsLead (slots r gates) same_outcome exact_outcomes same_key key_sound steps d)) n.is m.lead in
+      let here = subst (Each (IsLead (slots r discipline) same_outcome exact_outcomes same_key key_sound steps d)) n.is m.lead in
       let size = here.0.0 in
       let same = ap length n.first in
       omega (arith, l, size, same)
@@ -165,14 +165,14 @@ module _ (r : Tables) (gates : Gates) (steps : ℕ) where
     pub leads : List (Lead Machine)
     pub ended : AreEnds ends tallies
     pub left : AreLeads r store rest leads
-    pub comes : at_limit (slots r gates) same_outcome leads tallies ≡ by_layers (slots r gates) same_outcome same_key choices steps
+    pub comes : at_limit (slots r discipline) same_outcome leads tallies ≡ by_layers (slots r discipline) same_outcome same_key choices steps
     pub small : counts tallies + words_of leads < 10 ^ 126
-    pub lead : Each (IsLead (slots r gates) same_outcome exact_outcomes same_key key_sound steps choices) leads
+    pub lead : Each (IsLead (slots r discipline) same_outcome exact_outcomes same_key key_sound steps choices) leads
 
   pub ending_start : (choices : ℕ) (store : Store) (ends : List (EndKey × code.Prefixes)) (es : List (StateRow × code.Prefixes)) → processes_of r ≤ 16 → choices ≤ 100 → AreLeads r store es (made choices).layer → AreEnds ends (made choices).ended → Ending choices store ends es
   unfolding by_layers
   ending_start choices store ends es few l left ended =
-      let t = total_at (slots r gates) same_outcome same_key steps few choices in
+      let t = total_at (slots r discipline) same_outcome same_key steps few choices in
       let p : 16 ^ choices ≤ 16 ^ 100 = pow-le-pow_right {n = 16} (omega arith) {i = choices} {j = 100} l in
       let b = below in
       record {
@@ -182,7 +182,7 @@ module _ (r : Tables) (gates : Gates) (steps : ℕ) where
         left = left;
         comes = refl;
         small = omega (arith, t, p, b);
-        lead = (is_front (slots r gates) same_outcome exact_outcomes same_key key_sound steps choices).1;
+        lead = (is_front (slots r discipline) same_outcome exact_outcomes same_key key_sound steps choices).1;
       }
 
   pub ending_next : (choices : ℕ) (store : Store) (ends : List (EndKey × code.Prefixes)) (es : List (StateRow × code.Prefixes)) (e : StateRow × code.Prefixes) (m : Ending choices store ends (e ∷ es)) → IsNext r store e es m.leads
@@ -192,23 +192,23 @@ module _ (r : Tables) (gates : Gates) (steps : ℕ) where
   unfolding ending_next
   ending_more choices store new_store ends new_ends es e m o w same at word go =
       let n = next_lead r store e es m.leads m.left in
-      let here = subst (Each (IsLead (slots r gates) same_outcome exact_outcomes same_key key_sound steps choices)) n.is m.lead in
+      let here = subst (Each (IsLead (slots r discipline) same_outcome exact_outcomes same_key key_sound steps choices)) n.is m.lead in
       let is : limited w o e.1.count ≡ limit_tally n.lead = limit_same w o e.1.count n.lead (word ∙ n.first) at n.count in
       let words = ap words_of n.is in
-      let more = counts_with (slots r gates) same_outcome same_key steps m.tallies (limit_tally n.lead) in
+      let more = counts_with (slots r discipline) same_outcome same_key steps m.tallies (limit_tally n.lead) in
       let old = m.small in
       record {
         tallies = with_tally same_outcome m.tallies (limit_tally n.lead);
         leads = n.rest;
         ended = subst (λ t. AreEnds new_ends (with_tally same_outcome m.tallies t)) is (go m.tallies m.ended);
         left = subst (λ (s : Store). AreLeads r s es n.rest) (sym same) n.left;
-        comes = ap (λ xs. at_limit (slots r gates) same_outcome xs m.tallies) (sym n.is) ∙ m.comes;
+        comes = ap (λ xs. at_limit (slots r discipline) same_outcome xs m.tallies) (sym n.is) ∙ m.comes;
         small = omega (arith, words, more, old);
         lead = here.1;
       }
 
-  pub ending_done : (choices : ℕ) (store : Store) (ends : List (EndKey × code.Prefixes)) → Ending choices store ends [] → AreEnds ends (by_layers (slots r gates) same_outcome same_key choices steps)
-  ending_done choices store ends m = subst (AreEnds ends) (ap (λ xs. at_limit (slots r gates) same_outcome xs m.tallies) (sym (no_lead r store m.leads m.left)) ∙ m.comes) m.ended
+  pub ending_done : (choices : ℕ) (store : Store) (ends : List (EndKey × code.Prefixes)) → Ending choices store ends [] → AreEnds ends (by_layers (slots r discipline) same_outcome same_key choices steps)
+  ending_done choices store ends m = subst (AreEnds ends) (ap (λ xs. at_limit (slots r discipline) same_outcome xs m.tallies) (sym (no_lead r store m.leads m.left)) ∙ m.comes) m.ended
 
   pub ending_small : (choices : ℕ) (store : Store) (ends : List (EndKey × code.Prefixes)) (es : List (StateRow × code.Prefixes)) (e : StateRow × code.Prefixes) → Ending choices store ends (e ∷ es) → (ts : List Tally) × AreEnds ends ts × (counts ts + e.1.count < 10 ^ 126)
   ending_small choices store ends es e m =
@@ -221,7 +221,7 @@ module _ (r : Tables) (gates : Gates) (steps : ℕ) where
   pub ending_room : (choices : ℕ) (store : Store) (ends : List (EndKey × code.Prefixes)) (es : List (StateRow × code.Prefixes)) (e : StateRow × code.Prefixes) → choices ≤ 100 → Ending choices store ends (e ∷ es) → length e.1.first.items ≤ 100
   ending_room choices store ends es e l m =
       let n = next_lead r store e es m.leads m.left in
-      let here = subst (Each (IsLead (slots r gates) same_outcome exact_outcomes same_key key_sound steps choices)) n.is m.lead in
+      let here = subst (Each (IsLead (slots r discipline) same_outcome exact_outcomes same_key key_sound steps choices)) n.is m.lead in
       let size = here.0.0 in
       let same = ap length n.first in
       omega (arith, l, size, same)

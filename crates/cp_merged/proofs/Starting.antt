@@ -76,7 +76,7 @@ either_all P false x y h k = k
 -- what happens after `m`, by process `pid`
 module _ (m : Machine) (pid : ℕ) where
   abbrev BoundsKept : Property
-  BoundsKept gates pending ts ps bs output = StartsKeep m.threads ts m.phases ps m.bindings bs
+  BoundsKept discipline pending ts ps bs output = StartsKeep m.threads ts m.phases ps m.bindings bs
 
   keep : Keeping BoundsKept pid
   keep =
@@ -85,6 +85,7 @@ module _ (m : Machine) (pid : ℕ) where
         initialised = λ n c h. bounds_trans m n (with_phase n c Initialised) h (record { started = λ q e. e; begun = set_uninitialised n.phases c Initialised refl; bound = λ g k. refl });
         settled = λ n status is h. thread_bounds m n pid (record (thread_at n.threads pid) { status = status }) (λ e. absurd (cc)) h;
         readied = λ n p h. thread_bounds m n p (record (thread_at n.threads p) { status = Ready }) (λ e. absurd (cc)) h;
+        gated = λ n p cell monitor at h. thread_bounds m n p (record (thread_at n.threads p) { status = AtGate monitor }) (λ e. absurd (let never = delayed_started cell (thread_at n.threads p).status at in cc)) h;
         wanted = λ n monitor any h. h;
       }
 

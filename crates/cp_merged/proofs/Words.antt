@@ -14,7 +14,7 @@ pub use Rattle.cp_slots.specs.Tables.{Tables}
 pub use Rattle.cp_store.specs.declared.error.ErrorName.{ErrorName}
 pub use Rattle.cp_machine.proofs.Unmoved.{keep_refl}
 pub use Rattle.cp_machine.specs.System.{IsStateOf, Machine, machine_of, output_of}
-pub use Rattle.cp_machine.specs.declared.gates.Gates.{Gates}
+pub use Rattle.cp_machine.specs.declared.discipline.Discipline.{Discipline}
 pub use Rattle.cp_machine.specs.declared.shown.Shown.{Shown}
 pub use Rattle.cp_machine.specs.declared.state.State.{State}
 pub use Rattle.cp_machine.specs.declared.state.TheConstants.{MOST_SHOWN}

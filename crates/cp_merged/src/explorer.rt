@@ -34,9 +34,9 @@ use std::sync::ledger::{Blank, Ledger};
 
 /// The different outcomes of all complete words of a job, by layers of states. A layer may have `states` states.
 pub fn explore_merged(alloc: Global, job: Job, states: usize) -> Result<Tallies, MergeFault>
-    ensures tallies { IfOk result (λ ts. map tally_of ts ≡ tally same_outcome (table (slots job.entry.program.now job.entry.limits.gates) job.entry.limits.choices job.entry.limits.steps)) }
-    ensures within { IfOk result (λ ts. FitsBefore (slots job.entry.program.now job.entry.limits.gates) job.entry.limits.choices job.entry.limits.steps states (job.entry.limits.choices + 1)) }
-    ensures fault { IfErr result (λ e. IsDueFault (slots job.entry.program.now job.entry.limits.gates) job.entry.limits.choices job.entry.limits.steps states e) }
+    ensures tallies { IfOk result (λ ts. map tally_of ts ≡ tally same_outcome (table (slots job.entry.program.now job.entry.limits.discipline) job.entry.limits.choices job.entry.limits.steps)) }
+    ensures within { IfOk result (λ ts. FitsBefore (slots job.entry.program.now job.entry.limits.discipline) job.entry.limits.choices job.entry.limits.steps states (job.entry.limits.choices + 1)) }
+    ensures fault { IfErr result (λ e. IsDueFault (slots job.entry.program.now job.entry.limits.discipline) job.entry.limits.choices job.entry.limits.steps states e) }
 {
     explore_merged_with(alloc, job, states, &mut Unobserved)
 }
@@ -48,9 +48,9 @@ pub fn explore_merged_with<O: ObserveProgress>(
     states: usize,
     observer: &mut O,
 ) -> Result<Tallies, MergeFault>
-    ensures tallies { IfOk result (λ ts. map tally_of ts ≡ tally same_outcome (table (slots job.entry.program.now job.entry.limits.gates) job.entry.limits.choices job.entry.limits.steps)) }
-    ensures within { IfOk result (λ ts. FitsBefore (slots job.entry.program.now job.entry.limits.gates) job.entry.limits.choices job.entry.limits.steps states (job.entry.limits.choices + 1)) }
-    ensures fault { IfErr result (λ e. IsDueFault (slots job.entry.program.now job.entry.limits.gates) job.entry.limits.choices job.entry.limits.steps states e) }
+    ensures tallies { IfOk result (λ ts. map tally_of ts ≡ tally same_outcome (table (slots job.entry.program.now job.entry.limits.discipline) job.entry.limits.choices job.entry.limits.steps)) }
+    ensures within { IfOk result (λ ts. FitsBefore (slots job.entry.program.now job.entry.limits.discipline) job.entry.limits.choices job.entry.limits.steps states (job.entry.limits.choices + 1)) }
+    ensures fault { IfErr result (λ e. IsDueFault (slots job.entry.program.now job.entry.limits.discipline) job.entry.limits.choices job.entry.limits.steps states e) }
 {
     let ends = ends_of::<O, Brand, Brand>(
         alloc,
@@ -83,10 +83,10 @@ fn ends_of<O: ObserveProgress, S: Ledger, C: Ledger>(
     requires calls_name { calls.name ≡ C.name }
     requires calls_parts { calls.parts ≡ C.parts }
     requires calls_one { C.parts ≡ 1 }
-    ensures ends { IfOk result (λ ends. map end_of ends.entries ≡ by_layers (slots program.now limits.gates) same_outcome same_key limits.choices limits.steps) }
+    ensures ends { IfOk result (λ ends. map end_of ends.entries ≡ by_layers (slots program.now limits.discipline) same_outcome same_key limits.choices limits.steps) }
     ensures small { IfOk result (λ ends. rows_in (map end_of ends.entries) < 10 ^ 126) }
-    ensures within { IfOk result (λ _. FitsBefore (slots program.now limits.gates) limits.choices limits.steps most (limits.choices + 1)) }
-    ensures fault { IfErr result (λ e. IsDueFault (slots program.now limits.gates) limits.choices limits.steps most e) }
+    ensures within { IfOk result (λ _. FitsBefore (slots program.now limits.discipline) limits.choices limits.steps most (limits.choices + 1)) }
+    ensures fault { IfErr result (λ e. IsDueFault (slots program.now limits.discipline) limits.choices limits.steps most e) }
 {
     let mut steps: Ticks<S> = Ticks::new(steps);
     let mut calls: Ticks<C> = Ticks::new(calls);
@@ -140,10 +140,10 @@ fn first_layer<S: Ledger, C: Ledger>(
     requires layer { frontier.old.layer.entries ≡ [] }
     ensures own { IfOk result (λ found. IsStateOf program.now found.0) }
     ensures row { IfOk result (λ found. IsRowOf frontier.new.store found.1.numbers (machine_of found.0)) }
-    ensures reached { IfOk result (λ _. Reached program.now limits.gates limits.choices limits.steps most 0 frontier.new.store frontier.new.ended.entries frontier.new.layer.entries) }
-    ensures fault { IfErr result (λ e. IsDueFault (slots program.now limits.gates) limits.choices limits.steps most e) }
+    ensures reached { IfOk result (λ _. Reached program.now limits.discipline limits.choices limits.steps most 0 frontier.new.store frontier.new.ended.entries frontier.new.layer.entries) }
+    ensures fault { IfErr result (λ e. IsDueFault (slots program.now limits.discipline) limits.choices limits.steps most e) }
 {
-    let Ok(mut state) = State::start(alloc, program, limits.gates) else {
+    let Ok(mut state) = State::start(alloc, program, limits.discipline) else {
         return Err(MergeFault::Memory);
     };
     let halt = open(program, limits, &mut state, steps, calls);
@@ -186,13 +186,13 @@ fn one_layer<O: ObserveProgress, S: Ledger, C: Ledger>(
     requires row { IsRowOf frontier.old.store row.old.numbers (machine_of state.old) }
     requires next_row { IsRowOf frontier.old.store next_row.old.numbers (machine_of next.old) }
     requires due { depth < limits.choices }
-    requires reached { Reached program.now limits.gates limits.choices limits.steps most depth frontier.old.store frontier.old.ended.entries frontier.old.layer.entries }
+    requires reached { Reached program.now limits.discipline limits.choices limits.steps most depth frontier.old.store frontier.old.ended.entries frontier.old.layer.entries }
     ensures own { IsStateOf program.now state.new }
     ensures next { IsStateOf program.now next.new }
     ensures row { IfOk result (λ _. IsRowOf frontier.new.store row.new.numbers (machine_of state.new)) }
     ensures next_row { IfOk result (λ _. IsRowOf frontier.new.store next_row.new.numbers (machine_of next.new)) }
-    ensures reached { IfOk result (λ _. Reached program.now limits.gates limits.choices limits.steps most (depth + 1) frontier.new.store frontier.new.ended.entries frontier.new.layer.entries) }
-    ensures fault { IfErr result (λ e. IsDueFault (slots program.now limits.gates) limits.choices limits.steps most e) }
+    ensures reached { IfOk result (λ _. Reached program.now limits.discipline limits.choices limits.steps most (depth + 1) frontier.new.store frontier.new.ended.entries frontier.new.layer.entries) }
+    ensures fault { IfErr result (λ e. IsDueFault (slots program.now limits.discipline) limits.choices limits.steps most e) }
 {
     if frontier.ended.len() > MOST_OUTCOMES {
         return Err(MergeFault::TooManyOutcomes);
@@ -214,11 +214,11 @@ fn last_layer(
     frontier: &mut Frontier,
 ) -> Result<(), MergeFault>
     requires own { IsStateOf program.now state.old }
-    requires reached { Reached program.now limits.gates limits.choices limits.steps most limits.choices frontier.old.store frontier.old.ended.entries frontier.old.layer.entries }
-    ensures ended { IfOk result (λ _. AreEnds frontier.new.ended.entries (by_layers (slots program.now limits.gates) same_outcome same_key limits.choices limits.steps)) }
+    requires reached { Reached program.now limits.discipline limits.choices limits.steps most limits.choices frontier.old.store frontier.old.ended.entries frontier.old.layer.entries }
+    ensures ended { IfOk result (λ _. AreEnds frontier.new.ended.entries (by_layers (slots program.now limits.discipline) same_outcome same_key limits.choices limits.steps)) }
     ensures few { IfOk result (λ _. length frontier.new.ended.entries ≤ 50000) }
-    ensures within { IfOk result (λ _. FitsBefore (slots program.now limits.gates) limits.choices limits.steps most (limits.choices + 1)) }
-    ensures fault { IfErr result (λ e. IsDueFault (slots program.now limits.gates) limits.choices limits.steps most e) }
+    ensures within { IfOk result (λ _. FitsBefore (slots program.now limits.discipline) limits.choices limits.steps most (limits.choices + 1)) }
+    ensures fault { IfErr result (λ e. IsDueFault (slots program.now limits.discipline) limits.choices limits.steps most e) }
 {
     let _ = most;
     let layer = frontier.take_layer(alloc);

@@ -6,7 +6,7 @@ ghost use lib.Pointwise.{pointwise};
 ghost use Rattle.cp_slots.specs.Tables.{Tables};
 ghost use Rattle.cp_machine.specs.Bodies.{has_moved, KeepBodies};
 ghost use Rattle.cp_machine.specs.System.{Machine, machine_of, output_of, IsStateOf};
-ghost use Rattle.cp_machine.specs.declared.gates.Gates.{Gates};
+ghost use Rattle.cp_machine.specs.declared.discipline.Discipline.{Discipline};
 ghost use Rattle.cp_states.specs.Rows.{IsRowOf, KeepParts};
 ghost use Rattle.cp_states.specs.Starts.{KeepBindings};
 ghost use Rattle.cp_run.specs.Slots.{slots};
@@ -171,7 +171,7 @@ impl Frontier {
         requires known { IsRowOf self.old.store row.old.numbers (machine_of before.now) }
         requires moved { KeepBodies (has_moved moved.now) (machine_of before.now) (machine_of state.now) }
         requires bound { KeepBindings (machine_of before.now) (machine_of state.now) }
-        ensures front { IfOk result (λ _. (r : Tables) (gates : Gates) (f : layers.Front Machine) → IsStateOf r state.now → Holds r self.old.store self.old.ended.entries self.old.layer.entries f → Holds r self.new.store self.new.ended.entries self.new.layer.entries (arrived (slots r gates) same_outcome same_key prefixes.now.first.items prefixes.now.count (node_of halt (machine_of state.now)) f)) }
+        ensures front { IfOk result (λ _. (r : Tables) (discipline : Discipline) (f : layers.Front Machine) → IsStateOf r state.now → Holds r self.old.store self.old.ended.entries self.old.layer.entries f → Holds r self.new.store self.new.ended.entries self.new.layer.entries (arrived (slots r discipline) same_outcome same_key prefixes.now.first.items prefixes.now.count (node_of halt (machine_of state.now)) f)) }
         ensures due { halt ≡ Halt.Choice → IfOk result (λ _. IsRowOf self.new.store row.new.numbers (machine_of state.now)) }
         ensures over { (kind : OutcomeKind) → halt ≡ Halt.Ended kind → row.new ≡ row.old }
         ensures kept { IfOk result (λ _. KeepParts self.old.store self.new.store) }

@@ -41,7 +41,7 @@ fn take_choice<S: Ledger, C: Ledger>(
     calls: &mut Ticks<C>,
 ) -> Result<(), AllocError>
     requires own { IsStateOf program.now state.old }
-    requires may { may (slots program.now limits.gates) (machine_of state.old) process ≡ true }
+    requires may { may (slots program.now limits.discipline) (machine_of state.old) process ≡ true }
     requires room { length prefixes.old.first.items < 100 }
     requires small { (f : layers.Front Machine) × Holds program.now frontier.old.store frontier.old.ended.entries frontier.old.layer.entries f × (total f + prefixes.old.count < 10 ^ 126) }
     requires before { IsStateOf program.now before.now }
@@ -51,7 +51,7 @@ fn take_choice<S: Ledger, C: Ledger>(
     ensures row { IfOk result (λ _. IsRowOf frontier.new.store row.new.numbers (machine_of state.new)) }
     ensures kept { IfOk result (λ _. KeepParts frontier.old.store frontier.new.store) }
     ensures same { prefixes.new ≡ prefixes.old }
-    ensures front { IfOk result (λ _. (f : layers.Front Machine) → Holds program.now frontier.old.store frontier.old.ended.entries frontier.old.layer.entries f → Holds program.now frontier.new.store frontier.new.ended.entries frontier.new.layer.entries (layers.after_choice (slots program.now limits.gates) same_outcome same_key limits.steps (record { state = machine_of state.old; first = prefixes.old.first.items; count = prefixes.old.count }) process f)) }
+    ensures front { IfOk result (λ _. (f : layers.Front Machine) → Holds program.now frontier.old.store frontier.old.ended.entries frontier.old.layer.entries f → Holds program.now frontier.new.store frontier.new.ended.entries frontier.new.layer.entries (layers.after_choice (slots program.now limits.discipline) same_outcome same_key limits.steps (record { state = machine_of state.old; first = prefixes.old.first.items; count = prefixes.old.count }) process f)) }
 {
     let mut moved = Moved::nobody();
     let halt = choose(program, limits, state, process, &mut moved, steps, calls);
@@ -92,7 +92,7 @@ fn take_choices<S: Ledger, C: Ledger>(
     ensures next { IsStateOf program.now next.new }
     ensures row { IfOk result (λ _. IsRowOf frontier.new.store row.new.numbers (machine_of next.new)) }
     ensures kept { IfOk result (λ _. KeepParts frontier.old.store frontier.new.store) }
-    ensures front { IfOk result (λ _. (f : layers.Front Machine) → Holds program.now frontier.old.store frontier.old.ended.entries frontier.old.layer.entries f → Holds program.now frontier.new.store frontier.new.ended.entries frontier.new.layer.entries (layers.after_choices (slots program.now limits.gates) same_outcome same_key limits.steps (record { state = machine_of state.now; first = prefixes.now.first.items; count = prefixes.now.count }) (processes_of program.now) f)) }
+    ensures front { IfOk result (λ _. (f : layers.Front Machine) → Holds program.now frontier.old.store frontier.old.ended.entries frontier.old.layer.entries f → Holds program.now frontier.new.store frontier.new.ended.entries frontier.new.layer.entries (layers.after_choices (slots program.now limits.discipline) same_outcome same_key limits.steps (record { state = machine_of state.now; first = prefixes.now.first.items; count = prefixes.now.count }) (processes_of program.now) f)) }
 {
     let numbers = candidates(program, limits, state);
     arriving.take_words(prefixes);
@@ -137,15 +137,15 @@ pub fn next_layer<O: ObserveProgress, S: Ledger, C: Ledger>(
     requires row { IsRowOf frontier.old.store row.old.numbers (machine_of state.old) }
     requires next_row { IsRowOf frontier.old.store next_row.old.numbers (machine_of next.old) }
     requires due { depth < limits.choices }
-    requires layer { AreLeads program.now frontier.old.store layer.now.entries (front_at (slots program.now limits.gates) same_outcome same_key limits.steps depth).layer }
-    requires front { Holds program.now frontier.old.store frontier.old.ended.entries frontier.old.layer.entries (record { ended = (front_at (slots program.now limits.gates) same_outcome same_key limits.steps depth).ended; layer = [] }) }
+    requires layer { AreLeads program.now frontier.old.store layer.now.entries (front_at (slots program.now limits.discipline) same_outcome same_key limits.steps depth).layer }
+    requires front { Holds program.now frontier.old.store frontier.old.ended.entries frontier.old.layer.entries (record { ended = (front_at (slots program.now limits.discipline) same_outcome same_key limits.steps depth).ended; layer = [] }) }
     ensures own { IsStateOf program.now state.new }
     ensures next { IsStateOf program.now next.new }
     ensures row { IfOk result (λ _. IsRowOf frontier.new.store row.new.numbers (machine_of state.new)) }
     ensures next_row { IfOk result (λ _. IsRowOf frontier.new.store next_row.new.numbers (machine_of next.new)) }
-    ensures front { IfOk result (λ _. Holds program.now frontier.new.store frontier.new.ended.entries frontier.new.layer.entries (front_at (slots program.now limits.gates) same_outcome same_key limits.steps (depth + 1))) }
+    ensures front { IfOk result (λ _. Holds program.now frontier.new.store frontier.new.ended.entries frontier.new.layer.entries (front_at (slots program.now limits.discipline) same_outcome same_key limits.steps (depth + 1))) }
     ensures few { IfOk result (λ _. length frontier.new.layer.entries ≤ most) }
-    ensures many { IfErr result (λ e. IsStates e (HasTooManyStates (slots program.now limits.gates) limits.steps most (depth + 1))) }
+    ensures many { IfErr result (λ e. IsStates e (HasTooManyStates (slots program.now limits.discipline) limits.steps most (depth + 1))) }
 {
     let mut gone_on: u32 = 0;
     let mut arriving = Prefixes {
@@ -192,9 +192,9 @@ pub fn end_layer(
     frontier: &mut Frontier,
 ) -> Result<(), AllocError>
     requires own { IsStateOf program.now state.old }
-    requires layer { AreLeads program.now frontier.old.store layer.now.entries (front_at (slots program.now limits.gates) same_outcome same_key limits.steps limits.choices).layer }
-    requires ended { AreEnds frontier.old.ended.entries (front_at (slots program.now limits.gates) same_outcome same_key limits.steps limits.choices).ended }
-    ensures { IfOk result (λ _. AreEnds frontier.new.ended.entries (by_layers (slots program.now limits.gates) same_outcome same_key limits.choices limits.steps)) }
+    requires layer { AreLeads program.now frontier.old.store layer.now.entries (front_at (slots program.now limits.discipline) same_outcome same_key limits.steps limits.choices).layer }
+    requires ended { AreEnds frontier.old.ended.entries (front_at (slots program.now limits.discipline) same_outcome same_key limits.steps limits.choices).ended }
+    ensures { IfOk result (λ _. AreEnds frontier.new.ended.entries (by_layers (slots program.now limits.discipline) same_outcome same_key limits.choices limits.steps)) }
 {
     let _ = program;
     let _ = limits;

@@ -81,5 +81,5 @@ not_searched job count None = tt
 not_searched job count (Some t) = tt
 
 -- what is so among what is found is so in the table
-pub chosen_among : (job : Job) (number : ℕ) (Is : ℕ → Option Tally → First → Type 0) (chosen : First) (f : Finding) → IsFoundOf (slots job.program.now job.limits.gates) job.limits.choices job.limits.steps f → Is (length (told_in f)) (with_number (told_in f) number) chosen → IsChosen job number Is chosen
-chosen_among job number Is chosen f found so = record { finding = f; found = found; meant = meant_finding job.program.now job.limits.gates job.limits.choices job.limits.steps f found; so = so }
+pub chosen_among : (job : Job) (number : ℕ) (Is : ℕ → Option Tally → First → Type 0) (chosen : First) (f : Finding) → IsFoundOf (slots job.program.now job.limits.discipline) job.limits.choices job.limits.steps f → Is (length (told_in f)) (with_number (told_in f) number) chosen → IsChosen job number Is chosen
+chosen_among job number Is chosen f found so = record { finding = f; found = found; meant = meant_finding job.program.now job.limits.discipline job.limits.choices job.limits.steps f found; so = so }

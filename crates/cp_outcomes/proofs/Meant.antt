@@ -2,7 +2,7 @@
 use Rattle.std.proofs.Common.{◌≡◌, ◌∙◌, ℕ, List, map, Option, None, Some, Result, Ok, Err, IfOk, ap, sym, subst}
 use Rattle.std.specs.Prelude.{Contains, IfSome}
 use Rattle.cp_slots.specs.Tables.{Tables}
-use Rattle.cp_machine.specs.declared.gates.Gates.{Gates}
+use Rattle.cp_machine.specs.declared.discipline.Discipline.{Discipline}
 use Rattle.cp_run.specs.Slots.{slots}
 use Rattle.cp_run.specs.System.{System}
 use Rattle.cp_run.specs.Table.{Line, table}
@@ -35,10 +35,10 @@ found_in : {S : Type 0} (sys : System S) (choices steps : ℕ) (rows : ℕ → L
 found_in sys choices steps rows same (Whole tallies) h = h ∙ ap (tally same_outcome) (sym (same choices))
 found_in sys choices steps rows same (TooMany excess known) h = (excess_in sys choices steps excess (rows choices) (same choices) h.0, known_in sys choices steps rows same known h.1)
 
-pub meant_finding : (r : Tables) (gates : Gates) (choices steps : ℕ) (f : Finding) → IsFoundOf (slots r gates) choices steps f → IsMeantFinding r gates choices steps f
-meant_finding r gates choices steps f h t read ok same = found_in (slots r gates) choices steps _ (λ k. (runs_as_meant t r gates read ok same k steps).tables) f h
+pub meant_finding : (r : Tables) (discipline : Discipline) (choices steps : ℕ) (f : Finding) → IsFoundOf (slots r discipline) choices steps f → IsMeantFinding r discipline choices steps f
+meant_finding r discipline choices steps f h t read ok same = found_in (slots r discipline) choices steps _ (λ k. (runs_as_meant t r discipline read ok same k steps).tables) f h
 
 -- where there is any
-pub meant_answer : {E : Type 0} (answer : Result Finding E) (r : Tables) (gates : Gates) (choices steps : ℕ) → IfOk answer (λ f. IsFoundOf (slots r gates) choices steps f) → IfOk answer (λ f. IsMeantFinding r gates choices steps f)
-meant_answer (Ok f) r gates choices steps h = meant_finding r gates choices steps f h
-meant_answer (Err fault) r gates choices steps h = tt
+pub meant_answer : {E : Type 0} (answer : Result Finding E) (r : Tables) (discipline : Discipline) (choices steps : ℕ) → IfOk answer (λ f. IsFoundOf (slots r discipline) choices steps f) → IfOk answer (λ f. IsMeantFinding r discipline choices steps f)
+meant_answer (Ok f) r discipline choices steps h = meant_finding r discipline choices steps f h
+meant_answer (Err fault) r discipline choices steps h = tt

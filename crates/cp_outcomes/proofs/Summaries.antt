@@ -15,7 +15,7 @@ use Rattle.cp_outcomes.specs.declared.subject.Subject.{Subject}
 use Rattle.cp_outcomes.specs.declared.telling.Finding.TheVariants.{Whole, TooMany}
 
 module _ (s : Subject) (form : Format) (written : List ℕ) (text : String Global) where
-  pub tells_whole : (tallies : List code.Tally) → IsFoundOf (slots s.program.now s.limits.gates) s.limits.choices s.limits.steps (Whole tallies) → IsMeantFinding s.program.now s.limits.gates s.limits.choices s.limits.steps (Whole tallies) → (form ≡ Text → IsTextOf (setting_of s s.limits.choices) (map tally_of tallies) written) → (form ≡ Json → IsJsonOf (setting_of s s.limits.choices) (map tally_of tallies) written) → (form ≡ Text → string_bytes text ≡ written) → (form ≡ Json → string_bytes text ≡ written ++ codes "\n") → TellsOutcomes s form (record { is_whole = true; text = text })
+  pub tells_whole : (tallies : List code.Tally) → IsFoundOf (slots s.program.now s.limits.discipline) s.limits.choices s.limits.steps (Whole tallies) → IsMeantFinding s.program.now s.limits.discipline s.limits.choices s.limits.steps (Whole tallies) → (form ≡ Text → IsTextOf (setting_of s s.limits.choices) (map tally_of tallies) written) → (form ≡ Json → IsJsonOf (setting_of s s.limits.choices) (map tally_of tallies) written) → (form ≡ Text → string_bytes text ≡ written) → (form ≡ Json → string_bytes text ≡ written ++ codes "\n") → TellsOutcomes s form (record { is_whole = true; text = text })
   tells_whole tallies found meant as_text as_json same line = record {
     finding = Whole tallies;
     found = found;
@@ -24,7 +24,7 @@ module _ (s : Subject) (form : Format) (written : List ℕ) (text : String Globa
     json = λ e. (written, (refl, as_json e), line e);
   }
 
-  pub tells_excess : (excess : Excess) (known : Option Known) → IsFoundOf (slots s.program.now s.limits.gates) s.limits.choices s.limits.steps (TooMany excess known) → IsMeantFinding s.program.now s.limits.gates s.limits.choices s.limits.steps (TooMany excess known) → (form ≡ Text → IsExcessText s excess known written) → (form ≡ Json → IsExcessJson s excess known written) → (form ≡ Text → string_bytes text ≡ written) → (form ≡ Json → string_bytes text ≡ written ++ codes "\n") → TellsOutcomes s form (record { is_whole = false; text = text })
+  pub tells_excess : (excess : Excess) (known : Option Known) → IsFoundOf (slots s.program.now s.limits.discipline) s.limits.choices s.limits.steps (TooMany excess known) → IsMeantFinding s.program.now s.limits.discipline s.limits.choices s.limits.steps (TooMany excess known) → (form ≡ Text → IsExcessText s excess known written) → (form ≡ Json → IsExcessJson s excess known written) → (form ≡ Text → string_bytes text ≡ written) → (form ≡ Json → string_bytes text ≡ written ++ codes "\n") → TellsOutcomes s form (record { is_whole = false; text = text })
   tells_excess excess known found meant as_text as_json same line = record {
     finding = TooMany excess known;
     found = found;

@@ -36,7 +36,7 @@ IsFirst count None first.NotSearched = ⊥
 
 -- a schedule of it, where one was searched for; or how many there are
 abbrev pub IsSchedule : Job → (count : ℕ) → Option Tally → First → Type 0
-IsSchedule job count (Some t) (first.Word word) = IsScheduleOf (slots job.program.now job.limits.gates) job.limits.choices job.limits.steps word.items t.first.outcome
+IsSchedule job count (Some t) (first.Word word) = IsScheduleOf (slots job.program.now job.limits.discipline) job.limits.choices job.limits.steps word.items t.first.outcome
 IsSchedule job count None (first.Word word) = ⊥
 IsSchedule job count (Some t) (first.None n) = ⊥
 IsSchedule job count None (first.None n) = n ≡ count
@@ -45,6 +45,6 @@ IsSchedule job count chosen first.NotSearched = Unit {0}
 -- it is so of the outcome with this number among those that are found, in the table of the slot machine and so in that of the meaning
 pub record IsChosen (job : Job) (number : ℕ) (Is : (count : ℕ) → Option Tally → First → Type 0) (chosen : First) : Type 0 where
   pub finding : Finding
-  pub found : IsFoundOf (slots job.program.now job.limits.gates) job.limits.choices job.limits.steps finding
-  pub meant : IsMeantFinding job.program.now job.limits.gates job.limits.choices job.limits.steps finding
+  pub found : IsFoundOf (slots job.program.now job.limits.discipline) job.limits.choices job.limits.steps finding
+  pub meant : IsMeantFinding job.program.now job.limits.discipline job.limits.choices job.limits.steps finding
   pub so : Is (length (told_in finding)) (with_number (told_in finding) number) chosen

@@ -5,13 +5,13 @@ use Rattle.cp_tree.specs.Syntax.{Tree}
 use Rattle.cp_layout.specs.Laid.{plain, laid}
 use Rattle.cp_slots.specs.Tables.{Tables}
 use Rattle.cp_lawful.specs.Accepted.{IsAccepted}
-use Rattle.cp_machine.specs.declared.gates.Gates.{Gates}
+use Rattle.cp_machine.specs.declared.discipline.Discipline.{Discipline}
 use Rattle.cp_run.specs.Table.{Line, table}
 use Rattle.cp_walk.specs.Report.{same_outcome}
 use Rattle.cp_merged.specs.Code.{tally_of}
 use Rattle.cp_merged.specs.Tallies.{tally}
 use Rattle.cp_merged.specs.TooMany.{MoreThan}
-use Rattle.cp_refine.specs.Named.{named, named_gates}
+use Rattle.cp_refine.specs.Named.{named, named_discipline}
 use Rattle.cp_outcomes.specs.declared.subject.Excess.{Excess}
 use Rattle.cp_outcomes.specs.declared.subject.Excess.TheVariants.{States, Outcomes}
 use Rattle.cp_outcomes.specs.declared.telling.Finding.{Finding}
@@ -28,5 +28,5 @@ IsFoundIn rows choices (Whole tallies) = map tally_of tallies ≡ tally same_out
 IsFoundIn rows choices (TooMany excess known) = IsExcessIn (rows choices) excess × IfSome known (λ k. map tally_of k.tallies ≡ tally same_outcome (rows k.choices))
 
 -- of whatever program was read, is accepted, and has these tables: it is found in the table of its meaning
-abbrev pub IsMeantFinding : Tables → Gates → (choices steps : ℕ) → Finding → Type 0
-IsMeantFinding r gates choices steps f = (t : Tree) → ∥ IsRead t.program ∥₁ → IsAccepted t → plain r ≡ laid t → IsFoundIn (λ k. table (named t (named_gates gates)) k steps) choices f
+abbrev pub IsMeantFinding : Tables → Discipline → (choices steps : ℕ) → Finding → Type 0
+IsMeantFinding r discipline choices steps f = (t : Tree) → ∥ IsRead t.program ∥₁ → IsAccepted t → plain r ≡ laid t → IsFoundIn (λ k. table (named t (named_discipline discipline)) k steps) choices f

@@ -5,7 +5,7 @@ use Rattle.std.specs.List.{filter, prefix_len, suffix_len, AllByRecursion}
 use Rattle.std.specs.Option.{option_to_list}
 use Rattle.cp_slots.specs.Tables.{Tables}
 use Rattle.cp_legend.specs.Names.{Legend, legend_seen}
-use Rattle.cp_machine.specs.declared.gates.Gates.{Gates}
+use Rattle.cp_machine.specs.declared.discipline.Discipline.{Discipline}
 use Rattle.cp_run.specs.Slots.{slots}
 use Rattle.cp_run.specs.declared.outcome.OutcomeKind.{OutcomeKind}
 use Rattle.cp_run.specs.declared.outcome.OutcomeKind.TheVariants.{AllWaiting, RunError}
@@ -27,7 +27,7 @@ use Rattle.cp_outcomes.specs.declared.told.ToldOutcome.{ToldOutcome}
 pub record Setting : Type 0 where
   pub program : Tables
   pub legend : Legend
-  pub gates : Gates
+  pub discipline : Discipline
   pub choices : ℕ
   pub steps : ℕ
   pub states : ℕ
@@ -35,7 +35,7 @@ pub record Setting : Type 0 where
 
 -- with so many choices
 abbrev pub setting_of : Subject → ℕ → Setting
-setting_of s choices = record { program = s.program.now; legend = legend_seen s.legend.now; gates = s.limits.gates; choices = choices; steps = s.limits.steps; states = s.states; source = map string_bytes s.source.now }
+setting_of s choices = record { program = s.program.now; legend = legend_seen s.legend.now; discipline = s.limits.discipline; choices = choices; steps = s.limits.steps; states = s.states; source = map string_bytes s.source.now }
 
 -- an outcome with its count and first schedule, and its simplest schedule where one is told
 pub record Told : Type 0 where
@@ -75,11 +75,11 @@ error_text s process line = process_text s.legend process ++ codes " at line " +
 
 -- who waits where at the end of a schedule
 abbrev pub waits_after : Setting → (word : List ℕ) → List Waiting
-waits_after s word = who_waits s.legend s.program s.gates s.choices s.steps word
+waits_after s word = who_waits s.legend s.program s.discipline s.choices s.steps word
 
 -- what the error of a schedule is of, if that is known
 abbrev pub cause_after : Setting → (word : List ℕ) → Option Cause
-cause_after s word = cause_of_run s.program s.gates s.choices s.steps word
+cause_after s word = cause_of_run s.program s.discipline s.choices s.steps word
 
 -- the lines of an end after a schedule: where all wait, one for each that waits; of a run error one, and what it is of if that is known; else none
 abbrev pub lines_after : Setting → (word : List ℕ) → OutcomeKind → List (List ℕ)
@@ -95,7 +95,7 @@ end_lines s t = lines_after s t.first.word t.first.outcome.kind
 
 -- the simplest schedule is a row of the table with this outcome
 pub record IsTold (s : Setting) (t : Told) : Type 0 where
-  pub simple : IfSome t.simple (λ w. IsScheduleOf (slots s.program s.gates) s.choices s.steps w.word.items t.tally.first.outcome)
+  pub simple : IfSome t.simple (λ w. IsScheduleOf (slots s.program s.discipline) s.choices s.steps w.word.items t.tally.first.outcome)
 
 -- these outcomes, all of them and in order, are told so
 pub record AreTold (s : Setting) (ts : List Tally) (told : List Told) : Type 0 where

@@ -57,7 +57,7 @@ IsJsonLine s finding summary = (json : List ℕ) × IsJson s finding summary.is_
 -- What is told is found, in the table of the slot machine and so in that of the meaning. It is written so, as text or as JSON.
 pub record TellsOutcomes (s : Subject) (form : Format) (summary : Summary) : Type 0 where
   pub finding : Finding
-  pub found : IsFoundOf (slots s.program.now s.limits.gates) s.limits.choices s.limits.steps finding
-  pub meant : IsMeantFinding s.program.now s.limits.gates s.limits.choices s.limits.steps finding
+  pub found : IsFoundOf (slots s.program.now s.limits.discipline) s.limits.choices s.limits.steps finding
+  pub meant : IsMeantFinding s.program.now s.limits.discipline s.limits.choices s.limits.steps finding
   pub written : form ≡ Text → IsWritten s finding summary
   pub json : form ≡ Json → IsJsonLine s finding summary

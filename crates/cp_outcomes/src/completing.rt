@@ -18,7 +18,7 @@ pub fn greatest_known<O: ObserveProgress>(
     most: u32,
     observer: &mut O,
 ) -> Result<Option<Known>, AllocError>
-    ensures { IfOk result (λ known. IfSome known (IsKnownOf (slots job.entry.program.now job.entry.limits.gates) job.entry.limits.choices job.entry.limits.steps)) }
+    ensures { IfOk result (λ known. IfSome known (IsKnownOf (slots job.entry.program.now job.entry.limits.discipline) job.entry.limits.choices job.entry.limits.steps)) }
 {
     let mut known = None;
     let mut low = 0u8;
@@ -49,7 +49,7 @@ fn merge_with<O: ObserveProgress>(
     observer: &mut O,
 ) -> Result<Option<Known>, AllocError>
     requires { choices < job.limits.choices }
-    ensures { IfOk result (λ known. IfSome known (IsKnownOf (slots job.entry.program.now job.entry.limits.gates) job.entry.limits.choices job.entry.limits.steps)) }
+    ensures { IfOk result (λ known. IfSome known (IsKnownOf (slots job.entry.program.now job.entry.limits.discipline) job.entry.limits.choices job.entry.limits.steps)) }
 {
     let limits = job.limits.with_choices(choices);
     let fewer = Job {

@@ -52,7 +52,7 @@ impl Simples {
         place: usize,
         tally: &Tally,
     ) -> Result<Option<&SimplestSchedule>, AllocError>
-        ensures { IfOk result (λ found. IfSome found (λ s. IsScheduleOf (slots job.entry.program.now job.entry.limits.gates) job.entry.limits.choices job.entry.limits.steps s.now.word.items tally.now.outcome)) }
+        ensures { IfOk result (λ found. IfSome found (λ s. IsScheduleOf (slots job.entry.program.now job.entry.limits.discipline) job.entry.limits.choices job.entry.limits.steps s.now.word.items tally.now.outcome)) }
     {
         let Some(simple) = self.simplest_at(place) else {
             return Ok(None);
@@ -82,7 +82,7 @@ fn is_row<L: Ledger>(
     requires parts { blank.parts ≡ L.parts }
     requires one { L.parts ≡ 1 }
     requires word { length word.now ≤ 100 }
-    ensures { IfOk result (λ is. is ≡ true → IsScheduleOf (slots job.entry.program.now job.entry.limits.gates) job.entry.limits.choices job.entry.limits.steps word.now outcome.now) }
+    ensures { IfOk result (λ is. is ≡ true → IsScheduleOf (slots job.entry.program.now job.entry.limits.discipline) job.entry.limits.choices job.entry.limits.steps word.now outcome.now) }
 {
     let mut ticks: Ticks<L> = Ticks::new(blank);
     is_schedule_of(alloc, job.program, job.limits, word, outcome, &mut ticks)

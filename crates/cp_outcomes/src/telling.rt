@@ -240,8 +240,8 @@ fn find_outcomes<O: ObserveProgress>(
     subject: Subject<'_>,
     observer: &mut O,
 ) -> Result<Finding, AllocError>
-    ensures found { IfOk result (λ f. IsFoundOf (slots subject.entry.program.now subject.entry.limits.gates) subject.entry.limits.choices subject.entry.limits.steps f) }
-    ensures meaning { IfOk result (λ f. IsMeantFinding subject.entry.program.now subject.entry.limits.gates subject.entry.limits.choices subject.entry.limits.steps f) }
+    ensures found { IfOk result (λ f. IsFoundOf (slots subject.entry.program.now subject.entry.limits.discipline) subject.entry.limits.choices subject.entry.limits.steps f) }
+    ensures meaning { IfOk result (λ f. IsMeantFinding subject.entry.program.now subject.entry.limits.discipline subject.entry.limits.choices subject.entry.limits.steps f) }
 {
     let job = Job {
         program: subject.program,
@@ -256,7 +256,7 @@ fn findings_by_states<O: ObserveProgress>(
     most: u32,
     observer: &mut O,
 ) -> Result<Finding, AllocError>
-    ensures { IfOk result (λ f. IsFoundOf (slots job.entry.program.now job.entry.limits.gates) job.entry.limits.choices job.entry.limits.steps f) }
+    ensures { IfOk result (λ f. IsFoundOf (slots job.entry.program.now job.entry.limits.discipline) job.entry.limits.choices job.entry.limits.steps f) }
 {
     match explore_merged_with(alloc, job, most as usize, observer) {
         Ok(tallies) => Ok(Finding::Whole(tallies)),
@@ -278,8 +278,8 @@ fn findings_of_too_many<O: ObserveProgress>(
     excess: Excess,
     observer: &mut O,
 ) -> Result<Finding, AllocError>
-    requires { IsExcessOf (slots job.program.now job.limits.gates) job.limits.choices job.limits.steps excess }
-    ensures { IfOk result (λ f. IsFoundOf (slots job.entry.program.now job.entry.limits.gates) job.entry.limits.choices job.entry.limits.steps f) }
+    requires { IsExcessOf (slots job.program.now job.limits.discipline) job.limits.choices job.limits.steps excess }
+    ensures { IfOk result (λ f. IsFoundOf (slots job.entry.program.now job.entry.limits.discipline) job.entry.limits.choices job.entry.limits.steps f) }
 {
     let known = greatest_known(alloc, job, most, observer)?;
     Ok(Finding::TooMany(excess, known))

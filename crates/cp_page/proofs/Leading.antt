@@ -2,7 +2,7 @@
 use Rattle.std.proofs.Common.{◌≡◌, ◌∙◌, ℕ, List, [], Bool, true, false, refl, sym, ap, subst}
 use Rattle.cp_slots.specs.Tables.{Tables}
 use Rattle.cp_machine.specs.System.{Machine, output_of}
-use Rattle.cp_machine.specs.declared.gates.Gates.{Gates}
+use Rattle.cp_machine.specs.declared.discipline.Discipline.{Discipline}
 use Rattle.cp_machine.specs.declared.shown.Shown.{Shown}
 use Rattle.cp_run.specs.Fold.{walked_chosen, walked_opened}
 use Rattle.cp_run.specs.Run.{Node, chosen, may, opened}
@@ -23,18 +23,18 @@ quiet_left true m is = refl
 quiet_left false m is = absurd (cc)
 
 -- a choice may be taken whatever was displayed
-pub may_left : (b : Bool) (r : Tables) (gates : Gates) (m n : Machine) (p : ℕ) → n ≡ left_by b m → may (slots r gates) m p ≡ true → may (slots r gates) n p ≡ true
+pub may_left : (b : Bool) (r : Tables) (gates : Discipline) (m n : Machine) (p : ℕ) → n ≡ left_by b m → may (slots r gates) m p ≡ true → may (slots r gates) n p ≡ true
 unfolding may
 may_left true r gates m n p e h = subst (λ x. may (slots r gates) x p ≡ true) (sym e) h
 may_left false r gates m n p e h = subst (λ x. may (slots r gates) x p ≡ true) (sym e) h
 
 -- with what is displayed kept: as in a run
 
-pub choice_halts : (b : Bool) (r : Tables) (gates : Gates) (steps : ℕ) (m n : Machine) (p : ℕ) (h : Halt End) (t : Machine) (node : Node Machine) → n ≡ left_by b m → chosen (slots_by b r gates) steps n p ≡ node → (b ≡ false → IsHalt h t node) → b ≡ false → IsHalt h t (chosen (slots r gates) steps m p)
+pub choice_halts : (b : Bool) (r : Tables) (gates : Discipline) (steps : ℕ) (m n : Machine) (p : ℕ) (h : Halt End) (t : Machine) (node : Node Machine) → n ≡ left_by b m → chosen (slots_by b r gates) steps n p ≡ node → (b ≡ false → IsHalt h t node) → b ≡ false → IsHalt h t (chosen (slots r gates) steps m p)
 choice_halts true r gates steps m n p h t node at is halts off = absurd (cc)
 choice_halts false r gates steps m n p h t node at is halts off = subst (IsHalt h t) (sym is ∙ ap (λ x. chosen (slots r gates) steps x p) at) (halts off)
 
-pub opening_halts : (b : Bool) (r : Tables) (gates : Gates) (steps : ℕ) (h : Halt End) (t : Machine) (node : Node Machine) → opened (slots_by b r gates) steps ≡ node → (b ≡ false → IsHalt h t node) → b ≡ false → IsHalt h t (opened (slots r gates) steps)
+pub opening_halts : (b : Bool) (r : Tables) (gates : Discipline) (steps : ℕ) (h : Halt End) (t : Machine) (node : Node Machine) → opened (slots_by b r gates) steps ≡ node → (b ≡ false → IsHalt h t node) → b ≡ false → IsHalt h t (opened (slots r gates) steps)
 opening_halts true r gates steps h t node is halts off = absurd (cc)
 opening_halts false r gates steps h t node is halts off = subst (IsHalt h t) (sym is) (halts off)
 
@@ -43,7 +43,7 @@ opening_halts false r gates steps h t node is halts off = subst (IsHalt h t) (sy
 abbrev goal_by : Tables → Gates → ℕ → List Shown → Machine × Turn → Goal Machine End
 goal_by r gates steps shown w = (halt_arrival (slots r gates) (silent_slots r gates) same_key steps shown w.0 w.1).goal
 
-pub choice_leads : (b : Bool) (r : Tables) (gates : Gates) (steps : ℕ) (m n : Machine) (p : ℕ) (goal : Goal Machine End) (t : Machine) (turn : Turn) → n ≡ left_by b m → walked_chosen (slots_by b r gates) steps n p ≡ (t, turn) → (b ≡ true → (shown : List Shown) → goal ≡ (halt_arrival (slots r gates) (silent_slots r gates) same_key steps shown t turn).goal) → b ≡ true → goal ≡ (next_arrival (slots r gates) without_output same_key steps (without_output m) p).goal
+pub choice_leads : (b : Bool) (r : Tables) (gates : Discipline) (steps : ℕ) (m n : Machine) (p : ℕ) (goal : Goal Machine End) (t : Machine) (turn : Turn) → n ≡ left_by b m → walked_chosen (slots_by b r gates) steps n p ≡ (t, turn) → (b ≡ true → (shown : List Shown) → goal ≡ (halt_arrival (slots r gates) (silent_slots r gates) same_key steps shown t turn).goal) → b ≡ true → goal ≡ (next_arrival (slots r gates) without_output same_key steps (without_output m) p).goal
 choice_leads false r gates steps m n p goal t turn at stands leads on = absurd (cc)
 choice_leads true r gates steps m n p goal t turn at stands leads on =
     let comes = choice_comes (slots r gates) without_output same_key steps (without_output m) p in
@@ -51,7 +51,7 @@ choice_leads true r gates steps m n p goal t turn at stands leads on =
     ∙ ap (goal_by r gates steps comes.shown) (sym (ap (λ x. walked_chosen (silent_slots r gates) steps x p) (sym at) ∙ stands))
     ∙ ap (λ a. a.goal) (sym comes.is)
 
-pub opening_leads : (b : Bool) (r : Tables) (gates : Gates) (steps : ℕ) (goal : Goal Machine End) (t : Machine) (turn : Turn) → walked_opened (slots_by b r gates) steps ≡ (t, turn) → (b ≡ true → (shown : List Shown) → goal ≡ (halt_arrival (slots r gates) (silent_slots r gates) same_key steps shown t turn).goal) → b ≡ true → goal ≡ (first_arrival (slots r gates) without_output same_key steps).goal
+pub opening_leads : (b : Bool) (r : Tables) (gates : Discipline) (steps : ℕ) (goal : Goal Machine End) (t : Machine) (turn : Turn) → walked_opened (slots_by b r gates) steps ≡ (t, turn) → (b ≡ true → (shown : List Shown) → goal ≡ (halt_arrival (slots r gates) (silent_slots r gates) same_key steps shown t turn).goal) → b ≡ true → goal ≡ (first_arrival (slots r gates) without_output same_key steps).goal
 opening_leads false r gates steps goal t turn stands leads on = absurd (cc)
 opening_leads true r gates steps goal t turn stands leads on =
     let comes = opening_comes (slots r gates) without_output same_key steps in

@@ -99,7 +99,7 @@ fn put_limits(json: &mut Json, subject: PageSubject<'_>) {
     }
     json.put_member("steps", subject.limits.steps);
     json.put_name("gates");
-    json.put_quoted(match subject.limits.gates {
+    json.put_quoted(match subject.limits.discipline.gates {
         Gates::First => "first",
         Gates::Any => "any",
     });
@@ -149,7 +149,7 @@ fn put_graph<K: Schedules, O: ObserveProgress>(
     merging: Merging,
     words: &[Vec<u8>],
 ) -> Result<(), AllocError> {
-    let state = State::start(alloc, subject.program, subject.limits.gates)?;
+    let state = State::start(alloc, subject.program, subject.limits.discipline)?;
     let mut teller: Teller<'_, K> = Teller::new(alloc, subject.legend, &state)?;
     let views = put_start(json, subject.program, &state, &mut teller)?;
     let mut graph = PageGraph::new(alloc, subject, teller, merging);

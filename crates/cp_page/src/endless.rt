@@ -27,8 +27,8 @@ pub fn endless_of<O: ObserveProgress>(
     subject: PageSubject<'_>,
     observer: &mut O,
 ) -> Result<Endless, AllocError>
-    ensures ends { IfOk result (λ e. IsAnswer subject.entry.program.now subject.entry.limits.gates subject.entry.limits.steps 200000 e.found) }
-    ensures waits { IfOk result (λ e. IfSome e.waits (λ waits. TellOfAll subject.entry.program.now subject.entry.limits.gates subject.entry.limits.steps e.found waits)) }
+    ensures ends { IfOk result (λ e. IsAnswer subject.entry.program.now subject.entry.limits.discipline subject.entry.limits.steps 200000 e.found) }
+    ensures waits { IfOk result (λ e. IfSome e.waits (λ waits. TellOfAll subject.entry.program.now subject.entry.limits.discipline subject.entry.limits.steps e.found waits)) }
 {
     let PageSubject {
         program,

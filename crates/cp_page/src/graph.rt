@@ -76,7 +76,7 @@ impl<'a, K: Schedules> PageGraph<'a, K> {
             limits,
             ..
         } = self.subject;
-        let mut state = State::start(self.alloc(), program, limits.gates)?;
+        let mut state = State::start(self.alloc(), program, limits.discipline)?;
         self.teller.begin_edge(&state)?;
         let halt = self
             .teller

@@ -29,7 +29,7 @@ pub fn survey<O: ObserveProgress>(
     states: usize,
     observer: &mut O,
 ) -> Result<Option<Tallies>, AllocError>
-    ensures { IfOk result (λ found. IfSome found (λ ts. map tally_of ts ≡ tally same_outcome (table (slots job.entry.program.now job.entry.limits.gates) job.entry.limits.choices job.entry.limits.steps))) }
+    ensures { IfOk result (λ found. IfSome found (λ ts. map tally_of ts ≡ tally same_outcome (table (slots job.entry.program.now job.entry.limits.discipline) job.entry.limits.choices job.entry.limits.steps))) }
 {
     match explore_merged_with(alloc, job, states, observer) {
         Ok(tallies) => Ok(Some(tallies)),

@@ -149,9 +149,9 @@ impl<'a, K: Schedules> Teller<'a, K> {
         ticks: &mut Ticks<S>,
     ) -> Result<Halt<End>, AllocError>
         requires own { IsStateOf program.now state.old }
-        requires may { may (slots program.now limits.gates) (machine_of state.old) process ≡ true }
-        ensures node { IfOk result (λ h. K.IS_SILENT ≡ false → IsHalt h (machine_of state.new) (chosen (slots program.now limits.gates) limits.steps (machine_of state.old) process)) }
-        ensures goal { IfOk result (λ h. K.IS_SILENT ≡ true → goal_at h (machine_of state.new) ≡ (next_arrival (slots program.now limits.gates) without_output same_key limits.steps (without_output (machine_of state.old)) process).goal) }
+        requires may { may (slots program.now limits.discipline) (machine_of state.old) process ≡ true }
+        ensures node { IfOk result (λ h. K.IS_SILENT ≡ false → IsHalt h (machine_of state.new) (chosen (slots program.now limits.discipline) limits.steps (machine_of state.old) process)) }
+        ensures goal { IfOk result (λ h. K.IS_SILENT ≡ true → goal_at h (machine_of state.new) ≡ (next_arrival (slots program.now limits.discipline) without_output same_key limits.steps (without_output (machine_of state.old)) process).goal) }
         ensures own { IsStateOf program.now state.new }
     {
         Self::forget(program, state);
@@ -168,9 +168,9 @@ impl<'a, K: Schedules> Teller<'a, K> {
         ticks: &mut Ticks<S>,
     ) -> Result<Halt<End>, AllocError>
         requires own { IsStateOf program.now state.old }
-        requires start { machine_of state.old ≡ opening program.now limits.gates }
-        ensures node { IfOk result (λ h. K.IS_SILENT ≡ false → IsHalt h (machine_of state.new) (opened (slots program.now limits.gates) limits.steps)) }
-        ensures goal { IfOk result (λ h. K.IS_SILENT ≡ true → goal_at h (machine_of state.new) ≡ (first_arrival (slots program.now limits.gates) without_output same_key limits.steps).goal) }
+        requires start { machine_of state.old ≡ opening program.now limits.discipline }
+        ensures node { IfOk result (λ h. K.IS_SILENT ≡ false → IsHalt h (machine_of state.new) (opened (slots program.now limits.discipline) limits.steps)) }
+        ensures goal { IfOk result (λ h. K.IS_SILENT ≡ true → goal_at h (machine_of state.new) ≡ (first_arrival (slots program.now limits.discipline) without_output same_key limits.steps).goal) }
         ensures own { IsStateOf program.now state.new }
     {
         let turn = observe_opening(program, limits, state, ticks, self)?;
@@ -191,7 +191,7 @@ impl<'a, K: Schedules> Teller<'a, K> {
         requires free { IfGoes turn (λ q. is_pending (machine_of state.old) ≡ false) }
         requires quiet { K.IS_SILENT ≡ true → output_of (machine_of state.old) ≡ [] }
         ensures node { IfOk result (λ h. K.IS_SILENT ≡ false → IsHalt h (machine_of state.new) (node_of (halt_at turn) (machine_of state.old))) }
-        ensures goal { IfOk result (λ h. K.IS_SILENT ≡ true → (shown : List said.Shown) → goal_at h (machine_of state.new) ≡ (halt_arrival (slots program.now limits.gates) (silent_slots program.now limits.gates) same_key limits.steps shown (machine_of state.old) turn).goal) }
+        ensures goal { IfOk result (λ h. K.IS_SILENT ≡ true → (shown : List said.Shown) → goal_at h (machine_of state.new) ≡ (halt_arrival (slots program.now limits.discipline) (silent_slots program.now limits.discipline) same_key limits.steps shown (machine_of state.old) turn).goal) }
         ensures own { IsStateOf program.now state.new }
     {
         match turn {

@@ -57,7 +57,7 @@ lines m h = record { gate = h.gate; once = h.once; pending = h.pending }
 represented : (g : Ground) (p : Program) (l : Layouts) (s : State) (m : Machine) → Represents g p l s m → Represents g p l (named_without_output s) (without_output m)
 represented g p l s m h = represents_with g p l s m [] [] s.pending m.pending refl h.pending h
 
-pub forgets : (t : Tree) (r : Tables) (l : Layouts) (g : named.Gates) (s : State) (m : Machine) → Simulates t r l g s m → Simulates t r l g (named_without_output s) (without_output m)
+pub forgets : (t : Tree) (r : Tables) (l : Layouts) (g : named.Discipline) (s : State) (m : Machine) → Simulates t r l g s m → Simulates t r l g (named_without_output s) (without_output m)
 forgets t r l g s m h =
     record {
       reached = by_forgetting s h.reached;

@@ -4,7 +4,7 @@ use Rattle.cp_refine.proofs.Words.{SystemKind, Program, Tree, Path, line_of, com
 use Rattle.cp_refine.proofs.Words.{well_formed, IsMonitor, OrderlyState, first_components, IsReached, at_first, by_step, by_admission, by_forgetting, view_of}
 use Rattle.cp_tree.specs.declared.declaration.SystemKind.TheVariants as system_kind
 use Rattle.cp_meaning.specs.Ownership.{owner_from, owner_of, HoldsComponent, HoldsCalls, CallsDescend, IsLawful}
-use Rattle.cp_meaning.specs.State.{uninitialised, initialising, initialised, unstarted, ready, Component, component_at, CallKind, entry_routine, initial_statement, own_statement, local_routine, Call, current, Item, init_end, process_at, Gates, State, Place, has_entry, is_inside}
+use Rattle.cp_meaning.specs.State.{uninitialised, initialising, initialised, unstarted, ready, Component, component_at, CallKind, entry_routine, initial_statement, own_statement, local_routine, Call, current, Item, init_end, process_at, Discipline, State, Place, has_entry, is_inside}
 use Rattle.cp_meaning.proofs.Frames.{Frame, frames, entry_in, initial_in, system_at, Descends, ItemsFit, TopStarts}
 use Rattle.cp_meaning.proofs.OwnershipLemmas.{reached, lawful as lawful_when_reached, ownership}
 use Rattle.cp_refine.proofs.reached.ReachedCalls.{IsOuterKind, lies_lower, one_entry, none_open, entered_or_initial}
@@ -51,13 +51,13 @@ own_from cs zero n e = refl
 own_from cs (suc depth) n e = rw e refl
 
 -- access rights are kept in each reached state
-pub reached_lawful : (p : Program) → IsWellFormed p → (g : Gates) (s : State) → IsReached p g s → IsLawful s
+pub reached_lawful : (p : Program) → IsWellFormed p → (g : Discipline) (s : State) → IsReached p g s → IsLawful s
 reached_lawful p ok g _ at_first = (ownership p ok g).opening_lawful
 reached_lawful p ok g _ (by_step s q before none less was) = (ownership p ok g).steps_lawful s q before (reached_lawful p ok g s before) none less was
 reached_lawful p ok g _ (by_admission s n q before is member) = (ownership p ok g).admissions_lawful s n q before (reached_lawful p ok g s before) is member
 reached_lawful p ok g _ (by_forgetting s before) = lawful_when_reached p ok g _ (by_forgetting s before)
 
-module _ (p : Program) (ok : IsWellFormed p) (g : Gates) (s : State) (before : IsReached p g s) where
+module _ (p : Program) (ok : IsWellFormed p) (g : Discipline) (s : State) (before : IsReached p g s) where
   abbrev cs : List Component
   cs = s.components
 
@@ -155,5 +155,5 @@ module _ (p : Program) (ok : IsWellFormed p) (g : Gates) (s : State) (before : I
         ends = ended;
       }
 
-pub reached_stands : (t : Tree) → IsAccepted t → (g : Gates) (s : State) → IsReached t.program g s → HoldsInReached t.program s
+pub reached_stands : (t : Tree) → IsAccepted t → (g : Discipline) (s : State) → IsReached t.program g s → HoldsInReached t.program s
 reached_stands t ok g s before = holds_in_reached t.program (well_formed t ok) g s before

@@ -1,4 +1,5 @@
 pub mod Alike
+pub mod Disciplines
 pub mod Forgetting
 pub mod HoldsInReached
 pub mod Meaning

@@ -1,6 +1,6 @@
 -- The kinds of components in the tables, and the numbers of monitors and processes.
 use Rattle.std.proofs.Common.{◌≡◌, ◌∙◌, ◌⊎◌, inl, inr, ℕ, zero, suc, ◌<◌, ◌≤◌, ◌==◌, Bool, true, false, if◌then◌else◌, List, [], ◌∷◌, Some, ap, sym, refl, subst, arith, length, eq-eqb}
-use Rattle.cp_refine.proofs.Words.{slice_index_or, cases_lt, eqb-true, SystemKind, Program, Tree, ComponentKind, IsItself, IsTyped, after, process_of, first_gates}
+use Rattle.cp_refine.proofs.Words.{slice_index_or, cases_lt, eqb-true, SystemKind, Program, Tree, ComponentKind, IsItself, IsTyped, after, process_of, book_discipline}
 use Rattle.cp_refine.proofs.Words.{Process, State, first_components, opening, Layouts, SameKind, KindsAgree, ground_of, monitors_of}
 use Rattle.cp_tree.specs.declared.declaration.SystemKind.TheVariants as system_kind
 use Rattle.cp_slots.specs.declared.tables.Component.{Component}
@@ -46,7 +46,7 @@ module _ (t : Tree) (r : Tables) (l : Layouts) (stands : Stands (ground_of t r) 
   p = t.program
 
   abbrev monitors : List ℕ
-  monitors = monitors_of (opening p first_gates)
+  monitors = monitors_of (opening p book_discipline)
 
   pub monitor_there : (n j : ℕ) → (component_at r n).kind ≡ kind.Monitor j → n < length r.components
   monitor_there n j e = kind_within r.components n (λ f. (let bad : kind.Monitor j ≡ kind.Class = sym e ∙ f in cc))
@@ -89,10 +89,10 @@ module _ (t : Tree) (r : Tables) (l : Layouts) (stands : Stands (ground_of t r) 
     process_component d j less e = subst (λ k. IsItself r k d) e (typed.components d less).itself
 
     some_process : 0 < length r.processes
-    some_process = let e = stands.process_count ∙ ap length (processes_are p first_gates) in omega (arith, e)
+    some_process = let e = stands.process_count ∙ ap length (processes_are p book_discipline) in omega (arith, e)
 
     first_process : (process_at r 0).component ≡ 0
-    first_process = (stands.processes 0 some_process).component ∙ ap (λ (xs : List Process). (named.process_at xs 0).component) (processes_are p first_gates)
+    first_process = (stands.processes 0 some_process).component ∙ ap (λ (xs : List Process). (named.process_at xs 0).component) (processes_are p book_discipline)
 
     pub process_known : (d j : ℕ) → d < length r.components → (component_at r d).kind ≡ kind.Process j → j < length r.processes
     process_known d j less e = go (cases_lt j (length r.processes))

@@ -44,7 +44,7 @@ pub use Rattle.cp_meaning.specs.Lifting.{designator_calls, expression_calls, exp
 pub use Rattle.cp_meaning.specs.Lifting.{selectors_calls, until_items}
 pub use Rattle.cp_meaning.specs.LocalRules.{after_return, arm_for, assigned, becomes, continued_from, delayed_in, finished, has_label, in_place_of, invoked, leaving_move}
 pub use Rattle.cp_meaning.specs.LocalRules.{queue_free, return_move, takes, with_result}
-pub use Rattle.cp_meaning.specs.Move.{Doing, Move, delays, ends, enters, shows, starts, stays}
+pub use Rattle.cp_meaning.specs.Move.{Doing, Move, continues, delays, ends, enters, shows, starts, stays}
 pub use Rattle.cp_meaning.specs.Names.{Name, result_name, same_name, temporary}
 pub use Rattle.cp_meaning.specs.Operations.{Typed, checked, is_true, range_of_base, same_integer, signed_value}
 pub use Rattle.cp_meaning.specs.Outcome.{ErrorName, Outcome, init_twice, out_of_range, ◌>>=◌}
@@ -54,7 +54,7 @@ pub use Rattle.cp_meaning.specs.Places.{with_environment, with_permanents}
 pub use Rattle.cp_meaning.specs.Readings.{first_inside, is_ready, monitors_from, monitors_of}
 pub use Rattle.cp_meaning.specs.Scopes.{Meaning, Scope, Standard, constant_meaning, continue_procedure, delay_procedure, display_procedure, find, local_variable}
 pub use Rattle.cp_meaning.specs.Scopes.{permanent_variable, routine_meaning, since, standard_meaning}
-pub use Rattle.cp_meaning.specs.State.{Call, Component, ComponentStatus, Content, Environment, Gates, Holder, Item, Place, Process, Shown, State, Status, any_gates}
+pub use Rattle.cp_meaning.specs.State.{Call, Component, ComponentStatus, Content, Discipline, Environment, Gates, Holder, Item, Place, Process, Shown, State, Status, any_gates, book_discipline}
 pub use Rattle.cp_meaning.specs.State.{at_gate, current, delayed, end, ended, entry_routine, first_gates, function_call, has_entry, holds, in_call, in_component}
 pub use Rattle.cp_meaning.specs.State.{init_end, initialised, initialising, is_entry_kind, is_inside, knows, no_component, own_statement, process_at, ready, refers}
 pub use Rattle.cp_meaning.specs.State.{return, start_item, statement_item, successor, uninitialised, unstarted, until, waits_at}
@@ -126,7 +126,7 @@ pub use Rattle.cp_machine.specs.Reach.{Reaches}
 pub use Rattle.cp_machine.specs.Stack.{from_end, rest_of}
 pub use Rattle.cp_machine.specs.Step.{act, step_at, take_top}
 pub use Rattle.cp_machine.specs.declared.event.Event.{Event}
-pub use Rattle.cp_machine.specs.declared.gates.Gates.TheVariants.{Any, First}
+pub use Rattle.cp_machine.specs.declared.discipline.Gates.TheVariants.{Any, First}
 pub use Rattle.cp_machine.specs.declared.process.Entry.{Entry}
 pub use Rattle.cp_machine.specs.declared.process.Entry.TheVariants.{InitEnd, Rest, Return, Successor}
 pub use Rattle.cp_machine.specs.declared.state.Phase.{Phase}
@@ -146,7 +146,7 @@ pub use Rattle.cp_refine.specs.InStep.{CanEnter, CanGo, GoInStep, LooksAlike}
 pub use Rattle.cp_refine.specs.ItemsKnown.{CallIsKnown, InvokeKnown, ItemKnown, QueueKnown, StatementKnown, VariablesGiven}
 pub use Rattle.cp_refine.specs.Kinds.{KindsAgree, SameKind}
 pub use Rattle.cp_refine.specs.Law.{MeansTheSame, Simulates, ground_of}
-pub use Rattle.cp_refine.specs.Named.{error_of, gates_of, named}
+pub use Rattle.cp_refine.specs.Named.{discipline_of, error_of, gates_of, named}
 pub use Rattle.cp_refine.specs.Parameters.{AreDifferent, HaveTypes, HaveValues, IsOther}
 pub use Rattle.cp_refine.specs.PlainValues.{plain_address, plain_indexed, plain_set, plain_value}
 pub use Rattle.cp_refine.specs.Prepared.{Prepared}

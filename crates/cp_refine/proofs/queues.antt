@@ -2,6 +2,7 @@ pub mod ContinueSteps
 pub mod Continuing
 pub mod Delayed
 pub mod Delaying
+pub mod GoingOn
 pub mod QueueNames
 pub mod QueueParts
 pub mod QueueWriting

@@ -2,15 +2,15 @@
 use Rattle.cp_tree.specs.Syntax.{Tree}
 use Rattle.cp_slots.specs.Tables.{Tables}
 use Rattle.cp_machine.specs.Machine.{Machine}
-use Rattle.cp_meaning.specs.State.{Gates, State}
+use Rattle.cp_meaning.specs.State.{Discipline, State}
 use Rattle.cp_resolved.specs.Layouts.{Layouts}
 use Rattle.cp_refine.specs.Law.{Simulates}
 use Rattle.cp_refine.specs.Prepared.{ProgramKnown}
 use Rattle.cp_refine.specs.StatesKnown.{StateKnown}
 
-abbrev pub StatesKnown : Tree → Tables → Layouts → Gates → Type 0
+abbrev pub StatesKnown : Tree → Tables → Layouts → Discipline → Type 0
 StatesKnown t r l g = (s : State) (m : Machine) → Simulates t r l g s m → StateKnown t r l s m
 
-pub record AllKnown (t : Tree) (r : Tables) (l : Layouts) (g : Gates) : Type 0 where
+pub record AllKnown (t : Tree) (r : Tables) (l : Layouts) (g : Discipline) : Type 0 where
   pub program : ProgramKnown t r l
   pub states : StatesKnown t r l g

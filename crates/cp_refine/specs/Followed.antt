@@ -4,7 +4,7 @@ use Rattle.cp_tree.specs.declared.declaration.SystemKind.TheVariants as system_k
 use Rattle.cp_tree.specs.Syntax.{Expression, Expressions, no_expressions, more_expressions, Designator, Statement, invoke, init, Program}
 use Rattle.cp_meaning.specs.Declarations.{Parameter, RoutineMeaning}
 use Rattle.cp_meaning.specs.Expressions.{meaning_here, routine_called, target_value, variable_in}
-use Rattle.cp_meaning.specs.Kernel.{is_delayed_in, process_of}
+use Rattle.cp_meaning.specs.Kernel.{process_of, waits_inside}
 use Rattle.cp_meaning.specs.Places.{View, Target, component_there, this_component, value_at}
 use Rattle.cp_meaning.specs.Scopes.{Meaning, routine_meaning, standard_meaning, delay_procedure, continue_procedure, display_procedure}
 use Rattle.cp_meaning.specs.State.{component_at, process_at, entry_routine, current, Item, statement_item, function_call, start_item, State}
@@ -57,9 +57,9 @@ abbrev pub IsQueueNamed : Expressions → (Designator → Type 0) → Type 0
 IsQueueNamed no_expressions P = ⊥
 IsQueueNamed (more_expressions e es) P = (d : Designator) × (variable_in e ≡ Some d) × P d
 
--- who waits in the queue is delayed in the monitor that is executed
+-- who waits in the queue is delayed in the monitor that is executed, in an entry of it
 abbrev pub WaitsThere : State → View → Designator → Type 0
-WaitsThere s v d = Leads v d (λ t. (r : ℕ) → waiting_in (value_at v t.place) ≡ Some r → is_delayed_in (this_component v) (process_at s.processes r).status ≡ true)
+WaitsThere s v d = Leads v d (λ t. (r : ℕ) → waiting_in (value_at v t.place) ≡ Some r → waits_inside s (this_component v) r ≡ true)
 
 abbrev pub IsOne : Expressions → Type 0
 IsOne no_expressions = ⊥

@@ -6,11 +6,11 @@ use Rattle.cp_layout.specs.Laid.{plain, laid}
 use Rattle.cp_slots.specs.Tables.{Tables}
 use Rattle.cp_lawful.specs.Accepted.{IsAccepted}
 use Rattle.cp_refine.specs.Followed.{StepFollows}
-use Rattle.cp_meaning.specs.State.{ready, process_at, Gates, State}
+use Rattle.cp_meaning.specs.State.{ready, process_at, Discipline, State}
 use Rattle.cp_meaning.specs.Steps.{IsReached}
 
 -- of every program that is read, accepted and laid out, in each reached state, whatever ready process steps
 abbrev pub FollowingLaw : Type 0
 FollowingLaw =
-    (t : Tree) (r : Tables) (g : Gates) → IsRead t.program → IsAccepted t → plain r ≡ laid t → (s : State) (pid : ℕ) → IsReached t.program g s → s.pending ≡ None → pid < length s.processes → (process_at s.processes pid).status ≡ ready →
+    (t : Tree) (r : Tables) (g : Discipline) → IsRead t.program → IsAccepted t → plain r ≡ laid t → (s : State) (pid : ℕ) → IsReached t.program g s → s.pending ≡ None → pid < length s.processes → (process_at s.processes pid).status ≡ ready →
     StepFollows t.program s pid

@@ -10,13 +10,13 @@ use Rattle.cp_run.specs.Slots.{slots}
 use Rattle.cp_run.specs.System.{System}
 use Rattle.cp_run.specs.Table.{table}
 use Rattle.cp_run.specs.Trace.{trace}
-use Rattle.cp_meaning.specs.State.{Gates, State}
+use Rattle.cp_meaning.specs.State.{Discipline, State}
 use Rattle.cp_meaning.specs.Steps.{IsReached}
 use Rattle.cp_refine.specs.InStep.{GoInStep}
 use Rattle.cp_resolved.specs.Layouts.{Layouts}
 use Rattle.cp_resolved.specs.Stands.{Ground}
 use Rattle.cp_resolved.specs.Enumerations.{constants_before}
-use Rattle.cp_refine.specs.Named.{named, gates_of}
+use Rattle.cp_refine.specs.Named.{named, discipline_of}
 use Rattle.cp_refine.specs.Represents.{Represents}
 
 -- the tables, the lines of the tokens, and the numbers of enumeration constants
@@ -24,7 +24,7 @@ abbrev pub ground_of : Tree → Tables → Ground
 ground_of t r = record { tables = r; lines = t.lines; firsts = constants_before t.program }
 
 -- A reached state, a machine that stays inside the tables, and that the one stands for the other.
-pub record Simulates (t : Tree) (r : Tables) (l : Layouts) (g : Gates) (s : State) (m : Machine) : Type 0 where
+pub record Simulates (t : Tree) (r : Tables) (l : Layouts) (g : Discipline) (s : State) (m : Machine) : Type 0 where
   pub reached : IsReached t.program g s
   pub fits : MachineFits r m
   pub lines : LinesFit m
@@ -38,9 +38,9 @@ pub record SameRuns {S T : Type 0} (a : System S) (b : System T) (choices steps 
   pub traces : (word : List ℕ) → trace a choices steps word ≡ trace b choices steps word
 
 -- the meaning of a tree, and the slot machine of tables
-abbrev pub MeansTheSame : Tree → Tables → Gates → Type 0
-MeansTheSame t r g = (choices steps : ℕ) → SameRuns (named t g) (slots r (gates_of g)) choices steps
+abbrev pub MeansTheSame : Tree → Tables → Discipline → Type 0
+MeansTheSame t r g = (choices steps : ℕ) → SameRuns (named t g) (slots r (discipline_of g)) choices steps
 
 -- where the two systems go in step, they have the same runs, table and traces
 abbrev pub SameRunsLaw : Type 0
-SameRunsLaw = (t : Tree) (r : Tables) (l : Layouts) (g : Gates) → GoInStep (named t g) (slots r (gates_of g)) (Simulates t r l g) → MeansTheSame t r g
+SameRunsLaw = (t : Tree) (r : Tables) (l : Layouts) (g : Discipline) → GoInStep (named t g) (slots r (discipline_of g)) (Simulates t r l g) → MeansTheSame t r g

@@ -5,18 +5,18 @@ use Rattle.cp_tree.specs.Syntax.{Tree}
 use Rattle.cp_layout.specs.Laid.{plain, laid}
 use Rattle.cp_slots.specs.Tables.{Tables}
 use Rattle.cp_lawful.specs.Accepted.{IsAccepted}
-use Rattle.cp_meaning.specs.State.{Gates}
+use Rattle.cp_meaning.specs.State.{Discipline}
 use Rattle.cp_run.specs.Slots.{slots}
 use Rattle.cp_resolved.specs.TreeLayouts.{layouts_of}
 use Rattle.cp_refine.specs.InStep.{GoInStep}
 use Rattle.cp_refine.specs.Law.{Simulates, MeansTheSame}
-use Rattle.cp_refine.specs.Named.{named, gates_of}
+use Rattle.cp_refine.specs.Named.{named, discipline_of}
 
 -- For every program that is read and accepted, and the tables that are laid out of it: the opening machine represents the opening state, each step represents
 -- the step of the rules, with its event, each admission represents the admission, and what is read off is the same.
 abbrev pub InStepLaw : Type 0
-InStepLaw = (t : Tree) (r : Tables) (g : Gates) → IsRead t.program → IsAccepted t → plain r ≡ laid t → GoInStep (named t g) (slots r (gates_of g)) (Simulates t r (layouts_of t) g)
+InStepLaw = (t : Tree) (r : Tables) (g : Discipline) → IsRead t.program → IsAccepted t → plain r ≡ laid t → GoInStep (named t g) (slots r (discipline_of g)) (Simulates t r (layouts_of t) g)
 
 -- so every run, the table and every trace are those of the meaning
 abbrev pub MeaningLaw : Type 0
-MeaningLaw = (t : Tree) (r : Tables) (g : Gates) → IsRead t.program → IsAccepted t → plain r ≡ laid t → MeansTheSame t r g
+MeaningLaw = (t : Tree) (r : Tables) (g : Discipline) → IsRead t.program → IsAccepted t → plain r ≡ laid t → MeansTheSame t r g

@@ -6,15 +6,18 @@ use Rattle.cp_store.specs.declared.error.ErrorName.TheVariants as error
 use Rattle.cp_machine.specs.declared.event.Event as slot_event
 use Rattle.cp_machine.specs.declared.event.Event.TheVariants as event
 use Rattle.cp_machine.specs.declared.event.Kernel.TheVariants as call
-use Rattle.cp_machine.specs.declared.gates.Gates as slot_gates
-use Rattle.cp_machine.specs.declared.gates.Gates.TheVariants.{First, Any}
+use Rattle.cp_machine.specs.declared.discipline.Discipline as slot_discipline
+use Rattle.cp_machine.specs.declared.discipline.Gates as slot_gates
+use Rattle.cp_machine.specs.declared.discipline.Gates.TheVariants.{First, Any}
+use Rattle.cp_machine.specs.declared.discipline.Signals as slot_signals
+use Rattle.cp_machine.specs.declared.discipline.Signals.TheVariants as signals
 use Rattle.cp_machine.specs.declared.shown.Shown as slot_shown
 use Rattle.cp_machine.specs.declared.shown.Shown.TheVariants as shown
 use Rattle.cp_run.specs.System.{System}
 use Rattle.cp_meaning.specs.Outcome.{ErrorName, overflow, zero_divisor, out_of_range, no_case, queue_in_use, not_init, init_twice}
 use Rattle.cp_meaning.specs.Types.{Base, integers, booleans, characters, enumerated, natural_of}
 use Rattle.cp_meaning.specs.Values.{is_member}
-use Rattle.cp_meaning.specs.State.{process_at, Gates, first_gates, any_gates, Shown, State}
+use Rattle.cp_meaning.specs.State.{process_at, Gates, first_gates, any_gates, Signals, return_signals, continue_signals, wait_signals, Discipline, Shown, State}
 use Rattle.cp_meaning.specs.Kernel.{Event, local_event, enter_event, leave_event, delay_event, continue_event, start_event, display_event, ended_event, fault_event, output_full, line_of}
 use Rattle.cp_meaning.specs.Readings.{is_ready, waits, holder_of, monitors_of}
 use Rattle.cp_meaning.specs.Steps.{opening, step_of, line_at, admitted}
@@ -38,6 +41,22 @@ gates_of any_gates = Any
 abbrev pub named_gates : slot_gates.Gates → Gates
 named_gates First = first_gates
 named_gates Any = any_gates
+
+abbrev pub signals_of : Signals → slot_signals.Signals
+signals_of return_signals = signals.Return
+signals_of continue_signals = signals.Continue
+signals_of wait_signals = signals.Wait
+
+abbrev pub named_signals : slot_signals.Signals → Signals
+named_signals signals.Return = return_signals
+named_signals signals.Continue = continue_signals
+named_signals signals.Wait = wait_signals
+
+abbrev pub discipline_of : Discipline → slot_discipline.Discipline
+discipline_of d = record { gates = gates_of d.gates; signals = signals_of d.signals }
+
+abbrev pub named_discipline : slot_discipline.Discipline → Discipline
+named_discipline d = record { gates = named_gates d.gates; signals = named_signals d.signals }
 
 -- a displayed value; a constant of an enumeration by its number among all constants, by how many are declared before its enumeration
 abbrev pub shown_by : (ℕ → ℕ) → Base → ℤ → slot_shown.Shown
@@ -73,12 +92,12 @@ in_line_of None s q = false
 in_line_of (Some m) s q = is_member q (line_of s m)
 
 -- the component that is the monitor of a number
-abbrev pub monitor_number : Program → Gates → ℕ → ℕ
+abbrev pub monitor_number : Program → Discipline → ℕ → ℕ
 monitor_number p g n = slice_index_or (monitors_of (opening p g)) n (length (opening p g).components)
 
 -- ---- the system
 
-abbrev pub named : Tree → Gates → System State
+abbrev pub named : Tree → Discipline → System State
 named t g =
     record {
       processes = length (opening t.program g).processes;

@@ -31,7 +31,7 @@ use Rattle.cp_resolved.specs.Layouts.{cells_of, Layouts, Here, here, cell_named,
 use Rattle.cp_resolved.specs.Encoded.{encode, HasType, chosen_at}
 use Rattle.cp_resolved.specs.Stands.{Ground, ForItem, StatementIs, result_cell, ResultGoes}
 use Rattle.cp_refine.specs.Remaining.{ItemsAre}
-use Rattle.cp_refine.specs.Named.{gates_of, shown_of}
+use Rattle.cp_refine.specs.Named.{discipline_of, shown_of}
 
 -- ---- values in cells
 
@@ -235,5 +235,5 @@ pub record Represents (g : Ground) (p : Program) (l : Layouts) (s : State) (m : 
   pub monitors : (n : ℕ) → n < length s.components → MonitorIs s m n (component_at g.tables n).kind
   pub queues : QueuesAre g l s m
   pub pending : PendingIs g s.pending m.pending
-  pub gates : m.gates ≡ gates_of s.gates
+  pub discipline : m.discipline ≡ discipline_of s.discipline
   pub output : m.output ≡ map (shown_of g.firsts) s.output

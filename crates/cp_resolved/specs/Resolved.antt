@@ -15,7 +15,7 @@ use Rattle.cp_meaning.specs.Declarations.{Variable, Parameter, RoutineMeaning, r
 use Rattle.cp_meaning.specs.Systems.{SystemMeaning, system_of, program_system}
 use Rattle.cp_meaning.specs.Components.{step_down}
 use Rattle.cp_meaning.specs.State as named
-use Rattle.cp_meaning.specs.State.{Gates, first_gates, Environment}
+use Rattle.cp_meaning.specs.State.{book_discipline, Environment}
 use Rattle.cp_meaning.specs.Places.{content_of, value_held, component_with, result_type}
 use Rattle.cp_meaning.specs.Calls.{least_of, least_result}
 use Rattle.cp_meaning.specs.Readings.{monitors_of}
@@ -120,7 +120,7 @@ pub record SystemIs (g : Ground) (p : Program) (l : Layouts) (k : ℕ) : Type 0 
 -- the number of a process or monitor is its place among those of the program
 abbrev pub KindIs : Tables → Program → ℕ → SystemKind → ComponentKind → Type 0
 KindIs r p n system_kind.Process (kind.Process q) = (process_at r q).component ≡ n
-KindIs r p n system_kind.Monitor (kind.Monitor q) = slice_index_or (monitors_of (opening p first_gates)) q (length r.components) ≡ n
+KindIs r p n system_kind.Monitor (kind.Monitor q) = slice_index_or (monitors_of (opening p book_discipline)) q (length r.components) ≡ n
 KindIs r p n system_kind.Class kind.Class = Unit {0}
 KindIs r p n s k = ⊥
 
@@ -139,7 +139,7 @@ pub record ComponentIs (g : Ground) (p : Program) (l : Layouts) (n : ℕ) : Type
       ContainedAt l n ((l.systems (component_at g.tables n).system).firsts x) t (λ o. component_with (step_down (named.component_at (first_components p) n).path x o) (first_components p))
 
 pub record ProcessIs (g : Ground) (p : Program) (l : Layouts) (q : ℕ) : Type 0 where
-  pub component : (process_at g.tables q).component ≡ (named.process_at (opening p first_gates).processes q).component
+  pub component : (process_at g.tables q).component ≡ (named.process_at (opening p book_discipline).processes q).component
   pub routine : (process_at g.tables q).routine ≡ (l.systems (component_at g.tables (process_at g.tables q).component).system).initial
 
 -- ---- the tables
@@ -153,8 +153,8 @@ pub record Stands (g : Ground) (t : Tree) (l : Layouts) : Type 0 where
   -- the spellings of the constants of all enumerations
   pub names : g.tables.names ≡ constant_names t.program
   pub count : length g.tables.components ≡ length (first_components t.program)
-  pub process_count : length g.tables.processes ≡ length (opening t.program first_gates).processes
-  pub monitor_count : g.tables.monitors ≡ length (monitors_of (opening t.program first_gates))
+  pub process_count : length g.tables.processes ≡ length (opening t.program book_discipline).processes
+  pub monitor_count : g.tables.monitors ≡ length (monitors_of (opening t.program book_discipline))
 
 -- the tables of the tree
 abbrev pub IsResolved : Tree → Tables → (ℕ → ℕ) → Type 0

@@ -2,7 +2,7 @@
 use Rattle.std.proofs.Common.{◌≡◌, ℕ, ◌<◌, true, false, Option, length, is_some}
 use Rattle.std.specs.Prelude.{IsTrue}
 use Rattle.cp_slots.specs.Tables.{Tables}
-use Rattle.cp_machine.specs.declared.gates.Gates.{Gates}
+use Rattle.cp_machine.specs.declared.discipline.Discipline.{Discipline}
 use Rattle.cp_machine.specs.declared.state.State.{State}
 use Rattle.cp_machine.specs.System.{Machine, admitted, in_line}
 use Rattle.cp_machine.proofs.CallerLemmas.{line_within, admitted_free}
@@ -17,18 +17,18 @@ MayGoOn r s p = record { own : IsStateOf r s; ready : is_ready (machine_of s) p 
 abbrev pub MayComeIn : State → ℕ → Type 0
 MayComeIn s p = record { own : (r : Tables) × IsStateOf r s; pid : p < length s.processes.items; line : IsTrue (in_line (machine_of s) p) }
 
-module _ (r : Tables) (gates : Gates) (s : State) (p : ℕ) (pending : Option ℕ) (read : pending ≡ (machine_of s).pending) where
+module _ (r : Tables) (discipline : Discipline) (s : State) (p : ℕ) (pending : Option ℕ) (read : pending ≡ (machine_of s).pending) where
   -- nothing is pending: the process that is chosen goes on
-  pub chosen_goes : is_some pending ≡ false → IsStateOf r s → may (slots r gates) (machine_of s) p ≡ true → MayGoOn r s p
+  pub chosen_goes : is_some pending ≡ false → IsStateOf r s → may (slots r discipline) (machine_of s) p ≡ true → MayGoOn r s p
   chosen_goes none own allowed =
       let free = pending_is (machine_of s) pending false read none in
-      record { own = own; ready = may_be_ready (slots r gates) (machine_of s) p free allowed; free = free }
+      record { own = own; ready = may_be_ready (slots r discipline) (machine_of s) p free allowed; free = free }
 
   -- a monitor is pending: the process that is chosen is let in, and then nothing is pending
-  pub chosen_comes : is_some pending ≡ true → IsStateOf r s → may (slots r gates) (machine_of s) p ≡ true → MayComeIn s p
+  pub chosen_comes : is_some pending ≡ true → IsStateOf r s → may (slots r discipline) (machine_of s) p ≡ true → MayComeIn s p
   chosen_comes some own allowed =
-      let line = may_in_line (slots r gates) (machine_of s) p (pending_is (machine_of s) pending true read some) allowed in
+      let line = may_in_line (slots r discipline) (machine_of s) p (pending_is (machine_of s) pending true read some) allowed in
       record { own = (r, own); pid = line_within s p line; line = line }
 
-  pub free_behind : is_some pending ≡ true → may (slots r gates) (machine_of s) p ≡ true → (n : Machine) → n ≡ admitted (machine_of s) p → is_pending n ≡ false
-  free_behind some allowed n at = admitted_free (machine_of s) n p (may_in_line (slots r gates) (machine_of s) p (pending_is (machine_of s) pending true read some) allowed) at
+  pub free_behind : is_some pending ≡ true → may (slots r discipline) (machine_of s) p ≡ true → (n : Machine) → n ≡ admitted (machine_of s) p → is_pending n ≡ false
+  free_behind some allowed n at = admitted_free (machine_of s) n p (may_in_line (slots r discipline) (machine_of s) p (pending_is (machine_of s) pending true read some) allowed) at

@@ -3,7 +3,7 @@ use Rattle.cp_run.proofs.Words.{◌≡◌, ◌∙◌, true, false, [], ap, sym, 
 use Rattle.std.proofs.Common.{ℕ, ◌∷◌, Bool, List, if◌then◌else◌}
 use Rattle.cp_machine.specs.System.{Machine, Stepped, opening, step_at}
 use Rattle.cp_machine.specs.declared.event.Event.TheVariants.{Kernel, Ended, Fault, OutputFull}
-use Rattle.cp_machine.specs.declared.gates.Gates.{Gates}
+use Rattle.cp_machine.specs.declared.discipline.Discipline.{Discipline}
 use Rattle.cp_run.specs.Silent.{left_by, slots_by}
 use Rattle.cp_slots.specs.Tables.{Tables}
 
@@ -16,23 +16,23 @@ pending_left true m n e = ap is_pending e
 pending_left false m n e = ap is_pending e
 
 -- nothing is displayed in the beginning
-pub starts_by : (b : Bool) (r : Tables) (gates : Gates) → opening r gates ≡ (slots_by b r gates).start
-starts_by true r gates = refl
-starts_by false r gates = refl
+pub starts_by : (b : Bool) (r : Tables) (discipline : Discipline) → opening r discipline ≡ (slots_by b r discipline).start
+starts_by true r discipline = refl
+starts_by false r discipline = refl
 
-module _ (b : Bool) (r : Tables) (gates : Gates) where
-  among_by : (m : Machine) (kernel : Bool) (p : ℕ) (ready : List ℕ) → turn_among (slots r gates) m kernel p ready ≡ turn_among (slots_by b r gates) m kernel p ready
+module _ (b : Bool) (r : Tables) (discipline : Discipline) where
+  among_by : (m : Machine) (kernel : Bool) (p : ℕ) (ready : List ℕ) → turn_among (slots r discipline) m kernel p ready ≡ turn_among (slots_by b r discipline) m kernel p ready
   among_by m kernel p [] = refl
   among_by m kernel p (q ∷ []) = refl
   among_by m kernel p (q ∷ u ∷ qs) = refl
 
-  pub settled_by : (m : Machine) (kernel : Bool) (p : ℕ) → settled_turn (slots r gates) m kernel p ≡ settled_turn (slots_by b r gates) m kernel p
-  settled_by m kernel p = among_by m kernel p (those_below (slots r gates).processes (is_ready m))
+  pub settled_by : (m : Machine) (kernel : Bool) (p : ℕ) → settled_turn (slots r discipline) m kernel p ≡ settled_turn (slots_by b r discipline) m kernel p
+  settled_by m kernel p = among_by m kernel p (those_below (slots r discipline).processes (is_ready m))
 
-  pub turn_by : (m : Machine) (kernel : Bool) (p : ℕ) → turn_at (slots r gates) m kernel p ≡ turn_at (slots_by b r gates) m kernel p
+  pub turn_by : (m : Machine) (kernel : Bool) (p : ℕ) → turn_at (slots r discipline) m kernel p ≡ turn_at (slots_by b r discipline) m kernel p
   turn_by m kernel p = ap (λ t. if is_pending m then Due else t) (settled_by m kernel p)
 
-  after_by : (m : Machine) (p : ℕ) (event : Event) → turn_after (slots r gates) m p event ≡ turn_after (slots_by b r gates) m p event
+  after_by : (m : Machine) (p : ℕ) (event : Event) → turn_after (slots r discipline) m p event ≡ turn_after (slots_by b r discipline) m p event
   after_by m p Local = turn_by m false p
   after_by m p (Kernel call) = turn_by m true p
   after_by m p Ended = turn_by m true p
@@ -41,11 +41,11 @@ module _ (b : Bool) (r : Tables) (gates : Gates) where
 
   -- a step, after which what it displayed was taken away or not
   module _ (m n t : Machine) (p : ℕ) (event : Event) (step : step_at r m p ≡ record { machine = n; event = event }) (left : t ≡ left_by b n) where
-    pub made_by : t ≡ (slots_by b r gates).step m p
+    pub made_by : t ≡ (slots_by b r discipline).step m p
     made_by = left ∙ ap (λ (x : Stepped). left_by b x.machine) (sym step)
 
-    pub told_by : event ≡ (slots_by b r gates).event m p
+    pub told_by : event ≡ (slots_by b r discipline).event m p
     told_by = ap (λ (x : Stepped). x.event) (sym step)
 
-    pub follows_by : (turn : Turn) → turn ≡ turn_after (slots r gates) t p event → turn ≡ turn_after (slots_by b r gates) t p ((slots_by b r gates).event m p)
-    follows_by turn is = is ∙ after_by t p event ∙ ap (turn_after (slots_by b r gates) t p) told_by
+    pub follows_by : (turn : Turn) → turn ≡ turn_after (slots r discipline) t p event → turn ≡ turn_after (slots_by b r discipline) t p ((slots_by b r discipline).event m p)
+    follows_by turn is = is ∙ after_by t p event ∙ ap (turn_after (slots_by b r discipline) t p) told_by

@@ -19,7 +19,7 @@ use std::sync::ledger::Ledger;
 /// The numbers that a due choice may take, in rising order: the line of the pending monitor, or the ready processes.
 pub fn candidates(program: &Resolved, limits: Limits, state: &State) -> ArrayVec<u8, 16>
     requires own { IsStateOf program.now state.now }
-    ensures { result.items ≡ those_below (processes_of program.now) (may (slots program.now limits.gates) (machine_of state.now)) }
+    ensures { result.items ≡ those_below (processes_of program.now) (may (slots program.now limits.discipline) (machine_of state.now)) }
 {
     match state.pending() {
         Some(monitor) => state.waiting(monitor),
@@ -30,7 +30,7 @@ pub fn candidates(program: &Resolved, limits: Limits, state: &State) -> ArrayVec
 /// Whether a due choice may take this process.
 pub fn may(program: &Resolved, limits: Limits, state: &State, process: u8) -> bool
     requires own { IsStateOf program.now state.now }
-    ensures { result ≡ may (slots program.now limits.gates) (machine_of state.now) process }
+    ensures { result ≡ may (slots program.now limits.discipline) (machine_of state.now) process }
 {
     candidates(program, limits, state).contains(&process)
 }
@@ -46,8 +46,8 @@ pub fn choose<S: Ledger, C: Ledger, W: Watch + Copy>(
     calls: &mut Ticks<C>,
 ) -> Halt<OutcomeKind>
     requires own { IsStateOf program.now state.old }
-    requires may { may (slots program.now limits.gates) (machine_of state.old) process ≡ true }
-    ensures node { chosen (slots program.now limits.gates) limits.steps (machine_of state.old) process ≡ node_of result (machine_of state.new) }
+    requires may { may (slots program.now limits.discipline) (machine_of state.old) process ≡ true }
+    ensures node { chosen (slots program.now limits.discipline) limits.steps (machine_of state.old) process ≡ node_of result (machine_of state.new) }
     ensures own { IsStateOf program.now state.new }
     ensures steps { steps.new ≤ steps.old + limits.steps }
     ensures calls { calls.new ≤ calls.old + 1 }
@@ -73,8 +73,8 @@ pub fn open<S: Ledger, C: Ledger>(
     calls: &mut Ticks<C>,
 ) -> Halt<OutcomeKind>
     requires own { IsStateOf program.now state.old }
-    requires start { machine_of state.old ≡ opening program.now limits.gates }
-    ensures node { opened (slots program.now limits.gates) limits.steps ≡ node_of result (machine_of state.new) }
+    requires start { machine_of state.old ≡ opening program.now limits.discipline }
+    ensures node { opened (slots program.now limits.discipline) limits.steps ≡ node_of result (machine_of state.new) }
     ensures own { IsStateOf program.now state.new }
     ensures steps { steps.new ≤ steps.old + limits.steps }
     ensures calls { calls.new ≤ calls.old + 1 }

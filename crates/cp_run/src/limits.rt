@@ -1,8 +1,9 @@
 //! The limits of a run.
 
 ghost use Rattle.std.specs.Prelude.{◌≡◌, ◌≤◌, ◌⊎◌, ◌<◌, IfSome, IfNone};
+ghost use Rattle.cp_machine.specs.Discipline.{IsDiscipline};
 
-use cp_machine::Gates;
+use cp_machine::Discipline;
 
 /// The most choices of a run.
 pub const MOST_CHOICES: u8 = 100;
@@ -15,37 +16,39 @@ pub const MOST_STEPS: u32 = 100_000;
 pub struct Limits {
     pub choices: u8,
     pub steps: u32,
-    pub gates: Gates,
+    pub discipline: Discipline,
     pub ghost few_choices: { choices ≤ 100 },
     pub ghost some_steps: { 1 ≤ steps },
     pub ghost few_steps: { steps ≤ 100000 },
 }
 
 impl Limits {
-    /// These limits, or None where `choices` is over 100, or `steps` not from 1 to 100,000.
-    pub fn new(choices: u8, steps: u32, gates: Gates) -> Option<Limits>
-        ensures these { IfSome result (λ l. (l.choices ≡ choices) × (l.steps ≡ steps) × (l.gates ≡ gates)) }
-        ensures outside { IfNone result ((100 < choices) ⊎ ((steps ≡ 0) ⊎ (100000 < steps))) }
+    /// These limits, or None where `choices` is over 100, `steps` not from 1 to 100,000, or any process of a line goes in where a caller is to be the first
+    /// of the line.
+    pub fn new(choices: u8, steps: u32, discipline: Discipline) -> Option<Limits>
+        ensures these { IfSome result (λ l. (l.choices ≡ choices) × (l.steps ≡ steps) × (l.discipline ≡ discipline)) }
+        ensures known { IfSome result (λ l. IsDiscipline l.discipline) }
+        ensures outside { IfNone result ((100 < choices) ⊎ ((steps ≡ 0) ⊎ ((100000 < steps) ⊎ (IsDiscipline discipline → ⊥)))) }
     {
-        if choices > MOST_CHOICES || steps == 0 || steps > MOST_STEPS {
+        if choices > MOST_CHOICES || steps == 0 || steps > MOST_STEPS || !discipline.is_kept() {
             return None;
         }
         Some(Limits {
             choices,
             steps,
-            gates,
+            discipline,
         })
     }
 
     /// The same, with another number of choices.
     pub fn with_choices(self, choices: u8) -> Limits
         requires few { choices ≤ 100 }
-        ensures { (result.choices ≡ choices) × (result.steps ≡ self.steps) × (result.gates ≡ self.gates) }
+        ensures { (result.choices ≡ choices) × (result.steps ≡ self.steps) × (result.discipline ≡ self.discipline) }
     {
         Limits {
             choices,
             steps: self.steps,
-            gates: self.gates,
+            discipline: self.discipline,
         }
     }
 }

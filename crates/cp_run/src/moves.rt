@@ -39,11 +39,11 @@ impl<W: Watch> Observe for Moves<W> {
         false
     }
 
-    ghost holds = { λ m r gates now before. KeepBodies (W.moved m.watch) before now };
+    ghost holds = { λ m r discipline now before. KeepBodies (W.moved m.watch) before now };
 
-    ghost fold = { λ r gates. blind };
+    ghost fold = { λ r discipline. blind };
 
-    ghost expects = { λ m r gates now process before. KeepBodies (W.moved m.watch) before now × (W.moved m.watch process ≡ true) };
+    ghost expects = { λ m r discipline now process before. KeepBodies (W.moved m.watch) before now × (W.moved m.watch process ≡ true) };
 
     #[inline(always)]
     fn expect_step(
@@ -81,5 +81,5 @@ impl<W: Watch> Observe for Moves<W> {
 
     fn see_choice(&mut self, _program: &Resolved, _limits: Limits, _state: &State, _number: u8) {}
 
-    ghost passes = { λ unseen m r gates before after process x step h. subst (KeepBodies (W.moved m.watch) x) (ap (λ (s : Stepped). s.machine) step) (keep_step r (W.moved m.watch) x before process h.0 h.1) };
+    ghost passes = { λ unseen m r discipline before after process x step h. subst (KeepBodies (W.moved m.watch) x) (ap (λ (s : Stepped). s.machine) step) (keep_step r (W.moved m.watch) x before process h.0 h.1) };
 }

@@ -10,7 +10,7 @@ pub trait Observe {
     ghost use Rattle.cp_machine.specs.System.{Machine, admitted, is_ready, machine_of, step_at, IsStateOf};
     ghost use Rattle.cp_machine.specs.Statements.{local};
     ghost use Rattle.cp_machine.specs.declared.event.Event.TheVariants.{Local};
-    ghost use Rattle.cp_machine.specs.declared.gates.Gates.{Gates};
+    ghost use Rattle.cp_machine.specs.declared.discipline.Discipline.{Discipline};
     ghost use Rattle.cp_run.specs.Fold.{Fold};
     ghost use Rattle.cp_run.specs.Silent.{left_by};
     ghost use Rattle.cp_slots.specs.Tables.{Tables};
@@ -33,13 +33,13 @@ pub trait Observe {
         ensures { result ≡ SEES_LOCAL };
 
     /// So much is seen so far, of a run that stands in this state.
-    ghost holds: { Self → Tables → Gates → Machine → Seen → Type 0 };
+    ghost holds: { Self → Tables → Discipline → Machine → Seen → Type 0 };
 
     /// What is seen of a step, an admission and a choice.
-    ghost fold: { Tables → Gates → Fold Machine Seen };
+    ghost fold: { Tables → Discipline → Fold Machine Seen };
 
     /// In this state the process is about to make a step, and so much was seen before.
-    ghost expects: { Self → Tables → Gates → Machine → ℕ → Seen → Type 0 };
+    ghost expects: { Self → Tables → Discipline → Machine → ℕ → Seen → Type 0 };
 
     /// Sees a step of a process come.
     fn expect_step(
@@ -52,7 +52,7 @@ pub trait Observe {
         requires own { IsStateOf program.now state.now }
         requires ready { is_ready (machine_of state.now) process ≡ true }
         requires within { process < length state.now.processes.items }
-        ensures { IfOk result (λ _. (x : Seen) → holds self.old program.now limits.gates (machine_of state.now) x → expects self.new program.now limits.gates (machine_of state.now) process x) };
+        ensures { IfOk result (λ _. (x : Seen) → holds self.old program.now limits.discipline (machine_of state.now) x → expects self.new program.now limits.discipline (machine_of state.now) process x) };
 
     /// Sees the step that was expected: it was this event, and led to this state.
     fn see_step(
@@ -65,7 +65,7 @@ pub trait Observe {
     ) -> Result<(), Self::Error>
         requires own { IsStateOf program.now state.now }
         requires within { process < length state.now.processes.items }
-        ensures { IfOk result (λ _. (before : Machine) (x : Seen) → step_at program.now before process ≡ record { machine = machine_of state.now; event = event } → expects self.old program.now limits.gates before process x → holds self.new program.now limits.gates (left_by IS_SILENT (machine_of state.now)) ((fold program.now limits.gates).on_step before process event (left_by IS_SILENT (machine_of state.now)) x)) };
+        ensures { IfOk result (λ _. (before : Machine) (x : Seen) → step_at program.now before process ≡ record { machine = machine_of state.now; event = event } → expects self.old program.now limits.discipline before process x → holds self.new program.now limits.discipline (left_by IS_SILENT (machine_of state.now)) ((fold program.now limits.discipline).on_step before process event (left_by IS_SILENT (machine_of state.now)) x)) };
 
     /// Sees that a process was let in, which led to this state.
     fn see_admission(
@@ -76,13 +76,13 @@ pub trait Observe {
         process: u8,
     ) -> Result<(), Self::Error>
         requires own { IsStateOf program.now state.now }
-        ensures { IfOk result (λ _. (before : Machine) (x : Seen) → machine_of state.now ≡ admitted before process → holds self.old program.now limits.gates before x → holds self.new program.now limits.gates (machine_of state.now) ((fold program.now limits.gates).on_admission process (machine_of state.now) x)) };
+        ensures { IfOk result (λ _. (before : Machine) (x : Seen) → machine_of state.now ≡ admitted before process → holds self.old program.now limits.discipline before x → holds self.new program.now limits.discipline (machine_of state.now) ((fold program.now limits.discipline).on_admission process (machine_of state.now) x)) };
 
     /// Sees a due choice, and the number that is to be taken.
     fn see_choice(&mut self, program: &Resolved, limits: Limits, state: &State, number: u8)
         requires own { IsStateOf program.now state.now }
-        ensures { (x : Seen) → holds self.old program.now limits.gates (machine_of state.now) x → holds self.new program.now limits.gates (machine_of state.now) ((fold program.now limits.gates).on_choice (machine_of state.now) number x) };
+        ensures { (x : Seen) → holds self.old program.now limits.discipline (machine_of state.now) x → holds self.new program.now limits.discipline (machine_of state.now) ((fold program.now limits.discipline).on_choice (machine_of state.now) number x) };
 
     /// Where local steps are not seen, nothing of them is to be.
-    ghost passes: { SEES_LOCAL ≡ false → (self : Self) (r : Tables) (gates : Gates) (before after : Machine) (process : ℕ) (x : Seen) → step_at r before process ≡ local after → expects self r gates before process x → holds self r gates (left_by IS_SILENT after) ((fold r gates).on_step before process Local (left_by IS_SILENT after) x) };
+    ghost passes: { SEES_LOCAL ≡ false → (self : Self) (r : Tables) (discipline : Discipline) (before after : Machine) (process : ℕ) (x : Seen) → step_at r before process ≡ local after → expects self r discipline before process x → holds self r discipline (left_by IS_SILENT after) ((fold r discipline).on_step before process Local (left_by IS_SILENT after) x) };
 }

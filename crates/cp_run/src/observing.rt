@@ -57,11 +57,11 @@ pub fn expect_step<S: Ledger, O: Observe>(
     requires own { IsStateOf program.now state.old }
     requires ready { is_ready (machine_of state.old) process ≡ true }
     requires free { is_pending (machine_of state.old) ≡ false }
-    ensures state { IfOk result (λ taken. taken ≡ true → machine_of state.new ≡ (slots_by O.IS_SILENT program.now limits.gates).step (machine_of state.old) process) }
-    ensures turn { IfOk result (λ taken. taken ≡ true → Goes process ≡ turn_after (slots_by O.IS_SILENT program.now limits.gates) (machine_of state.new) process ((slots_by O.IS_SILENT program.now limits.gates).event (machine_of state.old) process)) }
-    ensures seen { IfOk result (λ taken. taken ≡ true → (x : O.Seen) → O.holds observer.old program.now limits.gates (machine_of state.old) x → O.holds observer.new program.now limits.gates (machine_of state.new) ((O.fold program.now limits.gates).on_step (machine_of state.old) process ((slots_by O.IS_SILENT program.now limits.gates).event (machine_of state.old) process) (machine_of state.new) x)) }
+    ensures state { IfOk result (λ taken. taken ≡ true → machine_of state.new ≡ (slots_by O.IS_SILENT program.now limits.discipline).step (machine_of state.old) process) }
+    ensures turn { IfOk result (λ taken. taken ≡ true → Goes process ≡ turn_after (slots_by O.IS_SILENT program.now limits.discipline) (machine_of state.new) process ((slots_by O.IS_SILENT program.now limits.discipline).event (machine_of state.old) process)) }
+    ensures seen { IfOk result (λ taken. taken ≡ true → (x : O.Seen) → O.holds observer.old program.now limits.discipline (machine_of state.old) x → O.holds observer.new program.now limits.discipline (machine_of state.new) ((O.fold program.now limits.discipline).on_step (machine_of state.old) process ((slots_by O.IS_SILENT program.now limits.discipline).event (machine_of state.old) process) (machine_of state.new) x)) }
     ensures same { IfOk result (λ taken. taken ≡ false → machine_of state.new ≡ machine_of state.old) }
-    ensures expects { IfOk result (λ taken. taken ≡ false → (x : O.Seen) → O.holds observer.old program.now limits.gates (machine_of state.old) x → O.expects observer.new program.now limits.gates (machine_of state.old) process x) }
+    ensures expects { IfOk result (λ taken. taken ≡ false → (x : O.Seen) → O.holds observer.old program.now limits.discipline (machine_of state.old) x → O.expects observer.new program.now limits.discipline (machine_of state.old) process x) }
     ensures own { IsStateOf program.now state.new }
     ensures ready { IfOk result (λ _. is_ready (machine_of state.new) process ≡ true) }
     ensures free { IfOk result (λ _. is_pending (machine_of state.new) ≡ false) }
@@ -89,9 +89,9 @@ pub fn see_step<S: Ledger, O: Observe>(
     requires own { IsStateOf program.now state.old }
     requires ready { is_ready (machine_of state.old) process ≡ true }
     requires free { is_pending (machine_of state.old) ≡ false }
-    ensures state { IfOk result (λ _. machine_of state.new ≡ (slots_by O.IS_SILENT program.now limits.gates).step (machine_of state.old) process) }
-    ensures turn { IfOk result (λ t. t ≡ turn_after (slots_by O.IS_SILENT program.now limits.gates) (machine_of state.new) process ((slots_by O.IS_SILENT program.now limits.gates).event (machine_of state.old) process)) }
-    ensures seen { IfOk result (λ _. (x : O.Seen) → O.expects observer.old program.now limits.gates (machine_of state.old) process x → O.holds observer.new program.now limits.gates (machine_of state.new) ((O.fold program.now limits.gates).on_step (machine_of state.old) process ((slots_by O.IS_SILENT program.now limits.gates).event (machine_of state.old) process) (machine_of state.new) x)) }
+    ensures state { IfOk result (λ _. machine_of state.new ≡ (slots_by O.IS_SILENT program.now limits.discipline).step (machine_of state.old) process) }
+    ensures turn { IfOk result (λ t. t ≡ turn_after (slots_by O.IS_SILENT program.now limits.discipline) (machine_of state.new) process ((slots_by O.IS_SILENT program.now limits.discipline).event (machine_of state.old) process)) }
+    ensures seen { IfOk result (λ _. (x : O.Seen) → O.expects observer.old program.now limits.discipline (machine_of state.old) process x → O.holds observer.new program.now limits.discipline (machine_of state.new) ((O.fold program.now limits.discipline).on_step (machine_of state.old) process ((slots_by O.IS_SILENT program.now limits.discipline).event (machine_of state.old) process) (machine_of state.new) x)) }
     ensures own { IsStateOf program.now state.new }
     ensures ready { IfOk result (λ t. IfGoes t (λ q. is_ready (machine_of state.new) q ≡ true)) }
     ensures free { IfOk result (λ t. IfGoes t (λ q. is_pending (machine_of state.new) ≡ false)) }
@@ -115,8 +115,8 @@ fn observe_stretch<S: Ledger, O: Observe>(
     requires own { IsStateOf program.now state.old }
     requires ready { IfGoes turn (λ q. is_ready (machine_of state.old) q ≡ true) }
     requires free { IfGoes turn (λ q. is_pending (machine_of state.old) ≡ false) }
-    ensures walked { IfOk result (λ t. walked (slots_by O.IS_SILENT program.now limits.gates) limits.steps (machine_of state.old) turn ≡ (machine_of state.new, t)) }
-    ensures seen { IfOk result (λ _. (x : O.Seen) → O.holds observer.old program.now limits.gates (machine_of state.old) x → O.holds observer.new program.now limits.gates (machine_of state.new) (fold_turn (fold_stretch (slots_by O.IS_SILENT program.now limits.gates) (O.fold program.now limits.gates) limits.steps (machine_of state.old)) turn x)) }
+    ensures walked { IfOk result (λ t. walked (slots_by O.IS_SILENT program.now limits.discipline) limits.steps (machine_of state.old) turn ≡ (machine_of state.new, t)) }
+    ensures seen { IfOk result (λ _. (x : O.Seen) → O.holds observer.old program.now limits.discipline (machine_of state.old) x → O.holds observer.new program.now limits.discipline (machine_of state.new) (fold_turn (fold_stretch (slots_by O.IS_SILENT program.now limits.discipline) (O.fold program.now limits.discipline) limits.steps (machine_of state.old)) turn x)) }
     ensures own { IsStateOf program.now state.new }
     ensures ready { IfOk result (λ t. IfGoes t (λ q. is_ready (machine_of state.new) q ≡ true)) }
     ensures free { IfOk result (λ t. IfGoes t (λ q. is_pending (machine_of state.new) ≡ false)) }
@@ -144,10 +144,10 @@ fn take_choice<O: Observe>(
     observer: &mut O,
 ) -> Result<Turn, O::Error>
     requires own { IsStateOf program.now state.old }
-    requires may { may (slots program.now limits.gates) (machine_of state.old) process ≡ true }
-    ensures node { IfOk result (λ t. (silent : _) → chosen (slots_by silent program.now limits.gates) limits.steps (machine_of state.old) process ≡ node_at (machine_of state.new) (stretch (slots_by silent program.now limits.gates) limits.steps (machine_of state.new)) t) }
-    ensures walked { IfOk result (λ t. (silent : _) → walked_chosen (slots_by silent program.now limits.gates) limits.steps (machine_of state.old) process ≡ walked (slots_by silent program.now limits.gates) limits.steps (machine_of state.new) t) }
-    ensures seen { IfOk result (λ t. (silent : _) (x : O.Seen) → O.holds observer.old program.now limits.gates (machine_of state.old) x → (y : O.Seen) × O.holds observer.new program.now limits.gates (machine_of state.new) y × (fold_chosen (slots_by silent program.now limits.gates) (O.fold program.now limits.gates) limits.steps (machine_of state.old) process x ≡ fold_turn (fold_stretch (slots_by silent program.now limits.gates) (O.fold program.now limits.gates) limits.steps (machine_of state.new)) t y)) }
+    requires may { may (slots program.now limits.discipline) (machine_of state.old) process ≡ true }
+    ensures node { IfOk result (λ t. (silent : _) → chosen (slots_by silent program.now limits.discipline) limits.steps (machine_of state.old) process ≡ node_at (machine_of state.new) (stretch (slots_by silent program.now limits.discipline) limits.steps (machine_of state.new)) t) }
+    ensures walked { IfOk result (λ t. (silent : _) → walked_chosen (slots_by silent program.now limits.discipline) limits.steps (machine_of state.old) process ≡ walked (slots_by silent program.now limits.discipline) limits.steps (machine_of state.new) t) }
+    ensures seen { IfOk result (λ t. (silent : _) (x : O.Seen) → O.holds observer.old program.now limits.discipline (machine_of state.old) x → (y : O.Seen) × O.holds observer.new program.now limits.discipline (machine_of state.new) y × (fold_chosen (slots_by silent program.now limits.discipline) (O.fold program.now limits.discipline) limits.steps (machine_of state.old) process x ≡ fold_turn (fold_stretch (slots_by silent program.now limits.discipline) (O.fold program.now limits.discipline) limits.steps (machine_of state.new)) t y)) }
     ensures ready { IfOk result (λ t. IfGoes t (λ q. is_ready (machine_of state.new) q ≡ true)) }
     ensures free { IfOk result (λ t. IfGoes t (λ q. is_pending (machine_of state.new) ≡ false)) }
     ensures own { IsStateOf program.now state.new }
@@ -171,10 +171,10 @@ pub fn observe_choice<S: Ledger, O: Observe>(
     observer: &mut O,
 ) -> Result<Turn, O::Error>
     requires own { IsStateOf program.now state.old }
-    requires may { may (slots program.now limits.gates) (machine_of state.old) process ≡ true }
-    ensures node { IfOk result (λ t. chosen (slots_by O.IS_SILENT program.now limits.gates) limits.steps (machine_of state.old) process ≡ node_of (halt_at t) (machine_of state.new)) }
-    ensures walked { IfOk result (λ t. walked_chosen (slots_by O.IS_SILENT program.now limits.gates) limits.steps (machine_of state.old) process ≡ (machine_of state.new, t)) }
-    ensures seen { IfOk result (λ _. (x : O.Seen) → O.holds observer.old program.now limits.gates (machine_of state.old) x → O.holds observer.new program.now limits.gates (machine_of state.new) (fold_chosen (slots_by O.IS_SILENT program.now limits.gates) (O.fold program.now limits.gates) limits.steps (machine_of state.old) process x)) }
+    requires may { may (slots program.now limits.discipline) (machine_of state.old) process ≡ true }
+    ensures node { IfOk result (λ t. chosen (slots_by O.IS_SILENT program.now limits.discipline) limits.steps (machine_of state.old) process ≡ node_of (halt_at t) (machine_of state.new)) }
+    ensures walked { IfOk result (λ t. walked_chosen (slots_by O.IS_SILENT program.now limits.discipline) limits.steps (machine_of state.old) process ≡ (machine_of state.new, t)) }
+    ensures seen { IfOk result (λ _. (x : O.Seen) → O.holds observer.old program.now limits.discipline (machine_of state.old) x → O.holds observer.new program.now limits.discipline (machine_of state.new) (fold_chosen (slots_by O.IS_SILENT program.now limits.discipline) (O.fold program.now limits.discipline) limits.steps (machine_of state.old) process x)) }
     ensures own { IsStateOf program.now state.new }
     ensures ready { IfOk result (λ t. IfGoes t (λ q. is_ready (machine_of state.new) q ≡ true)) }
     ensures free { IfOk result (λ t. IfGoes t (λ q. is_pending (machine_of state.new) ≡ false)) }
@@ -193,10 +193,10 @@ pub fn observe_opening<S: Ledger, O: Observe>(
     observer: &mut O,
 ) -> Result<Turn, O::Error>
     requires own { IsStateOf program.now state.old }
-    requires start { machine_of state.old ≡ opening program.now limits.gates }
-    ensures node { IfOk result (λ t. opened (slots_by O.IS_SILENT program.now limits.gates) limits.steps ≡ node_of (halt_at t) (machine_of state.new)) }
-    ensures walked { IfOk result (λ t. walked_opened (slots_by O.IS_SILENT program.now limits.gates) limits.steps ≡ (machine_of state.new, t)) }
-    ensures seen { IfOk result (λ _. (x : O.Seen) → O.holds observer.old program.now limits.gates (machine_of state.old) x → O.holds observer.new program.now limits.gates (machine_of state.new) (fold_opened (slots_by O.IS_SILENT program.now limits.gates) (O.fold program.now limits.gates) limits.steps x)) }
+    requires start { machine_of state.old ≡ opening program.now limits.discipline }
+    ensures node { IfOk result (λ t. opened (slots_by O.IS_SILENT program.now limits.discipline) limits.steps ≡ node_of (halt_at t) (machine_of state.new)) }
+    ensures walked { IfOk result (λ t. walked_opened (slots_by O.IS_SILENT program.now limits.discipline) limits.steps ≡ (machine_of state.new, t)) }
+    ensures seen { IfOk result (λ _. (x : O.Seen) → O.holds observer.old program.now limits.discipline (machine_of state.old) x → O.holds observer.new program.now limits.discipline (machine_of state.new) (fold_opened (slots_by O.IS_SILENT program.now limits.discipline) (O.fold program.now limits.discipline) limits.steps x)) }
     ensures own { IsStateOf program.now state.new }
     ensures ready { IfOk result (λ t. IfGoes t (λ q. is_ready (machine_of state.new) q ≡ true)) }
     ensures free { IfOk result (λ t. IfGoes t (λ q. is_pending (machine_of state.new) ≡ false)) }
@@ -222,10 +222,10 @@ pub fn observe_run<L: Ledger, O: Observe<Error = AllocError>>(
     requires loud { O.IS_SILENT ≡ false }
     requires word { length word.now ≤ 100 }
     requires own { IsStateOf program.now state.old }
-    requires start { machine_of state.old ≡ opening program.now limits.gates }
-    ensures answer { IfOk result (λ end. answer_of end ≡ run (slots program.now limits.gates) limits.choices limits.steps word.now) }
-    ensures seen { IfOk result (λ _. (x : O.Seen) → O.holds observer.old program.now limits.gates (machine_of state.old) x → O.holds observer.new program.now limits.gates (machine_of state.new) (fold_run (slots program.now limits.gates) (O.fold program.now limits.gates) limits.choices limits.steps word.now x)) }
-    ensures stop { IfOk result (λ _. machine_of state.new ≡ last_state (slots program.now limits.gates) limits.choices limits.steps word.now) }
+    requires start { machine_of state.old ≡ opening program.now limits.discipline }
+    ensures answer { IfOk result (λ end. answer_of end ≡ run (slots program.now limits.discipline) limits.choices limits.steps word.now) }
+    ensures seen { IfOk result (λ _. (x : O.Seen) → O.holds observer.old program.now limits.discipline (machine_of state.old) x → O.holds observer.new program.now limits.discipline (machine_of state.new) (fold_run (slots program.now limits.discipline) (O.fold program.now limits.discipline) limits.choices limits.steps word.now x)) }
+    ensures stop { IfOk result (λ _. machine_of state.new ≡ last_state (slots program.now limits.discipline) limits.choices limits.steps word.now) }
     ensures own { IsStateOf program.now state.new }
     ensures ticks { ticks.new ≤ ticks.old + (limits.choices + 1) * limits.steps }
 {

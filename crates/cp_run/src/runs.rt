@@ -32,7 +32,7 @@ pub fn run<L: Ledger>(
     ticks: &mut Ticks<L>,
 ) -> Result<RunEnd, AllocError>
     requires { length word.now ≤ 100 }
-    ensures answer { IfOk result (λ end. answer_of end ≡ run (slots program.now limits.gates) limits.choices limits.steps word.now) }
+    ensures answer { IfOk result (λ end. answer_of end ≡ run (slots program.now limits.discipline) limits.choices limits.steps word.now) }
     ensures ticks { ticks.new ≤ ticks.old + (limits.choices + 1) * limits.steps }
 {
     run_counted::<L, Brand>(alloc, program, limits, word, ticks, Blank::new(1))
@@ -49,11 +49,11 @@ fn run_counted<L: Ledger, C: Ledger>(
     requires name { blank.name ≡ C.name }
     requires parts { blank.parts ≡ C.parts }
     requires one { C.parts ≡ 1 }
-    ensures answer { IfOk result (λ end. answer_of end ≡ run (slots program.now limits.gates) limits.choices limits.steps word.now) }
+    ensures answer { IfOk result (λ end. answer_of end ≡ run (slots program.now limits.discipline) limits.choices limits.steps word.now) }
     ensures ticks { ticks.new ≤ ticks.old + (limits.choices + 1) * limits.steps }
 {
     let mut calls: Ticks<C> = Ticks::new(blank);
-    let mut state = State::start(alloc, program, limits.gates)?;
+    let mut state = State::start(alloc, program, limits.discipline)?;
     let mut halt = open(program, limits, &mut state, ticks, &mut calls);
     for (place, process) in word.iter().enumerate() {
         match halt {
@@ -101,7 +101,7 @@ pub fn end_of_word(
 ) -> Result<RunEnd, AllocError>
     requires own { IsStateOf program.now state.now }
     requires within { used ≤ limits.choices }
-    ensures { IfOk result (λ end. answer_of end ≡ further used (run_from (slots program.now limits.gates) limits.steps (limits.choices - used) [] (node_of halt (machine_of state.now)))) }
+    ensures { IfOk result (λ end. answer_of end ≡ further used (run_from (slots program.now limits.discipline) limits.steps (limits.choices - used) [] (node_of halt (machine_of state.now)))) }
 {
     match halt {
         Halt::Ended(kind) => Ok(RunEnd::Ended {

@@ -25,7 +25,7 @@ pub fn holders(
     state: &State,
 ) -> Result<Holders, AllocError>
     requires { IsStateOf program.now state.now }
-    ensures { IfOk result (λ h. h ≡ holders_in (slots program.now limits.gates) (machine_of state.now)) }
+    ensures { IfOk result (λ h. h ≡ holders_in (slots program.now limits.discipline) (machine_of state.now)) }
 {
     let _ = limits;
     let mut holders = Vec::new(alloc);
@@ -53,7 +53,7 @@ impl Lines {
         event: TraceEvent,
     ) -> Result<(), AllocError>
         requires { IsStateOf program.now state.now }
-        ensures { IfOk result (λ _. self.new.lines.items ≡ self.old.lines.items ++ record { process = process; event = event; holders = holders_in (slots program.now limits.gates) (machine_of state.now) } ∷ []) }
+        ensures { IfOk result (λ _. self.new.lines.items ≡ self.old.lines.items ++ record { process = process; event = event; holders = holders_in (slots program.now limits.discipline) (machine_of state.now) } ∷ []) }
     {
         let holders = holders(self.alloc, program, limits, state)?;
         self.lines.push(TraceLine {
@@ -89,11 +89,11 @@ impl Observe for Lines {
         true
     }
 
-    ghost holds = { λ l r gates now lines. l.lines.items ≡ lines };
+    ghost holds = { λ l r discipline now lines. l.lines.items ≡ lines };
 
-    ghost fold = { λ r gates. tracer (slots r gates) };
+    ghost fold = { λ r discipline. tracer (slots r discipline) };
 
-    ghost expects = { λ l r gates before process lines. l.lines.items ≡ lines };
+    ghost expects = { λ l r discipline before process lines. l.lines.items ≡ lines };
 
     fn expect_step(
         &mut self,
@@ -133,7 +133,7 @@ impl Observe for Lines {
 
     fn see_choice(&mut self, _program: &Resolved, _limits: Limits, _state: &State, _number: u8) {}
 
-    ghost passes = { λ unseen self r gates before after process x step h. absurd (Prim.cc) };
+    ghost passes = { λ unseen self r discipline before after process x step h. absurd (Prim.cc) };
 }
 
 /// Runs a word from the opening state, and answers a line for each kernel event, process end and admission, and the run's end.
@@ -146,8 +146,8 @@ pub fn trace<L: Ledger>(
     ticks: &mut Ticks<L>,
 ) -> Result<(Vec<TraceLine>, RunEnd), AllocError>
     requires { length word.now ≤ 100 }
-    ensures lines { IfOk result (λ t. t.0.items ≡ trace (slots program.now limits.gates) limits.choices limits.steps word.now) }
-    ensures answer { IfOk result (λ t. answer_of t.1 ≡ run (slots program.now limits.gates) limits.choices limits.steps word.now) }
+    ensures lines { IfOk result (λ t. t.0.items ≡ trace (slots program.now limits.discipline) limits.choices limits.steps word.now) }
+    ensures answer { IfOk result (λ t. answer_of t.1 ≡ run (slots program.now limits.discipline) limits.choices limits.steps word.now) }
     ensures few { IfOk result (λ t. length t.0.items ≤ (limits.choices + 1) * limits.steps + limits.choices) }
     ensures ticks { ticks.new ≤ ticks.old + (limits.choices + 1) * limits.steps }
 {
@@ -155,7 +155,7 @@ pub fn trace<L: Ledger>(
         alloc,
         lines: Vec::new(alloc),
     };
-    let mut state = State::start(alloc, program, limits.gates)?;
+    let mut state = State::start(alloc, program, limits.discipline)?;
     let end = observe_run(alloc, program, limits, word, ticks, &mut state, &mut lines)?;
     Ok((lines.lines, end))
 }

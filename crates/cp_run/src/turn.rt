@@ -22,7 +22,7 @@ pub fn settled_turn(
 ) -> Turn
     requires own { IsStateOf program.now state.now }
     requires goes_on { kernel ≡ false → is_ready (machine_of state.now) process ≡ true }
-    ensures turn { result ≡ settled_turn (slots program.now limits.gates) (machine_of state.now) kernel process }
+    ensures turn { result ≡ settled_turn (slots program.now limits.discipline) (machine_of state.now) kernel process }
     ensures ready { IfGoes result (λ q. is_ready (machine_of state.now) q ≡ true) }
 {
     // A process that made a local step is still ready, and goes on whoever else is.
@@ -46,7 +46,7 @@ pub fn settled_turn(
 pub fn turn_at(program: &Resolved, limits: Limits, state: &State, kernel: bool, process: u8) -> Turn
     requires own { IsStateOf program.now state.now }
     requires goes_on { kernel ≡ false → is_ready (machine_of state.now) process ≡ true }
-    ensures turn { result ≡ turn_at (slots program.now limits.gates) (machine_of state.now) kernel process }
+    ensures turn { result ≡ turn_at (slots program.now limits.discipline) (machine_of state.now) kernel process }
     ensures ready { IfGoes result (λ q. is_ready (machine_of state.now) q ≡ true) }
     ensures free { IfGoes result (λ q. is_pending (machine_of state.now) ≡ false) }
 {
@@ -61,7 +61,7 @@ pub fn turn_at(program: &Resolved, limits: Limits, state: &State, kernel: bool, 
 pub fn turn_of(program: &Resolved, limits: Limits, state: &State, pid: u8, event: Event) -> Turn
     requires own { IsStateOf program.now state.now }
     requires goes_on { is_local event ≡ true → is_ready (machine_of state.now) pid ≡ true }
-    ensures turn { result ≡ turn_after (slots program.now limits.gates) (machine_of state.now) pid event }
+    ensures turn { result ≡ turn_after (slots program.now limits.discipline) (machine_of state.now) pid event }
     ensures ready { IfGoes result (λ q. is_ready (machine_of state.now) q ≡ true) }
     ensures free { IfGoes result (λ q. is_pending (machine_of state.now) ≡ false) }
 {

@@ -63,15 +63,15 @@ pub trait Visit {
     ) -> Result<bool, AllocError>
         requires own { IsStateOf job.now.program.now state.old }
         requires below { process < processes_of job.now.program.now }
-        requires may { may (slots job.now.program.now job.now.limits.gates) (machine_of state.old) process ≡ true }
-        requires within { within self.old job.now at (machine_of state.old) (those_below process (may (slots job.now.program.now job.now.limits.gates) (machine_of state.old))) }
+        requires may { may (slots job.now.program.now job.now.limits.discipline) (machine_of state.old) process ≡ true }
+        requires within { within self.old job.now at (machine_of state.old) (those_below process (may (slots job.now.program.now job.now.limits.discipline) (machine_of state.old))) }
         ensures own { IsStateOf job.now.program.now state.new }
-        ensures within { IfOk result (λ is_room. is_room ≡ true → within self.new job.now at (machine_of state.old) (those_below process (may (slots job.now.program.now job.now.limits.gates) (machine_of state.old)) ++ process ∷ [])) }
+        ensures within { IfOk result (λ is_room. is_room ≡ true → within self.new job.now at (machine_of state.old) (those_below process (may (slots job.now.program.now job.now.limits.discipline) (machine_of state.old)) ++ process ∷ [])) }
         ensures stops { IfOk result (λ is_room. is_room ≡ false → stops self.new job.now at) };
 
     /// The state of this number was gone on from with each number that may be chosen there.
     fn end_state(&mut self, job: &SearchJob<'_>, at: u32) -> Result<(), AllocError>
-        requires { (m : Machine) × within self.old job.now at m (those_below (processes_of job.now.program.now) (may (slots job.now.program.now job.now.limits.gates) m)) }
+        requires { (m : Machine) × within self.old job.now at m (those_below (processes_of job.now.program.now) (may (slots job.now.program.now job.now.limits.discipline) m)) }
         ensures { IfOk result (λ _. before self.new job.now (at + 1)) };
 
     /// As many states as there may be are all.

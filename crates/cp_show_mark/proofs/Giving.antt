@@ -12,7 +12,7 @@ use Rattle.cp_lawful.specs.Accepted.{IsAccepted}
 use Rattle.cp_resolved.proofs.Resolving.{read_names}
 use Rattle.cp_resolved.specs.Enumerations.{constant_names}
 use Rattle.cp_resolved.specs.Resolving.{IsProgramOf}
-use Rattle.cp_refine.specs.Named.{named_gates}
+use Rattle.cp_refine.specs.Named.{named_discipline}
 use Rattle.cp_tool.specs.declared.options.Options.{Options}
 use Rattle.cp_legend.specs.Names.{Named}
 use Rattle.cp_walk.specs.Text.{Spellings}
@@ -34,8 +34,8 @@ use Rattle.cp_show_mark.specs.declared.answer.ShowVerdict.TheVariants.{Misread}
 
 -- ---- on the program's own names
 
-true_of_names : (t : Tree) (o : Options) (names : Spellings) → names ≡ constant_names t.program → (es : List EndsExpectation) (m : EndsMark) → IsTrueMark names (on_names t (named_gates o.gates) o.steps) es m ⊎ IsTrueMark names (at_any_limit t) es m → IsTrueMark (constant_names t.program) (on_names t (named_gates o.gates) o.steps) es m ⊎ IsTrueMark (constant_names t.program) (at_any_limit t) es m
-true_of_names t o names same es m h = subst (λ (names : Spellings). IsTrueMark names (on_names t (named_gates o.gates) o.steps) es m ⊎ IsTrueMark names (at_any_limit t) es m) same h
+true_of_names : (t : Tree) (o : Options) (names : Spellings) → names ≡ constant_names t.program → (es : List EndsExpectation) (m : EndsMark) → IsTrueMark names (on_names t (named_discipline o.discipline) o.steps) es m ⊎ IsTrueMark names (at_any_limit t) es m → IsTrueMark (constant_names t.program) (on_names t (named_discipline o.discipline) o.steps) es m ⊎ IsTrueMark (constant_names t.program) (at_any_limit t) es m
+true_of_names t o names same es m h = subst (λ (names : Spellings). IsTrueMark names (on_names t (named_discipline o.discipline) o.steps) es m ⊎ IsTrueMark names (at_any_limit t) es m) same h
 
 module _ (t : Tree) (r : Tables) (read : ∥ IsRead t.program ∥₁) (ok : IsAccepted t) (is : IsProgramOf t r) (o : Options) (es : List EndsExpectation) (verdict : ShowVerdict) where
   names : r.names ≡ constant_names t.program
@@ -51,7 +51,7 @@ module _ (t : Tree) (r : Tables) (read : ∥ IsRead t.program ∥₁) (ok : IsAc
   meant_if false at_once h = h
 
   pub ends_meant : TellsEnds r o es verdict → MeansEnds t o es verdict
-  ends_meant h = meant_if (can_be_judged o.at_once o.gates es) o.at_once h
+  ends_meant h = meant_if (can_be_judged o.at_once o.discipline es) o.at_once h
 
 -- ---- no words spell nothing
 

@@ -23,7 +23,7 @@ use Rattle.cp_show_mark.specs.MarkText.{Setting, doubt_told, reason_text, verdic
 
 end_free : (s : Setting) (word : List ℕ) (k : OutcomeKind) → list_any is_float_member (spec.end_members s word k) ≡ false
 end_free s word kind.Finished = refl
-end_free s word kind.AllWaiting = both (no_float-array (wait_data s.legend) (who_waits s.legend s.program s.gates s.choices s.steps word) (wait_free s.legend)) refl
+end_free s word kind.AllWaiting = both (no_float-array (wait_data s.legend) (who_waits s.legend s.program s.discipline s.choices s.steps word) (wait_free s.legend)) refl
 end_free s word (kind.RunError name process line) = refl
 end_free s word kind.ChoiceLimit = refl
 end_free s word kind.StepLimit = refl

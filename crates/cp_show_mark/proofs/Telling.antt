@@ -1,9 +1,9 @@
 -- What is told of a program within the limits that the options give.
 use Rattle.std.proofs.Common.{◌≡◌, ◌∙◌, ℕ, Bool, true, false, List, Option, Some, Result, Ok, Err, IfOk, ap, inr, map, refl, subst, sym}
 use Rattle.cp_slots.specs.Tables.{Tables}
-use Rattle.cp_machine.specs.declared.gates.Gates.{Gates}
+use Rattle.cp_machine.specs.declared.discipline.Discipline.{Discipline}
 use Rattle.cp_tree.specs.Syntax.{Tree}
-use Rattle.cp_refine.specs.Named.{named, named_gates}
+use Rattle.cp_refine.specs.Named.{named, named_discipline}
 use Rattle.cp_run.specs.Slots.{slots}
 use Rattle.cp_run.specs.Table.{table}
 use Rattle.cp_run.specs.declared.limits.Limits.{Limits}
@@ -31,21 +31,21 @@ use Rattle.cp_show_mark.specs.Told.{IsExcessTold, IsMarkTold, SaysOfTallies, exc
 use Rattle.cp_show_mark.specs.declared.examinee.Examinee.{Examinee}
 use Rattle.cp_show_mark.specs.declared.excess.MarkExcess.{MarkExcess}
 
-abbrev pub TellsWithin : ℕ → ℕ → Gates → Tables → List Expectation → ShowVerdict → Type 0
-TellsWithin choices steps gates r es verdict = TellsMark r.names es (table (slots r gates) choices steps) verdict
+abbrev pub TellsWithin : ℕ → ℕ → Discipline → Tables → List Expectation → ShowVerdict → Type 0
+TellsWithin choices steps discipline r es verdict = TellsMark r.names es (table (slots r discipline) choices steps) verdict
 
-pub told_within : (o : Options) (l : Limits) (r : Tables) (es : List Expectation) (verdict : ShowVerdict) → (l.choices ≡ o.choices) × (l.steps ≡ o.steps) × (l.gates ≡ o.gates) → TellsWithin l.choices l.steps l.gates r es verdict → TellsWithin o.choices o.steps o.gates r es verdict
+pub told_within : (o : Options) (l : Limits) (r : Tables) (es : List Expectation) (verdict : ShowVerdict) → (l.choices ≡ o.choices) × (l.steps ≡ o.steps) × (l.discipline ≡ o.discipline) → TellsWithin l.choices l.steps l.discipline r es verdict → TellsWithin o.choices o.steps o.discipline r es verdict
 told_within o l r es verdict same h =
-    let a = subst (λ (n : ℕ). TellsWithin n l.steps l.gates r es verdict) same.0 h in
-    let b = subst (λ (n : ℕ). TellsWithin o.choices n l.gates r es verdict) same.1 a in
-    subst (λ (g : Gates). TellsWithin o.choices o.steps g r es verdict) same.2 b
+    let a = subst (λ (n : ℕ). TellsWithin n l.steps l.discipline r es verdict) same.0 h in
+    let b = subst (λ (n : ℕ). TellsWithin o.choices n l.discipline r es verdict) same.1 a in
+    subst (λ (g : Discipline). TellsWithin o.choices o.steps g r es verdict) same.2 b
 
-told_ends : (o : Options) (l : Limits) (r : Tables) (es : List ends_expectation.EndsExpectation) (verdict : ShowVerdict) {choices : ℕ} → (l.choices ≡ choices) × (l.steps ≡ o.steps) × (l.gates ≡ o.gates) → TellsEndsMark r l.gates l.steps o.states es verdict → TellsEndsMark r o.gates o.steps o.states es verdict
+told_ends : (o : Options) (l : Limits) (r : Tables) (es : List ends_expectation.EndsExpectation) (verdict : ShowVerdict) {choices : ℕ} → (l.choices ≡ choices) × (l.steps ≡ o.steps) × (l.discipline ≡ o.discipline) → TellsEndsMark r l.discipline l.steps o.states es verdict → TellsEndsMark r o.discipline o.steps o.states es verdict
 told_ends o l r es verdict same h =
-    let a = subst (λ (n : ℕ). TellsEndsMark r l.gates n o.states es verdict) same.1 h in
-    subst (λ (g : Gates). TellsEndsMark r g o.steps o.states es verdict) same.2 a
+    let a = subst (λ (n : ℕ). TellsEndsMark r l.discipline n o.states es verdict) same.1 h in
+    subst (λ (g : Discipline). TellsEndsMark r g o.steps o.states es verdict) same.2 a
 
-told_at_once : (o : Options) (l : Limits) (r : Tables) (es : List ends_expectation.EndsExpectation) (verdict : ShowVerdict) {choices : ℕ} → (l.choices ≡ choices) × (l.steps ≡ o.steps) × (l.gates ≡ o.gates) → TellsMarkAtOnce r l.steps es verdict → TellsMarkAtOnce r o.steps es verdict
+told_at_once : (o : Options) (l : Limits) (r : Tables) (es : List ends_expectation.EndsExpectation) (verdict : ShowVerdict) {choices : ℕ} → (l.choices ≡ choices) × (l.steps ≡ o.steps) × (l.discipline ≡ o.discipline) → TellsMarkAtOnce r l.steps es verdict → TellsMarkAtOnce r o.steps es verdict
 told_at_once o l r es verdict same h = subst (λ (n : ℕ). TellsMarkAtOnce r n es verdict) same.1 h
 
 tells_if : (can : Bool) (told : Type 0) (verdict : ShowVerdict) → (can ≡ true → told) → (can ≡ false → verdict ≡ Misread) → TellsIf can told verdict
@@ -53,23 +53,23 @@ tells_if true told verdict asked refused = asked refl
 tells_if false told verdict asked refused = refused refl
 
 -- a mark with calls at once, or without, as the options ask
-pub judged_at_once : (o : Options) (l : Limits) (r : Tables) (es : List ends_expectation.EndsExpectation) (m : ends_mark.EndsMark) (verdict : ShowVerdict) {choices : ℕ} → (l.choices ≡ choices) × (l.steps ≡ o.steps) × (l.gates ≡ o.gates) → o.at_once ≡ true → verdict ≡ ends_verdict_of m → (can_be_at_once l.gates es ≡ true → IsMarkAtOnce r l.steps es m) → (can_be_at_once l.gates es ≡ false → m ≡ of_ends.Misread) → TellsEnds r o es verdict
+pub judged_at_once : (o : Options) (l : Limits) (r : Tables) (es : List ends_expectation.EndsExpectation) (m : ends_mark.EndsMark) (verdict : ShowVerdict) {choices : ℕ} → (l.choices ≡ choices) × (l.steps ≡ o.steps) × (l.discipline ≡ o.discipline) → o.at_once ≡ true → verdict ≡ ends_verdict_of m → (can_be_at_once l.discipline es ≡ true → IsMarkAtOnce r l.steps es m) → (can_be_at_once l.discipline es ≡ false → m ≡ of_ends.Misread) → TellsEnds r o es verdict
 judged_at_once o l r es m verdict same asked is mark refused =
-    subst (λ (b : Bool). TellsIf (can_be_judged b o.gates es) (TellsEndsBy b r o es verdict) verdict) (sym asked) (tells_if (can_be_at_once o.gates es) (TellsMarkAtOnce r o.steps es verdict) verdict (λ can. told_at_once o l r es verdict same (m, is, mark (subst (λ (g : Gates). can_be_at_once g es ≡ true) (sym same.2) can))) (λ can. is ∙ ap ends_verdict_of (refused (subst (λ (g : Gates). can_be_at_once g es ≡ false) (sym same.2) can))))
+    subst (λ (b : Bool). TellsIf (can_be_judged b o.discipline es) (TellsEndsBy b r o es verdict) verdict) (sym asked) (tells_if (can_be_at_once o.discipline es) (TellsMarkAtOnce r o.steps es verdict) verdict (λ can. told_at_once o l r es verdict same (m, is, mark (subst (λ (g : Discipline). can_be_at_once g es ≡ true) (sym same.2) can))) (λ can. is ∙ ap ends_verdict_of (refused (subst (λ (g : Discipline). can_be_at_once g es ≡ false) (sym same.2) can))))
 
-pub judged_in_turn : (o : Options) (l : Limits) (r : Tables) (es : List ends_expectation.EndsExpectation) (m : ends_mark.EndsMark) (verdict : ShowVerdict) {choices : ℕ} → (l.choices ≡ choices) × (l.steps ≡ o.steps) × (l.gates ≡ o.gates) → o.at_once ≡ false → verdict ≡ ends_verdict_of m → (can_be_asked l.gates es ≡ true → IsMarkInTurn r l.gates l.steps o.states es m) → (can_be_asked l.gates es ≡ false → m ≡ of_ends.Misread) → TellsEnds r o es verdict
+pub judged_in_turn : (o : Options) (l : Limits) (r : Tables) (es : List ends_expectation.EndsExpectation) (m : ends_mark.EndsMark) (verdict : ShowVerdict) {choices : ℕ} → (l.choices ≡ choices) × (l.steps ≡ o.steps) × (l.discipline ≡ o.discipline) → o.at_once ≡ false → verdict ≡ ends_verdict_of m → (can_be_asked l.discipline es ≡ true → IsMarkInTurn r l.discipline l.steps o.states es m) → (can_be_asked l.discipline es ≡ false → m ≡ of_ends.Misread) → TellsEnds r o es verdict
 judged_in_turn o l r es m verdict same asked is mark refused =
-    subst (λ (b : Bool). TellsIf (can_be_judged b o.gates es) (TellsEndsBy b r o es verdict) verdict) (sym asked) (tells_if (can_be_asked o.gates es) (TellsEndsMark r o.gates o.steps o.states es verdict) verdict (λ can. told_ends o l r es verdict same (m, is, mark (subst (λ (g : Gates). can_be_asked g es ≡ true) (sym same.2) can))) (λ can. is ∙ ap ends_verdict_of (refused (subst (λ (g : Gates). can_be_asked g es ≡ false) (sym same.2) can))))
+    subst (λ (b : Bool). TellsIf (can_be_judged b o.discipline es) (TellsEndsBy b r o es verdict) verdict) (sym asked) (tells_if (can_be_asked o.discipline es) (TellsEndsMark r o.discipline o.steps o.states es verdict) verdict (λ can. told_ends o l r es verdict same (m, is, mark (subst (λ (g : Discipline). can_be_asked g es ≡ true) (sym same.2) can))) (λ can. is ∙ ap ends_verdict_of (refused (subst (λ (g : Discipline). can_be_asked g es ≡ false) (sym same.2) can))))
 
 -- the same on the program's own names
-abbrev pub MeansWithin : ℕ → ℕ → Gates → Tree → Spellings → List Expectation → ShowVerdict → Type 0
-MeansWithin choices steps gates t names es verdict = TellsMark names es (table (named t (named_gates gates)) choices steps) verdict
+abbrev pub MeansWithin : ℕ → ℕ → Discipline → Tree → Spellings → List Expectation → ShowVerdict → Type 0
+MeansWithin choices steps discipline t names es verdict = TellsMark names es (table (named t (named_discipline discipline)) choices steps) verdict
 
-pub meant_within : (o : Options) (l : Limits) (t : Tree) (names : Spellings) (es : List Expectation) (verdict : ShowVerdict) → (l.choices ≡ o.choices) × (l.steps ≡ o.steps) × (l.gates ≡ o.gates) → MeansWithin l.choices l.steps l.gates t names es verdict → MeansWithin o.choices o.steps o.gates t names es verdict
+pub meant_within : (o : Options) (l : Limits) (t : Tree) (names : Spellings) (es : List Expectation) (verdict : ShowVerdict) → (l.choices ≡ o.choices) × (l.steps ≡ o.steps) × (l.discipline ≡ o.discipline) → MeansWithin l.choices l.steps l.discipline t names es verdict → MeansWithin o.choices o.steps o.discipline t names es verdict
 meant_within o l t names es verdict same h =
-    let a = subst (λ (n : ℕ). MeansWithin n l.steps l.gates t names es verdict) same.0 h in
-    let b = subst (λ (n : ℕ). MeansWithin o.choices n l.gates t names es verdict) same.1 a in
-    subst (λ (g : Gates). MeansWithin o.choices o.steps g t names es verdict) same.2 b
+    let a = subst (λ (n : ℕ). MeansWithin n l.steps l.discipline t names es verdict) same.0 h in
+    let b = subst (λ (n : ℕ). MeansWithin o.choices n l.discipline t names es verdict) same.1 a in
+    subst (λ (g : Discipline). MeansWithin o.choices o.steps g t names es verdict) same.2 b
 
 -- two things that hold of an answer
 pub ok_with : {A E : Type 0} (r : Result A E) (P Q R : A → Type 0) → ((a : A) → P a → Q a → R a) → IfOk r P → IfOk r Q → IfOk r R
@@ -77,38 +77,38 @@ ok_with (Ok a) P Q R f p q = f a p q
 ok_with (Err e) P Q R f p q = tt
 
 abbrev AreLimitsOf : Limits → Options → Type 0
-AreLimitsOf l o = (l.choices ≡ o.choices) × (l.steps ≡ o.steps) × (l.gates ≡ o.gates)
+AreLimitsOf l o = (l.choices ≡ o.choices) × (l.steps ≡ o.steps) × (l.discipline ≡ o.discipline)
 
-pub waits_within : (o : Options) (l : Limits) (legend : Legend) (r : Tables) (word : List ℕ) → (l.choices ≡ o.choices) × (l.steps ≡ o.steps) × (l.gates ≡ o.gates) → who_waits legend r l.gates l.choices l.steps word ≡ who_waits legend r o.gates o.choices o.steps word
+pub waits_within : (o : Options) (l : Limits) (legend : Legend) (r : Tables) (word : List ℕ) → (l.choices ≡ o.choices) × (l.steps ≡ o.steps) × (l.discipline ≡ o.discipline) → who_waits legend r l.discipline l.choices l.steps word ≡ who_waits legend r o.discipline o.choices o.steps word
 waits_within o l legend r word same =
-    ap (λ (n : ℕ). who_waits legend r l.gates n l.steps word) same.0 ∙ ap (λ (n : ℕ). who_waits legend r l.gates o.choices n word) same.1 ∙ ap (λ (g : Gates). who_waits legend r g o.choices o.steps word) same.2
+    ap (λ (n : ℕ). who_waits legend r l.discipline n l.steps word) same.0 ∙ ap (λ (n : ℕ). who_waits legend r l.discipline o.choices n word) same.1 ∙ ap (λ (g : Discipline). who_waits legend r g o.choices o.steps word) same.2
 
 -- ---- what is said
 
-abbrev MarkedWithin : ℕ → ℕ → Gates → Tables → List Expectation → Marked → Type 0
-MarkedWithin choices steps gates r es m = IsMarked r.names es (table (slots r gates) choices steps) m × IsMeantMark r gates choices steps es m
+abbrev MarkedWithin : ℕ → ℕ → Discipline → Tables → List Expectation → Marked → Type 0
+MarkedWithin choices steps discipline r es m = IsMarked r.names es (table (slots r discipline) choices steps) m × IsMeantMark r discipline choices steps es m
 
-marked_within : (o : Options) (l : Limits) (r : Tables) (es : List Expectation) (m : Marked) → AreLimitsOf l o → MarkedWithin l.choices l.steps l.gates r es m → MarkedWithin o.choices o.steps o.gates r es m
+marked_within : (o : Options) (l : Limits) (r : Tables) (es : List Expectation) (m : Marked) → AreLimitsOf l o → MarkedWithin l.choices l.steps l.discipline r es m → MarkedWithin o.choices o.steps o.discipline r es m
 marked_within o l r es m same h =
-    let a = subst (λ (n : ℕ). MarkedWithin n l.steps l.gates r es m) same.0 h in
-    let b = subst (λ (n : ℕ). MarkedWithin o.choices n l.gates r es m) same.1 a in
-    subst (λ (g : Gates). MarkedWithin o.choices o.steps g r es m) same.2 b
+    let a = subst (λ (n : ℕ). MarkedWithin n l.steps l.discipline r es m) same.0 h in
+    let b = subst (λ (n : ℕ). MarkedWithin o.choices n l.discipline r es m) same.1 a in
+    subst (λ (g : Discipline). MarkedWithin o.choices o.steps g r es m) same.2 b
 
 -- a mark within the limits of the options, and what is said of it
-pub mark_told : (x : Examinee) (l : Limits) (es : List Expectation) (doubtful : Option (List ℕ)) (told : ShowVerdict) (said : List ℕ) (m : Marked) → (l.choices ≡ x.options.now.choices) × (l.steps ≡ x.options.now.steps) × (l.gates ≡ x.options.now.gates) → told ≡ verdict_of m.mark → said ≡ saying (setting_of x) es doubtful m → IsMarked x.program.now.names es (table (slots x.program.now l.gates) l.choices l.steps) m → IsMeantMark x.program.now l.gates l.choices l.steps es m → IsMarkTold (setting_of x) es doubtful told said m
+pub mark_told : (x : Examinee) (l : Limits) (es : List Expectation) (doubtful : Option (List ℕ)) (told : ShowVerdict) (said : List ℕ) (m : Marked) → (l.choices ≡ x.options.now.choices) × (l.steps ≡ x.options.now.steps) × (l.discipline ≡ x.options.now.discipline) → told ≡ verdict_of m.mark → said ≡ saying (setting_of x) es doubtful m → IsMarked x.program.now.names es (table (slots x.program.now l.discipline) l.choices l.steps) m → IsMeantMark x.program.now l.discipline l.choices l.steps es m → IsMarkTold (setting_of x) es doubtful told said m
 mark_told x l es doubtful told said m same v t marked meaning =
     let within = marked_within x.options.now l x.program.now es m same (marked, meaning) in
     record { verdict = v; is = t; marked = within.0; meaning = within.1 }
 
-abbrev KnownWithin : ℕ → ℕ → Gates → Tables → Known → Type 0
-KnownWithin choices steps gates r k = IsKnownOf (slots r gates) choices steps k
+abbrev KnownWithin : ℕ → ℕ → Discipline → Tables → Known → Type 0
+KnownWithin choices steps discipline r k = IsKnownOf (slots r discipline) choices steps k
 
 -- what is known by fewer choices, and what is said of it
-pub known_told : (x : Examinee) (l : Limits) (es : List Expectation) (doubtful : Option (List ℕ)) (e : MarkExcess) (k : Known) (said : List ℕ) → (l.choices ≡ x.options.now.choices) × (l.steps ≡ x.options.now.steps) × (l.gates ≡ x.options.now.gates) → IsKnownOf (slots x.program.now l.gates) l.choices l.steps k → (known : List ℕ) × SaysOfTallies (setting_of x) es doubtful (map tally_of k.tallies) known × (said ≡ excess_saying (setting_of x) e (Some (k.choices, known))) → IsExcessTold (setting_of x) es doubtful said
+pub known_told : (x : Examinee) (l : Limits) (es : List Expectation) (doubtful : Option (List ℕ)) (e : MarkExcess) (k : Known) (said : List ℕ) → (l.choices ≡ x.options.now.choices) × (l.steps ≡ x.options.now.steps) × (l.discipline ≡ x.options.now.discipline) → IsKnownOf (slots x.program.now l.discipline) l.choices l.steps k → (known : List ℕ) × SaysOfTallies (setting_of x) es doubtful (map tally_of k.tallies) known × (said ≡ excess_saying (setting_of x) e (Some (k.choices, known))) → IsExcessTold (setting_of x) es doubtful said
 known_told x l es doubtful e k said same known t =
     let o = x.options.now in
     let r = x.program.now in
-    let a = subst (λ (n : ℕ). KnownWithin n l.steps l.gates r k) same.0 known in
-    let b = subst (λ (n : ℕ). KnownWithin o.choices n l.gates r k) same.1 a in
-    let within = subst (λ (g : Gates). KnownWithin o.choices o.steps g r k) same.2 b in
-    (e, inr (record { choices = k.choices; marked = t.1.0; fewer = within.fewer; is_marked = t.1.2 (table (slots r o.gates) k.choices o.steps) within.tallies; is = t.2 ∙ ap (λ s. excess_saying (setting_of x) e (Some (k.choices, s))) t.1.1 }))
+    let a = subst (λ (n : ℕ). KnownWithin n l.steps l.discipline r k) same.0 known in
+    let b = subst (λ (n : ℕ). KnownWithin o.choices n l.discipline r k) same.1 a in
+    let within = subst (λ (g : Discipline). KnownWithin o.choices o.steps g r k) same.2 b in
+    (e, inr (record { choices = k.choices; marked = t.1.0; fewer = within.fewer; is_marked = t.1.2 (table (slots r o.discipline) k.choices o.steps) within.tallies; is = t.2 ∙ ap (λ s. excess_saying (setting_of x) e (Some (k.choices, s))) t.1.1 }))

@@ -4,10 +4,10 @@ use Rattle.cp_text.specs.Reading.{AreCut, Part, joined}
 use Rattle.cp_tree.specs.Syntax.{Tree}
 use Rattle.cp_slots.specs.Tables.{Tables}
 use Rattle.cp_resolved.specs.Enumerations.{constant_names}
-use Rattle.cp_machine.specs.declared.gates.Gates.{Gates}
+use Rattle.cp_machine.specs.declared.discipline.Discipline.{Discipline}
 use Rattle.cp_run.specs.Slots.{slots}
 use Rattle.cp_run.specs.Table.{table}
-use Rattle.cp_refine.specs.Named.{named, named_gates}
+use Rattle.cp_refine.specs.Named.{named, named_discipline}
 use Rattle.cp_tool.specs.declared.options.Options.{Options}
 use Rattle.cp_legend.specs.Names.{Named}
 use Rattle.cp_verdict.specs.Comments.{AreHeld, and_text, comments_of}
@@ -74,9 +74,9 @@ TellsWords true components ws within any verdict = TellsSpelled (SpellsEnds comp
 -- ---- schedules of any length
 
 -- what can be asked: not who waits where anybody in line may go into a monitor; and neither of the two where kernel calls are made at once
-abbrev pub can_be_judged : (at_once : Bool) → Gates → List EndsExpectation → Bool
-can_be_judged false gates es = can_be_asked gates es
-can_be_judged true gates es = can_be_at_once gates es
+abbrev pub can_be_judged : (at_once : Bool) → Discipline → List EndsExpectation → Bool
+can_be_judged false discipline es = can_be_asked discipline es
+can_be_judged true discipline es = can_be_at_once discipline es
 
 -- what can't be asked is told to be misread
 abbrev pub TellsIf : (can : Bool) → (told : Type 0) → ShowVerdict → Type 0
@@ -84,31 +84,31 @@ TellsIf true told verdict = told
 TellsIf false told verdict = verdict ≡ Misread
 
 abbrev pub TellsEndsBy : (at_once : Bool) → Tables → Options → List EndsExpectation → ShowVerdict → Type 0
-TellsEndsBy false r o es verdict = TellsEndsMark r o.gates o.steps o.states es verdict
+TellsEndsBy false r o es verdict = TellsEndsMark r o.discipline o.steps o.states es verdict
 TellsEndsBy true r o es verdict = TellsMarkAtOnce r o.steps es verdict
 
 abbrev pub TellsEnds : Tables → Options → List EndsExpectation → ShowVerdict → Type 0
-TellsEnds r o es verdict = TellsIf (can_be_judged o.at_once o.gates es) (TellsEndsBy o.at_once r o es verdict) verdict
+TellsEnds r o es verdict = TellsIf (can_be_judged o.at_once o.discipline es) (TellsEndsBy o.at_once r o es verdict) verdict
 
 -- it is true of the program's own names: with this limit of steps, or, by kernel calls at once, with any
 abbrev pub IsTrueBy : (at_once : Bool) → Tree → Options → List EndsExpectation → EndsMark → Type 0
-IsTrueBy false t o es m = IsTrueMark (constant_names t.program) (on_names t (named_gates o.gates) o.steps) es m ⊎ IsTrueMark (constant_names t.program) (at_any_limit t) es m
+IsTrueBy false t o es m = IsTrueMark (constant_names t.program) (on_names t (named_discipline o.discipline) o.steps) es m ⊎ IsTrueMark (constant_names t.program) (at_any_limit t) es m
 IsTrueBy true t o es m = IsTrueMark (constant_names t.program) (at_any_limit t) es m
 
 abbrev pub MeansEnds : Tree → Options → List EndsExpectation → ShowVerdict → Type 0
-MeansEnds t o es verdict = TellsIf (can_be_judged o.at_once o.gates es) ((m : EndsMark) × (verdict ≡ ends_verdict_of m) × ∥ IsTrueBy o.at_once t o es m ∥₁) verdict
+MeansEnds t o es verdict = TellsIf (can_be_judged o.at_once o.discipline es) ((m : EndsMark) × (verdict ≡ ends_verdict_of m) × ∥ IsTrueBy o.at_once t o es m ∥₁) verdict
 
 -- ---- the whole
 
 -- by the tables of the program
 abbrev pub TellsGiven : Tables → Options → List Named → spelling.Words → ShowVerdict → Type 0
 TellsGiven r o components ws verdict =
-    TellsWords o.ends components ws (λ es. TellsMark r.names es (table (slots r o.gates) o.choices o.steps) verdict) (λ es. TellsEnds r o es verdict) verdict
+    TellsWords o.ends components ws (λ es. TellsMark r.names es (table (slots r o.discipline) o.choices o.steps) verdict) (λ es. TellsEnds r o es verdict) verdict
 
 -- on its own names
 abbrev pub MeansGiven : Tree → Options → List Named → spelling.Words → ShowVerdict → Type 0
 MeansGiven t o components ws verdict =
-    TellsWords o.ends components ws (λ es. TellsMark (constant_names t.program) es (table (named t (named_gates o.gates)) o.choices o.steps) verdict) (λ es. MeansEnds t o es verdict) verdict
+    TellsWords o.ends components ws (λ es. TellsMark (constant_names t.program) es (table (named t (named_discipline o.discipline)) o.choices o.steps) verdict) (λ es. MeansEnds t o es verdict) verdict
 
 -- by schedules within the limits, with what is said of them; a doubtful word may be among the words
 abbrev pub TellsGivenText : Setting → spelling.Words → ShowVerdict → List ℕ → Type 0

@@ -30,7 +30,7 @@ use Rattle.cp_show_mark.specs.declared.excess.MarkExcess.TheVariants.{States, Ou
 
 -- who waits where at the end of a schedule
 abbrev pub final_data : Setting → (word : List ℕ) → Data
-final_data s word = waits_data s.legend (who_waits s.legend s.program s.gates s.choices s.steps word)
+final_data s word = waits_data s.legend (who_waits s.legend s.program s.discipline s.choices s.steps word)
 
 -- at the end of a schedule: where all wait, who waits and where; of a run error, the text of its line
 abbrev pub end_members : Setting → (word : List ℕ) → OutcomeKind → List Member

@@ -5,7 +5,7 @@ use Rattle.std.specs.Str.{bytes_eq}
 use Rattle.std.specs.List.{filter, list_any, prefix_len, suffix_len, zip}
 use Rattle.cp_slots.specs.Tables.{Tables}
 use Rattle.cp_legend.specs.Names.{Legend, legend_seen, path_in, process_in}
-use Rattle.cp_machine.specs.declared.gates.Gates.{Gates}
+use Rattle.cp_machine.specs.declared.discipline.Discipline.{Discipline}
 use Rattle.cp_run.specs.Table.{Line, each}
 use Rattle.cp_run.specs.declared.outcome.OutcomeKind.{OutcomeKind}
 use Rattle.cp_run.specs.declared.outcome.OutcomeKind.TheVariants.{AllWaiting, RunError, ChoiceLimit}
@@ -34,7 +34,7 @@ use Rattle.cp_show_mark.specs.declared.excess.MarkExcess.TheVariants.{States, Ou
 pub record Setting : Type 0 where
   pub legend : Legend
   pub program : Tables
-  pub gates : Gates
+  pub discipline : Discipline
   pub choices : ℕ
   pub steps : ℕ
   pub states : ℕ
@@ -46,7 +46,7 @@ setting_of x =
     record {
       legend = legend_seen x.legend.now;
       program = x.program.now;
-      gates = x.options.now.gates;
+      discipline = x.options.now.discipline;
       choices = x.options.now.choices;
       steps = x.options.now.steps;
       states = x.options.now.states;
@@ -77,7 +77,7 @@ place_text s process line = codes "  " ++ decimal process ++ codes " " ++ path_i
 
 -- at the end of a schedule: where all wait, who waits and where; of a run error, who was in error and at which line
 abbrev pub end_text : Setting → (word : List ℕ) → OutcomeKind → List ℕ
-end_text s word AllWaiting = each (waiting_text s.legend) (who_waits s.legend s.program s.gates s.choices s.steps word)
+end_text s word AllWaiting = each (waiting_text s.legend) (who_waits s.legend s.program s.discipline s.choices s.steps word)
 end_text s word (RunError name process line) = place_text s process line
 end_text s word _ = []
 

@@ -3,7 +3,7 @@ use Rattle.std.specs.Prelude.{◌≡◌, ◌⊎◌, ℕ, List}
 use Rattle.cp_walk.specs.Text.{Spellings}
 use Rattle.cp_run.specs.Table.{Line}
 use Rattle.cp_slots.specs.Tables.{Tables}
-use Rattle.cp_machine.specs.declared.gates.Gates.{Gates}
+use Rattle.cp_machine.specs.declared.discipline.Discipline.{Discipline}
 use Rattle.cp_verdict.specs.endless.AtOnce.{IsMarkAtOnce, IsMarkInTurn}
 use Rattle.cp_verdict.specs.declared.endless.expectation.EndsExpectation as ends_expectation
 use Rattle.cp_verdict.specs.declared.endless.verdict.EndsMark as ends_mark
@@ -40,8 +40,8 @@ ends_verdict_of of_ends.TooMany = TooMany
 ends_verdict_of of_ends.Misread = Misread
 
 -- The mark by schedules of any length is told, by all states or, where there are too many, with kernel calls at once; it is true of the program on its own names.
-abbrev pub TellsEndsMark : Tables → Gates → (steps most : ℕ) → List ends_expectation.EndsExpectation → ShowVerdict → Type 0
-TellsEndsMark r gates steps most es verdict = (m : ends_mark.EndsMark) × (verdict ≡ ends_verdict_of m) × IsMarkInTurn r gates steps most es m
+abbrev pub TellsEndsMark : Tables → Discipline → (steps most : ℕ) → List ends_expectation.EndsExpectation → ShowVerdict → Type 0
+TellsEndsMark r discipline steps most es verdict = (m : ends_mark.EndsMark) × (verdict ≡ ends_verdict_of m) × IsMarkInTurn r discipline steps most es m
 
 -- the mark with kernel calls at once from the first is told
 abbrev pub TellsMarkAtOnce : Tables → ℕ → List ends_expectation.EndsExpectation → ShowVerdict → Type 0

@@ -2,7 +2,7 @@
 use Rattle.std.specs.Prelude.{◌≡◌, ℕ, List, map, option_map}
 use Rattle.cp_slots.specs.Tables.{Tables}
 use Rattle.cp_legend.specs.Names.{Legend}
-use Rattle.cp_machine.specs.declared.gates.Gates.{Gates}
+use Rattle.cp_machine.specs.declared.discipline.Discipline.{Discipline}
 use Rattle.cp_run.specs.Code.{answer_of}
 use Rattle.cp_run.specs.Run.{run}
 use Rattle.cp_run.specs.Slots.{slots}
@@ -17,11 +17,11 @@ use Rattle.cp_story.specs.declared.story.Story.{Story}
 
 -- Its events have the lines of the trace and tell what the definition tells; so do its last choice, those who wait at the end, its end, how it stopped, and how many numbers
 -- are left.
-pub record IsStoryOf (l : Legend) (r : Tables) (gates : Gates) (choices steps : ℕ) (word : List ℕ) (s : Story) : Type 0 where
-  pub lines : lines_of s.events.items ≡ trace (slots r gates) choices steps word
-  pub told : map told_of s.events.items ≡ telling.story_of l r gates choices steps word
-  pub choice : option_map decision_of s.last_choice ≡ (telling.telling l r gates choices steps word).past.choice
-  pub waits : map wait_of s.waits.items ≡ who_waits l r gates choices steps word
-  pub end : answer_of s.end ≡ run (slots r gates) choices steps word
-  pub stop : option_map halted_seen s.stop ≡ how_halted l r gates choices steps word
-  pub left : s.left ≡ numbers_left word (run (slots r gates) choices steps word)
+pub record IsStoryOf (l : Legend) (r : Tables) (discipline : Discipline) (choices steps : ℕ) (word : List ℕ) (s : Story) : Type 0 where
+  pub lines : lines_of s.events.items ≡ trace (slots r discipline) choices steps word
+  pub told : map told_of s.events.items ≡ telling.story_of l r discipline choices steps word
+  pub choice : option_map decision_of s.last_choice ≡ (telling.telling l r discipline choices steps word).past.choice
+  pub waits : map wait_of s.waits.items ≡ who_waits l r discipline choices steps word
+  pub end : answer_of s.end ≡ run (slots r discipline) choices steps word
+  pub stop : option_map halted_seen s.stop ≡ how_halted l r discipline choices steps word
+  pub left : s.left ≡ numbers_left word (run (slots r discipline) choices steps word)

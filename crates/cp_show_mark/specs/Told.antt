@@ -42,7 +42,7 @@ pub record IsKnownTold (s : Setting) (es : List Expectation) (doubtful : Option 
   pub choices : ℕ
   pub marked : Marked
   pub fewer : choices < s.choices
-  pub is_marked : IsMarked s.program.names es (table (slots s.program s.gates) choices s.steps) marked
+  pub is_marked : IsMarked s.program.names es (table (slots s.program s.discipline) choices s.steps) marked
   pub is : said ≡ excess_saying s e (Some (choices, saying s es doubtful marked))
 
 -- what there is too much of; and the mark by fewer choices, if that is known
@@ -53,8 +53,8 @@ IsExcessTold s es doubtful said = (e : MarkExcess) × ((said ≡ excess_saying s
 pub record IsMarkTold (s : Setting) (es : List Expectation) (doubtful : Option (List ℕ)) (told : ShowVerdict) (said : List ℕ) (m : Marked) : Type 0 where
   pub verdict : told ≡ verdict_of m.mark
   pub is : said ≡ saying s es doubtful m
-  pub marked : IsMarked s.program.names es (table (slots s.program s.gates) s.choices s.steps) m
-  pub meaning : IsMeantMark s.program s.gates s.choices s.steps es m
+  pub marked : IsMarked s.program.names es (table (slots s.program s.discipline) s.choices s.steps) m
+  pub meaning : IsMeantMark s.program s.discipline s.choices s.steps es m
 
 -- a mark, or that there is too much
 abbrev pub TellsSaying : Setting → List Expectation → Option (List ℕ) → ShowVerdict → List ℕ → Type 0

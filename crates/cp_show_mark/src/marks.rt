@@ -4,7 +4,7 @@ ghost use Rattle.std.specs.Prelude.{◌≡◌, IfOk, List, Some, ℕ, false, map
 ghost use Rattle.cp_lawful.specs.Accepted.{IsAccepted};
 ghost use Rattle.cp_legend.specs.Names.{component_seen};
 ghost use Rattle.cp_merged.specs.Code.{tally_of};
-ghost use Rattle.cp_refine.specs.Named.{named, named_gates};
+ghost use Rattle.cp_refine.specs.Named.{named, named_discipline};
 ghost use Rattle.cp_resolved.specs.Enumerations.{constant_names};
 ghost use Rattle.cp_resolved.specs.Resolving.{IsProgramOf};
 ghost use Rattle.cp_run.specs.Slots.{slots};
@@ -225,8 +225,8 @@ pub fn mark_of<O: ObserveProgress>(
     observer: &mut O,
     reading: &Reading,
 ) -> Result<ShowAnswer, AllocError>
-    ensures mark { IfOk result (λ a. spec.TellsMark examinee.entry.program.now.names reading.now.expectations.items (table (slots examinee.entry.program.now examinee.entry.options.now.gates) examinee.entry.options.now.choices examinee.entry.options.now.steps) a.verdict) }
-    ensures meaning { (t : Tree) → ∥ IsRead t.program ∥₁ → IsAccepted t → IsProgramOf t examinee.entry.program.now → IfOk result (λ a. spec.TellsMark (constant_names t.program) reading.now.expectations.items (table (named t (named_gates examinee.entry.options.now.gates)) examinee.entry.options.now.choices examinee.entry.options.now.steps) a.verdict) }
+    ensures mark { IfOk result (λ a. spec.TellsMark examinee.entry.program.now.names reading.now.expectations.items (table (slots examinee.entry.program.now examinee.entry.options.now.discipline) examinee.entry.options.now.choices examinee.entry.options.now.steps) a.verdict) }
+    ensures meaning { (t : Tree) → ∥ IsRead t.program ∥₁ → IsAccepted t → IsProgramOf t examinee.entry.program.now → IfOk result (λ a. spec.TellsMark (constant_names t.program) reading.now.expectations.items (table (named t (named_discipline examinee.entry.options.now.discipline)) examinee.entry.options.now.choices examinee.entry.options.now.steps) a.verdict) }
     ensures text { IfOk result (λ a. TellsText (setting_of examinee.entry) reading.now.expectations.items (option_map (λ w. w.now) reading.now.doubtful) a.verdict (string_bytes a.text)) }
 {
     let limits = examinee.options.limits();

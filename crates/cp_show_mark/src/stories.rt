@@ -27,7 +27,7 @@ pub fn story_of(
 ) -> Result<Story, AllocError>
     requires { length word.now ≤ 100 }
     ensures used { IfOk result (λ story. UsedWithin story.end (length word.now)) }
-    ensures so { IfOk result (λ story. IsStoryOf (legend_seen legend.now) program.now options.now.gates options.now.choices options.now.steps word.now story) }
+    ensures so { IfOk result (λ story. IsStoryOf (legend_seen legend.now) program.now options.now.discipline options.now.choices options.now.steps word.now story) }
 {
     story_by::<Brand>(alloc, options, program, legend, word, Blank::new(1))
 }
@@ -45,7 +45,7 @@ fn story_by<L: Ledger>(
     requires one { L.parts ≡ 1 }
     requires word { length word.now ≤ 100 }
     ensures used { IfOk result (λ story. UsedWithin story.end (length word.now)) }
-    ensures so { IfOk result (λ story. IsStoryOf (legend_seen legend.now) program.now options.now.gates options.now.choices options.now.steps word.now story) }
+    ensures so { IfOk result (λ story. IsStoryOf (legend_seen legend.now) program.now options.now.discipline options.now.choices options.now.steps word.now story) }
 {
     let mut ticks: Ticks<L> = Ticks::new(blank);
     tell(alloc, program, legend, options.limits(), word, &mut ticks)
@@ -54,7 +54,7 @@ fn story_by<L: Ledger>(
 /// Who waits where at the end of a word.
 pub fn waits_of(alloc: Global, examinee: Examinee<'_>, word: &[u8]) -> Result<Vec<Wait>, AllocError>
     requires { length word.now ≤ 100 }
-    ensures { IfOk result (λ waits. map wait_of waits.items ≡ who_waits (legend_seen examinee.entry.legend.now) examinee.entry.program.now examinee.entry.options.now.gates examinee.entry.options.now.choices examinee.entry.options.now.steps word.now) }
+    ensures { IfOk result (λ waits. map wait_of waits.items ≡ who_waits (legend_seen examinee.entry.legend.now) examinee.entry.program.now examinee.entry.options.now.discipline examinee.entry.options.now.choices examinee.entry.options.now.steps word.now) }
 {
     let Examinee {
         options,

@@ -89,11 +89,18 @@ const GATES: OptionWords = OptionWords::Valued(
     "Who enters a monitor that becomes free: `first` in line, or `any` [default: first]",
 );
 
+const SIGNALS: OptionWords = OptionWords::Valued(
+    "signals",
+    "RULE",
+    "Who goes on after a continue: `return`, `continue` or `wait` [default: return]",
+);
+
 // How far all schedules are looked at.
 const LIMITS: &[OptionWords] = &[
     CHOICES,
     STEPS,
     GATES,
+    SIGNALS,
     OptionWords::Switch(
         "merge",
         "Changes nothing: schedules that come to one state are counted together in any case",
@@ -135,6 +142,7 @@ const PLAYING: &[OptionWords] = &[
     CHOICES,
     STEPS,
     GATES,
+    SIGNALS,
     OptionWords::PageStates,
 ];
 
@@ -154,6 +162,7 @@ const ENDING: &[OptionWords] = &[
     ),
     STEPS,
     GATES,
+    SIGNALS,
     OptionWords::Valued(
         "states",
         "N",

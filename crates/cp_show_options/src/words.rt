@@ -5,7 +5,7 @@ use cp_prose::Prose;
 use std::alloc::{AllocError, Global};
 
 /// The options that are those of `cpx`, but for `--choices`.
-const SHARED: [&str; 3] = ["steps", "gates", "states"];
+const SHARED: [&str; 4] = ["steps", "gates", "signals", "states"];
 
 /// The switches that are those of `cpx`, but for `--ends` and `--merge`.
 const SWITCHES: [&str; 2] = ["waits", "at-once"];

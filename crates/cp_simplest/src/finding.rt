@@ -121,7 +121,7 @@ pub fn is_schedule_of<L: Ledger>(
     ticks: &mut Ticks<L>,
 ) -> Result<bool, AllocError>
     requires { length word.now ≤ 100 }
-    ensures { IfOk result (λ is. is ≡ true → spec.IsScheduleOf (slots program.now limits.gates) limits.choices limits.steps word.now outcome.now) }
+    ensures { IfOk result (λ is. is ≡ true → spec.IsScheduleOf (slots program.now limits.discipline) limits.choices limits.steps word.now outcome.now) }
 {
     match run(alloc, program, limits, word, ticks)? {
         RunEnd::Ended {

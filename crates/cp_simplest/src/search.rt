@@ -158,7 +158,7 @@ impl SimplestSearch {
         requires { All (λ s. IsStateOf program.now s) states.old.items }
         ensures { IfOk result (λ _. All (λ s. IsStateOf program.now s) states.new.items) }
     {
-        let mut state = State::start(alloc, program, limits.gates)?;
+        let mut state = State::start(alloc, program, limits.discipline)?;
         let halt = open(program, limits, &mut state, steps, calls);
         self.arrive(
             alloc,

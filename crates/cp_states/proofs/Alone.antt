@@ -27,16 +27,16 @@ one_place : {A : Type 0} (code : A → ℕ) (none : A) (all : List A) (hashes : 
 one_place code none all hashes m n x kept a b = kept.different m n a.within b.within (a.is ∙ sym b.is)
 
 pub from_parts : (m n : Machine) → m.output ≡ n.output → m.permanents ≡ n.permanents → m.bindings ≡ n.bindings → m.phases ≡ n.phases → gated m ≡ gated n → m.threads ≡ n.threads → m ≡ n
-from_parts m n output permanents bindings phases gates threads =
+from_parts m n output permanents bindings phases discipline threads =
     ap (λ o. machine o m.permanents m.bindings m.phases (gated m) m.threads) output
     ∙ ap (λ p. machine n.output p m.bindings m.phases (gated m) m.threads) permanents
     ∙ ap (λ b. machine n.output n.permanents b m.phases (gated m) m.threads) bindings
     ∙ ap (λ p. machine n.output n.permanents n.bindings p (gated m) m.threads) phases
-    ∙ ap (λ g. machine n.output n.permanents n.bindings n.phases g m.threads) gates
+    ∙ ap (λ g. machine n.output n.permanents n.bindings n.phases g m.threads) discipline
     ∙ ap (λ t. machine n.output n.permanents n.bindings n.phases (gated n) t) threads
   where
     machine : List Shown → List ℤ → List ℕ → List Phase → Gated → List Thread → Machine
-    machine output permanents bindings phases g threads = record { permanents = permanents; bindings = bindings; phases = phases; threads = threads; monitors = g.monitors; pending = g.pending; gates = g.gates; output = output }
+    machine output permanents bindings phases g threads = record { permanents = permanents; bindings = bindings; phases = phases; threads = threads; monitors = g.monitors; pending = g.pending; discipline = g.discipline; output = output }
 
 pub one_machine : (s : Store) (row : List ℕ) (m n : Machine) → length m.threads ≡ length n.threads → IsRowOf s row m → IsRowOf s row n → m ≡ n
 one_machine s row m n count a b =

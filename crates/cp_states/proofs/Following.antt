@@ -142,7 +142,7 @@ module _ (s : Store) (row new : List ℕ) (m : Machine) (n : ℕ) where
         zeros = λ k le. other_number row new 3 n k put (λ e. omega (arith, e, le)) ∙ is.zeros k le;
       }
 
-  pub admission_row : (g : Gated) → new ≡ slice_set row 4 n → 4 < length row → IsAmong none_gated (map admitted_by s.admissions.all.items) n g → IsRowOf s row m → IsRowOf s new (record m { monitors = g.monitors; pending = g.pending; gates = g.gates })
+  pub admission_row : (g : Gated) → new ≡ slice_set row 4 n → 4 < length row → IsAmong none_gated (map admitted_by s.admissions.all.items) n g → IsRowOf s row m → IsRowOf s new (record m { monitors = g.monitors; pending = g.pending; discipline = g.discipline })
   admission_row g put lt has is =
       record {
         long = ap length put ∙ length-set row 4 n ∙ is.long;

@@ -77,7 +77,7 @@ threads_taken threads old new ts count are h =
 
 -- what has become the parts of a row is the machine of the row
 pub became : (s : Store) (row : List ℕ) (m n : Machine) → IsRowOf s row m → n.output ≡ piece_at s.outputs.items.items s.outputs.ends.items (number_at row 0) → n.permanents ≡ piece_at s.permanents.items.items s.permanents.ends.items (number_at row 1) → n.bindings ≡ piece_at s.bindings.items.items s.bindings.ends.items (number_at row 2) → n.phases ≡ piece_at s.phases.items.items s.phases.ends.items (number_at row 3) → gated n ≡ slice_index_or (map admitted_by s.admissions.all.items) (number_at row 4) none_gated → n.threads ≡ m.threads → n ≡ m
-became s row m n is output permanents bindings phases gates threads = from_parts n m (output ∙ is.output.is) (permanents ∙ is.permanents.is) (bindings ∙ is.bindings.is) (phases ∙ is.phases.is) (gates ∙ is.admission.is) threads
+became s row m n is output permanents bindings phases discipline threads = from_parts n m (output ∙ is.output.is) (permanents ∙ is.permanents.is) (bindings ∙ is.bindings.is) (phases ∙ is.phases.is) (discipline ∙ is.admission.is) threads
 
 -- the room of the processes is as great as it was
 pub stacks_kept : (threads : ℕ → Thread) (old new : List ProcessState) (n depth : ℕ) → AreTaken threads old new n → HaveStacks depth old → HaveStacks depth new

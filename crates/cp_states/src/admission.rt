@@ -1,14 +1,14 @@
 //! Who is in the monitors, who waits at their gates, and which gate waits for a choice.
 
 use crate::guards::are_guards;
-use cp_machine::{Gate, Gates};
+use cp_machine::{Discipline, Gate};
 
 /// What the monitors of a state have.
 #[derive(Drop)]
 pub struct Admission {
     pub guards: Vec<Gate>,
     pub pending: Option<u8>,
-    pub gates: Gates,
+    pub discipline: Discipline,
 }
 
 impl Admission {
@@ -18,10 +18,10 @@ impl Admission {
 
     /// Whether it is what these have.
     #[inline(always)]
-    pub fn is(&self, guards: &[Gate], pending: Option<u8>, gates: Gates) -> bool
-        ensures one { result ≡ true → admitted_by self.now ≡ gated_by guards.now pending gates }
-        ensures same { admitted_by self.now ≡ gated_by guards.now pending gates → result ≡ true }
+    pub fn is(&self, guards: &[Gate], pending: Option<u8>, discipline: Discipline) -> bool
+        ensures one { result ≡ true → admitted_by self.now ≡ gated_by guards.now pending discipline }
+        ensures same { admitted_by self.now ≡ gated_by guards.now pending discipline → result ≡ true }
     {
-        self.pending == pending && self.gates == gates && are_guards(&self.guards, guards)
+        self.pending == pending && self.discipline == discipline && are_guards(&self.guards, guards)
     }
 }

@@ -9,7 +9,7 @@ ghost use Rattle.cp_states.specs.Kept.{AreKept};
 use crate::admission::Admission;
 use crate::guards::{are_guards, copies_of_guards, hash_of_guards, take_guards};
 use crate::index::{HashIndex, MOST};
-use cp_machine::{Gate, Gates};
+use cp_machine::{Discipline, Gate};
 use std::alloc::{AllocError, Global};
 
 /// What the monitors of states have, each with a number.
@@ -36,38 +36,49 @@ impl Admissions {
 
     // Whether this is the number of what monitors have.
     #[inline(always)]
-    fn is_at(&self, at: usize, guards: &[Gate], pending: Option<u8>, gates: Gates) -> bool
-        ensures one { result ≡ true → IsAmong none_gated (map admitted_by self.now.all.items) at (gated_by guards.now pending gates) }
-        ensures same { IsAmong none_gated (map admitted_by self.now.all.items) at (gated_by guards.now pending gates) → result ≡ true }
+    fn is_at(&self, at: usize, guards: &[Gate], pending: Option<u8>, discipline: Discipline) -> bool
+        ensures one { result ≡ true → IsAmong none_gated (map admitted_by self.now.all.items) at (gated_by guards.now pending discipline) }
+        ensures same { IsAmong none_gated (map admitted_by self.now.all.items) at (gated_by guards.now pending discipline) → result ≡ true }
     {
-        at < self.all.len() && self.all[at].is(guards, pending, gates)
+        at < self.all.len() && self.all[at].is(guards, pending, discipline)
     }
 
     #[inline(always)]
-    fn find(&self, hash: u32, guards: &[Gate], pending: Option<u8>, gates: Gates) -> Option<u32>
-        requires { hash ≡ gated_hash (gated_by guards.now pending gates) }
-        ensures found { IfSome result (λ n. IsAmong none_gated (map admitted_by self.now.all.items) n (gated_by guards.now pending gates)) }
-        ensures absent { IfNone result ((n : ℕ) → IsAmong none_gated (map admitted_by self.now.all.items) n (gated_by guards.now pending gates) → ⊥) }
+    fn find(
+        &self,
+        hash: u32,
+        guards: &[Gate],
+        pending: Option<u8>,
+        discipline: Discipline,
+    ) -> Option<u32>
+        requires { hash ≡ gated_hash (gated_by guards.now pending discipline) }
+        ensures found { IfSome result (λ n. IsAmong none_gated (map admitted_by self.now.all.items) n (gated_by guards.now pending discipline)) }
+        ensures absent { IfNone result ((n : ℕ) → IsAmong none_gated (map admitted_by self.now.all.items) n (gated_by guards.now pending discipline) → ⊥) }
     {
         self.index.find(
             hash,
             |at|
-                ensures one { result ≡ true → IsAmong none_gated (map admitted_by self.entry.now.all.items) at (gated_by guards.entry.now pending gates) }
-                ensures same { IsAmong none_gated (map admitted_by self.entry.now.all.items) at (gated_by guards.entry.now pending gates) → result ≡ true }
-            { self.is_at(at, guards, pending, gates) },
+                ensures one { result ≡ true → IsAmong none_gated (map admitted_by self.entry.now.all.items) at (gated_by guards.entry.now pending discipline) }
+                ensures same { IsAmong none_gated (map admitted_by self.entry.now.all.items) at (gated_by guards.entry.now pending discipline) → result ≡ true }
+            { self.is_at(at, guards, pending, discipline) },
         )
     }
 
     /// The number of what monitors have, if it is there.
-    pub fn number(&self, guards: &[Gate], pending: Option<u8>, gates: Gates) -> Option<u32>
-        ensures found { IfSome result (λ n. IsAmong none_gated (map admitted_by self.now.all.items) n (gated_by guards.now pending gates)) }
-        ensures absent { IfNone result ((n : ℕ) → IsAmong none_gated (map admitted_by self.now.all.items) n (gated_by guards.now pending gates) → ⊥) }
+    pub fn number(
+        &self,
+        guards: &[Gate],
+        pending: Option<u8>,
+        discipline: Discipline,
+    ) -> Option<u32>
+        ensures found { IfSome result (λ n. IsAmong none_gated (map admitted_by self.now.all.items) n (gated_by guards.now pending discipline)) }
+        ensures absent { IfNone result ((n : ℕ) → IsAmong none_gated (map admitted_by self.now.all.items) n (gated_by guards.now pending discipline) → ⊥) }
     {
         self.find(
-            hash_of_guards(guards, pending, gates),
+            hash_of_guards(guards, pending, discipline),
             guards,
             pending,
-            gates,
+            discipline,
         )
     }
 
@@ -78,15 +89,15 @@ impl Admissions {
         alloc: Global,
         guards: &[Gate],
         pending: Option<u8>,
-        gates: Gates,
+        discipline: Discipline,
     ) -> Result<u32, AllocError>
-        ensures number { IfOk result (λ n. IsAmong none_gated (map admitted_by self.new.all.items) n (gated_by guards.now pending gates)) }
+        ensures number { IfOk result (λ n. IsAmong none_gated (map admitted_by self.new.all.items) n (gated_by guards.now pending discipline)) }
         ensures kept { KeepItems none_gated (map admitted_by self.old.all.items) (map admitted_by self.new.all.items) }
     {
-        let hash = hash_of_guards(guards, pending, gates);
-        match self.find(hash, guards, pending, gates) {
+        let hash = hash_of_guards(guards, pending, discipline);
+        match self.find(hash, guards, pending, discipline) {
             Some(number) => Ok(number),
-            None => self.add(alloc, hash, guards, pending, gates),
+            None => self.add(alloc, hash, guards, pending, discipline),
         }
     }
 
@@ -98,11 +109,11 @@ impl Admissions {
         hash: u32,
         guards: &[Gate],
         pending: Option<u8>,
-        gates: Gates,
+        discipline: Discipline,
     ) -> Result<u32, AllocError>
-        requires hash { hash ≡ gated_hash (gated_by guards.now pending gates) }
-        requires new { (n : ℕ) → IsAmong none_gated (map admitted_by self.old.all.items) n (gated_by guards.now pending gates) → ⊥ }
-        ensures number { IfOk result (λ n. IsAmong none_gated (map admitted_by self.new.all.items) n (gated_by guards.now pending gates)) }
+        requires hash { hash ≡ gated_hash (gated_by guards.now pending discipline) }
+        requires new { (n : ℕ) → IsAmong none_gated (map admitted_by self.old.all.items) n (gated_by guards.now pending discipline) → ⊥ }
+        ensures number { IfOk result (λ n. IsAmong none_gated (map admitted_by self.new.all.items) n (gated_by guards.now pending discipline)) }
         ensures kept { KeepItems none_gated (map admitted_by self.old.all.items) (map admitted_by self.new.all.items) }
     {
         let number = self.all.len();
@@ -115,7 +126,7 @@ impl Admissions {
         self.all.push_reserved(Admission {
             guards,
             pending,
-            gates,
+            discipline,
         });
         Ok(number as u32)
     }
@@ -128,17 +139,17 @@ impl Admissions {
         known: u32,
         guards: &mut Vec<Gate>,
         pending: &mut Option<u8>,
-        gates: &mut Gates,
+        discipline: &mut Discipline,
     )
         requires number { number < length self.now.all.items }
-        requires known { IsAmong none_gated (map admitted_by self.now.all.items) known (gated_by guards.old.items pending.old gates.old) }
+        requires known { IsAmong none_gated (map admitted_by self.now.all.items) known (gated_by guards.old.items pending.old discipline.old) }
         requires count { length (slice_index_or (map admitted_by self.now.all.items) number none_gated).monitors ≡ length guards.old.items }
-        ensures same { gated_by guards.new.items pending.new gates.new ≡ slice_index_or (map admitted_by self.now.all.items) number none_gated }
+        ensures same { gated_by guards.new.items pending.new discipline.new ≡ slice_index_or (map admitted_by self.now.all.items) number none_gated }
     {
         if number == known {
             return;
         }
-        self.take_anew(number, guards, pending, gates);
+        self.take_anew(number, guards, pending, discipline);
     }
 
     /// Monitors become what has a number.
@@ -148,15 +159,15 @@ impl Admissions {
         number: u32,
         guards: &mut Vec<Gate>,
         pending: &mut Option<u8>,
-        gates: &mut Gates,
+        discipline: &mut Discipline,
     )
         requires number { number < length self.now.all.items }
         requires count { length (slice_index_or (map admitted_by self.now.all.items) number none_gated).monitors ≡ length guards.old.items }
-        ensures same { gated_by guards.new.items pending.new gates.new ≡ slice_index_or (map admitted_by self.now.all.items) number none_gated }
+        ensures same { gated_by guards.new.items pending.new discipline.new ≡ slice_index_or (map admitted_by self.now.all.items) number none_gated }
     {
         let from = &self.all[number as usize];
         take_guards(guards, &from.guards);
         *pending = from.pending;
-        *gates = from.gates;
+        *discipline = from.discipline;
     }
 }

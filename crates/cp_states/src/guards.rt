@@ -7,7 +7,7 @@ ghost use Rattle.cp_states.specs.Gated.{gated_by, gated_hash};
 
 use crate::hashing::{Compared, finish_hash, hash_with, mix};
 use arrayvec::ArrayVec;
-use cp_machine::{Gate, Gates};
+use cp_machine::{Discipline, Gate, Gates};
 use std::alloc::{AllocError, Global};
 
 #[inline(always)]
@@ -52,10 +52,10 @@ fn hash_with_guards(hash: u64, guards: &[Gate]) -> u64
 /// The hash of monitors, and of which gate waits for a choice.
 #[inline(always)]
 #[tactic(auto, unfolding(crate::specs::Gated::gated_hash))]
-pub fn hash_of_guards(guards: &[Gate], pending: Option<u8>, gates: Gates) -> u32
-    ensures { result ≡ gated_hash (gated_by guards.now pending gates) }
+pub fn hash_of_guards(guards: &[Gate], pending: Option<u8>, discipline: Discipline) -> u32
+    ensures { result ≡ gated_hash (gated_by guards.now pending discipline) }
 {
-    let hash = mix(option_number(pending), gates_number(gates));
+    let hash = mix(option_number(pending), gates_number(discipline.gates));
     finish_hash(hash_with_guards(hash, guards))
 }
 

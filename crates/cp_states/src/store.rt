@@ -21,7 +21,9 @@ fn has_same_monitors(state: &State, other: &State) -> bool
 {
     let guards = state.guards.as_slice();
     let others = other.guards.as_slice();
-    state.pending == other.pending && state.gates == other.gates && are_guards(guards, others)
+    state.pending == other.pending
+        && state.discipline == other.discipline
+        && are_guards(guards, others)
 }
 
 /// The different parts of states, each with a number.
@@ -159,7 +161,7 @@ impl Store {
         before: &State,
         row: &mut StateRow,
     ) -> Result<(), AllocError>
-        ensures row { IfOk result (λ _. (m : Machine) → IsRowOf self.old row.old.numbers m → gated m ≡ gated (machine_of before.now) → IsRowOf self.new row.new.numbers (record m { monitors = (machine_of state.now).monitors; pending = (machine_of state.now).pending; gates = (machine_of state.now).gates })) }
+        ensures row { IfOk result (λ _. (m : Machine) → IsRowOf self.old row.old.numbers m → gated m ≡ gated (machine_of before.now) → IsRowOf self.new row.new.numbers (record m { monitors = (machine_of state.now).monitors; pending = (machine_of state.now).pending; discipline = (machine_of state.now).discipline })) }
         ensures kept { KeepParts self.old self.new }
     {
         let guards = state.guards.as_slice();
@@ -168,7 +170,7 @@ impl Store {
         }
         row.numbers[ADMISSION] = self
             .admissions
-            .number_of(alloc, guards, state.pending, state.gates)?;
+            .number_of(alloc, guards, state.pending, state.discipline)?;
         Ok(())
     }
 
@@ -290,7 +292,7 @@ impl Store {
         let phases = self.phases.number_of(alloc, &state.phases)?;
         let admission = self
             .admissions
-            .number_of(alloc, &state.guards, state.pending, state.gates)?;
+            .number_of(alloc, &state.guards, state.pending, state.discipline)?;
         Ok(StateRow {
             numbers: [
                 output, permanents, bindings, phases, admission, 0, 0, 0, 0, 0, 0, 0, 0, 0, 0, 0,
@@ -310,7 +312,7 @@ impl Store {
         let phases = self.phases.number(&state.phases)?;
         let admission = self
             .admissions
-            .number(&state.guards, state.pending, state.gates)?;
+            .number(&state.guards, state.pending, state.discipline)?;
         Some(StateRow {
             numbers: [
                 output, permanents, bindings, phases, admission, 0, 0, 0, 0, 0, 0, 0, 0, 0, 0, 0,
@@ -420,7 +422,7 @@ impl Store {
             known.numbers[ADMISSION],
             &mut state.guards,
             &mut state.pending,
-            &mut state.gates,
+            &mut state.discipline,
         );
         self.threads.take_all(row, known, &mut state.processes);
     }
@@ -443,7 +445,7 @@ impl Store {
             row.numbers[ADMISSION],
             &mut state.guards,
             &mut state.pending,
-            &mut state.gates,
+            &mut state.discipline,
         );
         self.threads.take_each(row, &mut state.processes);
     }

@@ -19,8 +19,8 @@ use Rattle.cp_store.specs.declared.memory.Address.TheVariants as address
 use Rattle.cp_store.specs.declared.memory.Frame.{Frame}
 use Rattle.cp_store.specs.Sets as sets
 use Rattle.cp_store.specs.Values.{is_true, ranged}
-use Rattle.cp_machine.specs.declared.gates.Gates.{Gates}
-use Rattle.cp_machine.specs.declared.gates.Gates.TheVariants.{First, Any}
+use Rattle.cp_machine.specs.declared.discipline.Discipline.{Discipline}
+use Rattle.cp_machine.specs.declared.discipline.Gates.TheVariants.{First, Any}
 use Rattle.cp_machine.specs.declared.process.Entry.{Entry}
 use Rattle.cp_machine.specs.declared.process.Entry.TheVariants.{Rest, Successor, Return, InitEnd}
 use Rattle.cp_machine.specs.declared.process.Status.{Status}
@@ -87,7 +87,7 @@ module _ (pid q : ℕ) (other : q ≡ pid → ⊥) where
   let_in_by_asleep Any m monitor (p ∷ r ∷ line) none h = h
 
   let_in_asleep : (m : Machine) (monitor : ℕ) → Asleep m → is_ready (let_in m monitor) q ≡ false
-  let_in_asleep m monitor h = let_in_by_asleep m.gates m monitor (monitor_at m monitor).line (h.lines monitor) h.ready
+  let_in_asleep m monitor h = let_in_by_asleep m.discipline.gates m monitor (monitor_at m monitor).line (h.lines monitor) h.ready
 
   entered_by_asleep : (holder : Option ℕ) (m : Machine) (monitor : ℕ) → Asleep m → is_ready (entered_by holder m pid monitor) q ≡ false
   entered_by_asleep None m monitor h = h.ready

@@ -3,7 +3,7 @@ use Rattle.std.specs.Option.{option_to_list}
 use Rattle.std.proofs.Common.{◌≡◌, ◌∙◌, ◌++◌, ℕ, List, [], Option, ap, map, refl}
 use Rattle.cp_slots.specs.Tables.{Tables}
 use Rattle.cp_machine.specs.declared.event.Event.{Event}
-use Rattle.cp_machine.specs.declared.gates.Gates.{Gates}
+use Rattle.cp_machine.specs.declared.discipline.Discipline.{Discipline}
 use Rattle.cp_machine.specs.declared.process.Status.{Status}
 use Rattle.cp_machine.specs.Machine.{Machine}
 use Rattle.cp_machine.specs.Opening.{opening}
@@ -30,8 +30,8 @@ pub step_expected : (o u : Observer) (es : List StoryEvent) (aim : Aim) (s : Mac
 step_expected o u es aim s p e = ap (λ (past : Past). record { events = map told_of es; past = past }) e
 
 -- a step is told by what its process was about to do
-step_told : (r : Tables) (gates : Gates) (p : ℕ) (s t : Machine) (event : Event) (aim : Aim) (x y z : Telling) → aim ≡ aim_in r s p → y ≡ expecting aim s p x → z ≡ told_step r gates p aim event t y → z ≡ (teller r gates).on_step s p event t x
-step_told r gates p s t event aim x y z about e h = h ∙ ap (told_step r gates p aim event t) e ∙ ap (λ (a : Aim). told_step r gates p a event t (expecting a s p x)) about
+step_told : (r : Tables) (discipline : Discipline) (p : ℕ) (s t : Machine) (event : Event) (aim : Aim) (x y z : Telling) → aim ≡ aim_in r s p → y ≡ expecting aim s p x → z ≡ told_step r discipline p aim event t y → z ≡ (teller r discipline).on_step s p event t x
+step_told r discipline p s t event aim x y z about e h = h ∙ ap (told_step r discipline p aim event t) e ∙ ap (λ (a : Aim). told_step r discipline p a event t (expecting a s p x)) about
 
 none_told : (o : Observer) (es : List StoryEvent) (l : Legend) (m : Machine) → es ≡ [] → past_of o ≡ (nothing_told l m).past → telling_of o es ≡ nothing_told l m
 none_told o es l m none e = ap (λ (ts : List StoryEvent). telling_of o ts) none ∙ ap (λ (past : Past). record { events = []; past = past }) e
@@ -39,22 +39,22 @@ none_told o es l m none e = ap (λ (ts : List StoryEvent). telling_of o ts) none
 pub same_both : (x y : Telling) (now new : List TraceLine) → x ≡ y → now ≡ new → ◌≡◌ {A = Telling × List TraceLine} (x, now) (y, new)
 same_both x y now new e h = ap (λ (u : Telling). (let both : Telling × List TraceLine = (u, now) in both)) e ∙ ap (λ (ls : List TraceLine). (let both : Telling × List TraceLine = (y, ls) in both)) h
 
-module _ (r : Tables) (gates : Gates) where
+module _ (r : Tables) (discipline : Discipline) where
   -- a step is told and has its line, by what was seen of it before it was made
-  pub step_seen : (p : ℕ) (s t : Machine) (event : Event) (aim : Aim) (y z : Telling) (now new : List TraceLine) (x : Telling × List TraceLine) → z ≡ told_step r gates p aim event t y → new ≡ now ++ step_lines (slots r gates) t p event → (aim ≡ aim_in r s p) × (y ≡ expecting aim s p x.0) × (now ≡ x.1) → ◌≡◌ {A = Telling × List TraceLine} (z, new) ((beside (teller r gates) (tracer (slots r gates))).on_step s p event t x)
+  pub step_seen : (p : ℕ) (s t : Machine) (event : Event) (aim : Aim) (y z : Telling) (now new : List TraceLine) (x : Telling × List TraceLine) → z ≡ told_step r discipline p aim event t y → new ≡ now ++ step_lines (slots r discipline) t p event → (aim ≡ aim_in r s p) × (y ≡ expecting aim s p x.0) × (now ≡ x.1) → ◌≡◌ {A = Telling × List TraceLine} (z, new) ((beside (teller r discipline) (tracer (slots r discipline))).on_step s p event t x)
   step_seen p s t event aim y z now new x told line h =
-      let z_is = step_told r gates p s t event aim x.0 y z h.0 h.1 told in
-      let new_is = line ∙ ap (λ ls. ls ++ step_lines (slots r gates) t p event) h.2 in
-      same_both z ((teller r gates).on_step s p event t x.0) new (x.1 ++ step_lines (slots r gates) t p event) z_is new_is
+      let z_is = step_told r discipline p s t event aim x.0 y z h.0 h.1 told in
+      let new_is = line ∙ ap (λ ls. ls ++ step_lines (slots r discipline) t p event) h.2 in
+      same_both z ((teller r discipline).on_step s p event t x.0) new (x.1 ++ step_lines (slots r discipline) t p event) z_is new_is
 
   -- what is told of a whole run, and its lines
-  pub run_told : (choices steps : ℕ) (word : List ℕ) (l : Legend) (o : Observer) (es : List StoryEvent) (m : Machine) (x : Telling × List TraceLine) → es ≡ [] → m ≡ opening r gates → past_of o ≡ (nothing_told l m).past → x ≡ fold_run (slots r gates) (beside (teller r gates) (tracer (slots r gates))) choices steps word (telling_of o es, lines_of es) → record { told : x.0 ≡ telling l r gates choices steps word; lines : x.1 ≡ trace (slots r gates) choices steps word }
+  pub run_told : (choices steps : ℕ) (word : List ℕ) (l : Legend) (o : Observer) (es : List StoryEvent) (m : Machine) (x : Telling × List TraceLine) → es ≡ [] → m ≡ opening r discipline → past_of o ≡ (nothing_told l m).past → x ≡ fold_run (slots r discipline) (beside (teller r discipline) (tracer (slots r discipline))) choices steps word (telling_of o es, lines_of es) → record { told : x.0 ≡ telling l r discipline choices steps word; lines : x.1 ≡ trace (slots r discipline) choices steps word }
   run_told choices steps word l o es m x none start first h =
-      let sys = slots r gates in
-      let both = beside (teller r gates) (tracer sys) in
+      let sys = slots r discipline in
+      let both = beside (teller r discipline) (tracer sys) in
       let begun : Telling × List TraceLine = (telling_of o es, lines_of es) in
       record {
-        told = ap (λ (x : Telling × List TraceLine). x.0) h ∙ fold_along sys both (teller r gates) (λ x. x.0) (record { step = λ s p event t x. refl; admission = λ p t x. refl; choice = λ s p x. refl }) choices steps word begun ∙ ap (fold_run sys (teller r gates) choices steps word) (none_told o es l m none first ∙ ap (nothing_told l) start);
+        told = ap (λ (x : Telling × List TraceLine). x.0) h ∙ fold_along sys both (teller r discipline) (λ x. x.0) (record { step = λ s p event t x. refl; admission = λ p t x. refl; choice = λ s p x. refl }) choices steps word begun ∙ ap (fold_run sys (teller r discipline) choices steps word) (none_told o es l m none first ∙ ap (nothing_told l) start);
         lines = ap (λ (x : Telling × List TraceLine). x.1) h ∙ fold_along sys both (tracer sys) (λ x. x.1) (record { step = λ s p event t x. refl; admission = λ p t x. refl; choice = λ s p x. refl }) choices steps word begun ∙ ap (λ (es : List StoryEvent). fold_run sys (tracer sys) choices steps word (lines_of es)) none ∙ is_traced sys choices steps word;
       }
 

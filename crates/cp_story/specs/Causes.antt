@@ -21,7 +21,7 @@ use Rattle.cp_store.specs.declared.memory.Frame.{Frame}
 use Rattle.cp_store.specs.Memory.{Memory, cell_at, memory_of, moved, onward, stretch}
 use Rattle.cp_store.specs.Places.{origin_address}
 use Rattle.cp_store.specs.Values.{truth, is_true, is_within, negated, absolute, successor, predecessor, calculated, combined, compared}
-use Rattle.cp_machine.specs.declared.gates.Gates.{Gates}
+use Rattle.cp_machine.specs.declared.discipline.Discipline.{Discipline}
 use Rattle.cp_machine.specs.declared.process.Entry.{Entry}
 use Rattle.cp_machine.specs.declared.process.Entry.TheVariants.{Rest, Successor}
 use Rattle.cp_machine.specs.Kernel.{waits_in}
@@ -252,5 +252,5 @@ abbrev pub cause_of_end : Tables → Machine → Answer → Option Cause
 cause_of_end r m (Ended outcome taken) = cause_of_kind r m outcome.kind
 cause_of_end r m _ = None
 
-abbrev pub cause_of_run : Tables → Gates → (choices steps : ℕ) → List ℕ → Option Cause
-cause_of_run r gates choices steps word = cause_of_end r (last_state (slots r gates) choices steps word) (run (slots r gates) choices steps word)
+abbrev pub cause_of_run : Tables → Discipline → (choices steps : ℕ) → List ℕ → Option Cause
+cause_of_run r discipline choices steps word = cause_of_end r (last_state (slots r discipline) choices steps word) (run (slots r discipline) choices steps word)

@@ -3,7 +3,7 @@ use Rattle.std.specs.Prelude.{ℕ, ◌==◌, Bool, false, List, [], ◌++◌, Op
 use Rattle.std.specs.String.{string_bytes}
 use Rattle.cp_slots.specs.Tables.{Tables}
 use Rattle.cp_legend.specs.Names.{Legend}
-use Rattle.cp_machine.specs.declared.gates.Gates.{Gates}
+use Rattle.cp_machine.specs.declared.discipline.Discipline.{Discipline}
 use Rattle.cp_machine.specs.declared.process.Status.{Status}
 use Rattle.cp_machine.specs.declared.process.Status.TheVariants as status
 use Rattle.cp_run.specs.declared.outcome.OutcomeKind.{OutcomeKind}
@@ -87,5 +87,5 @@ halted_at l (Ended outcome used) last ws = halted_as l last ws outcome.kind
 halted_at l _ last ws = None
 
 -- how the run of a word stopped: after its last step, where these wait
-abbrev pub how_halted : Legend → Tables → Gates → (choices steps : ℕ) → List ℕ → Option Halted
-how_halted l r gates choices steps word = halted_at l (run (slots r gates) choices steps word) (telling l r gates choices steps word).past.last (who_waits l r gates choices steps word)
+abbrev pub how_halted : Legend → Tables → Discipline → (choices steps : ℕ) → List ℕ → Option Halted
+how_halted l r discipline choices steps word = halted_at l (run (slots r discipline) choices steps word) (telling l r discipline choices steps word).past.last (who_waits l r discipline choices steps word)

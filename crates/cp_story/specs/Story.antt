@@ -11,7 +11,7 @@ use Rattle.cp_legend.specs.Values.{Value}
 use Rattle.cp_machine.specs.declared.event.Event.{Event}
 use Rattle.cp_machine.specs.declared.event.Event.TheVariants as step
 use Rattle.cp_machine.specs.declared.event.Kernel.TheVariants.{Enter, Leave, Delay, Continue, StartProcess, Display}
-use Rattle.cp_machine.specs.declared.gates.Gates.{Gates}
+use Rattle.cp_machine.specs.declared.discipline.Discipline.{Discipline}
 use Rattle.cp_machine.specs.declared.process.Entry.{Entry}
 use Rattle.cp_machine.specs.declared.process.Entry.TheVariants.{Return}
 use Rattle.cp_machine.specs.declared.process.Status.{Status}
@@ -201,8 +201,8 @@ told_event holders event p aim t past =
 abbrev pub past_after : TraceEvent → ℕ → Aim → Machine → Past → Past
 past_after event p aim t past = record past { choice = None; calls = calls_after event p aim t past.calls; statuses = statuses_in t; returned = []; cells = t.permanents }
 
-abbrev pub told_more : Tables → Gates → TraceEvent → ℕ → Aim → Machine → Telling → Telling
-told_more r gates event p aim t x = record { events = x.events ++ told_event (holders_in (slots r gates) t) event p aim t x.past ∷ []; past = past_after event p aim t x.past }
+abbrev pub told_more : Tables → Discipline → TraceEvent → ℕ → Aim → Machine → Telling → Telling
+told_more r discipline event p aim t x = record { events = x.events ++ told_event (holders_in (slots r discipline) t) event p aim t x.past ∷ []; past = past_after event p aim t x.past }
 
 -- ---- a run
 
@@ -223,24 +223,24 @@ past_before aim s p past = past_with (last_with aim p past.last) (if aim.ends_ca
 abbrev pub expecting : Aim → Machine → ℕ → Telling → Telling
 expecting aim s p x = record { events = x.events; past = past_before aim s p x.past }
 
-abbrev pub told_step : Tables → Gates → ℕ → Aim → Event → Machine → Telling → Telling
-told_step r gates p aim (step.Kernel call) t x = told_more r gates (Kernel call) p aim t x
-told_step r gates p aim step.Ended t x = told_more r gates End p aim t x
-told_step r gates p aim _ t x = x
+abbrev pub told_step : Tables → Discipline → ℕ → Aim → Event → Machine → Telling → Telling
+told_step r discipline p aim (step.Kernel call) t x = told_more r discipline (Kernel call) p aim t x
+told_step r discipline p aim step.Ended t x = told_more r discipline End p aim t x
+told_step r discipline p aim _ t x = x
 
 -- the choice that is due in a state
-abbrev pub decision_in : Tables → Gates → Machine → ℕ → Decision
-decision_in r gates m number = record { options = those_below (length r.processes) (may (slots r gates) m); number = number; at_gate = is_pending m }
+abbrev pub decision_in : Tables → Discipline → Machine → ℕ → Decision
+decision_in r discipline m number = record { options = those_below (length r.processes) (may (slots r discipline) m); number = number; at_gate = is_pending m }
 
 abbrev pub choice_taken : Telling → Decision → Telling
 choice_taken x d = record { events = x.events; past = record x.past { choice = Some d } }
 
-abbrev pub teller : Tables → Gates → Fold Machine Telling
-teller r gates =
+abbrev pub teller : Tables → Discipline → Fold Machine Telling
+teller r discipline =
     record {
-      on_step = λ s p event t x. let aim = aim_in r s p in told_step r gates p aim event t (expecting aim s p x);
-      on_admission = λ p t x. told_more r gates Admit p (no_aim false) t x;
-      on_choice = λ s number x. choice_taken x (decision_in r gates s number);
+      on_step = λ s p event t x. let aim = aim_in r s p in told_step r discipline p aim event t (expecting aim s p x);
+      on_admission = λ p t x. told_more r discipline Admit p (no_aim false) t x;
+      on_choice = λ s number x. choice_taken x (decision_in r discipline s number);
     }
 
 abbrev pub no_step : Last
@@ -250,9 +250,9 @@ abbrev pub nothing_told : Legend → Machine → Telling
 nothing_told l m = record { events = []; past = record { choice = None; calls = replicate (length m.threads) []; statuses = statuses_in m; returned = []; last = no_step; cells = m.permanents; legend = l } }
 
 -- what is told of the run of a word
-abbrev pub telling : Legend → Tables → Gates → (choices steps : ℕ) → List ℕ → Telling
-telling l r gates choices steps word = fold_run (slots r gates) (teller r gates) choices steps word (nothing_told l (opening r gates))
+abbrev pub telling : Legend → Tables → Discipline → (choices steps : ℕ) → List ℕ → Telling
+telling l r discipline choices steps word = fold_run (slots r discipline) (teller r discipline) choices steps word (nothing_told l (opening r discipline))
 
 -- its events
-abbrev pub story_of : Legend → Tables → Gates → (choices steps : ℕ) → List ℕ → List Told
-story_of l r gates choices steps word = (telling l r gates choices steps word).events
+abbrev pub story_of : Legend → Tables → Discipline → (choices steps : ℕ) → List ℕ → List Told
+story_of l r discipline choices steps word = (telling l r discipline choices steps word).events

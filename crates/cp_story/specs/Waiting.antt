@@ -2,7 +2,7 @@
 use Rattle.std.specs.Prelude.{ℕ, List, ◌-◌, ◌==◌, Bool, false, map, length, Option, Some, None, slice_get}
 use Rattle.cp_slots.specs.Tables.{Tables}
 use Rattle.cp_legend.specs.Names.{Legend}
-use Rattle.cp_machine.specs.declared.gates.Gates.{Gates}
+use Rattle.cp_machine.specs.declared.discipline.Discipline.{Discipline}
 use Rattle.cp_machine.specs.declared.process.Status.{Status}
 use Rattle.cp_machine.specs.Machine.{Machine, is_waiting, monitor_at, thread_at}
 use Rattle.cp_run.specs.Run.{those_below}
@@ -49,5 +49,5 @@ abbrev pub waits_in : Tables → Machine → List (List OpenCall) → List Waiti
 waits_in r m calls = map (waiting_at r m calls) (those_below (length m.threads) (waits_at m))
 
 -- who waits where the run of a word stops
-abbrev pub who_waits : Legend → Tables → Gates → (choices steps : ℕ) → List ℕ → List Waiting
-who_waits l r gates choices steps word = waits_in r (last_state (slots r gates) choices steps word) (telling l r gates choices steps word).past.calls
+abbrev pub who_waits : Legend → Tables → Discipline → (choices steps : ℕ) → List ℕ → List Waiting
+who_waits l r discipline choices steps word = waits_in r (last_state (slots r discipline) choices steps word) (telling l r discipline choices steps word).past.calls

@@ -81,8 +81,8 @@ impl<'a> Storyteller<'a> {
         aim: Aim,
     ) -> Result<(), AllocError>
         requires { IsStateOf program.now state.now }
-        ensures lines { IfOk result (λ _. lines_of self.new.events.items ≡ lines_of self.old.events.items ++ record { process = process; event = event; holders = holders_in (slots program.now limits.gates) (machine_of state.now) } ∷ []) }
-        ensures told { IfOk result (λ _. telling_of self.new.observer self.new.events.items ≡ told_more program.now limits.gates event process aim (machine_of state.now) (telling_of self.old.observer self.old.events.items)) }
+        ensures lines { IfOk result (λ _. lines_of self.new.events.items ≡ lines_of self.old.events.items ++ record { process = process; event = event; holders = holders_in (slots program.now limits.discipline) (machine_of state.now) } ∷ []) }
+        ensures told { IfOk result (λ _. telling_of self.new.observer self.new.events.items ≡ told_more program.now limits.discipline event process aim (machine_of state.now) (telling_of self.old.observer self.old.events.items)) }
     {
         let holders = holders(self.alloc, program, limits, state)?;
         let plain = TraceLine {
@@ -106,8 +106,8 @@ impl<'a> Storyteller<'a> {
         aim: Aim,
     ) -> Result<(), AllocError>
         requires { IsStateOf program.now state.now }
-        ensures lines { IfOk result (λ _. lines_of self.new.events.items ≡ lines_of self.old.events.items ++ step_lines (slots program.now limits.gates) (machine_of state.now) process event) }
-        ensures told { IfOk result (λ _. telling_of self.new.observer self.new.events.items ≡ told_step program.now limits.gates process aim event (machine_of state.now) (telling_of self.old.observer self.old.events.items)) }
+        ensures lines { IfOk result (λ _. lines_of self.new.events.items ≡ lines_of self.old.events.items ++ step_lines (slots program.now limits.discipline) (machine_of state.now) process event) }
+        ensures told { IfOk result (λ _. telling_of self.new.observer self.new.events.items ≡ told_step program.now limits.discipline process aim event (machine_of state.now) (telling_of self.old.observer self.old.events.items)) }
     {
         let event = match event {
             Step::Kernel(call) => TraceEvent::Kernel(call),
@@ -151,11 +151,11 @@ impl<'a> Observe for Storyteller<'a> {
         true
     }
 
-    ghost holds = { λ t r gates now x. (telling_of t.observer t.events.items, lines_of t.events.items) ≡ x };
+    ghost holds = { λ t r discipline now x. (telling_of t.observer t.events.items, lines_of t.events.items) ≡ x };
 
-    ghost fold = { λ r gates. beside (teller r gates) (tracer (slots r gates)) };
+    ghost fold = { λ r discipline. beside (teller r discipline) (tracer (slots r discipline)) };
 
-    ghost expects = { λ t r gates before process x. (t.aim ≡ aim_in r before process) × (telling_of t.observer t.events.items ≡ expecting t.aim before process x.0) × (lines_of t.events.items ≡ x.1) };
+    ghost expects = { λ t r discipline before process x. (t.aim ≡ aim_in r before process) × (telling_of t.observer t.events.items ≡ expecting t.aim before process x.0) × (lines_of t.events.items ≡ x.1) };
 
     fn expect_step(
         &mut self,
@@ -197,13 +197,13 @@ impl<'a> Observe for Storyteller<'a> {
         self.observer.choice = Some(choice_of(program, limits, state, number));
     }
 
-    ghost passes = { λ unseen self r gates before after process x step h. absurd (Prim.cc) };
+    ghost passes = { λ unseen self r discipline before after process x step h. absurd (Prim.cc) };
 }
 
 // The choice that is due, and the number that is taken.
 fn choice_of(program: &Resolved, limits: Limits, state: &State, number: u8) -> Choice
     requires { IsStateOf program.now state.now }
-    ensures { decision_of result ≡ decision_in program.now limits.gates (machine_of state.now) number }
+    ensures { decision_of result ≡ decision_in program.now limits.discipline (machine_of state.now) number }
 {
     Choice {
         options: candidates(program, limits, state),
@@ -291,17 +291,17 @@ pub fn tell<L: Ledger>(
     ticks: &mut Ticks<L>,
 ) -> Result<Story, AllocError>
     requires { length word.now ≤ 100 }
-    ensures lines { IfOk result (λ s. lines_of s.events.items ≡ trace (slots program.now limits.gates) limits.choices limits.steps word.now) }
-    ensures told { IfOk result (λ s. map told_of s.events.items ≡ story_of (legend_seen legend.now) program.now limits.gates limits.choices limits.steps word.now) }
-    ensures choice { IfOk result (λ s. option_map decision_of s.last_choice ≡ (telling (legend_seen legend.now) program.now limits.gates limits.choices limits.steps word.now).past.choice) }
-    ensures waits { IfOk result (λ s. map wait_of s.waits.items ≡ who_waits (legend_seen legend.now) program.now limits.gates limits.choices limits.steps word.now) }
-    ensures answer { IfOk result (λ s. answer_of s.end ≡ run (slots program.now limits.gates) limits.choices limits.steps word.now) }
-    ensures stop { IfOk result (λ s. option_map halted_seen s.stop ≡ how_halted (legend_seen legend.now) program.now limits.gates limits.choices limits.steps word.now) }
-    ensures cause { IfOk result (λ s. s.cause ≡ cause_of_run program.now limits.gates limits.choices limits.steps word.now) }
-    ensures left { IfOk result (λ s. s.left ≡ numbers_left word.now (run (slots program.now limits.gates) limits.choices limits.steps word.now)) }
+    ensures lines { IfOk result (λ s. lines_of s.events.items ≡ trace (slots program.now limits.discipline) limits.choices limits.steps word.now) }
+    ensures told { IfOk result (λ s. map told_of s.events.items ≡ story_of (legend_seen legend.now) program.now limits.discipline limits.choices limits.steps word.now) }
+    ensures choice { IfOk result (λ s. option_map decision_of s.last_choice ≡ (telling (legend_seen legend.now) program.now limits.discipline limits.choices limits.steps word.now).past.choice) }
+    ensures waits { IfOk result (λ s. map wait_of s.waits.items ≡ who_waits (legend_seen legend.now) program.now limits.discipline limits.choices limits.steps word.now) }
+    ensures answer { IfOk result (λ s. answer_of s.end ≡ run (slots program.now limits.discipline) limits.choices limits.steps word.now) }
+    ensures stop { IfOk result (λ s. option_map halted_seen s.stop ≡ how_halted (legend_seen legend.now) program.now limits.discipline limits.choices limits.steps word.now) }
+    ensures cause { IfOk result (λ s. s.cause ≡ cause_of_run program.now limits.discipline limits.choices limits.steps word.now) }
+    ensures left { IfOk result (λ s. s.left ≡ numbers_left word.now (run (slots program.now limits.discipline) limits.choices limits.steps word.now)) }
     ensures ticks { ticks.new ≤ ticks.old + (limits.choices + 1) * limits.steps }
 {
-    let mut state = State::start(alloc, program, limits.gates)?;
+    let mut state = State::start(alloc, program, limits.discipline)?;
     let observer = Observer::new(alloc, legend, &state)?;
     let events = Vec::new(alloc);
     let mut teller = Storyteller {

@@ -19,7 +19,7 @@ use Rattle.cp_machine.specs.Machine.{Machine, thread_at}
 use Rattle.cp_meaning.specs.Names.{Name}
 use Rattle.cp_meaning.specs.Readings.{monitors_of}
 use Rattle.cp_meaning.specs.State as named
-use Rattle.cp_meaning.specs.State.{CallKind, entry_routine, initial_statement, own_statement, Call, current, Item, Gates, State, Status, unstarted, ready, at_gate, delayed, ended, Process, first_gates}
+use Rattle.cp_meaning.specs.State.{CallKind, entry_routine, initial_statement, own_statement, Call, current, Item, Discipline, State, Status, unstarted, ready, at_gate, delayed, ended, Process, first_gates}
 use Rattle.cp_meaning.specs.Steps.{opening, first_components}
 use Rattle.cp_meaning.proofs.LocalLaw.{within}
 use Rattle.cp_lawful.specs.Accepted.{IsAccepted}
@@ -67,7 +67,7 @@ module _ (t : Tree) (r : Tables) (l : Layouts) (stands : Stands (ground_of t r) 
             let one : k ≡ j = one_number (first_components t.program) 0 k j (length r.components) (omega (arith, lt, less)) lt (eqb-true (slice_index_or monitors k (length r.components)) n f ∙ sym listed) in
             absurd (omega (arith, one, less))
 
-    pub number_is : (g : Gates) → monitor_of t.program g n ≡ j
+    pub number_is : (g : Discipline) → monitor_of t.program g n ≡ j
     number_is g = position_or_len_is (λ m. m == n) monitors j (length r.components) (let lt = below in omega (arith, lt)) earlier (λ lt. eq-eqb (slice_index_or monitors j (length r.components)) n listed)
 
   -- ---- the monitor on the control stack
@@ -91,7 +91,7 @@ module _ (t : Tree) (r : Tables) (l : Layouts) (stands : Stands (ground_of t r) 
 
   -- ---- the call
 
-  module _ (g : Gates) (ok : IsAccepted t) (s : State) (m : Machine) (sim : Simulates t r l g s m) (q : ℕ) (less : q < length s.processes) (line : Option ℕ) where
+  module _ (g : Discipline) (ok : IsAccepted t) (s : State) (m : Machine) (sim : Simulates t r l g s m) (q : ℕ) (less : q < length s.processes) (line : Option ℕ) where
     holds : HoldsInReached t.program s
     holds = reached_stands t ok g s sim.reached
 

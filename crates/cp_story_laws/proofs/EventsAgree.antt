@@ -16,14 +16,14 @@ use Rattle.cp_machine.specs.declared.event.Event.{Event}
 use Rattle.cp_machine.specs.declared.event.Event.TheVariants as step
 use Rattle.cp_machine.specs.declared.event.Kernel as calls
 use Rattle.cp_machine.specs.declared.event.Kernel.TheVariants.{Enter, Leave, Delay, Continue, StartProcess, Display}
-use Rattle.cp_machine.specs.declared.gates.Gates as slot_gates
+use Rattle.cp_machine.specs.declared.discipline.Discipline as slot_gates
 use Rattle.cp_machine.specs.declared.shown.Shown.{Shown}
 use Rattle.cp_machine.specs.declared.shown.Shown.TheVariants.{Integer}
 use Rattle.cp_machine.specs.Machine.{Machine, is_pending, is_ready, thread_at}
 use Rattle.cp_machine.specs.Opening as machine
 use Rattle.cp_meaning.specs.Components.{components_of}
 use Rattle.cp_meaning.specs.Names.{Name}
-use Rattle.cp_meaning.specs.State.{Gates, State}
+use Rattle.cp_meaning.specs.State.{Discipline, State}
 use Rattle.cp_meaning.specs.State as meaning
 use Rattle.cp_meaning.specs.Steps.{step_of, line_at, view_of}
 use Rattle.cp_run.specs.declared.line.TraceEvent.{TraceEvent}
@@ -36,7 +36,7 @@ use Rattle.cp_run.proofs.Choosing.{those_same}
 use Rattle.cp_resolved.specs.Openings.{openings_of}
 use Rattle.cp_resolved.specs.TreeLayouts.{layouts_of}
 use Rattle.cp_refine.specs.InStep.{CanGo, CanEnter, GoInStep, LooksAlike}
-use Rattle.cp_refine.specs.Named.{named, named_gates, is_some}
+use Rattle.cp_refine.specs.Named.{named, named_discipline, is_some}
 use Rattle.cp_refine.specs.Prepared.{Prepared}
 use Rattle.cp_refine.proofs.Alike.{holders_same, may_same}
 use Rattle.cp_refine.proofs.HoldsInReached.{reached_stands}
@@ -103,9 +103,9 @@ abbrev pub names_queue : Event → Bool
 names_queue (step.Kernel call) = queue_of (Kernel call)
 names_queue _ = false
 
-module _ (t : Tree) (r : Tables) (g : slot_gates.Gates) (l : Legend) (Held : List meaning.Component → List ℤ → Type 0) (routines : map (λ (n : RoutineNames). n.name) l.routines ≡ map routine_text (openings_of t.program)) where
-  abbrev h : Gates
-  h = named_gates g
+module _ (t : Tree) (r : Tables) (g : slot_gates.Discipline) (l : Legend) (Held : List meaning.Component → List ℤ → Type 0) (routines : map (λ (n : RoutineNames). n.name) l.routines ≡ map routine_text (openings_of t.program)) where
+  abbrev h : Discipline
+  h = named_discipline g
 
   abbrev on_names : System State
   on_names = named t h

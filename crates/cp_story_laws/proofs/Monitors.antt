@@ -10,7 +10,7 @@ use Rattle.cp_slots.specs.declared.tables.ComponentKind.{ComponentKind}
 use Rattle.cp_slots.specs.declared.tables.ComponentKind.TheVariants as kind
 use Rattle.cp_slots.specs.Tables.{Tables, component_at}
 use Rattle.cp_lawful.specs.Accepted.{IsAccepted}
-use Rattle.cp_machine.specs.declared.gates.Gates as slot_gates
+use Rattle.cp_machine.specs.declared.discipline.Discipline as slot_gates
 use Rattle.cp_meaning.specs.Components.{components_of}
 use Rattle.cp_meaning.specs.Readings.{monitors_of, monitors_from}
 use Rattle.cp_meaning.specs.State as named
@@ -24,7 +24,7 @@ use Rattle.cp_resolved.specs.Layouts.{Layouts}
 use Rattle.cp_resolved.specs.Resolved.{KindIs, Stands}
 use Rattle.cp_resolved.specs.TreeLayouts.{layouts_of}
 use Rattle.cp_refine.specs.Law.{ground_of}
-use Rattle.cp_refine.specs.Named.{named_gates}
+use Rattle.cp_refine.specs.Named.{named_discipline}
 use Rattle.cp_refine.proofs.ReachedKinds.{monitor_known}
 use Rattle.cp_refine.proofs.gates.MonitorNumbers.{IsAMonitor, is_a_monitor, one_number}
 use Rattle.cp_story_laws.specs.Statements.{MonitorsAre, MonitorsLaw}
@@ -54,7 +54,7 @@ module _ (t : Tree) (r : Tables) (l : Layouts) (stands : Stands (ground_of t r) 
       let place : slice_index_or (monitors_from 0 cs) n (length cs) ≡ at.place = at.is ∙ (let z : 0 + at.place ≡ at.place = omega arith in z) in
       found.1 ∙ ap kind.Monitor (one_number cs 0 found.0 n (length cs) small less (here ∙ sym place))
 
-pub monitors_are : (t : Tree) (r : Tables) (g : slot_gates.Gates) (l : Legend) → IsRead t.program → IsAccepted t → plain r ≡ laid t → map tabled l.components ≡ r.components → map called_in_legend l.components ≡ map (called_in_language t.program) (components_of t.program) → MonitorsAre t l (named_gates g)
+pub monitors_are : (t : Tree) (r : Tables) (g : slot_gates.Discipline) (l : Legend) → IsRead t.program → IsAccepted t → plain r ≡ laid t → map tabled l.components ≡ r.components → map called_in_legend l.components ≡ map (called_in_language t.program) (components_of t.program) → MonitorsAre t l (named_discipline g)
 monitors_are t r g l read ok same tables paths n less =
     let tables_are = prepared t r g read ok same in
     let w = at t r (layouts_of t) tables_are.stands n less in

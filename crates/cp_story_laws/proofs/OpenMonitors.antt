@@ -165,12 +165,12 @@ let_in_kept first_gates s m = first_kept (line_of s m) s m
 let_in_kept any_gates s m = one_kept (line_of s m) s m
 
 continuing_kept : (s : State) (m : ℕ) (o : Option ℕ) → CallsKept s (continuing s m o)
-continuing_kept s m None q = let_in_kept s.gates s m q
+continuing_kept s m None q = let_in_kept s.discipline s m q
 continuing_kept s m (Some r) q = go (is_delayed_in m (process_at s.processes r).status)
   where
-    go : (b : Bool) → (process_at (if b then made_ready s r else let_in s.gates s m).processes q).calls ≡ (process_at s.processes q).calls
+    go : (b : Bool) → (process_at (if b then made_ready s r else let_in s.discipline s m).processes q).calls ≡ (process_at s.processes q).calls
     go true = ready_kept s r q
-    go false = let_in_kept s.gates s m q
+    go false = let_in_kept s.discipline s m q
 
 pub admitted_kept : (s : State) (r q : ℕ) → (process_at (admitted s r).processes q).calls ≡ (process_at s.processes q).calls
 admitted_kept s r q = go s.pending
@@ -278,11 +278,11 @@ module _ (p : Program) (s : State) (pid : ℕ) (less : pid < length s.processes)
     kernel_opens stays w = (others_moved ready (moved_to ready s pid d) (λ q. refl), same_open ready (moved_to ready s pid d) (λ q. refl) w)
     kernel_opens (enters m) w = entering_opens (is_anybody_inside m s.processes) m w
     kernel_opens (leaves m) w =
-        let t = let_in s.gates (moved_to ready s pid d) m in
-        (others_moved ready t (let_in_kept s.gates (moved_to ready s pid d) m), (entry_of c, one_closed ready t (entry_of c) (let_in_kept s.gates (moved_to ready s pid d) m) w))
+        let t = let_in s.discipline (moved_to ready s pid d) m in
+        (others_moved ready t (let_in_kept s.discipline (moved_to ready s pid d) m), (entry_of c, one_closed ready t (entry_of c) (let_in_kept s.discipline (moved_to ready s pid d) m) w))
     kernel_opens (delays m) w =
-        let t = let_in s.gates (moved_to (delayed m) s pid d) m in
-        (others_moved (delayed m) t (let_in_kept s.gates (moved_to (delayed m) s pid d) m), same_open (delayed m) t (let_in_kept s.gates (moved_to (delayed m) s pid d) m) w)
+        let t = let_in s.discipline (moved_to (delayed m) s pid d) m in
+        (others_moved (delayed m) t (let_in_kept s.discipline (moved_to (delayed m) s pid d) m), same_open (delayed m) t (let_in_kept s.discipline (moved_to (delayed m) s pid d) m) w)
     kernel_opens (continues m o) w =
         let t = continuing (moved_to ready s pid d) m o in
         (others_moved ready t (continuing_kept (moved_to ready s pid d) m o), λ monitor. one_closed ready t (entry_of c) (continuing_kept (moved_to ready s pid d) m o) (w.1 (ap (λ (n : ℕ). (component_at s.components n).kind) w.0 ∙ monitor)))

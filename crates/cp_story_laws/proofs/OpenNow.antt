@@ -17,13 +17,13 @@ use Rattle.cp_lawful.proofs.Accepting.{well_formed}
 use Rattle.cp_machine.specs.declared.event.Event as slot_event
 use Rattle.cp_machine.specs.declared.event.Event.TheVariants as slot
 use Rattle.cp_machine.specs.declared.event.Kernel.TheVariants.{Enter, Leave, Continue}
-use Rattle.cp_machine.specs.declared.gates.Gates as slot_gates
+use Rattle.cp_machine.specs.declared.discipline.Discipline as slot_gates
 use Rattle.cp_machine.specs.declared.process.Status as slot_status
 use Rattle.cp_machine.specs.declared.process.Status.TheVariants as status
 use Rattle.cp_machine.specs.Machine.{Machine, thread_at}
 use Rattle.cp_meaning.specs.Names.{Name}
 use Rattle.cp_meaning.specs.Kernel.{Event, local_event, enter_event, leave_event, delay_event, continue_event, start_event, display_event, ended_event, fault_event, output_full}
-use Rattle.cp_meaning.specs.State.{Component, component_at, process_at, Call, current, Gates, State, Status, unstarted, ready, Process}
+use Rattle.cp_meaning.specs.State.{Component, component_at, process_at, Call, current, Discipline, State, Status, unstarted, ready, Process}
 use Rattle.cp_meaning.specs.Steps.{first_components, line_at, own_begun, process_first, processes_from, step_of}
 use Rattle.cp_meaning.proofs.OwnershipLemmas.{reached}
 use Rattle.cp_run.specs.declared.line.TraceEvent.TheVariants.{Admit}
@@ -33,7 +33,7 @@ use Rattle.cp_resolved.specs.TreeLayouts.{layouts_of}
 use Rattle.cp_refine.specs.InStep.{CanGo, CanEnter, GoInStep}
 use Rattle.cp_refine.specs.Kinds.{SameKind}
 use Rattle.cp_refine.specs.Law.{ground_of}
-use Rattle.cp_refine.specs.Named.{event_of, named, named_gates}
+use Rattle.cp_refine.specs.Named.{event_of, named, named_discipline}
 use Rattle.cp_refine.specs.Represents.{StatusIs}
 use Rattle.cp_refine.proofs.HoldsInReached.{HoldsInReached, reached_stands}
 use Rattle.cp_refine.proofs.ReachedKinds.{kinds_agree, monitor_there}
@@ -97,9 +97,9 @@ monitor_is system_kind.Class kind.Class j h e = absurd (cc)
 monitor_is system_kind.Process (kind.Process n) j h e = absurd (cc)
 monitor_is a d j h e = absurd h
 
-module _ (t : Tree) (r : Tables) (g : slot_gates.Gates) (read : IsRead t.program) (ok : IsAccepted t) (same : plain r ≡ laid t) where
-  abbrev h : Gates
-  h = named_gates g
+module _ (t : Tree) (r : Tables) (g : slot_gates.Discipline) (read : IsRead t.program) (ok : IsAccepted t) (same : plain r ≡ laid t) where
+  abbrev h : Discipline
+  h = named_discipline g
 
   abbrev on_names : System State
   on_names = named t h

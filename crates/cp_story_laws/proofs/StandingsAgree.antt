@@ -14,7 +14,7 @@ use Rattle.cp_machine.specs.declared.process.Status.TheVariants as status
 use Rattle.cp_machine.specs.Machine.{Machine, Thread, no_thread, thread_at}
 use Rattle.cp_meaning.specs.Components.{components_of}
 use Rattle.cp_meaning.specs.State as named
-use Rattle.cp_meaning.specs.State.{Gates, State, Status, unstarted, ready, at_gate, delayed, ended, Process, Place, Holder, in_component}
+use Rattle.cp_meaning.specs.State.{Discipline, State, Status, unstarted, ready, at_gate, delayed, ended, Process, Place, Holder, in_component}
 use Rattle.cp_meaning.specs.Steps.{view_of}
 use Rattle.cp_meaning.specs.Types.{queue_type}
 use Rattle.cp_lawful.specs.Accepted.{IsAccepted}
@@ -37,7 +37,7 @@ use Rattle.cp_story_laws.proofs.Paths.{monitor_path, owner_path}
 one_cell : (a b : ℕ) → Permanent a ≡ Permanent b → a ≡ b
 one_cell a b e = cc
 
-module _ (t : Tree) (r : Tables) (l : Layouts) (g : Gates) (ok : IsAccepted t) (prepared : Prepared t r l) (legend : Legend) (tables : map tabled legend.components ≡ r.components) (paths : map called_in_legend legend.components ≡ map (called_in_language t.program) (components_of t.program)) (s : State) (m : Machine) (sim : Simulates t r l g s m) where
+module _ (t : Tree) (r : Tables) (l : Layouts) (g : Discipline) (ok : IsAccepted t) (prepared : Prepared t r l) (legend : Legend) (tables : map tabled legend.components ≡ r.components) (paths : map called_in_legend legend.components ≡ map (called_in_language t.program) (components_of t.program)) (s : State) (m : Machine) (sim : Simulates t r l g s m) where
   pub holds : HoldsInReached t.program s
   holds = reached_stands t ok g s sim.reached
 

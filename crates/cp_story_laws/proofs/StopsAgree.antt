@@ -13,14 +13,14 @@ use Rattle.cp_legend_laws.specs.Called.{called_in_legend, tabled}
 use Rattle.cp_legend_laws.specs.Paths.{called_in_language, path_text}
 use Rattle.cp_legend_laws.specs.Statements.{PlacesAreNamed, routine_text}
 use Rattle.cp_legend_laws.proofs.OwnMonitors.{HasOwnNumber}
-use Rattle.cp_machine.specs.declared.gates.Gates as slot_gates
+use Rattle.cp_machine.specs.declared.discipline.Discipline as slot_gates
 use Rattle.cp_machine.specs.declared.process.Status as slot_status
 use Rattle.cp_machine.specs.declared.process.Status.TheVariants as status
 use Rattle.cp_machine.specs.Machine as machine
 use Rattle.cp_machine.specs.Machine.{Machine, thread_at}
 use Rattle.cp_meaning.specs.Components.{components_of}
 use Rattle.cp_meaning.specs.Places.{View, value_at}
-use Rattle.cp_meaning.specs.State.{Component, Gates, Place, State, process_at}
+use Rattle.cp_meaning.specs.State.{Component, Discipline, Place, State, process_at}
 use Rattle.cp_meaning.specs.Steps.{view_of}
 use Rattle.cp_meaning.specs.Values.{Value, queue_value, waiting_in}
 use Rattle.cp_run.specs.declared.outcome.OutcomeKind.{OutcomeKind}
@@ -33,7 +33,7 @@ use Rattle.cp_resolved.specs.Openings.{openings_of}
 use Rattle.cp_resolved.specs.Small.{Each}
 use Rattle.cp_resolved.specs.TreeLayouts.{layouts_of}
 use Rattle.cp_refine.specs.Law.{ground_of}
-use Rattle.cp_refine.specs.Named.{named, named_gates}
+use Rattle.cp_refine.specs.Named.{named, named_discipline}
 use Rattle.cp_refine.specs.Prepared.{Prepared}
 use Rattle.cp_refine.proofs.Alike.{run_same}
 use Rattle.cp_refine.proofs.HoldsInReached.{HoldsInReached, reached_stands}
@@ -90,10 +90,10 @@ queue_has _ q e = absurd (cc)
 one_process : (a b : ℕ) → queue_value (Some a) ≡ queue_value (Some b) → a ≡ b
 one_process a b e = cc
 
-module _ (t : Tree) (r : Tables) (g : slot_gates.Gates) (l : Legend) (routines : map (λ (n : RoutineNames). n.name) l.routines ≡ map routine_text (openings_of t.program)) (read : IsRead t.program) (ok : IsAccepted t) (same : plain r ≡ laid t) (tables : map tabled l.components ≡ r.components) (paths : map called_in_legend l.components ≡ map (called_in_language t.program) (components_of t.program)) (Held : List Component → List ℤ → Type 0) (agree : StepsAgree t r g l Held routines read ok same tables paths)
+module _ (t : Tree) (r : Tables) (g : slot_gates.Discipline) (l : Legend) (routines : map (λ (n : RoutineNames). n.name) l.routines ≡ map routine_text (openings_of t.program)) (read : IsRead t.program) (ok : IsAccepted t) (same : plain r ≡ laid t) (tables : map tabled l.components ≡ r.components) (paths : map called_in_legend l.components ≡ map (called_in_language t.program) (components_of t.program)) (Held : List Component → List ℤ → Type 0) (agree : StepsAgree t r g l Held routines read ok same tables paths)
     (own : Each HasOwnNumber l.components) (places : PlacesAreNamed t l) where
-  abbrev h : Gates
-  h = named_gates g
+  abbrev h : Discipline
+  h = named_discipline g
 
   tables_are : Prepared t r (layouts_of t)
   tables_are = prepared t r g read ok same

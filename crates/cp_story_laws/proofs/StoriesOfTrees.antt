@@ -20,12 +20,12 @@ use Rattle.cp_legend_laws.proofs.PathsOfTree.{legend_law}
 use Rattle.cp_legend_laws.proofs.PermanentsNamed.{permanents_law}
 use Rattle.cp_legend_laws.proofs.PlacesNamed.{places_law}
 use Rattle.cp_legend_laws.proofs.ValuesOfTree.{values_law}
-use Rattle.cp_machine.specs.declared.gates.Gates.{Gates}
+use Rattle.cp_machine.specs.declared.discipline.Discipline.{Discipline}
 use Rattle.cp_machine.specs.Machine.{Machine}
 use Rattle.cp_meaning.specs.Components.{components_of}
 use Rattle.cp_meaning.specs.State.{Component, Place, State}
 use Rattle.cp_meaning.specs.Steps.{view_of}
-use Rattle.cp_refine.specs.Named.{named_gates}
+use Rattle.cp_refine.specs.Named.{named_discipline}
 use Rattle.cp_story.specs.Aimed.{aim_in}
 use Rattle.cp_story.specs.Story.{queue_told}
 use Rattle.cp_story_laws.specs.Aims.{queue_named, queue_place}
@@ -42,7 +42,7 @@ use Rattle.cp_story_laws.proofs.StopsAgree.{tells_stop}
 use Rattle.cp_story_laws.proofs.Together.{Related, prepared}
 use Rattle.cp_story_laws.proofs.WaitsAgree.{tells_waits}
 
-module _ (t : Tree) (y : Symbols) (r : Tables) (k : code_legend.Legend) (g : Gates) (read : IsRead t.program) (ok : IsAccepted t) (symbols : AreSymbolsOf y (whole t)) (same : plain r ≡ laid t) (legend : IsLegendOf k (source_seen y) r.components) where
+module _ (t : Tree) (y : Symbols) (r : Tables) (k : code_legend.Legend) (g : Discipline) (read : IsRead t.program) (ok : IsAccepted t) (symbols : AreSymbolsOf y (whole t)) (same : plain r ≡ laid t) (legend : IsLegendOf k (source_seen y) r.components) where
   abbrev l : Legend
   l = legend_seen k
 
@@ -70,8 +70,8 @@ module _ (t : Tree) (y : Symbols) (r : Tables) (k : code_legend.Legend) (g : Gat
   abbrev Holds : List Component → List ℤ → Type 0
   Holds = Held t r
 
-  queue_told_there : (s : State) (m : Machine) → Related t r g read ok same s m → (p : ℕ) (o : Option Place) (u : Option ℕ) → SameQueue t r o u → queue_told l u ≡ queue_named t (named_gates g) (view_of t.program s p) o
-  queue_told_there = told_same t r (named_gates g) ok (prepared t r g read ok same) l tables paths (own_monitors k (source_seen y) r.components legend) places
+  queue_told_there : (s : State) (m : Machine) → Related t r g read ok same s m → (p : ℕ) (o : Option Place) (u : Option ℕ) → SameQueue t r o u → queue_told l u ≡ queue_named t (named_discipline g) (view_of t.program s p) o
+  queue_told_there = told_same t r (named_discipline g) ok (prepared t r g read ok same) l tables paths (own_monitors k (source_seen y) r.components legend) places
 
   steps_agree : StepsAgree t r g l Holds names read ok same tables paths
   steps_agree =

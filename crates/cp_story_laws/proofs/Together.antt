@@ -5,8 +5,8 @@ use Rattle.cp_tree.specs.Syntax.{Tree}
 use Rattle.cp_layout.specs.Laid.{plain, laid}
 use Rattle.cp_slots.specs.Tables.{Tables}
 use Rattle.cp_lawful.specs.Accepted.{IsAccepted}
-use Rattle.cp_machine.specs.declared.gates.Gates as slot_gates
-use Rattle.cp_machine.specs.declared.gates.Gates.TheVariants.{First, Any}
+use Rattle.cp_machine.specs.declared.discipline.Discipline as slot_gates
+use Rattle.cp_machine.specs.declared.discipline.Gates.TheVariants.{First, Any}
 use Rattle.cp_machine.specs.Machine.{Machine}
 use Rattle.cp_meaning.specs.State.{State}
 use Rattle.cp_run.specs.Slots.{slots}
@@ -15,31 +15,31 @@ use Rattle.cp_resolved.specs.TreeLayouts.{layouts_of}
 use Rattle.cp_refine.specs.AllKnown.{AllKnown}
 use Rattle.cp_refine.specs.InStep.{CanGo, GoInStep}
 use Rattle.cp_refine.specs.Law.{Simulates, ground_of}
-use Rattle.cp_refine.specs.Named.{named, named_gates, gates_of}
+use Rattle.cp_refine.specs.Named.{named, named_discipline, discipline_of}
 use Rattle.cp_refine.specs.Prepared.{Prepared}
 use Rattle.cp_refine.proofs.Meaning.{goes_in_step, it, known}
 use Rattle.cp_refine.proofs.steps.Going.{Going}
 use Rattle.cp_refine.proofs.steps.GoingInStep.{goes_now}
 
-same_gates : (g : slot_gates.Gates) → gates_of (named_gates g) ≡ g
+same_gates : (g : slot_gates.Discipline) → discipline_of (named_discipline g) ≡ g
 same_gates First = refl
 same_gates Any = refl
 
-module _ (t : Tree) (r : Tables) (g : slot_gates.Gates) (read : IsRead t.program) (ok : IsAccepted t) (same : plain r ≡ laid t) where
+module _ (t : Tree) (r : Tables) (g : slot_gates.Discipline) (read : IsRead t.program) (ok : IsAccepted t) (same : plain r ≡ laid t) where
   abbrev pub Related : State → Machine → Type 0
-  Related = Simulates t r (layouts_of t) (named_gates g)
+  Related = Simulates t r (layouts_of t) (named_discipline g)
 
-  pub go : GoInStep (named t (named_gates g)) (slots r g) Related
-  go = subst (λ (k : slot_gates.Gates). GoInStep (named t (named_gates g)) (slots r k) Related) (same_gates g) (goes_in_step t r (named_gates g) read ok same)
+  pub go : GoInStep (named t (named_discipline g)) (slots r g) Related
+  go = subst (λ (k : slot_gates.Discipline). GoInStep (named t (named_discipline g)) (slots r k) Related) (same_gates g) (goes_in_step t r (named_discipline g) read ok same)
 
   its : AreTablesOf t r
-  its = it t r (named_gates g) read ok same
+  its = it t r (named_discipline g) read ok same
 
-  all_known : AllKnown t r (layouts_of t) (named_gates g)
-  all_known = known t r (named_gates g) read ok same
+  all_known : AllKnown t r (layouts_of t) (named_discipline g)
+  all_known = known t r (named_discipline g) read ok same
 
   pub prepared : Prepared t r (layouts_of t)
   prepared = record { stands = its.stands; sound = its.sound; program = all_known.program }
 
-  pub going : (s : State) (m : Machine) (p : ℕ) → Related s m → CanGo (named t (named_gates g)) s p → Going (ground_of t r) t.program (layouts_of t) s m p
-  going s m p sim can = goes_now t r (layouts_of t) (named_gates g) ok its.stands its.sound all_known s m p sim can
+  pub going : (s : State) (m : Machine) (p : ℕ) → Related s m → CanGo (named t (named_discipline g)) s p → Going (ground_of t r) t.program (layouts_of t) s m p
+  going s m p sim can = goes_now t r (layouts_of t) (named_discipline g) ok its.stands its.sound all_known s m p sim can

@@ -17,7 +17,7 @@ use Rattle.cp_legend_laws.specs.Called.{tabled}
 use Rattle.cp_legend_laws.specs.Statements.{AreVariables, IsVariable, PermanentsAre}
 use Rattle.cp_legend_laws.proofs.PathsOfTree.{legend_law}
 use Rattle.cp_legend_laws.proofs.PermanentsNamed.{permanents_law}
-use Rattle.cp_machine.specs.declared.gates.Gates as slot_gates
+use Rattle.cp_machine.specs.declared.discipline.Discipline as slot_gates
 use Rattle.cp_machine.specs.Machine.{Machine}
 use Rattle.cp_meaning.specs.Declarations.{Variable}
 use Rattle.cp_meaning.specs.Names.{Name}
@@ -38,7 +38,7 @@ use Rattle.cp_resolved.proofs.counts.FewComponents.{accepted_few}
 use Rattle.cp_resolved.proofs.declarations.SystemVariables.{accepted_permanents}
 use Rattle.cp_resolved.proofs.systems.SystemKnown.{found_among}
 use Rattle.cp_refine.specs.Law.{ground_of}
-use Rattle.cp_refine.specs.Named.{named, named_gates}
+use Rattle.cp_refine.specs.Named.{named, named_discipline}
 use Rattle.cp_refine.specs.Represents.{ComponentIs, LiesAt, all_permanents}
 use Rattle.cp_refine.proofs.expressions.Parts.{encode_length}
 use Rattle.cp_run.specs.Slots.{slots}
@@ -62,7 +62,7 @@ looked : (held vs : List Variable) → ((x : Name) (u : Ty) → Among x u vs →
 looked held [] h = tt
 looked held (v ∷ vs) h = (h v.name v.ty (inl (refl, refl)), looked held vs (λ x u i. h x u (inr i)))
 
-module _ (t : Tree) (r : Tables) (g : slot_gates.Gates) (l : Legend) (read : IsRead t.program) (ok : IsAccepted t) (same : plain r ≡ laid t) (tables : map tabled l.components ≡ r.components) (permanents : PermanentsAre t l) where
+module _ (t : Tree) (r : Tables) (g : slot_gates.Discipline) (l : Legend) (read : IsRead t.program) (ok : IsAccepted t) (same : plain r ≡ laid t) (tables : map tabled l.components ≡ r.components) (permanents : PermanentsAre t l) where
   module _ (s : State) (m : Machine) (sim : together.Related t r g read ok same s m) (n : ℕ) (c : Named) (e : slice_get l.components n ≡ Some c) where
     is : component_at r n ≡ tabled c
     is = ap (λ (cs : List Component). slice_index_or cs n no_component) (sym tables) ∙ tabled_at l.components n c e
@@ -122,6 +122,6 @@ module _ (t : Tree) (r : Tables) (g : slot_gates.Gates) (l : Legend) (read : IsR
 pub values_law : ValuesLaw
 values_law t y r l g read ok symbols same legend choices steps word n c e =
     let w = legend_law t y r l read ok symbols same legend in
-    let s = last_state (named t (named_gates g)) choices steps word in
+    let s = last_state (named t (named_discipline g)) choices steps word in
     let m = last_state (slots r g) choices steps word in
     values_here t r g (legend_seen l) read ok same w.tables (permanents_law t y r l read ok symbols same legend) s m (stop_related t r g read ok same choices steps word) n c e

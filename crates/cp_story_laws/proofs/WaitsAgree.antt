@@ -12,21 +12,21 @@ use Rattle.cp_legend.specs.Names.{Legend, RoutineNames}
 use Rattle.cp_legend_laws.specs.Called.{called_in_legend, tabled}
 use Rattle.cp_legend_laws.specs.Paths.{called_in_language}
 use Rattle.cp_legend_laws.specs.Statements.{routine_text}
-use Rattle.cp_machine.specs.declared.gates.Gates as slot_gates
+use Rattle.cp_machine.specs.declared.discipline.Discipline as slot_gates
 use Rattle.cp_machine.specs.declared.process.Status as slot_status
 use Rattle.cp_machine.specs.declared.process.Status.TheVariants as status
 use Rattle.cp_machine.specs.Machine as machine
 use Rattle.cp_machine.specs.Machine.{Machine, thread_at}
 use Rattle.cp_meaning.specs.Components.{components_of}
 use Rattle.cp_meaning.specs.Readings as readings
-use Rattle.cp_meaning.specs.State.{Component, Gates, State, Status, unstarted, ready, at_gate, delayed, ended, process_at}
+use Rattle.cp_meaning.specs.State.{Component, Discipline, State, Status, unstarted, ready, at_gate, delayed, ended, process_at}
 use Rattle.cp_run.specs.Run.{those_below}
 use Rattle.cp_run.specs.Slots.{slots}
 use Rattle.cp_run.specs.System.{System}
 use Rattle.cp_run.proofs.Choosing.{those_same}
 use Rattle.cp_resolved.specs.Openings.{openings_of}
 use Rattle.cp_resolved.specs.TreeLayouts.{layouts_of}
-use Rattle.cp_refine.specs.Named.{named, named_gates}
+use Rattle.cp_refine.specs.Named.{named, named_discipline}
 use Rattle.cp_run.specs.Stop.{last_state}
 use Rattle.cp_story.specs.Story.{calls_of, telling}
 use Rattle.cp_story.specs.Waiting as story
@@ -83,9 +83,9 @@ held_same : (p : ℕ) (o : Option ℕ) → story.is_process p o ≡ is_held_by p
 held_same p None = refl
 held_same p (Some q) = refl
 
-module _ (t : Tree) (r : Tables) (g : slot_gates.Gates) (l : Legend) (routines : map (λ (n : RoutineNames). n.name) l.routines ≡ map routine_text (openings_of t.program)) (read : IsRead t.program) (ok : IsAccepted t) (same : plain r ≡ laid t) (tables : map tabled l.components ≡ r.components) (paths : map called_in_legend l.components ≡ map (called_in_language t.program) (components_of t.program)) (Held : List Component → List ℤ → Type 0) (agree : StepsAgree t r g l Held routines read ok same tables paths) where
-  abbrev h : Gates
-  h = named_gates g
+module _ (t : Tree) (r : Tables) (g : slot_gates.Discipline) (l : Legend) (routines : map (λ (n : RoutineNames). n.name) l.routines ≡ map routine_text (openings_of t.program)) (read : IsRead t.program) (ok : IsAccepted t) (same : plain r ≡ laid t) (tables : map tabled l.components ≡ r.components) (paths : map called_in_legend l.components ≡ map (called_in_language t.program) (components_of t.program)) (Held : List Component → List ℤ → Type 0) (agree : StepsAgree t r g l Held routines read ok same tables paths) where
+  abbrev h : Discipline
+  h = named_discipline g
 
   abbrev on_names : System State
   on_names = named t h

@@ -6,7 +6,7 @@ use Rattle.cp_meaning.specs.LocalRules.{argument_of}
 use Rattle.cp_meaning.specs.Outcome.{Outcome}
 use Rattle.cp_meaning.specs.Places.{Target, View}
 use Rattle.cp_meaning.specs.Scopes.{Meaning, standard_meaning, delay_procedure, continue_procedure}
-use Rattle.cp_meaning.specs.State.{Gates, Holder, in_call, in_component, Item, statement_item, return, Place, State, component_at, current, is_entry_kind, process_at}
+use Rattle.cp_meaning.specs.State.{Discipline, Holder, in_call, in_component, Item, statement_item, return, Place, State, component_at, current, is_entry_kind, process_at}
 use Rattle.cp_meaning.specs.Steps.{view_of}
 use Rattle.cp_story.specs.Story.{NamedQueue}
 use Rattle.cp_story_laws.specs.MonitorNumbers.{monitor_of}
@@ -46,7 +46,7 @@ abbrev pub no_queue : NamedQueue
 no_queue = record { monitor = 0; name = [] }
 
 -- a queue by the number of its monitor and its name there
-abbrev pub queue_named : Tree → Gates → View → Option Place → NamedQueue
+abbrev pub queue_named : Tree → Discipline → View → Option Place → NamedQueue
 queue_named t g v None = no_queue
 queue_named t g v (Some q) = record { monitor = monitor_of t.program g (component_of q.holder); name = place_text v q }
 
@@ -54,7 +54,7 @@ queue_named t g v (Some q) = record { monitor = monitor_of t.program g (componen
 abbrev pub queue_place : Tree → State → ℕ → Option Place
 queue_place t s p = first_queue (view_of t.program s p) (process_at s.processes p).items
 
-abbrev pub queue_aimed : Tree → Gates → State → ℕ → NamedQueue
+abbrev pub queue_aimed : Tree → Discipline → State → ℕ → NamedQueue
 queue_aimed t g s p = queue_named t g (view_of t.program s p) (queue_place t s p)
 
 -- ---- the end of a call

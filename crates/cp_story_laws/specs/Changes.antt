@@ -8,7 +8,7 @@ use Rattle.cp_meaning.specs.Components.{Path, around}
 use Rattle.cp_meaning.specs.Declarations.{Variable}
 use Rattle.cp_meaning.specs.Names.{Name}
 use Rattle.cp_meaning.specs.Places.{component_with, content_of, value_held}
-use Rattle.cp_meaning.specs.State.{Component, Gates, component_at}
+use Rattle.cp_meaning.specs.State.{Component, Discipline, component_at}
 use Rattle.cp_meaning.specs.Types.{Ty, queue_type, array_over}
 use Rattle.cp_meaning.specs.Values.{Value}
 use Rattle.cp_legend.specs.Names.{inside}
@@ -54,17 +54,17 @@ is_queues t = false
 abbrev pub has_changed : (before now : List Component) → (component : ℕ) → Variable → Bool
 has_changed before now n v = not (same_value (value_there before n v.name) (value_there now n v.name)) && not (is_queues v.ty)
 
-abbrev pub changed : Program → Gates → (now : List Component) → (component monitor : ℕ) → Variable → Changed
+abbrev pub changed : Program → Discipline → (now : List Component) → (component monitor : ℕ) → Variable → Changed
 changed p g now n m v = record { monitor = monitor_of p g m; name = name_inside p now m n v.name; value = value_told v.ty (value_there now n v.name) }
 
-abbrev pub change_of : Program → Gates → (before now : List Component) → (component monitor : ℕ) → Variable → List Changed
+abbrev pub change_of : Program → Discipline → (before now : List Component) → (component monitor : ℕ) → Variable → List Changed
 change_of p g before now n m v = if has_changed before now n v then changed p g now n m v ∷ [] else []
 
 -- of the variables of a component inside a monitor, or outside all
-abbrev pub changes_inside : Program → Gates → (before now : List Component) → (component : ℕ) → Option ℕ → List Changed
+abbrev pub changes_inside : Program → Discipline → (before now : List Component) → (component : ℕ) → Option ℕ → List Changed
 changes_inside p g before now n None = []
 changes_inside p g before now n (Some m) = flat_map (change_of p g before now n m) (permanent_variables p (component_at now n).system)
 
 -- Of each component that is a monitor or is inside one, each variable that has another value than before.
-abbrev pub changes_told : Program → Gates → (before now : List Component) → List Changed
+abbrev pub changes_told : Program → Discipline → (before now : List Component) → List Changed
 changes_told p g before now = flat_map (λ n. changes_inside p g before now n (monitor_with now n)) (range_with_len 0 (length now))

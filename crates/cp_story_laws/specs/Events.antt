@@ -14,7 +14,7 @@ use Rattle.cp_run.specs.Run.{may, those_below}
 use Rattle.cp_run.specs.Trace.{holders_in}
 use Rattle.cp_meaning.specs.Names.{Name}
 use Rattle.cp_meaning.specs.Places.{View}
-use Rattle.cp_meaning.specs.State.{Call, Component, current, process_at, Gates, Place, State}
+use Rattle.cp_meaning.specs.State.{Call, Component, current, process_at, Discipline, Place, State}
 use Rattle.cp_meaning.specs.Steps.{opening, view_of}
 use Rattle.cp_legend.specs.Values.{Value}
 use Rattle.cp_refine.specs.Named.{named, is_some}
@@ -108,13 +108,13 @@ abbrev pub innermost : Program → Remembered → ℕ → EntryCall
 innermost p past q = last_of (no_call p) (stack_of past.calls q)
 
 -- the call that process p has just begun, from a line
-abbrev pub call_begun : Tree → Gates → State → ℕ → (line : Option ℕ) → EntryCall
+abbrev pub call_begun : Tree → Discipline → State → ℕ → (line : Option ℕ) → EntryCall
 call_begun t g s p line =
     let c : Call = current (process_at s.processes p).calls in
     record { monitor = monitor_of t.program g c.component; routine = routine_of c; line = unwrap_or line 0 }
 
 -- `continue` returns from its entry
-abbrev pub calls_after : Tree → Gates → TraceEvent → ℕ → (line : Option ℕ) → State → List (List EntryCall) → List (List EntryCall)
+abbrev pub calls_after : Tree → Discipline → TraceEvent → ℕ → (line : Option ℕ) → State → List (List EntryCall) → List (List EntryCall)
 calls_after t g (Kernel Enter) p line s calls = pushed calls p (call_begun t g s p line)
 calls_after t g (Kernel Leave) p line s calls = popped calls p
 calls_after t g (Kernel Continue) p line s calls = popped calls p
@@ -122,7 +122,7 @@ calls_after t g _ p line s calls = calls
 
 -- ---- an event of process p, which stood on this line and came to the state s
 
-abbrev pub call_of_event : Tree → Gates → TraceEvent → ℕ → (line : Option ℕ) → State → Remembered → Option EntryCall
+abbrev pub call_of_event : Tree → Discipline → TraceEvent → ℕ → (line : Option ℕ) → State → Remembered → Option EntryCall
 call_of_event t g (Kernel Enter) p line s past = Some (call_begun t g s p line)
 call_of_event t g (Kernel StartProcess) p line s past = None
 call_of_event t g (Kernel Display) p line s past = None
@@ -160,7 +160,7 @@ line_of_event End line call = None
 line_of_event Admit line call = None
 line_of_event _ line call = line
 
-abbrev pub event_of : Tree → Gates → TraceEvent → ℕ → (line : Option ℕ) → (queue : NamedQueue) → (woken : List ℕ) → State → Remembered → NamedEvent
+abbrev pub event_of : Tree → Discipline → TraceEvent → ℕ → (line : Option ℕ) → (queue : NamedQueue) → (woken : List ℕ) → State → Remembered → NamedEvent
 event_of t g event p line queue woken s past =
     record {
       process = p;
@@ -181,10 +181,10 @@ event_of t g event p line queue woken s past =
       changes = changes_told t.program g past.components s.components;
     }
 
-abbrev pub remembered_after : Tree → Gates → TraceEvent → ℕ → (line : Option ℕ) → State → Remembered → Remembered
+abbrev pub remembered_after : Tree → Discipline → TraceEvent → ℕ → (line : Option ℕ) → State → Remembered → Remembered
 remembered_after t g event p line s past = record { choice = None; calls = calls_after t g event p line s past.calls; standings = standings t.program s; components = s.components; returned = []; last = past.last }
 
-abbrev pub with_event : Tree → Gates → TraceEvent → ℕ → (line : Option ℕ) → (queue : NamedQueue) → (woken : List ℕ) → State → NamedTelling → NamedTelling
+abbrev pub with_event : Tree → Discipline → TraceEvent → ℕ → (line : Option ℕ) → (queue : NamedQueue) → (woken : List ℕ) → State → NamedTelling → NamedTelling
 with_event t g event p line queue woken s x = record { events = x.events ++ event_of t g event p line queue woken s x.past ∷ []; past = remembered_after t g event p line s x.past }
 
 -- ---- a run
@@ -205,19 +205,19 @@ abbrev pub expecting : Tree → State → ℕ → NamedTelling → NamedTelling
 expecting t s p x = record { events = x.events; past = record x.past { returned = returned_then t s p x.past; last = step_seen t s p x.past.last } }
 
 -- a local step, a run error and a full output are no events
-abbrev pub with_step : Tree → Gates → ℕ → (line : Option ℕ) → (queue : NamedQueue) → (woken : List ℕ) → Event → State → NamedTelling → NamedTelling
+abbrev pub with_step : Tree → Discipline → ℕ → (line : Option ℕ) → (queue : NamedQueue) → (woken : List ℕ) → Event → State → NamedTelling → NamedTelling
 with_step t g p line queue woken (step.Kernel call) s x = with_event t g (Kernel call) p line queue woken s x
 with_step t g p line queue woken step.Ended s x = with_event t g End p line queue woken s x
 with_step t g p line queue woken _ s x = x
 
 -- the choice that is due in a state
-abbrev pub decision_of : Tree → Gates → State → ℕ → Decision
+abbrev pub decision_of : Tree → Discipline → State → ℕ → Decision
 decision_of t g s number = record { options = those_below (named t g).processes (may (named t g) s); number = number; at_gate = is_some s.pending }
 
 abbrev pub with_choice : Decision → NamedTelling → NamedTelling
 with_choice d x = record { events = x.events; past = record x.past { choice = Some d } }
 
-abbrev pub names_teller : Tree → Gates → Fold State NamedTelling
+abbrev pub names_teller : Tree → Discipline → Fold State NamedTelling
 names_teller t g =
     record {
       on_step = λ s p event after x. with_step t g p (next_line t s p) (queue_aimed t g s p) (resumed is_queued (standings t.program s) (standings t.program after) p) event after (expecting t s p x);
@@ -228,15 +228,15 @@ names_teller t g =
 abbrev pub no_step : LastStep
 no_step = record { process = 0; line = None; queue = None }
 
-abbrev pub nothing_told : Tree → Gates → NamedTelling
+abbrev pub nothing_told : Tree → Discipline → NamedTelling
 nothing_told t g =
     let first = opening t.program g in
     record { events = []; past = record { choice = None; calls = replicate (length first.processes) []; standings = standings t.program first; components = first.components; returned = []; last = no_step } }
 
 -- what is told of the run of a word
-abbrev pub names_telling : Tree → Gates → (choices steps : ℕ) → List ℕ → NamedTelling
+abbrev pub names_telling : Tree → Discipline → (choices steps : ℕ) → List ℕ → NamedTelling
 names_telling t g choices steps word = fold_run (named t g) (names_teller t g) choices steps word (nothing_told t g)
 
 -- its events
-abbrev pub events_on_names : Tree → Gates → (choices steps : ℕ) → List ℕ → List NamedEvent
+abbrev pub events_on_names : Tree → Discipline → (choices steps : ℕ) → List ℕ → List NamedEvent
 events_on_names t g choices steps word = (names_telling t g choices steps word).events

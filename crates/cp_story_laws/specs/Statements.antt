@@ -12,7 +12,7 @@ use Rattle.cp_legend.specs.Names.{Legend, Named, IsLegendOf, legend_seen, monito
 use Rattle.cp_legend.specs.Places.{owner, variables_at}
 use Rattle.cp_legend.specs.Values.{Value}
 use Rattle.cp_machine.specs.declared.event.Kernel.TheVariants.{Enter, Leave, Delay, Continue, StartProcess, Display}
-use Rattle.cp_machine.specs.declared.gates.Gates.{Gates}
+use Rattle.cp_machine.specs.declared.discipline.Discipline.{Discipline}
 use Rattle.cp_machine.specs.declared.process.Status.{Status}
 use Rattle.cp_machine.specs.declared.process.Status.TheVariants as status
 use Rattle.cp_machine.specs.declared.shown.Shown.{Shown}
@@ -22,7 +22,7 @@ use Rattle.cp_run.specs.declared.line.TraceEvent.TheVariants.{Kernel, End, Admit
 use Rattle.cp_meaning.specs.Names.{Name}
 use Rattle.cp_meaning.specs.State as meaning
 use Rattle.cp_meaning.specs.Steps.{opening}
-use Rattle.cp_refine.specs.Named.{monitor_number, named, named_gates}
+use Rattle.cp_refine.specs.Named.{monitor_number, named, named_discipline}
 use Rattle.cp_resolved.specs.TreeLayouts.{layouts_of}
 use Rattle.cp_run.specs.Slots.{slots}
 use Rattle.cp_run.specs.Stop.{last_state}
@@ -114,14 +114,14 @@ event_on_names l e =
     }
 
 -- The events of a story, and the last choice, are those of the program on its own names.
-pub record TellsEvents (t : Tree) (r : Tables) (l : Legend) (g : Gates) (choices steps : ℕ) (word : List ℕ) : Type 0 where
-  pub events : map (event_on_names l) (story_of l r g choices steps word) ≡ events_on_names t (named_gates g) choices steps word
-  pub last_choice : (telling l r g choices steps word).past.choice ≡ (names_telling t (named_gates g) choices steps word).past.choice
+pub record TellsEvents (t : Tree) (r : Tables) (l : Legend) (g : Discipline) (choices steps : ℕ) (word : List ℕ) : Type 0 where
+  pub events : map (event_on_names l) (story_of l r g choices steps word) ≡ events_on_names t (named_discipline g) choices steps word
+  pub last_choice : (telling l r g choices steps word).past.choice ≡ (names_telling t (named_discipline g) choices steps word).past.choice
 
 -- of each tree that was read and is accepted, the tables that are laid of it, and the legend beside them
 abbrev pub EventsLaw : Type 0
 EventsLaw =
-    (t : Tree) (y : Symbols) (r : Tables) (l : code_legend.Legend) (g : Gates) → IsRead t.program → IsAccepted t → AreSymbolsOf y (whole t) → plain r ≡ laid t → IsLegendOf l (source_seen y) r.components →
+    (t : Tree) (y : Symbols) (r : Tables) (l : code_legend.Legend) (g : Discipline) → IsRead t.program → IsAccepted t → AreSymbolsOf y (whole t) → plain r ≡ laid t → IsLegendOf l (source_seen y) r.components →
     (choices steps : ℕ) (word : List ℕ) → TellsEvents t r (legend_seen l) g choices steps word
 
 -- ---- who waits where a run stops
@@ -130,23 +130,23 @@ abbrev pub wait_on_names : Legend → Waiting → NamedWait
 wait_on_names l w = record { process = w.process; standing = standing_told l w.status; call = option_map (call_told l) w.call; inside = w.inside }
 
 -- who waits, where, in which call and inside which monitors, is so on the program's own names
-abbrev pub TellsWaits : Tree → Tables → Legend → Gates → (choices steps : ℕ) → List ℕ → Type 0
-TellsWaits t r l g choices steps word = map (wait_on_names l) (who_waits l r g choices steps word) ≡ who_waits_on_names t (named_gates g) choices steps word
+abbrev pub TellsWaits : Tree → Tables → Legend → Discipline → (choices steps : ℕ) → List ℕ → Type 0
+TellsWaits t r l g choices steps word = map (wait_on_names l) (who_waits l r g choices steps word) ≡ who_waits_on_names t (named_discipline g) choices steps word
 
 abbrev pub WaitsLaw : Type 0
 WaitsLaw =
-    (t : Tree) (y : Symbols) (r : Tables) (l : code_legend.Legend) (g : Gates) → IsRead t.program → IsAccepted t → AreSymbolsOf y (whole t) → plain r ≡ laid t → IsLegendOf l (source_seen y) r.components →
+    (t : Tree) (y : Symbols) (r : Tables) (l : code_legend.Legend) (g : Discipline) → IsRead t.program → IsAccepted t → AreSymbolsOf y (whole t) → plain r ≡ laid t → IsLegendOf l (source_seen y) r.components →
     (choices steps : ℕ) (word : List ℕ) → TellsWaits t r (legend_seen l) g choices steps word
 
 -- ---- how a run stops
 
 -- Where no event tells of it, the run of a word stops as it does on the program's own names.
-abbrev pub TellsStop : Tree → Tables → Legend → Gates → (choices steps : ℕ) → List ℕ → Type 0
-TellsStop t r l g choices steps word = how_halted l r g choices steps word ≡ stop_on_names t (named_gates g) choices steps word
+abbrev pub TellsStop : Tree → Tables → Legend → Discipline → (choices steps : ℕ) → List ℕ → Type 0
+TellsStop t r l g choices steps word = how_halted l r g choices steps word ≡ stop_on_names t (named_discipline g) choices steps word
 
 abbrev pub StopLaw : Type 0
 StopLaw =
-    (t : Tree) (y : Symbols) (r : Tables) (l : code_legend.Legend) (g : Gates) → IsRead t.program → IsAccepted t → AreSymbolsOf y (whole t) → plain r ≡ laid t → IsLegendOf l (source_seen y) r.components →
+    (t : Tree) (y : Symbols) (r : Tables) (l : code_legend.Legend) (g : Discipline) → IsRead t.program → IsAccepted t → AreSymbolsOf y (whole t) → plain r ≡ laid t → IsLegendOf l (source_seen y) r.components →
     (choices steps : ℕ) (word : List ℕ) → TellsStop t r (legend_seen l) g choices steps word
 
 -- ---- open calls
@@ -155,52 +155,52 @@ StopLaw =
 abbrev pub numbered_call : EntryCall → ℕ × Name
 numbered_call c = (c.monitor, c.routine)
 
-abbrev pub numbered_entry : Program → meaning.Gates → Entered → ℕ × Name
+abbrev pub numbered_entry : Program → meaning.Discipline → Entered → ℕ × Name
 numbered_entry p g e = (monitor_of p g e.component, e.routine)
 
 -- What is remembered of open calls is true: of each process, they are the entry calls of monitors that are open where the run stops, the innermost last, each with its routine.
-abbrev pub OpenCallsAre : Tree → meaning.Gates → (choices steps : ℕ) → List ℕ → Type 0
+abbrev pub OpenCallsAre : Tree → meaning.Discipline → (choices steps : ℕ) → List ℕ → Type 0
 OpenCallsAre t g choices steps word =
     (q : ℕ) → q < (named t g).processes →
     map numbered_call (stack_of (names_telling t g choices steps word).past.calls q) ≡ map (numbered_entry t.program g) (monitors_entered (last_state (named t g) choices steps word) q)
 
 abbrev pub OpenCallsLaw : Type 0
-OpenCallsLaw = (t : Tree) (r : Tables) (g : Gates) → IsRead t.program → IsAccepted t → plain r ≡ laid t → (choices steps : ℕ) (word : List ℕ) → OpenCallsAre t (named_gates g) choices steps word
+OpenCallsLaw = (t : Tree) (r : Tables) (g : Discipline) → IsRead t.program → IsAccepted t → plain r ≡ laid t → (choices steps : ℕ) (word : List ℕ) → OpenCallsAre t (named_discipline g) choices steps word
 
 -- ---- the numbers of monitors
 
 -- the number of a monitor in an event is that of the component which the legend calls as the language does
-abbrev pub MonitorsAre : Tree → Legend → meaning.Gates → Type 0
+abbrev pub MonitorsAre : Tree → Legend → meaning.Discipline → Type 0
 MonitorsAre t l g = (n : ℕ) → n < (named t g).monitors → path_in (monitor_in l.components n) ≡ path_of t.program (opening t.program g) (monitor_number t.program g n)
 
 abbrev pub MonitorsLaw : Type 0
 MonitorsLaw =
-    (t : Tree) (y : Symbols) (r : Tables) (l : code_legend.Legend) (g : Gates) → IsRead t.program → IsAccepted t → AreSymbolsOf y (whole t) → plain r ≡ laid t → IsLegendOf l (source_seen y) r.components →
-    MonitorsAre t (legend_seen l) (named_gates g)
+    (t : Tree) (y : Symbols) (r : Tables) (l : code_legend.Legend) (g : Discipline) → IsRead t.program → IsAccepted t → AreSymbolsOf y (whole t) → plain r ≡ laid t → IsLegendOf l (source_seen y) r.components →
+    MonitorsAre t (legend_seen l) (named_discipline g)
 
 -- ---- the values of variables
 
 -- Where a run stops, each permanent variable of each component has, in the cells where a story reads it, the value that it has by the meaning.
-abbrev pub ValuesAre : Tree → Tables → Legend → Gates → (choices steps : ℕ) → List ℕ → Type 0
+abbrev pub ValuesAre : Tree → Tables → Legend → Discipline → (choices steps : ℕ) → List ℕ → Type 0
 ValuesAre t r l g choices steps word =
     (n : ℕ) (c : Named) → slice_get l.components n ≡ Some c →
-    HaveValues (last_state (named t (named_gates g)) choices steps word) (last_state (slots r g) choices steps word) n c ((layouts_of t).systems c.system).variables (variables_at l.permanents c.system)
+    HaveValues (last_state (named t (named_discipline g)) choices steps word) (last_state (slots r g) choices steps word) n c ((layouts_of t).systems c.system).variables (variables_at l.permanents c.system)
 
 abbrev pub ValuesLaw : Type 0
 ValuesLaw =
-    (t : Tree) (y : Symbols) (r : Tables) (l : code_legend.Legend) (g : Gates) → IsRead t.program → IsAccepted t → AreSymbolsOf y (whole t) → plain r ≡ laid t → IsLegendOf l (source_seen y) r.components →
+    (t : Tree) (y : Symbols) (r : Tables) (l : code_legend.Legend) (g : Discipline) → IsRead t.program → IsAccepted t → AreSymbolsOf y (whole t) → plain r ≡ laid t → IsLegendOf l (source_seen y) r.components →
     (choices steps : ℕ) (word : List ℕ) → ValuesAre t r (legend_seen l) g choices steps word
 
 -- ---- queues
 
 -- Where a run stops, each process that is delayed waits by the meaning in the queue that the story names.
-abbrev pub QueuesAre : Tree → Tables → Legend → Gates → (choices steps : ℕ) → List ℕ → Type 0
+abbrev pub QueuesAre : Tree → Tables → Legend → Discipline → (choices steps : ℕ) → List ℕ → Type 0
 QueuesAre t r l g choices steps word =
-    (q n cell : ℕ) → q < length (last_state (named t (named_gates g)) choices steps word).processes →
-    (meaning.process_at (last_state (named t (named_gates g)) choices steps word).processes q).status ≡ meaning.delayed n → (thread_at (last_state (slots r g) choices steps word).threads q).status ≡ status.Delayed cell →
-    WaitsIn t l (last_state (named t (named_gates g)) choices steps word) q n cell
+    (q n cell : ℕ) → q < length (last_state (named t (named_discipline g)) choices steps word).processes →
+    (meaning.process_at (last_state (named t (named_discipline g)) choices steps word).processes q).status ≡ meaning.delayed n → (thread_at (last_state (slots r g) choices steps word).threads q).status ≡ status.Delayed cell →
+    WaitsIn t l (last_state (named t (named_discipline g)) choices steps word) q n cell
 
 abbrev pub QueuesLaw : Type 0
 QueuesLaw =
-    (t : Tree) (y : Symbols) (r : Tables) (l : code_legend.Legend) (g : Gates) → IsRead t.program → IsAccepted t → AreSymbolsOf y (whole t) → plain r ≡ laid t → IsLegendOf l (source_seen y) r.components →
+    (t : Tree) (y : Symbols) (r : Tables) (l : code_legend.Legend) (g : Discipline) → IsRead t.program → IsAccepted t → AreSymbolsOf y (whole t) → plain r ≡ laid t → IsLegendOf l (source_seen y) r.components →
     (choices steps : ℕ) (word : List ℕ) → QueuesAre t r (legend_seen l) g choices steps word

@@ -8,7 +8,7 @@ use Rattle.cp_run.specs.Stop.{last_state}
 use Rattle.cp_store.specs.declared.error.ErrorName.{ErrorName}
 use Rattle.cp_store.specs.declared.error.ErrorName.TheVariants.{QueueInUse}
 use Rattle.cp_meaning.specs.Places.{View, value_at}
-use Rattle.cp_meaning.specs.State.{Gates, Place, State, process_at}
+use Rattle.cp_meaning.specs.State.{Discipline, Place, State, process_at}
 use Rattle.cp_meaning.specs.Steps.{view_of}
 use Rattle.cp_meaning.specs.Values.{waiting_in}
 use Rattle.cp_refine.specs.Named.{named}
@@ -66,6 +66,6 @@ stopped_at t s last (Ended outcome used) = stopped_as t s last outcome.kind
 stopped_at t s last _ = None
 
 -- how the run of a word stopped, in its last state, after its last step
-abbrev pub stop_on_names : Tree → Gates → (choices steps : ℕ) → List ℕ → Option Halted
+abbrev pub stop_on_names : Tree → Discipline → (choices steps : ℕ) → List ℕ → Option Halted
 stop_on_names t g choices steps word =
     stopped_at t (last_state (named t g) choices steps word) (names_telling t g choices steps word).past.last (run (named t g) choices steps word)

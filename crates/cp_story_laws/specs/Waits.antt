@@ -3,7 +3,7 @@ use Rattle.std.specs.Prelude.{ℕ, ◌-◌, ◌==◌, Bool, false, List, length,
 use Rattle.cp_tree.specs.Syntax.{Tree}
 use Rattle.cp_run.specs.Run.{those_below}
 use Rattle.cp_meaning.specs.Readings.{is_waiting}
-use Rattle.cp_meaning.specs.State.{process_at, Gates, State}
+use Rattle.cp_meaning.specs.State.{process_at, Discipline, State}
 use Rattle.cp_refine.specs.Named.{named}
 use Rattle.cp_run.specs.Stop.{last_state}
 use Rattle.cp_story_laws.specs.Events.{EntryCall, stack_of, names_telling}
@@ -26,7 +26,7 @@ abbrev pub innermost_open : List (List EntryCall) → ℕ → Option EntryCall
 innermost_open calls p = slice_get (stack_of calls p) (length (stack_of calls p) - 1)
 
 -- how process p waits in a state, where these calls are open
-abbrev pub wait_of : Tree → Gates → State → List (List EntryCall) → ℕ → NamedWait
+abbrev pub wait_of : Tree → Discipline → State → List (List EntryCall) → ℕ → NamedWait
 wait_of t g s calls p =
     record {
       process = p;
@@ -36,9 +36,9 @@ wait_of t g s calls p =
     }
 
 -- each process that waits, in rising order
-abbrev pub waits_of : Tree → Gates → State → List (List EntryCall) → List NamedWait
+abbrev pub waits_of : Tree → Discipline → State → List (List EntryCall) → List NamedWait
 waits_of t g s calls = map (wait_of t g s calls) (those_below (length s.processes) (λ p. is_waiting (process_at s.processes p).status))
 
 -- who waits where the run of a word stops
-abbrev pub who_waits_on_names : Tree → Gates → (choices steps : ℕ) → List ℕ → List NamedWait
+abbrev pub who_waits_on_names : Tree → Discipline → (choices steps : ℕ) → List ℕ → List NamedWait
 who_waits_on_names t g choices steps word = waits_of t g (last_state (named t g) choices steps word) (names_telling t g choices steps word).past.calls

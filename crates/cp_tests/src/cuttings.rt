@@ -21,7 +21,7 @@ use std::sync::ledger::{Blank, Ledger};
 /// A job's table; none where there is none.
 fn table_of(alloc: Global, program: &Resolved, limits: Limits) -> Option<Table>
     requires { limits.choices ≤ 20 }
-    ensures { IfSome result (λ t. map line_of t.rows ≡ table (slots program.now limits.gates) limits.choices limits.steps) }
+    ensures { IfSome result (λ t. map line_of t.rows ≡ table (slots program.now limits.discipline) limits.choices limits.steps) }
 {
     table_counted::<Brand>(alloc, program, limits, Blank::new(1))
 }
@@ -36,7 +36,7 @@ fn table_counted<L: Ledger>(
     requires parts { blank.parts ≡ L.parts }
     requires one { L.parts ≡ 1 }
     requires few { limits.choices ≤ 20 }
-    ensures { IfSome result (λ t. map line_of t.rows ≡ table (slots program.now limits.gates) limits.choices limits.steps) }
+    ensures { IfSome result (λ t. map line_of t.rows ≡ table (slots program.now limits.discipline) limits.choices limits.steps) }
 {
     let mut calls: Ticks<L> = Ticks::new(blank);
     match explore_one(alloc, Job { program, limits }, &mut calls) {

@@ -5,7 +5,7 @@ ghost use Rattle.std.specs.Prelude.{◌≡◌, ◌≤◌};
 use arrayvec::ArrayVec;
 use cp_check::{CheckFault, Checked, check};
 use cp_drops::{drop_checked, drop_program, drop_tree};
-use cp_machine::{Gates, Shown, Ticks};
+use cp_machine::{Discipline, Gates, Shown, Ticks};
 use cp_resolved::resolve;
 use cp_run::{Limits, OutcomeKind, RunEnd, run};
 use cp_slots::Resolved;
@@ -83,7 +83,7 @@ pub fn fault_of(checked: Result<Checked, (CheckFault, Tree)>) -> Option<CheckFau
 pub fn limits_of(choices: u8, gates: Gates) -> Limits
     ensures { result.choices ≤ 20 }
 {
-    let Some(limits) = Limits::new(choices.min(20), 1000, gates) else {
+    let Some(limits) = Limits::new(choices.min(20), 1000, Discipline::by_gates(gates)) else {
         unreachable!()
     };
     limits

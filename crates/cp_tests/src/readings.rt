@@ -33,7 +33,7 @@ fn state_after<S: Ledger, C: Ledger>(
     let limits = limits_of(13, Gates::Any);
     let mut steps: Ticks<S> = Ticks::new(blank);
     let mut calls: Ticks<C> = Ticks::new(other);
-    match State::start(alloc, program, limits.gates) {
+    match State::start(alloc, program, limits.discipline) {
         Ok(mut state) => {
             if choose_all(program, limits, &mut state, word, &mut steps, &mut calls) {
                 Some(state)
@@ -55,7 +55,7 @@ fn choose_all<S: Ledger, C: Ledger>(
     calls: &mut Ticks<C>,
 ) -> bool
     requires own { IsStateOf program.now state.old }
-    requires start { machine_of state.old ≡ opening program.now limits.gates }
+    requires start { machine_of state.old ≡ opening program.now limits.discipline }
 {
     let mut halt = open(program, limits, state, steps, calls);
     for process in word {

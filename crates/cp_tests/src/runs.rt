@@ -1,7 +1,7 @@
 //! Runs that end by an error or a limit, and what they display before it.
 
 use crate::programs::{TWO_IN_A_QUEUE, WantedEnd, end_at, has_ended};
-use cp_machine::{ErrorName, Gates, Shown};
+use cp_machine::{Discipline, ErrorName, Gates, Shown};
 use cp_prose::Prose;
 use cp_run::{Limits, OutcomeKind, RunEnd};
 use std::alloc::Global;
@@ -162,7 +162,7 @@ fn is_as_wanted(end: &RunEnd, ending: &RunEnding) -> bool {
 
 /// How the run of a word ends with stretches of so many steps; none where there is no program, or memory was refused.
 fn end_within(alloc: Global, source: &str, steps: u32, word: &[u8]) -> Option<RunEnd> {
-    match Limits::new(8, steps, Gates::First) {
+    match Limits::new(8, steps, Discipline::by_gates(Gates::First)) {
         Some(limits) => end_at(alloc, source, limits, word),
         None => None,
     }

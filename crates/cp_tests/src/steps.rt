@@ -69,7 +69,7 @@ pub fn step_alone<L: Ledger>(
     requires one { L.parts ≡ 1 }
 {
     let mut ticks: Ticks<L> = Ticks::new(blank);
-    let mut state = State::start(alloc, program, limits.gates)?;
+    let mut state = State::start(alloc, program, limits.discipline)?;
     let done = step_to_the_end(alloc, program, limits, &mut state, &mut ticks);
     Ok(Alone { done, state })
 }

@@ -6,11 +6,11 @@ use Rattle.cp_tree.specs.Syntax.{Tree}
 use Rattle.cp_slots.specs.Tables.{Tables}
 use Rattle.cp_lawful.specs.Accepted.{IsAccepted}
 use Rattle.cp_machine.specs.System.{Machine}
-use Rattle.cp_machine.specs.declared.gates.Gates.{Gates}
+use Rattle.cp_machine.specs.declared.discipline.Discipline.{Discipline}
 use Rattle.cp_resolved.proofs.Resolving.{read_names}
 use Rattle.cp_resolved.specs.Enumerations.{constant_names}
 use Rattle.cp_resolved.specs.Resolving.{IsProgramOf}
-use Rattle.cp_refine.specs.Named.{named_gates}
+use Rattle.cp_refine.specs.Named.{named_discipline}
 use Rattle.cp_walk.specs.Text.{Spellings}
 use Rattle.cp_ends.specs.Firsts.{those_within}
 use Rattle.cp_ends.specs.Holds.{SlotFindings}
@@ -39,18 +39,18 @@ here_or other (Some x) = x
 
 module _ (o : Options) (t : Tree) (r : Tables) where
   -- how far the search came, and that all was found so far
-  all_found : (f : SlotFindings) (stopped : Option ℕ) → IsAnswerBy r o.gates o.steps o.states f stopped → IsMeantBy t (named_gates o.gates) o.steps f stopped → (to : Option ℕ) × IsDepth f stopped to × AreAll o t r f to
+  all_found : (f : SlotFindings) (stopped : Option ℕ) → IsAnswerBy r o.discipline o.steps o.states f stopped → IsMeantBy t (named_discipline o.discipline) o.steps f stopped → (to : Option ℕ) × IsDepth f stopped to × AreAll o t r f to
   all_found f None by means = (None, refl, record { on_names = means; on_slots = by })
   all_found f (Some at) (x, is, cut) (y, is_too, means) =
       let same : y ≡ x = ap (here_or x) (sym is_too ∙ is) in
-      let so = subst (λ (z : State). IsAnswerToOnNames t (named_gates o.gates) o.steps (length z.1) (suc MOST_VALUES) (those_within (length z.1) f.ends) (those_within (length z.1) f.values)) same means in
+      let so = subst (λ (z : State). IsAnswerToOnNames t (named_discipline o.discipline) o.steps (length z.1) (suc MOST_VALUES) (those_within (length z.1) f.ends) (those_within (length z.1) f.values)) same means in
       (Some (length x.1), (x, is, refl), record { on_names = so; on_slots = cut })
 
   module _ (found : Found) (read : IsRead t.program) (ok : IsAccepted t) (is : IsProgramOf t r) (verdict : Verdict) (text : List ℕ) where
     abbrev IsReported : Type 0
-    IsReported = (x : IsAnswer r o.gates o.steps o.states found) (to : Option ℕ) → IsDepth x.findings found.stopped to → IsReportOf o t r x.findings to verdict text
+    IsReported = (x : IsAnswer r o.discipline o.steps o.states found) (to : Option ℕ) → IsDepth x.findings found.stopped to → IsReportOf o t r x.findings to verdict text
 
-    pub told : IsAnswer r o.gates o.steps o.states found → IsReported → AreTold o t r verdict text
+    pub told : IsAnswer r o.discipline o.steps o.states found → IsReported → AreTold o t r verdict text
     told a report =
         let all = all_found a.findings found.stopped a.answer (a.meaning t read ok is.laid) in
         (a.findings, all.0, all.2, report a all.0 all.1)
@@ -73,7 +73,7 @@ module _ (o : Options) (t : Tree) (r : Tables) where
         subst (λ (d : Option ℕ). IsReportOf o t r f d Reported text) (sym e)
         (subst (λ (b : Bool). MatchBool b (IsWaitsReport o t r f Reported text) ((Reported ≡ Reported) × (text ≡ ends_text (constant_names t.program) f None))) (sym quiet) so)
 
-    pub waits_reported : (found : Found) (waits : Waits) (verdict : Verdict) (text : List ℕ) → TellAsked r o.gates o.steps o.waits found (Some waits) → IsDepth f found.stopped to → verdict ≡ verdict_on waits → text ≡ ends_text r.names f to ++ waits_text waits → TellWho r o.gates o.steps f.ends waits → IsReportOf o t r f to verdict text
+    pub waits_reported : (found : Found) (waits : Waits) (verdict : Verdict) (text : List ℕ) → TellAsked r o.discipline o.steps o.waits found (Some waits) → IsDepth f found.stopped to → verdict ≡ verdict_on waits → text ≡ ends_text r.names f to ++ waits_text waits → TellWho r o.discipline o.steps f.ends waits → IsReportOf o t r f to verdict text
     waits_reported found waits verdict text asked d v h tell =
         let whole : to ≡ None = subst (λ (s : Option ℕ). IsDepth f s to) asked.1 d in
         let report : IsWaitsReport o t r f verdict text = (waits, v, h ∙ ap (λ (l : List ℕ). l ++ waits_text waits) (by_names (ends_text r.names f to) refl ∙ ap (ends_text (constant_names t.program) f) whole), tell) in

@@ -15,7 +15,7 @@ use Rattle.cp_run.specs.Table.{Line, table}
 use Rattle.cp_run.specs.Trace.{trace}
 use Rattle.cp_run.specs.declared.line.TraceLine.{TraceLine}
 use Rattle.cp_refine.specs.Law.{SameRuns}
-use Rattle.cp_refine.specs.Named.{named, named_gates}
+use Rattle.cp_refine.specs.Named.{named, named_discipline}
 use Rattle.cp_lawful.proofs.Accepting.{keeps_exclusion}
 use Rattle.cp_refine.proofs.Meaning.{runs_as_meant}
 use Rattle.cp_resolved.proofs.Resolving.{read_names}
@@ -39,7 +39,7 @@ module _ {S T : Type 0} (a : System S) (b : System T) (o : Options) (names : Spe
 
 module _ (t : Tree) (r : Tables) (o : Options) (verdict : Verdict) (text : List ℕ) (read : ∥ IsRead t.program ∥₁) (ok : IsAccepted t) (is : IsProgramOf t r) where
   abbrev meaning : System State
-  meaning = named t (named_gates o.gates)
+  meaning = named t (named_discipline o.discipline)
 
   abbrev Rows : Bool → Spellings → Type 0
   Rows merge names = MatchBool merge (IsMergedOf o t names (table meaning o.choices o.steps) verdict text) (IsReported o names (table meaning o.choices o.steps) verdict text)
@@ -51,7 +51,7 @@ module _ (t : Tree) (r : Tables) (o : Options) (verdict : Verdict) (text : List 
   OnSlots schedule names = MatchOption schedule (RowsOnSlots o.merge names) (λ word. IsTraced o (machine o r) names word.items verdict text)
 
   same : SameRuns meaning (machine o r) o.choices o.steps
-  same = runs_as_meant t r o.gates read ok is.laid o.choices o.steps
+  same = runs_as_meant t r o.discipline read ok is.laid o.choices o.steps
 
   reported : (merge : Bool) (names : Spellings) → RowsOnSlots merge names → Rows merge names
   reported true names h = (r, is, subst (λ (rows : List Line). IsMerged o (machine o r) names rows verdict text) (sym same.tables) h)
@@ -65,4 +65,4 @@ module _ (t : Tree) (r : Tables) (o : Options) (verdict : Verdict) (text : List 
   explored_so h = by_schedule o.schedule (constant_names t.program) (subst (OnSlots o.schedule) (read_names t r read ok is.laid) h)
 
   pub explored : IsExploredOn o r verdict text → IsExploredAlone o t verdict text
-  explored h = (explored_so h, keeps_exclusion t ok (named_gates o.gates))
+  explored h = (explored_so h, keeps_exclusion t ok (named_discipline o.discipline))

@@ -1,7 +1,7 @@
 -- What is answered where states are merged, of the limits that the options give.
 use Rattle.std.proofs.Common.{◌≡◌, ℕ, ◌+◌, ◌⊎◌, false, List, codes, subst}
 use Rattle.cp_slots.specs.Tables.{Tables}
-use Rattle.cp_machine.specs.declared.gates.Gates.{Gates}
+use Rattle.cp_machine.specs.declared.discipline.Discipline.{Discipline}
 use Rattle.cp_run.specs.Slots.{slots}
 use Rattle.cp_run.specs.Table.{table}
 use Rattle.cp_run.specs.declared.limits.Limits.{Limits}
@@ -25,8 +25,8 @@ IsMergedBy choices steps gates states program verdict text =
 abbrev pub IsMergedOf : Options → Tables → Verdict → List ℕ → Type 0
 IsMergedOf o program verdict text = IsMerged o (machine o program) program.names (machine_rows o program) verdict text
 
-pub merged_by : (o : Options) (l : Limits) (program : Tables) (verdict : Verdict) (text : List ℕ) → (l.choices ≡ o.choices) × (l.steps ≡ o.steps) × (l.gates ≡ o.gates) → IsMergedBy l.choices l.steps l.gates o.states program verdict text → IsMergedOf o program verdict text
+pub merged_by : (o : Options) (l : Limits) (program : Tables) (verdict : Verdict) (text : List ℕ) → (l.choices ≡ o.choices) × (l.steps ≡ o.steps) × (l.discipline ≡ o.discipline) → IsMergedBy l.choices l.steps l.discipline o.states program verdict text → IsMergedOf o program verdict text
 merged_by o l program verdict text same h =
-    let a = subst (λ (n : ℕ). IsMergedBy n l.steps l.gates o.states program verdict text) same.0 h in
-    let b = subst (λ (n : ℕ). IsMergedBy o.choices n l.gates o.states program verdict text) same.1 a in
-    subst (λ (g : Gates). IsMergedBy o.choices o.steps g o.states program verdict text) same.2 b
+    let a = subst (λ (n : ℕ). IsMergedBy n l.steps l.discipline o.states program verdict text) same.0 h in
+    let b = subst (λ (n : ℕ). IsMergedBy o.choices n l.discipline o.states program verdict text) same.1 a in
+    subst (λ (g : Discipline). IsMergedBy o.choices o.steps g o.states program verdict text) same.2 b

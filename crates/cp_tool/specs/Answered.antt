@@ -10,7 +10,7 @@ use Rattle.cp_run.specs.Run.{run}
 use Rattle.cp_run.specs.Table.{Line, table}
 use Rattle.cp_run.specs.Trace.{trace}
 use Rattle.cp_lawful.specs.Accepted.{KeepsExclusion}
-use Rattle.cp_refine.specs.Named.{named, named_gates}
+use Rattle.cp_refine.specs.Named.{named, named_discipline}
 use Rattle.cp_walk.specs.Text.{Spellings}
 use Rattle.cp_walk.specs.Report.{report_text}
 use Rattle.cp_walk.specs.TraceText.{trace_text}
@@ -34,14 +34,14 @@ IsTraced o sys names word verdict text = (verdict ≡ Reported) × (text ≡ tra
 -- What is explored of a program, which is its meaning on its own names: one schedule is traced, or all are reported.
 abbrev pub IsExplored : Options → Tree → Verdict → List ℕ → Type 0
 IsExplored o t verdict text =
-    let meaning = named t (named_gates o.gates) in
+    let meaning = named t (named_discipline o.discipline) in
     let names = constant_names t.program in
     let rows = table meaning o.choices o.steps in
     MatchOption o.schedule (MatchBool o.merge (IsMergedOf o t names rows verdict text) (IsReported o names rows verdict text)) (λ word. IsTraced o meaning names word.items verdict text)
 
 -- the same, and that in no state which the program reaches two processes are inside one monitor
 abbrev pub IsExploredAlone : Options → Tree → Verdict → List ℕ → Type 0
-IsExploredAlone o t verdict text = IsExplored o t verdict text × KeepsExclusion t (named_gates o.gates)
+IsExploredAlone o t verdict text = IsExplored o t verdict text × KeepsExclusion t (named_discipline o.discipline)
 
 -- ---- from a source to its program
 

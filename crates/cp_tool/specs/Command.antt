@@ -13,9 +13,9 @@ flag name = record (new_rule name) { long = Some name; action = Some SetTrue }
 
 abbrev pub cpx : App
 cpx =
-    with_rule (with_rule (with_rule (with_rule (with_rule (with_rule (with_rule (with_rule (with_rule (with_rule (with_rule (with_rule (new_app (codes "cpx"))
+    with_rule (with_rule (with_rule (with_rule (with_rule (with_rule (with_rule (with_rule (with_rule (with_rule (with_rule (with_rule (with_rule (new_app (codes "cpx"))
     (valued (codes "choices"))) (valued (codes "steps"))) (valued (codes "workers"))) (valued (codes "cut")))
-    (flag (codes "rows"))) (flag (codes "merge"))) (flag (codes "ends"))) (flag (codes "waits"))) (flag (codes "at-once"))) (valued (codes "states"))) (valued (codes "schedule"))) (valued (codes "gates"))
+    (flag (codes "rows"))) (flag (codes "merge"))) (flag (codes "ends"))) (flag (codes "waits"))) (flag (codes "at-once"))) (valued (codes "states"))) (valued (codes "schedule"))) (valued (codes "gates"))) (valued (codes "signals"))
 
 -- the matches that the command has on these words
 unfoldable pub rows_for : List Text → List Row

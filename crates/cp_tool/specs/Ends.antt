@@ -8,7 +8,7 @@ use Rattle.cp_resolved.specs.Enumerations.{constant_names}
 use Rattle.cp_resolved.specs.Resolving.{IsProgramOf}
 use Rattle.cp_run.specs.Slots.{slots}
 use Rattle.cp_lawful.specs.Accepted.{KeepsExclusion}
-use Rattle.cp_refine.specs.Named.{named_gates}
+use Rattle.cp_refine.specs.Named.{named_discipline}
 use Rattle.cp_endless.specs.Silent.{without_output}
 use Rattle.cp_ends.specs.Firsts.{those_within}
 use Rattle.cp_ends.specs.Holds.{SlotFindings}
@@ -27,13 +27,13 @@ use Rattle.cp_tool.specs.Waits.{IsWaitsReport}
 
 -- all that schedules of any length lead to: on the program's own names, and which states they come to on the slots of its tables
 pub record IsComplete (o : Options) (t : Tree) (r : Tables) (f : SlotFindings) : Type 0 where
-  pub on_names : IsAnswerOnNames t (named_gates o.gates) o.steps (suc MOST_VALUES) f.ends f.values
-  pub on_slots : IsWhole (slots r o.gates) without_output o.steps o.states f
+  pub on_names : IsAnswerOnNames t (named_discipline o.discipline) o.steps (suc MOST_VALUES) f.ends f.values
+  pub on_slots : IsWhole (slots r o.discipline) without_output o.steps o.states f
 
 -- all that schedules of at most so many choices lead to, where there are too many states
 pub record IsCompleteTo (o : Options) (t : Tree) (r : Tables) (f : SlotFindings) (choices : ℕ) : Type 0 where
-  pub on_names : IsAnswerToOnNames t (named_gates o.gates) o.steps choices (suc MOST_VALUES) (those_within choices f.ends) (those_within choices f.values)
-  pub on_slots : IsCutShort (slots r o.gates) without_output o.steps o.states choices f
+  pub on_names : IsAnswerToOnNames t (named_discipline o.discipline) o.steps choices (suc MOST_VALUES) (those_within choices f.ends) (those_within choices f.values)
+  pub on_slots : IsCutShort (slots r o.discipline) without_output o.steps o.states choices f
 
 abbrev pub AreAll : Options → Tree → Tables → SlotFindings → Option ℕ → Type 0
 AreAll o t r f None = IsComplete o t r f
@@ -58,7 +58,7 @@ AreEndsBy o t r verdict text = MatchBool o.at_once (IsAtOnceReport o t r verdict
 
 -- with `--ends`; and in no state that the program reaches two processes are inside one monitor
 abbrev pub AreEnds : Options → Answering
-AreEnds o t verdict text = ((r : Tables) × IsProgramOf t r × AreEndsBy o t r verdict text) × KeepsExclusion t (named_gates o.gates)
+AreEnds o t verdict text = ((r : Tables) × IsProgramOf t r × AreEndsBy o t r verdict text) × KeepsExclusion t (named_discipline o.discipline)
 
 -- whether it is asked for ends, and not for one schedule
 abbrev pub asks_ends : Options → Bool

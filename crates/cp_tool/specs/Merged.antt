@@ -24,4 +24,4 @@ IsMerged o machine names rows verdict text =
 
 -- the machine of the tables of a program, by the rule of admission that the options name
 abbrev pub IsMergedOf : Options → Tree → Spellings → List Line → Verdict → List ℕ → Type 0
-IsMergedOf o t names rows verdict text = (program : Tables) × IsProgramOf t program × IsMerged o (slots program o.gates) names rows verdict text
+IsMergedOf o t names rows verdict text = (program : Tables) × IsProgramOf t program × IsMerged o (slots program o.discipline) names rows verdict text

@@ -13,7 +13,7 @@ use Rattle.cp_tool.specs.declared.answer.Verdict.{Verdict}
 
 -- the slot machine of tables, by the rule of admission that the options name, and its rows
 abbrev pub machine : Options → Tables → System Machine
-machine o r = slots r o.gates
+machine o r = slots r o.discipline
 
 abbrev pub machine_rows : Options → Tables → List Line
 machine_rows o r = table (machine o r) o.choices o.steps

@@ -4,8 +4,12 @@ use Rattle.arrayvec.specs.ArrayVec.{ArrayVec}
 use Rattle.clap.specs.Words.{IsAmong, Row, Text, first_of}
 use Rattle.std.specs.Str.{bytes_eq}
 use Rattle.clap.specs.declared.error.kind.ErrorKind.TheVariants.{DisplayHelp}
-use Rattle.cp_machine.specs.declared.gates.Gates.{Gates}
-use Rattle.cp_machine.specs.declared.gates.Gates.TheVariants.{First, Any}
+use Rattle.cp_machine.specs.declared.discipline.Discipline.{Discipline}
+use Rattle.cp_machine.specs.declared.discipline.Gates.{Gates}
+use Rattle.cp_machine.specs.declared.discipline.Gates.TheVariants.{First, Any}
+use Rattle.cp_machine.specs.declared.discipline.Signals.{Signals}
+use Rattle.cp_machine.specs.declared.discipline.Signals.TheVariants.{Return, Continue, Wait}
+use Rattle.cp_machine.specs.Discipline.{IsDiscipline}
 use Rattle.cp_tool.specs.Command.{faults_for, rows_for}
 use Rattle.cp_tool.specs.Numbers.{IsChosen}
 use Rattle.cp_tool.specs.Words.{IsWord, default_choices, most_choices, spelled}
@@ -22,9 +26,22 @@ gates_text Any = codes "any"
 abbrev pub IsGated : Option Text → Gates → Type 0
 IsGated text gates = MatchOption text (gates ≡ First) (λ t. t ≡ gates_text gates)
 
--- the same; where that is asked for, it is the first in line that goes in
-abbrev pub IsGatedFor : Bool → Option Text → Gates → Type 0
-IsGatedFor is_first text gates = IsGated text gates × (is_first ≡ true → gates ≡ First)
+abbrev pub signals_text : Signals → Text
+signals_text Return = codes "return"
+signals_text Continue = codes "continue"
+signals_text Wait = codes "wait"
+
+-- who goes on after a continue, by the text, or who was resumed where there is no text
+abbrev pub IsSignalled : Option Text → Signals → Type 0
+IsSignalled text signals = MatchOption text (signals ≡ Return) (λ t. t ≡ signals_text signals)
+
+-- Both, in a discipline that can be kept. Where that is asked for, it is the first in line that goes in; and the caller of a continue returns.
+pub record IsDisciplined (is_first returns : Bool) (gates signals : Option Text) (d : Discipline) : Type 0 where
+  pub gated : IsGated gates d.gates
+  pub signalled : IsSignalled signals d.signals
+  pub kept : IsDiscipline d
+  pub first : is_first ≡ true → d.gates ≡ First
+  pub back : returns ≡ true → d.signals ≡ Return
 
 -- the word of at most so many numbers that the text spells, or none where there is no text
 abbrev pub IsScheduled : ℕ → Option Text → Option (ArrayVec ℕ) → Type 0
@@ -79,7 +96,7 @@ pub record HasOptions (rows : List Row) (o : Options) : Type 0 where
   pub rows_asked : o.rows ≡ is_asked (first_of (codes "rows") rows)
   pub states : IsChosen 200000 1 10000000 (first_of (codes "states") rows) o.states
   pub schedule : IsScheduled (most_choices o.merge) (first_of (codes "schedule") rows) o.schedule
-  pub gates : IsGatedFor (asks_first rows) (first_of (codes "gates") rows) o.gates
+  pub discipline : IsDisciplined (asks_first rows) (asks_at_once rows) (first_of (codes "gates") rows) (first_of (codes "signals") rows) o.discipline
 
 -- no word is refused, and each option has the value that the words have for it
 abbrev pub Gives : List Text → Options → Type 0

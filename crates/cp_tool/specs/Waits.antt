@@ -19,4 +19,4 @@ verdict_on (waits.NotSettled process) = NotSettled
 
 abbrev pub IsWaitsReport : Options → Tree → Tables → SlotFindings → Verdict → List ℕ → Type 0
 IsWaitsReport o t r f verdict text =
-    (waits : Waits) × (verdict ≡ verdict_on waits) × (text ≡ ends_text (constant_names t.program) f None ++ waits_text waits) × TellWho r o.gates o.steps f.ends waits
+    (waits : Waits) × (verdict ≡ verdict_on waits) × (text ≡ ends_text (constant_names t.program) f None ++ waits_text waits) × TellWho r o.discipline o.steps f.ends waits

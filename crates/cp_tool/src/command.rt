@@ -85,6 +85,12 @@ pub fn command<'a>(alloc: Global) -> Result<Command<'a>, AllocError>
         "WHO",
         "Who enters a monitor that becomes free: `first` in line, or `any` [default: first]",
     ))?;
+    let command = command.arg(option(
+        alloc,
+        "signals",
+        "RULE",
+        "Who goes on after a continue: `return`, `continue` or `wait` [default: return]",
+    ))?;
     Ok(command)
 }
 

@@ -2,7 +2,7 @@
 ghost use Rattle.std.specs.Prelude.{◌≡◌, ◌≤◌, Err, IfErr, IfOk, codes, is_some, length, map, option_map, true};
 ghost use Rattle.clap.specs.Words.{first_of, found_of, rows_of};
 ghost use Rattle.cp_tool.specs.Finds.{Finds};
-ghost use Rattle.cp_tool.specs.Options.{Gives, HasOptions, HasRefusedValue, IsScheduled, IsFaultFor, IsGated, IsGatedFor, IsKind, asks_version, is_asked};
+ghost use Rattle.cp_tool.specs.Options.{Gives, HasOptions, HasRefusedValue, IsScheduled, IsFaultFor, IsDisciplined, IsGated, IsKind, IsSignalled, asks_version, is_asked};
 ghost use Rattle.cp_tool.specs.Words.{default_choices, most_choices};
 
 use crate::command::command;
@@ -12,7 +12,7 @@ use crate::schedule::word_of;
 use arrayvec::ArrayVec;
 use clap::ArgMatches;
 use clap::error::ErrorKind;
-use cp_machine::Gates;
+use cp_machine::{Discipline, Gates, Signals};
 use std::alloc::{AllocError, Global};
 
 /// The options, as `clap` matches the words, of which the first is the program's name. The version is asked for by a word that stands alone. Where the
@@ -152,7 +152,11 @@ fn options_with(
         at_once: kind.at_once,
         states: parse_number(matches.get_str("states"), 200_000, 1, 10_000_000)?,
         schedule: schedule?,
-        gates: gates_for(kind.waits | kind.at_once, matches.get_str("gates"))?,
+        discipline: discipline_for(
+            kind,
+            matches.get_str("gates"),
+            matches.get_str("signals"),
+        )?,
         cut_is_given: is_given(matches.get_str("cut")),
     })
 }
@@ -202,13 +206,42 @@ fn schedule_of(
     Ok(Some(Some(word)))
 }
 
-// Where it is asked who may wait for ever, or calls are made at once, the first in line goes in.
-fn gates_for(is_first: bool, text: Option<&str>) -> Option<Gates>
-    ensures { Finds (IsGatedFor is_first (option_map (λ s. s.now) text.entry)) result }
+// Where it is asked who may wait for ever, or calls are made at once, the first in line goes in. Where calls are made at once, the caller of a `continue`
+// returns.
+fn discipline_for(
+    kind: CommandKind,
+    gates: Option<&str>,
+    signals: Option<&str>,
+) -> Option<Discipline>
+    ensures { Finds (IsDisciplined (kind.waits || kind.at_once) kind.at_once (option_map (λ s. s.now) gates.entry) (option_map (λ s. s.now) signals.entry)) result }
 {
-    match gates_of(text)? {
-        Gates::First => Some(Gates::First),
-        Gates::Any => { if is_first { None } else { Some(Gates::Any) } }
+    let gates = gates_of(gates)?;
+    let signals = signals_of(signals)?;
+    let discipline = Discipline { gates, signals };
+    let is_asked_of_first = kind.waits || kind.at_once;
+    if is_asked_of_first && gates != Gates::First {
+        return None;
+    }
+    if kind.at_once && signals != Signals::Return {
+        return None;
+    }
+    if !discipline.is_kept() {
+        return None;
+    }
+    Some(discipline)
+}
+
+fn signals_of(text: Option<&str>) -> Option<Signals>
+    ensures { Finds (IsSignalled (option_map (λ s. s.now) text.entry)) result }
+{
+    let Some(text) = text else {
+        return Some(Signals::Return);
+    };
+    match text {
+        "return" => Some(Signals::Return),
+        "continue" => Some(Signals::Continue),
+        "wait" => Some(Signals::Wait),
+        _ => None,
     }
 }
 

@@ -46,7 +46,7 @@ fn ends_answer<O: ObserveProgress>(
     limits: Limits,
 ) -> Result<Answer, AllocError>
     requires steps { limits.steps ≡ options.now.steps }
-    requires gates { limits.gates ≡ options.now.gates }
+    requires gates { limits.discipline ≡ options.now.discipline }
     ensures { IfOk result (λ a. OfPrograms program.now (λ t. spec.AreTold options.now t program.now a.verdict a.text)) }
 {
     let found = find_waits(
@@ -62,7 +62,7 @@ fn ends_answer<O: ObserveProgress>(
 
 // The report of what was found, and of who may wait for ever where that is known.
 fn report_of(alloc: Global, program: &Resolved, found: &FoundWaits) -> Result<Answer, AllocError>
-    ensures { IfOk result (λ a. OfPrograms program.now (λ t. (o : Options) (x : IsAnswer program.now o.gates o.steps o.states found.now.found) (to : Option ℕ) → TellAsked program.now o.gates o.steps o.waits found.now.found found.now.waits → IsDepth x.findings found.now.found.stopped to → spec.IsReportOf o t program.now x.findings to a.verdict a.text)) }
+    ensures { IfOk result (λ a. OfPrograms program.now (λ t. (o : Options) (x : IsAnswer program.now o.discipline o.steps o.states found.now.found) (to : Option ℕ) → TellAsked program.now o.discipline o.steps o.waits found.now.found found.now.waits → IsDepth x.findings found.now.found.stopped to → spec.IsReportOf o t program.now x.findings to a.verdict a.text)) }
 {
     let ends = &found.found;
     if let Some(waits) = &found.waits {

@@ -138,9 +138,9 @@ fn tabulate<X: Threads + Sync, O: ObserveProgress>(
     limits: Limits,
 ) -> Result<Table, ExploreFault>
     requires { limits.choices ≤ 20 }
-    ensures table { IfOk result (λ t. map line_of t.rows ≡ table (slots program.now limits.gates) limits.choices limits.steps) }
+    ensures table { IfOk result (λ t. map line_of t.rows ≡ table (slots program.now limits.discipline) limits.choices limits.steps) }
     ensures few { IfOk result (λ t. length t.rows ≤ 50000) }
-    ensures many { IfErr result (λ e. IsTooMany e → 50000 < length (table (slots program.now limits.gates) limits.choices limits.steps)) }
+    ensures many { IfErr result (λ e. IsTooMany e → 50000 < length (table (slots program.now limits.discipline) limits.choices limits.steps)) }
 {
     let Ok(mut cutting) = Cutting::whole(alloc, Job { program, limits }) else {
         return Err(ExploreFault::Memory);

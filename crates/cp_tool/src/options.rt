@@ -1,10 +1,11 @@
 //! The options and their ranges, and why there are none.
 ghost use Rattle.std.specs.Prelude.{◌≡◌, ◌≤◌, ◌&&◌, false, true};
 ghost use Rattle.std.specs.Option.{ForSome};
+ghost use Rattle.cp_machine.specs.Discipline.{IsDiscipline};
 ghost use Rattle.cp_tool.specs.Words.{IsWord, most_choices};
 
 use arrayvec::ArrayVec;
-use cp_machine::Gates;
+use cp_machine::Discipline;
 use cp_run::{Limits, MOST_CHOICES};
 use std::alloc::AllocError;
 
@@ -35,8 +36,8 @@ pub struct Options {
     pub states: u32,
     /// The one schedule to be traced, if any.
     pub schedule: Option<ArrayVec<u8, 100>>,
-    /// Who goes into a monitor that becomes free.
-    pub gates: Gates,
+    /// Who goes into a monitor that becomes free, and who goes on after a `continue`.
+    pub discipline: Discipline,
     ghost choices_range: { choices ≤ most_choices merge },
     ghost steps_range: { steps ≤ 100000 },
     ghost some_step: { 1 ≤ steps },
@@ -47,15 +48,16 @@ pub struct Options {
     ghost ends_merge: { ends ≡ true → merge ≡ true },
     ghost states_range: { states ≤ 10000000 },
     ghost some_state: { 1 ≤ states },
+    ghost kept: { IsDiscipline discipline },
     ghost schedule_range: { ForSome schedule (λ w. IsWord (most_choices merge) w.items) },
 }
 
 impl Options {
     /// The limits that they set.
     pub fn limits(&self) -> Limits
-        ensures { (result.choices ≡ self.now.choices) × (result.steps ≡ self.now.steps) × (result.gates ≡ self.now.gates) }
+        ensures { (result.choices ≡ self.now.choices) × (result.steps ≡ self.now.steps) × (result.discipline ≡ self.now.discipline) }
     {
-        let Some(limits) = Limits::new(self.choices, self.steps, self.gates) else {
+        let Some(limits) = Limits::new(self.choices, self.steps, self.discipline) else {
             unreachable!()
         };
         limits
@@ -63,7 +65,7 @@ impl Options {
 
     /// The same with as many choices as there can be.
     pub fn longest_limits(&self) -> Limits
-        ensures { (result.choices ≡ 100) × (result.steps ≡ self.now.steps) × (result.gates ≡ self.now.gates) }
+        ensures { (result.choices ≡ 100) × (result.steps ≡ self.now.steps) × (result.discipline ≡ self.now.discipline) }
     {
         self.limits().with_choices(MOST_CHOICES)
     }

@@ -91,7 +91,11 @@ fn value_reason(alloc: Global, matches: &ArgMatches<'_>) -> Result<String, Alloc
     if !schedule.is_empty() {
         return Ok(schedule);
     }
-    gates_reason(alloc, matches)
+    let gates = gates_reason(alloc, matches)?;
+    if !gates.is_empty() {
+        return Ok(gates);
+    }
+    signals_reason(alloc, matches)
 }
 
 // Which words are given that can't stand together.
@@ -117,6 +121,13 @@ fn clash_reason(matches: &ArgMatches<'_>) -> &'static str {
     }
     if (waits | at_once) && matches.get_str("gates") == Some("any") {
         return "--gates any: not beside --waits or --at-once";
+    }
+    let signals = matches.get_str("signals").unwrap_or("return");
+    if at_once && (signals == "continue" || signals == "wait") {
+        return "--at-once: only beside --signals return";
+    }
+    if signals == "wait" && matches.get_str("gates") == Some("any") {
+        return "--gates any: not beside --signals wait";
     }
     ""
 }
@@ -205,6 +216,13 @@ fn schedule_reason(alloc: Global, matches: &ArgMatches<'_>) -> Result<String, Al
     format!(in alloc;
         "--schedule {text}: `none`, or up to {most} numbers 0 to 15 joined by periods"
     )
+}
+
+fn signals_reason(alloc: Global, matches: &ArgMatches<'_>) -> Result<String, AllocError> {
+    match matches.get_str("signals") {
+        None | Some("return") | Some("continue") | Some("wait") => Ok(String::new(alloc)),
+        Some(text) => format!(in alloc; "--signals {text}: `return`, `continue` or `wait`"),
+    }
 }
 
 fn gates_reason(alloc: Global, matches: &ArgMatches<'_>) -> Result<String, AllocError> {

@@ -4,7 +4,7 @@ use Rattle.std.specs.List.{list_any}
 use Rattle.cp_slots.specs.Tables.{Tables}
 use Rattle.cp_machine.specs.Alike.{AreAlike}
 use Rattle.cp_machine.specs.System.{Machine}
-use Rattle.cp_machine.specs.declared.gates.Gates.{Gates}
+use Rattle.cp_machine.specs.declared.discipline.Discipline.{Discipline}
 use Rattle.cp_machine.specs.declared.shown.Shown.{Shown}
 use Rattle.cp_machine.proofs.Alike.{step_alike, admitted_alike}
 use Rattle.cp_run.specs.declared.outcome.Turn.{Turn}
@@ -19,8 +19,8 @@ use Rattle.cp_verdict.specs.Lasting.{GoesOn, KeepsOutput}
 itself : (m : Machine) → AreAlike m.output m.output m m
 itself m = record { same = refl; since = []; mine = sym (append-nil m.output); theirs = sym (append-nil m.output) }
 
-pub slots_keep : (r : Tables) (gates : Gates) → KeepsOutput (slots r gates)
-slots_keep r gates =
+pub slots_keep : (r : Tables) (discipline : Discipline) → KeepsOutput (slots r discipline)
+slots_keep r discipline =
     record {
       step = λ m p. (let a = step_alike r m.output m.output m m p refl (itself m) in (a.since, a.mine));
       admit = λ m p. (let a = admitted_alike m.output m.output m m p (itself m) in (a.since, a.mine));

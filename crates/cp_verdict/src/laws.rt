@@ -2,7 +2,7 @@
 
 ghost use Rattle.std.specs.Prelude.{◌≡◌, List};
 ghost use Rattle.cp_machine.specs.System.{Machine};
-ghost use Rattle.cp_machine.specs.declared.gates.Gates.{Gates};
+ghost use Rattle.cp_machine.specs.declared.discipline.Discipline.{Discipline};
 ghost use Rattle.cp_meaning.specs.State.{State};
 ghost use Rattle.cp_run.specs.Slots.{slots};
 ghost use Rattle.cp_run.specs.System.{System};
@@ -25,7 +25,7 @@ pub fn law_stays()
 
 /// What the slot machine displayed is never taken back.
 pub fn law_output()
-    ensures { (r : Tables) (gates : Gates) → KeepsOutput (slots r gates) }
+    ensures { (r : Tables) (discipline : Discipline) → KeepsOutput (slots r discipline) }
 {}
 
 /// Words spell at most one list of expectations.

@@ -109,7 +109,7 @@ fn outcomes_of<O: ObserveProgress>(
     states: u32,
     observer: &mut O,
 ) -> Result<Tallies, MarkFault>
-    ensures { IfOk result (λ ts. map tally_of ts ≡ tally same_outcome (table (slots job.entry.program.now job.entry.limits.gates) job.entry.limits.choices job.entry.limits.steps)) }
+    ensures { IfOk result (λ ts. map tally_of ts ≡ tally same_outcome (table (slots job.entry.program.now job.entry.limits.discipline) job.entry.limits.choices job.entry.limits.steps)) }
 {
     match explore_merged_with(alloc, job, states as usize, observer) {
         Ok(tallies) => Ok(tallies),
@@ -151,8 +151,8 @@ pub fn mark_program<O: ObserveProgress>(
     expectations: &[Expectation],
     observer: &mut O,
 ) -> Result<Marked, MarkFault>
-    ensures mark { IfOk result (λ m. spec.IsMarked job.entry.program.now.names expectations.entry.now (table (slots job.entry.program.now job.entry.limits.gates) job.entry.limits.choices job.entry.limits.steps) m) }
-    ensures meaning { IfOk result (λ m. IsMeantMark job.entry.program.now job.entry.limits.gates job.entry.limits.choices job.entry.limits.steps expectations.entry.now m) }
+    ensures mark { IfOk result (λ m. spec.IsMarked job.entry.program.now.names expectations.entry.now (table (slots job.entry.program.now job.entry.limits.discipline) job.entry.limits.choices job.entry.limits.steps) m) }
+    ensures meaning { IfOk result (λ m. IsMeantMark job.entry.program.now job.entry.limits.discipline job.entry.limits.choices job.entry.limits.steps expectations.entry.now m) }
 {
     let tallies = outcomes_of(alloc, job, states, observer)?;
     let marked = mark_tallies(alloc, job.program, expectations, tallies.as_slice())?;

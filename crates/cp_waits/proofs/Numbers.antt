@@ -3,7 +3,7 @@ use Rattle.std.proofs.Common.{◌≡◌, ◌≤◌, ◌∙◌, ℕ, Bool, true, 
 use Rattle.cp_waits.proofs.Words.{length-map, Tables, thread_of, Machine, IsStateOf, threads_count, Node, Halted, Choosing, may, System, slots, silent_slots}
 use Rattle.cp_waits.proofs.Words.{ComesTo, IsNumber, Leg, PassingSets}
 use Rattle.cp_machine.specs.declared.state.State.{State}
-use Rattle.cp_machine.specs.declared.gates.Gates.{Gates}
+use Rattle.cp_machine.specs.declared.discipline.Discipline.{Discipline}
 use Rattle.cp_ends.specs.Answer.{HasNumber, halt_of, has_room, number_of}
 use Rattle.cp_ends.specs.Legs.{IsHalted, with_round}
 use Rattle.cp_ends.specs.declared.found.Arrived.{Arrived}
@@ -26,12 +26,12 @@ leads_to sys inside waiting steps states leg due seen (Some round) last (Ended e
 
 -- ---- choices on slots and without what they show
 
-may_there : (r : Tables) (gates : Gates) (m : Machine) (p : ℕ) → may (slots r gates) m p ≡ may (silent_slots r gates) m p
+may_there : (r : Tables) (discipline : Discipline) (m : Machine) (p : ℕ) → may (slots r discipline) m p ≡ may (silent_slots r discipline) m p
 unfolding may
-may_there r gates m p = refl
+may_there r discipline m p = refl
 
-pub quiet_may : (r : Tables) (gates : Gates) (m : Machine) → may (slots r gates) m ≡ may (silent_slots r gates) m
-quiet_may r gates m = λ i p. may_there r gates m p i
+pub quiet_may : (r : Tables) (discipline : Discipline) (m : Machine) → may (slots r discipline) m ≡ may (silent_slots r discipline) m
+quiet_may r discipline m = λ i p. may_there r discipline m p i
 
 -- there are at most sixteen processes
 pub few_processes : (r : Tables) (s : State) → IsStateOf r s → length s.processes.items ≤ 16 → length r.processes ≤ 16

@@ -5,13 +5,13 @@ use Rattle.cp_tree.specs.Syntax.{Tree}
 use Rattle.cp_tree.specs.Read.{IsRead}
 use Rattle.cp_layout.specs.Laid.{plain, laid}
 use Rattle.cp_lawful.specs.Accepted.{IsAccepted}
-use Rattle.cp_machine.specs.declared.gates.Gates as slot_gates
-use Rattle.cp_machine.specs.declared.gates.Gates.TheVariants.{First, Any}
-use Rattle.cp_meaning.specs.State.{Gates, State, first_gates, any_gates}
+use Rattle.cp_machine.specs.declared.discipline.Discipline as slot_gates
+use Rattle.cp_refine.proofs.Disciplines.{same_discipline}
+use Rattle.cp_meaning.specs.State.{Discipline, State}
 use Rattle.cp_resolved.specs.TreeLayouts.{layouts_of}
 use Rattle.cp_refine.specs.InStep.{CanGo, GoInStep}
 use Rattle.cp_refine.specs.Law.{Simulates, ground_of}
-use Rattle.cp_refine.specs.Named.{gates_of, named, named_gates}
+use Rattle.cp_refine.specs.Named.{discipline_of, named, named_discipline}
 use Rattle.cp_refine.proofs.Forgetting.{forgets}
 use Rattle.cp_refine.proofs.HoldsInReached.{reached_stands}
 use Rattle.cp_refine.proofs.Meaning.{goes_in_step, it}
@@ -56,10 +56,10 @@ use Rattle.cp_waits.proofs.Uncut.{may_stand, stands_after}
 
 -- ---- on slots
 
-module _ (r : Tables) (gates : slot_gates.Gates) (steps most : ℕ) (found : Found) (f : SlotFindings) (holds : Holds r found f) (whole : IsWhole (slots r gates) without_output steps most f)
-    (g : Graph) (graph : IsSlotGraphOf r gates steps f.states g) where
+module _ (r : Tables) (discipline : slot_gates.Discipline) (steps most : ℕ) (found : Found) (f : SlotFindings) (holds : Holds r found f) (whole : IsWhole (slots r discipline) without_output steps most f)
+    (g : Graph) (graph : IsSlotGraphOf r discipline steps f.states g) where
   abbrev sys : System Machine
-  sys = silent_slots r gates
+  sys = silent_slots r discipline
 
   reached : (i : ℕ) (x : Machine × List ℕ) → slice_get f.states i ≡ Some x → LeadsTo sys steps x.1 (Choosing x.0)
   reached i x at = (whole.states.first x.0 x.1 (contains_at f.states i x at)).is
@@ -79,7 +79,7 @@ module _ (r : Tables) (gates : slot_gates.Gates) (steps most : ℕ) (found : Fou
 
   closed : IsClosedSet sys steps (Contains all)
   closed =
-      let c = (are_settled (slots r gates) without_output same_key steps key_same key_self f.states f.ends whole.states whole.ends).closed in
+      let c = (are_settled (slots r discipline) without_output same_key steps key_same key_self f.states f.ends whole.states whole.ends).closed in
       record { start = however (opened sys steps) c.start; on = λ s p among can. however (chosen sys steps s p) (c.on s p among can) }
 
   pub tell_on_slots : (waits : Waits) → SayWhoWaits g found.states waits → TellWaits sys in_call_on_slots waits_on_slots steps waits
@@ -99,7 +99,7 @@ module _ (r : Tables) (gates : slot_gates.Gates) (steps most : ℕ) (found : Fou
 
 -- ---- on names
 
-module _ (t : Tree) (r : Tables) (g : Gates) (read : IsRead t.program) (ok : IsAccepted t) (same : plain r ≡ laid t) (steps : ℕ) where
+module _ (t : Tree) (r : Tables) (g : Discipline) (read : IsRead t.program) (ok : IsAccepted t) (same : plain r ≡ laid t) (steps : ℕ) where
   abbrev R : State → Machine → Type 0
   R = Simulates t r (layouts_of t) g
 
@@ -107,13 +107,13 @@ module _ (t : Tree) (r : Tables) (g : Gates) (read : IsRead t.program) (ok : IsA
   a = silent_named t g
 
   abbrev b : System Machine
-  b = silent_slots r (gates_of g)
+  b = silent_slots r (discipline_of g)
 
   abbrev V : State → Machine → ℕ → Type 0
   V s m p = R s m × CanGo a s p
 
   go : GoInStep a b R
-  go = silent_in_step (named t g) (slots r (gates_of g)) R (goes_in_step t r g read ok same) named_without_output without_output (λ s m h. forgets t r (layouts_of t) g s m h) (leaves t g)
+  go = silent_in_step (named t g) (slots r (discipline_of g)) R (goes_in_step t r g read ok same) named_without_output without_output (λ s m h. forgets t r (layouts_of t) g s m h) (leaves t g)
 
   named_alike : ChoicesAlike a b steps R V
   named_alike = in_choices a b R go steps
@@ -161,7 +161,7 @@ module _ (t : Tree) (r : Tables) (g : Gates) (read : IsRead t.program) (ok : IsA
 
     stands_named : HasNoCut ends → (q : ℕ) (word : List ℕ) → q < a.processes → MayStandStill a waits_on_names q steps word → HasLine lines q
     stands_named no_cut q word less x =
-        (h.exactly q (below q less)).1 (inl (inr (word, stands_after (slots r (gates_of g)) without_output same_key steps key_same key_self ends all_ends no_cut waits_on_slots q word (means.waits.still_there word q x))))
+        (h.exactly q (below q less)).1 (inl (inr (word, stands_after (slots r (discipline_of g)) without_output same_key steps key_same key_self ends all_ends no_cut waits_on_slots q word (means.waits.still_there word q x))))
 
     pub are_named : AreWaitsOnNames t g steps ends lines
     are_named =
@@ -178,18 +178,19 @@ module _ (t : Tree) (r : Tables) (g : Gates) (read : IsRead t.program) (ok : IsA
   tell_named ends all_ends (NotSettled q) h = tt
 
 -- whatever the gates
-pub tell_on_names : (t : Tree) (r : Tables) (gates : slot_gates.Gates) → IsRead t.program → IsAccepted t → plain r ≡ laid t → (steps : ℕ) (ends : List (End × List ℕ)) → AreFirsts (EndsSo (silent_slots r gates) steps) ends →
-    (waits : Waits) → TellWaits (silent_slots r gates) in_call_on_slots waits_on_slots steps waits → TellOnNames t (named_gates gates) steps ends waits
-tell_on_names t r First read ok same steps ends all_ends waits h = tell_named t r first_gates read ok same steps ends all_ends waits h
-tell_on_names t r Any read ok same steps ends all_ends waits h = tell_named t r any_gates read ok same steps ends all_ends waits h
+pub tell_on_names : (t : Tree) (r : Tables) (discipline : slot_gates.Discipline) → IsRead t.program → IsAccepted t → plain r ≡ laid t → (steps : ℕ) (ends : List (End × List ℕ)) → AreFirsts (EndsSo (silent_slots r discipline) steps) ends →
+    (waits : Waits) → TellWaits (silent_slots r discipline) in_call_on_slots waits_on_slots steps waits → TellOnNames t (named_discipline discipline) steps ends waits
+tell_on_names t r discipline read ok same steps ends all_ends waits h =
+    let back = sym (same_discipline discipline) in
+    tell_named t r (named_discipline discipline) read ok same steps ends (subst (λ d. AreFirsts (EndsSo (silent_slots r d) steps) ends) back all_ends) waits (subst (λ d. TellWaits (silent_slots r d) in_call_on_slots waits_on_slots steps waits) back h)
 
 pub lines_mean : LinesMeaningLaw
-lines_mean r gates steps most found f g waits holds whole graph say =
-    let on_slots = tell_on_slots r gates steps most found f holds whole g graph waits say in
-    record { slots = on_slots; names = λ t read ok same. tell_on_names t r gates read ok same steps f.ends whole.ends waits on_slots }
+lines_mean r discipline steps most found f g waits holds whole graph say =
+    let on_slots = tell_on_slots r discipline steps most found f holds whole g graph waits say in
+    record { slots = on_slots; names = λ t read ok same. tell_on_names t r discipline read ok same steps f.ends whole.ends waits on_slots }
 
-pub told_of_all : (r : Tables) (gates : slot_gates.Gates) (steps : ℕ) (found : Found) (g : Graph) → HasGraph r gates steps found g → (waits : Waits) → SayWhoWaits g found.states waits → TellOfAll r gates steps found waits
-told_of_all r gates steps found g has waits say = λ most answer few all.
-    let whole : IsWhole (slots r gates) without_output steps most answer.findings = subst (λ (o : Option ℕ). IsAnswerBy r gates steps most answer.findings o) all answer.answer in
-    let on_slots = tell_on_slots r gates steps has.most found has.findings has.holds has.whole g has.graph waits say in
-    record { slots = on_slots; names = λ t read ok same. tell_on_names t r gates read ok same steps answer.findings.ends whole.ends waits on_slots }
+pub told_of_all : (r : Tables) (discipline : slot_gates.Discipline) (steps : ℕ) (found : Found) (g : Graph) → HasGraph r discipline steps found g → (waits : Waits) → SayWhoWaits g found.states waits → TellOfAll r discipline steps found waits
+told_of_all r discipline steps found g has waits say = λ most answer few all.
+    let whole : IsWhole (slots r discipline) without_output steps most answer.findings = subst (λ (o : Option ℕ). IsAnswerBy r discipline steps most answer.findings o) all answer.answer in
+    let on_slots = tell_on_slots r discipline steps has.most found has.findings has.holds has.whole g has.graph waits say in
+    record { slots = on_slots; names = λ t read ok same. tell_on_names t r discipline read ok same steps answer.findings.ends whole.ends waits on_slots }

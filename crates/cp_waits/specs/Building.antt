@@ -3,7 +3,7 @@ use Rattle.std.specs.Prelude.{◌≡◌, ◌⊎◌, ◌≤◌, ◌<◌, ℕ, Lis
 use Rattle.std.specs.List.{AllByRecursion as Each}
 use Rattle.cp_slots.specs.Tables.{Tables}
 use Rattle.cp_machine.specs.System.{Machine}
-use Rattle.cp_machine.specs.declared.gates.Gates.{Gates}
+use Rattle.cp_machine.specs.declared.discipline.Discipline.{Discipline}
 use Rattle.cp_run.specs.Run.{may, stretch}
 use Rattle.cp_run.specs.System.{System}
 use Rattle.cp_endless.specs.Silent.{silent_slots, in_call_on_slots, waits_on_slots}
@@ -65,36 +65,36 @@ module _ {S : Type 0} (sys : System S) (inside waiting : S → ℕ → Bool) (st
     pub all : (i : ℕ) (x : S × List ℕ) (p q : ℕ) → i < n → slice_get states i ≡ Some x → may sys x.0 p ≡ true → q < sys.processes → LetsWait sys waiting steps (choice_leg sys steps x.0 p) q → HasStill g (Choice i p) q
 
 -- of the slot machine that shows nothing
-abbrev pub AddsChoicesOnSlots : Tables → Gates → ℕ → List (Machine × List ℕ) → ℕ → Machine → List ℕ → Graph → Graph → Type 0
-AddsChoicesOnSlots r gates steps states i m numbers old new = AddsChoices (silent_slots r gates) in_call_on_slots waits_on_slots steps states i m numbers old new
+abbrev pub AddsChoicesOnSlots : Tables → Discipline → ℕ → List (Machine × List ℕ) → ℕ → Machine → List ℕ → Graph → Graph → Type 0
+AddsChoicesOnSlots r discipline steps states i m numbers old new = AddsChoices (silent_slots r discipline) in_call_on_slots waits_on_slots steps states i m numbers old new
 
-abbrev pub IsSlotGraphTo : Tables → Gates → ℕ → List (Machine × List ℕ) → ℕ → Graph → Type 0
-IsSlotGraphTo r gates steps states n g = IsGraphTo (silent_slots r gates) in_call_on_slots waits_on_slots steps states n g
+abbrev pub IsSlotGraphTo : Tables → Discipline → ℕ → List (Machine × List ℕ) → ℕ → Graph → Type 0
+IsSlotGraphTo r discipline steps states n g = IsGraphTo (silent_slots r discipline) in_call_on_slots waits_on_slots steps states n g
 
 -- ---- how far a search has come
 
-module _ (r : Tables) (gates : Gates) (steps most : ℕ) where
+module _ (r : Tables) (discipline : Discipline) (steps most : ℕ) where
   abbrev pub findings_at : ℕ → SlotFindings
-  findings_at n = searched (slot_graph r gates steps) ends_tests n
+  findings_at n = searched (slot_graph r discipline steps) ends_tests n
 
   -- the states before this number were gone on from, and it is their graph, whatever is found after them
   pub record IsBuiltTo (found : Found) (n : ℕ) (g : Graph) : Type 0 where
     pub ends : HoldsFew r most found (findings_at n)
-    pub graph : (states : List (Machine × List ℕ)) → Grows (findings_at n).states states → IsSlotGraphTo r gates steps states n g
+    pub graph : (states : List (Machine × List ℕ)) → Grows (findings_at n).states states → IsSlotGraphTo r discipline steps states n g
 
   -- and so was the state of this number, which is the machine, with these choices
   pub record IsWithin (found : Found) (at : ℕ) (m : Machine) (numbers : List ℕ) (g : Graph) : Type 0 where
-    pub ends : visited.IsWithin r (slot_graph r gates steps) most found at m numbers
+    pub ends : visited.IsWithin r (slot_graph r discipline steps) most found at m numbers
     pub old : Graph
-    pub before : (states : List (Machine × List ℕ)) → Grows (findings_at at).states states → IsSlotGraphTo r gates steps states at old
-    pub adds : (states : List (Machine × List ℕ)) → Grows (gone_with (slot_graph r gates steps) ends.from numbers (findings_at at)).states states → AddsChoicesOnSlots r gates steps states at m numbers old g
+    pub before : (states : List (Machine × List ℕ)) → Grows (findings_at at).states states → IsSlotGraphTo r discipline steps states at old
+    pub adds : (states : List (Machine × List ℕ)) → Grows (gone_with (slot_graph r discipline steps) ends.from numbers (findings_at at)).states states → AddsChoicesOnSlots r discipline steps states at m numbers old g
 
   -- each state was gone on from, and it is their graph
   pub record IsBuilt (found : Found) (g : Graph) : Type 0 where
-    pub whole : visited.IsWhole r (slot_graph r gates steps) most found
-    pub graph : (states : List (Machine × List ℕ)) → Grows (findings_at whole.count).states states → IsSlotGraphTo r gates steps states whole.count g
+    pub whole : visited.IsWhole r (slot_graph r discipline steps) most found
+    pub graph : (states : List (Machine × List ℕ)) → Grows (findings_at whole.count).states states → IsSlotGraphTo r discipline steps states whole.count g
 
   -- the answer of a search: each state was gone on from, and it is their graph, or it stopped at this state
   abbrev pub IsSearchedGraph : Found → Graph → Option ℕ → Type 0
-  IsSearchedGraph found g None = (done : IsDone r (slot_graph r gates steps) most found) × IsSlotGraphOf r gates steps (findings_at done.count).states g
-  IsSearchedGraph found g (Some at) = IsStopped r (slot_graph r gates steps) most found at
+  IsSearchedGraph found g None = (done : IsDone r (slot_graph r discipline steps) most found) × IsSlotGraphOf r discipline steps (findings_at done.count).states g
+  IsSearchedGraph found g (Some at) = IsStopped r (slot_graph r discipline steps) most found at

@@ -3,7 +3,7 @@ use Rattle.std.specs.Prelude.{◌≡◌, ◌<◌, ◌+◌, ℕ, suc, List, [], �
 use Rattle.std.specs.List.{AllByRecursion as Each}
 use Rattle.cp_slots.specs.Tables.{Tables}
 use Rattle.cp_machine.specs.System.{Machine}
-use Rattle.cp_machine.specs.declared.gates.Gates.{Gates}
+use Rattle.cp_machine.specs.declared.discipline.Discipline.{Discipline}
 use Rattle.cp_run.specs.Run.{Node, Halted, Choosing, may, chosen, those_below}
 use Rattle.cp_run.specs.Slots.{slots}
 use Rattle.cp_run.specs.System.{System}
@@ -94,13 +94,13 @@ pub record IsGraphOf {S : Type 0} (sys : System S) (inside waiting : S → ℕ �
   pub all_stills : (origin : Origin) (leg : Leg S) (q : ℕ) → q < sys.processes → IsLegFrom sys steps states origin leg → LetsWait sys waiting steps leg q → HasStill g origin q
 
 -- of the slot machine that shows nothing
-abbrev pub IsSlotGraphOf : Tables → Gates → ℕ → List (Machine × List ℕ) → Graph → Type 0
-IsSlotGraphOf r gates steps states g = IsGraphOf (silent_slots r gates) in_call_on_slots waits_on_slots steps states g
+abbrev pub IsSlotGraphOf : Tables → Discipline → ℕ → List (Machine × List ℕ) → Graph → Type 0
+IsSlotGraphOf r discipline steps states g = IsGraphOf (silent_slots r discipline) in_call_on_slots waits_on_slots steps states g
 
 -- all states were found, and it is their graph
-pub record HasGraph (r : Tables) (gates : Gates) (steps : ℕ) (found : Found) (g : Graph) : Type 0 where
+pub record HasGraph (r : Tables) (discipline : Discipline) (steps : ℕ) (found : Found) (g : Graph) : Type 0 where
   pub most : ℕ
   pub findings : SlotFindings
   pub holds : Holds r found findings
-  pub whole : IsWhole (slots r gates) without_output steps most findings
-  pub graph : IsSlotGraphOf r gates steps findings.states g
+  pub whole : IsWhole (slots r discipline) without_output steps most findings
+  pub graph : IsSlotGraphOf r discipline steps findings.states g

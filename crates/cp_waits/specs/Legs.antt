@@ -2,7 +2,7 @@
 use Rattle.std.specs.Prelude.{ℕ, List, Bool, Option}
 use Rattle.cp_slots.specs.Tables.{Tables}
 use Rattle.cp_machine.specs.System.{Machine}
-use Rattle.cp_machine.specs.declared.gates.Gates.{Gates}
+use Rattle.cp_machine.specs.declared.discipline.Discipline.{Discipline}
 use Rattle.cp_run.specs.System.{System}
 use Rattle.cp_run.specs.declared.outcome.Halt.{Halt}
 use Rattle.cp_endless.specs.Silent.{silent_slots, in_call_on_slots, waits_on_slots}
@@ -20,5 +20,5 @@ abbrev pub ComesTo : {S : Type 0} → System S → (S → ℕ → Bool) → (S �
 ComesTo sys inside waiting steps leg due p halt s = legs.ComesTo sys (λ q before ms. Seen sys inside waiting before ms q) steps leg due p halt s
 
 -- of the slot machine that shows nothing
-abbrev pub Comes : Tables → Gates → ℕ → Leg Machine → List Machine → PassingSets → Halt (Option PassingSets) → Machine → Type 0
-Comes r gates steps leg due p halt m = ComesTo (silent_slots r gates) in_call_on_slots waits_on_slots steps leg due p halt m
+abbrev pub Comes : Tables → Discipline → ℕ → Leg Machine → List Machine → PassingSets → Halt (Option PassingSets) → Machine → Type 0
+Comes r discipline steps leg due p halt m = ComesTo (silent_slots r discipline) in_call_on_slots waits_on_slots steps leg due p halt m

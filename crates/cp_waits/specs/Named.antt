@@ -3,11 +3,11 @@ use Rattle.std.specs.Prelude.{◌≡◌, ◌⊎◌, ◌≤◌, ◌<◌, ◌^◌,
 use Rattle.std.specs.List.{AllPairs}
 use Rattle.cp_tree.specs.Syntax.{Tree}
 use Rattle.cp_slots.specs.Tables.{Tables}
-use Rattle.cp_machine.specs.declared.gates.Gates as slot_gates
-use Rattle.cp_meaning.specs.State.{Gates}
+use Rattle.cp_machine.specs.declared.discipline.Discipline as slot_gates
+use Rattle.cp_meaning.specs.State.{Discipline}
 use Rattle.cp_run.specs.Slots.{slots}
 use Rattle.cp_run.specs.System.{System}
-use Rattle.cp_refine.specs.Named.{named_gates}
+use Rattle.cp_refine.specs.Named.{named_discipline}
 use Rattle.cp_endless.specs.Fair.{IsEndless, IsFair}
 use Rattle.cp_endless.specs.Silent.{in_call_on_names, in_call_on_slots, silent_named, silent_slots, waits_on_names, waits_on_slots, without_output}
 use Rattle.cp_endless.specs.Standstill.{MayStandStill}
@@ -50,7 +50,7 @@ pub record LingersBy {S : Type 0} (sys : System S) (inside waiting : S → ℕ �
 
 -- ---- the lines
 
-abbrev pub ShowOnNames : Tree → Gates → ℕ → Waiting → How → Type 0
+abbrev pub ShowOnNames : Tree → Discipline → ℕ → Waiting → How → Type 0
 ShowOnNames t g steps line Throughout = WaitsBy (silent_named t g) waits_on_names line.process steps line.first.items line.again.items
 ShowOnNames t g steps line ForGood =
     (WaitsBy (silent_named t g) waits_on_names line.process steps line.first.items line.again.items ⊎
@@ -63,7 +63,7 @@ ShowOnNames t g steps line InItsCall =
 -- Each line shows how its process waits. Who may wait for ever in a fair schedule without end, or again and again in its call without ever coming
 -- out, has a line; and so has who may stand still in a stretch without a choice, where no end is at the limit of steps but such as are seen to go
 -- on for ever. The lines stand by number, and each process has one at most.
-pub record AreWaitsOnNames (t : Tree) (g : Gates) (steps : ℕ) (ends : List (End × List ℕ)) (lines : List Waiting) : Type 0 where
+pub record AreWaitsOnNames (t : Tree) (g : Discipline) (steps : ℕ) (ends : List (End × List ℕ)) (lines : List Waiting) : Type 0 where
   pub shown : (line : Waiting) → Contains lines line → (line.process < (silent_named t g).processes) × ShowOnNames t g steps line line.how
   pub waits : (q : ℕ) → q < (silent_named t g).processes → MayWaitForEver (silent_named t g) waits_on_names q steps → HasLine lines q
   pub lingers : (q : ℕ) → q < (silent_named t g).processes → MayLinger (silent_named t g) in_call_on_names waits_on_names q steps → HasLine lines q
@@ -71,28 +71,28 @@ pub record AreWaitsOnNames (t : Tree) (g : Gates) (steps : ℕ) (ends : List (En
   pub sorted : AllPairs (λ a b. a.process < b.process) lines
 
 -- where it is not settled nothing is said
-abbrev pub TellOnNames : Tree → Gates → ℕ → List (End × List ℕ) → Waits → Type 0
+abbrev pub TellOnNames : Tree → Discipline → ℕ → List (End × List ℕ) → Waits → Type 0
 TellOnNames t g steps ends (Known lines) = AreWaitsOnNames t g steps ends lines.items
 TellOnNames t g steps ends (NotSettled q) = Unit {0}
 
 -- ---- of all states
 
 -- What is said is so of the slot machine, and on names of each program that has its tables.
-pub record TellWho (r : Tables) (gates : slot_gates.Gates) (steps : ℕ) (ends : List (End × List ℕ)) (waits : Waits) : Type 0 where
-  pub slots : TellWaits (silent_slots r gates) in_call_on_slots waits_on_slots steps waits
-  pub names : OfItsPrograms r (λ t. TellOnNames t (named_gates gates) steps ends waits)
+pub record TellWho (r : Tables) (discipline : slot_gates.Discipline) (steps : ℕ) (ends : List (End × List ℕ)) (waits : Waits) : Type 0 where
+  pub slots : TellWaits (silent_slots r discipline) in_call_on_slots waits_on_slots steps waits
+  pub names : OfItsPrograms r (λ t. TellOnNames t (named_discipline discipline) steps ends waits)
 
 -- where a search found all states
-abbrev pub TellOfAll : Tables → slot_gates.Gates → ℕ → Found → Waits → Type 0
-TellOfAll r gates steps found waits = (most : ℕ) (answer : IsAnswer r gates steps most found) → most < 2 ^ 32 → found.stopped ≡ None → TellWho r gates steps answer.findings.ends waits
+abbrev pub TellOfAll : Tables → slot_gates.Discipline → ℕ → Found → Waits → Type 0
+TellOfAll r discipline steps found waits = (most : ℕ) (answer : IsAnswer r discipline steps most found) → most < 2 ^ 32 → found.stopped ≡ None → TellWho r discipline steps answer.findings.ends waits
 
 -- what is said of who may wait for ever, where that was asked: nothing where there are too many states
-abbrev pub TellAsked : Tables → slot_gates.Gates → ℕ → Bool → Found → Option Waits → Type 0
-TellAsked r gates steps asks found None = asks ≡ true → found.stopped ≡ None → ⊥
-TellAsked r gates steps asks found (Some waits) = (asks ≡ true) × (found.stopped ≡ None) × TellOfAll r gates steps found waits
+abbrev pub TellAsked : Tables → slot_gates.Discipline → ℕ → Bool → Found → Option Waits → Type 0
+TellAsked r discipline steps asks found None = asks ≡ true → found.stopped ≡ None → ⊥
+TellAsked r discipline steps asks found (Some waits) = (asks ≡ true) × (found.stopped ≡ None) × TellOfAll r discipline steps found waits
 
 -- what is said of the graph of all states is so
 abbrev pub LinesMeaningLaw : Type 0
 LinesMeaningLaw =
-    (r : Tables) (gates : slot_gates.Gates) (steps most : ℕ) (found : Found) (f : SlotFindings) (g : Graph) (waits : Waits) → Holds r found f → IsWhole (slots r gates) without_output steps most f →
-    IsSlotGraphOf r gates steps f.states g → SayWhoWaits g found.states waits → TellWho r gates steps f.ends waits
+    (r : Tables) (discipline : slot_gates.Discipline) (steps most : ℕ) (found : Found) (f : SlotFindings) (g : Graph) (waits : Waits) → Holds r found f → IsWhole (slots r discipline) without_output steps most f →
+    IsSlotGraphOf r discipline steps f.states g → SayWhoWaits g found.states waits → TellWho r discipline steps f.ends waits

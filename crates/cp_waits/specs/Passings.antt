@@ -3,7 +3,7 @@ use Rattle.std.specs.Prelude.{◌≡◌, ◌⊎◌, ◌<◌, ◌↔◌, ℕ, Lis
 use Rattle.std.specs.List.{AllByRecursion as Each}
 use Rattle.cp_slots.specs.Tables.{Tables}
 use Rattle.cp_machine.specs.System.{Machine}
-use Rattle.cp_machine.specs.declared.gates.Gates.{Gates}
+use Rattle.cp_machine.specs.declared.discipline.Discipline.{Discipline}
 use Rattle.cp_run.specs.System.{System}
 use Rattle.cp_endless.specs.Fair.{IsServed}
 use Rattle.cp_endless.specs.Moments.{Moment, AnyOf}
@@ -25,5 +25,5 @@ pub record Seen {S : Type 0} (sys : System S) (inside waiting : S → ℕ → Bo
   pub served : AreThose sys.processes p.served (λ q. IsServed sys q ms)
 
 -- of the slot machine that shows nothing
-abbrev pub HasSeen : Tables → Gates → List Machine → List (Moment Machine) → PassingSets → Type 0
-HasSeen r gates due ms p = Seen (silent_slots r gates) in_call_on_slots waits_on_slots due ms p
+abbrev pub HasSeen : Tables → Discipline → List Machine → List (Moment Machine) → PassingSets → Type 0
+HasSeen r discipline due ms p = Seen (silent_slots r discipline) in_call_on_slots waits_on_slots due ms p

@@ -3,7 +3,7 @@
 ghost use Rattle.std.specs.Prelude.{◌≡◌, ◌≤◌, ℕ, List, IfOk, None, length};
 ghost use Rattle.cp_slots.specs.Tables.{Tables};
 ghost use Rattle.cp_machine.specs.System.{Machine};
-ghost use Rattle.cp_machine.specs.declared.gates.Gates as slot_gates;
+ghost use Rattle.cp_machine.specs.declared.discipline.Discipline as slot_gates;
 ghost use Rattle.cp_endless.specs.Silent.{silent_slots, in_call_on_slots, waits_on_slots};
 ghost use Rattle.cp_ends.specs.Holds.{HasFindings};
 ghost use Rattle.cp_ends.specs.Legs.{Leg};
@@ -49,9 +49,9 @@ pub fn search_graph<O: ObserveProgress>(
     most: u32,
     observer: &mut O,
 ) -> Result<FoundGraph, AllocError>
-    ensures answer { 1 ≤ most → IfOk result (λ x. IsAnswer program.now limits.gates limits.steps most x.found) }
+    ensures answer { 1 ≤ most → IfOk result (λ x. IsAnswer program.now limits.discipline limits.steps most x.found) }
     ensures kept { IfOk result (λ x. HasFindings program.now x.found) }
-    ensures graph { IfOk result (λ x. x.found.stopped ≡ None → HasGraph program.now limits.gates limits.steps x.found x.graph) }
+    ensures graph { IfOk result (λ x. x.found.stopped ≡ None → HasGraph program.now limits.discipline limits.steps x.found x.graph) }
 {
     let states = if most == 0 { 1 } else { most };
     let job = SearchJob {
@@ -72,13 +72,13 @@ fn build_graph<O: ObserveProgress, S: Ledger>(
     requires parts { blank.parts ≡ S.parts }
     requires one { S.parts ≡ 1 }
     requires most { 1 ≤ job.now.most }
-    ensures { IfOk result (λ x. IsSearchedGraph job.now.program.now job.now.limits.gates job.now.limits.steps job.now.most x.found x.graph x.found.stopped) }
+    ensures { IfOk result (λ x. IsSearchedGraph job.now.program.now job.now.limits.discipline job.now.limits.steps job.now.most x.found x.graph x.found.stopped) }
 {
     let mut visit: GraphVisit<S> = GraphVisit {
         ends: EndsVisit::new(job.alloc, PassingSets::begin(job.program), blank),
         graph: Graph::new(job.alloc, job.program.processes()),
     };
-    let mut state = State::start(job.alloc, job.program, job.limits.gates)?;
+    let mut state = State::start(job.alloc, job.program, job.limits.discipline)?;
     let arrived = visit.ends.open(job, &mut state)?;
     let halt = arrived.halt(visit.ends.told.again);
     visit.graph.note_standstill(halt, Origin::Start)?;
@@ -94,13 +94,13 @@ impl<S: Ledger> Visit for GraphVisit<S> {
     ghost use Rattle.cp_ends.specs.Answer.{IsStopped, slot_graph};
     ghost use Rattle.cp_waits.specs.Building.{IsBuilt, IsBuiltTo, IsWithin};
 
-    ghost before = { λ v job n. IsBuiltTo job.program.now job.limits.gates job.limits.steps job.most v.ends.found n v.graph };
+    ghost before = { λ v job n. IsBuiltTo job.program.now job.limits.discipline job.limits.steps job.most v.ends.found n v.graph };
 
-    ghost within = { λ v job at m done. IsWithin job.program.now job.limits.gates job.limits.steps job.most v.ends.found at m done v.graph };
+    ghost within = { λ v job at m done. IsWithin job.program.now job.limits.discipline job.limits.steps job.most v.ends.found at m done v.graph };
 
-    ghost over = { λ v job. IsBuilt job.program.now job.limits.gates job.limits.steps job.most v.ends.found v.graph };
+    ghost over = { λ v job. IsBuilt job.program.now job.limits.discipline job.limits.steps job.most v.ends.found v.graph };
 
-    ghost stops = { λ v job at. IsStopped job.program.now (slot_graph job.program.now job.limits.gates job.limits.steps) job.most v.ends.found at };
+    ghost stops = { λ v job at. IsStopped job.program.now (slot_graph job.program.now job.limits.discipline job.limits.steps) job.most v.ends.found at };
 
     fn len(&self) -> usize {
         self.ends.len()
@@ -157,7 +157,7 @@ impl Graph {
         ensures processes { self.new.processes ≡ self.old.processes }
         ensures edges { self.new.edges.items ≡ self.old.edges.items }
         ensures ends { self.new.ends.items ≡ self.old.ends.items }
-        ensures still { IfOk result (λ _. (r : Tables) (gates : slot_gates.Gates) (steps : ℕ) (leg : Leg Machine) (due : List Machine) (seen : PassingSets) (m : Machine) → length r.processes ≤ 16 → self.old.processes ≡ length r.processes → IsOfStretch (silent_slots r gates) steps leg → Comes r gates steps leg due seen halt m → AddsStill (silent_slots r gates) in_call_on_slots waits_on_slots steps leg origin self.old self.new) }
+        ensures still { IfOk result (λ _. (r : Tables) (discipline : slot_gates.Discipline) (steps : ℕ) (leg : Leg Machine) (due : List Machine) (seen : PassingSets) (m : Machine) → length r.processes ≤ 16 → self.old.processes ≡ length r.processes → IsOfStretch (silent_slots r discipline) steps leg → Comes r discipline steps leg due seen halt m → AddsStill (silent_slots r discipline) in_call_on_slots waits_on_slots steps leg origin self.old self.new) }
     {
         let Halt::Ended(round) = halt else {
             return Ok(());

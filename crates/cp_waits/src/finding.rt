@@ -31,9 +31,9 @@ pub fn find_waits<O: ObserveProgress>(
     asks_waits: bool,
     observer: &mut O,
 ) -> Result<FoundWaits, AllocError>
-    ensures answer { 1 ≤ most → IfOk result (λ x. IsAnswer program.now limits.gates limits.steps most x.found) }
+    ensures answer { 1 ≤ most → IfOk result (λ x. IsAnswer program.now limits.discipline limits.steps most x.found) }
     ensures kept { IfOk result (λ x. HasFindings program.now x.found) }
-    ensures waits { IfOk result (λ x. TellAsked program.now limits.gates limits.steps asks_waits x.found x.waits) }
+    ensures waits { IfOk result (λ x. TellAsked program.now limits.discipline limits.steps asks_waits x.found x.waits) }
 {
     if !asks_waits {
         let found = search_ends_with(alloc, program, limits, most, observer)?;

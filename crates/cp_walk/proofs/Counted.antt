@@ -189,11 +189,11 @@ rows_words [] = refl
 rows_words (r ∷ rs) = ap (λ l. r.word.items ∷ l) (rows_words rs)
 
 -- the words of the rows of a table
-pub rows_parted : (r : Tables) (l : Limits) (rows : List Row) → map line_of rows ≡ table (slots r l.gates) l.choices l.steps → Pairwise parts_before (words_of_rows rows)
-rows_parted r l rows e = subst (Pairwise parts_before) (ap words_in (sym e) ∙ rows_words rows) (table_parted (slots r l.gates) l.choices l.steps)
+pub rows_parted : (r : Tables) (l : Limits) (rows : List Row) → map line_of rows ≡ table (slots r l.discipline) l.choices l.steps → Pairwise parts_before (words_of_rows rows)
+rows_parted r l rows e = subst (Pairwise parts_before) (ap words_in (sym e) ∙ rows_words rows) (table_parted (slots r l.discipline) l.choices l.steps)
 
 -- the count of the rows of a table
-pub counted_rows : (r : Tables) (l : Limits) (rows rest : List Row) (first : Row) (count : ℕ) → map line_of rows ≡ table (slots r l.gates) l.choices l.steps → rows ≡ first ∷ rest → count ≡ 1 + length first.word.items + added first.word.items (words_of_rows rest) → count ≡ beginnings (words_of_rows rows)
+pub counted_rows : (r : Tables) (l : Limits) (rows rest : List Row) (first : Row) (count : ℕ) → map line_of rows ≡ table (slots r l.discipline) l.choices l.steps → rows ≡ first ∷ rest → count ≡ 1 + length first.word.items + added first.word.items (words_of_rows rest) → count ≡ beginnings (words_of_rows rows)
 counted_rows r l rows rest first count e at h =
     let parted = subst (λ rs. Pairwise parts_before (words_of_rows rs)) at (rows_parted r l rows e) in
     let all = ap (λ rs. beginnings (words_of_rows rs)) at ∙ counted first.word.items (words_of_rows rest) parted in

@@ -32,18 +32,18 @@ get_next : {A : Type 0} (x : A) (xs : List A) (i : ℕ) → slice_get (x ∷ xs)
 get_next x xs i = let e : i + 1 ≡ suc i = omega arith in ap (slice_get (x ∷ xs)) e
 
 -- the rows of the members, one after the other
-members_lines : (r : Tables) (l : Limits) (words : List (ArrayVec ℕ)) → map line_of (table_of (member_rows r l words) (length words)) ≡ each (rows_behind (slots r l.gates) l.choices l.steps) (words_of words)
+members_lines : (r : Tables) (l : Limits) (words : List (ArrayVec ℕ)) → map line_of (table_of (member_rows r l words) (length words)) ≡ each (rows_behind (slots r l.discipline) l.choices l.steps) (words_of words)
 members_lines r l [] = refl
 members_lines r l (w ∷ words) =
-    let here = rows_behind (slots r l.gates) l.choices l.steps w.items in
+    let here = rows_behind (slots r l.discipline) l.choices l.steps w.items in
     let shifted : flat_map (member_rows r l (w ∷ words)) (range_with_len (0 + 1) (length words)) ≡ flat_map (member_rows r l words) (range_with_len 0 (length words)) =
     flat_shift (member_rows r l (w ∷ words)) 0 (length words) ∙ flat_same (λ i. member_rows r l (w ∷ words) (i + 1)) (member_rows r l words) 0 (length words) (λ i. ap (λ o. map row_of (lines_behind r l o)) (get_next w words i)) in
     ap (λ k. map line_of (map row_of here ++ k)) shifted ∙ map-append line_of (map row_of here) (table_of (member_rows r l words) (length words)) ∙ ap (λ k. k ++ map line_of (table_of (member_rows r l words) (length words))) (lines_back here) ∙ ap (λ k. here ++ k) (members_lines r l words)
 
-pub members_table : (r : Tables) (l : Limits) (words : List (ArrayVec ℕ)) (n : ℕ) (rows : List Row) → CutsTable r l words → n ≡ length words → rows ≡ table_of (member_rows r l words) n → map line_of rows ≡ table (slots r l.gates) l.choices l.steps
+pub members_table : (r : Tables) (l : Limits) (words : List (ArrayVec ℕ)) (n : ℕ) (rows : List Row) → CutsTable r l words → n ≡ length words → rows ≡ table_of (member_rows r l words) n → map line_of rows ≡ table (slots r l.discipline) l.choices l.steps
 members_table r l words n rows cuts e is = ap (map line_of) (is ∙ ap (table_of (member_rows r l words)) e) ∙ members_lines r l words ∙ cuts.parts.rows
 
-pub members_length : (r : Tables) (l : Limits) (words : List (ArrayVec ℕ)) (n : ℕ) → CutsTable r l words → n ≡ length words → length (table_of (member_rows r l words) n) ≡ length (table (slots r l.gates) l.choices l.steps)
+pub members_length : (r : Tables) (l : Limits) (words : List (ArrayVec ℕ)) (n : ℕ) → CutsTable r l words → n ≡ length words → length (table_of (member_rows r l words) n) ≡ length (table (slots r l.discipline) l.choices l.steps)
 members_length r l words n cuts e = sym (length-map (table_of (member_rows r l words) n) line_of) ∙ ap length (members_table r l words n (table_of (member_rows r l words) n) cuts e refl)
 
 pub get_at : {A : Type 0} (xs : List A) (i : ℕ) (d : A) → i < length xs → slice_get xs i ≡ Some (get_or xs i d)

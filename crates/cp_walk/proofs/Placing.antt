@@ -43,9 +43,9 @@ split_length old i ready lt =
     omega (arith, long, a, b, c, d, e, lt)
 
 -- a split keeps what a cutting keeps
-pub split_cuts : (r : Tables) (l : Limits) (old new : List (ArrayVec ℕ)) (i : ℕ) (ready : List ℕ) → i < length old → length old + length ready ≤ 4097 → wanted_in (run (slots r l.gates) l.choices l.steps (word_at (words_of old) i)) ≡ Some ready → words_of new ≡ take i (words_of old) ++ (children (word_at (words_of old) i) ready ++ drop (i + 1) (words_of old)) → CutsTable r l old → CutsTable r l new
+pub split_cuts : (r : Tables) (l : Limits) (old new : List (ArrayVec ℕ)) (i : ℕ) (ready : List ℕ) → i < length old → length old + length ready ≤ 4097 → wanted_in (run (slots r l.discipline) l.choices l.steps (word_at (words_of old) i)) ≡ Some ready → words_of new ≡ take i (words_of old) ++ (children (word_at (words_of old) i) ready ++ drop (i + 1) (words_of old)) → CutsTable r l old → CutsTable r l new
 split_cuts r l old new i ready lt room wants e cuts =
-    let sys = slots r l.gates in
+    let sys = slots r l.discipline in
     let words = words_of old in
     let w = word_at words i in
     let long = length-map old (λ (v : ArrayVec ℕ). v.items) in
@@ -57,9 +57,9 @@ split_cuts r l old new i ready lt room wants e cuts =
     record { few = few; cutting = parts_cut sys l.choices l.steps (words_of new) used parts; parts = parts }
 
 -- a member that wants is shorter than 20
-pub short_member : (r : Tables) (l : Limits) (words : List (List ℕ)) (i : ℕ) (ready : List ℕ) → l.choices ≤ 20 → wanted_in (run (slots r l.gates) l.choices l.steps (word_at words i)) ≡ Some ready → length (word_at words i) < 20
+pub short_member : (r : Tables) (l : Limits) (words : List (List ℕ)) (i : ℕ) (ready : List ℕ) → l.choices ≤ 20 → wanted_in (run (slots r l.discipline) l.choices l.steps (word_at words i)) ≡ Some ready → length (word_at words i) < 20
 short_member r l words i ready few wants =
-    let short = wants_short (slots r l.gates) l.steps l.choices (word_at words i) ready (opened (slots r l.gates) l.steps) (wants_is (run (slots r l.gates) l.choices l.steps (word_at words i)) ready wants) in
+    let short = wants_short (slots r l.discipline) l.steps l.choices (word_at words i) ready (opened (slots r l.discipline) l.steps) (wants_is (run (slots r l.discipline) l.choices l.steps (word_at words i)) ready wants) in
     omega (arith, few, short)
 
 -- a split that fits, and one that doesn't
@@ -76,5 +76,5 @@ split_full old i ready lt many =
     ap (λ b. if b then Err Full else Ok new) (lt-ltb 4096 (length new) (omega (arith, n, many)))
 
 -- what the run of a member wants, read off the code's words
-pub wanted_at : (r : Tables) (l : Limits) (words : List (ArrayVec ℕ)) (i : ℕ) (one : ArrayVec ℕ) (word : List ℕ) (ready : List ℕ) → i < length words → one ≡ get_or words i one → word ≡ one.items → Some ready ≡ wanted_in (run (slots r l.gates) l.choices l.steps word) → wanted_in (run (slots r l.gates) l.choices l.steps (word_at (words_of words) i)) ≡ Some ready
-wanted_at r l words i one word ready lt at w e = ap (λ v. wanted_in (run (slots r l.gates) l.choices l.steps v)) (get_or-map (λ v. v.items) words i one [] lt ∙ ap (λ v. v.items) (sym at) ∙ sym w) ∙ sym e
+pub wanted_at : (r : Tables) (l : Limits) (words : List (ArrayVec ℕ)) (i : ℕ) (one : ArrayVec ℕ) (word : List ℕ) (ready : List ℕ) → i < length words → one ≡ get_or words i one → word ≡ one.items → Some ready ≡ wanted_in (run (slots r l.discipline) l.choices l.steps word) → wanted_in (run (slots r l.discipline) l.choices l.steps (word_at (words_of words) i)) ≡ Some ready
+wanted_at r l words i one word ready lt at w e = ap (λ v. wanted_in (run (slots r l.discipline) l.choices l.steps v)) (get_or-map (λ v. v.items) words i one [] lt ∙ ap (λ v. v.items) (sym at) ∙ sym w) ∙ sym e

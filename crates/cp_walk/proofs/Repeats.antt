@@ -8,7 +8,7 @@ use Rattle.std.proofs.lemmas.List.{append-nil, append_assoc, drop-append-le, get
 use Rattle.std.proofs.Math.Seq.{drop-append_seam}
 use Rattle.indexmap.specs.IndexMap.{insert_entry}
 use Rattle.cp_machine.specs.Alike.{AreAlike}
-use Rattle.cp_machine.specs.declared.gates.Gates.{Gates}
+use Rattle.cp_machine.specs.declared.discipline.Discipline.{Discipline}
 use Rattle.cp_machine.specs.System.{Machine}
 use Rattle.cp_machine.proofs.Alike.{step_alike, step_event_alike, admitted_alike, ready_alike, pending_alike, in_line_alike, waits_alike}
 use Rattle.cp_key.specs.Key.{core_key}
@@ -22,9 +22,9 @@ use Rattle.cp_walk.proofs.Alike.{walk_alike}
 
 -- ---- states with one core
 
-module _ (r : Tables) (gates : Gates) where
+module _ (r : Tables) (discipline : Discipline) where
   abbrev sys : System Machine
-  sys = slots r gates
+  sys = slots r discipline
 
   -- the slot machine does the same, whatever was displayed before
   simulates : (before other : List Shown) → length before ≡ length other → Simulates sys (AreAlike before other)
@@ -75,9 +75,9 @@ head_of a b x y e = ap first e
 tail_of : (a b : ℕ) (x y : List ℕ) → a ∷ x ≡ b ∷ y → x ≡ y
 tail_of a b x y e = ap (drop 1) e
 
-module _ (r : Tables) (gates : Gates) (steps choices : ℕ) (rows : List Line) (e : NodeKey × Span) (n : Machine) (left : ℕ) where
+module _ (r : Tables) (discipline : Discipline) (steps choices : ℕ) (rows : List Line) (e : NodeKey × Span) (n : Machine) (left : ℕ) where
   abbrev system : System Machine
-  system = slots r gates
+  system = slots r discipline
 
   -- the rows of a node that was walked are those of this one, with another beginning
   pub again_rows : IsWalked system steps choices rows e → e.0.bytes.items ≡ left ∷ core_key n → (word : List ℕ) → length word + left ≡ choices → map (begun word n.output) (within_span e.1 rows) ≡ map (behind word) (walk system steps left (Choosing n))
@@ -90,7 +90,7 @@ module _ (r : Tables) (gates : Gates) (steps choices : ℕ) (rows : List Line) (
       ap (map (begun word n.output)) h.same
       ∙ all_begun word h.before n.output (walk system steps h.left (Choosing h.state)) long
       ∙ ap (λ k. map (behind word) (map (shown_by (λ o. n.output ++ drop (length n.output) o)) (walk system steps k (Choosing h.state)))) lefts
-      ∙ ap (map (behind word)) (sym (walk_again r gates steps left h.state n cores))
+      ∙ ap (map (behind word)) (sym (walk_again r discipline steps left h.state n cores))
 
   -- and they are as many
   pub again_count : IsWalked system steps choices rows e → e.0.bytes.items ≡ left ∷ core_key n → (word : List ℕ) → length word + left ≡ choices → e.1.end - e.1.first ≡ length (walk system steps left (Choosing n))
@@ -206,22 +206,22 @@ some_beginnings (l ∷ ls) some = by l.word
 
 -- ---- a node that is found
 
-module _ (r : Tables) (gates : Gates) (steps choices : ℕ) (rows : List Line) (nodes : List (NodeKey × Span)) (n : Machine) (left : ℕ) (word : List ℕ) (span : Span) where
+module _ (r : Tables) (discipline : Discipline) (steps choices : ℕ) (rows : List Line) (nodes : List (NodeKey × Span)) (n : Machine) (left : ℕ) (word : List ℕ) (span : Span) where
   -- its rows are those of a node like it, which begin otherwise
   pub record Known : Type 0 where
     pub some : span.first < span.end
     pub within : span.end ≤ length rows
-    pub same : map (begun word n.output) (within_span span rows) ≡ map (behind word) (walk (slots r gates) steps left (Choosing n))
-    pub count : span.end - span.first ≡ length (walk (slots r gates) steps left (Choosing n))
+    pub same : map (begun word n.output) (within_span span rows) ≡ map (behind word) (walk (slots r discipline) steps left (Choosing n))
+    pub count : span.end - span.first ≡ length (walk (slots r discipline) steps left (Choosing n))
 
-  pub known_node : (key : List ℕ) → key ≡ left ∷ core_key n → AreWalked (slots r gates) steps choices rows nodes → lookup (λ k. pointwise nat_eq key k.bytes.items) nodes ≡ Some span → length word + left ≡ choices → Known
+  pub known_node : (key : List ℕ) → key ≡ left ∷ core_key n → AreWalked (slots r discipline) steps choices rows nodes → lookup (λ k. pointwise nat_eq key k.bytes.items) nodes ≡ Some span → length word + left ≡ choices → Known
   known_node key keyed walked found deep =
-      let f = walked_found (slots r gates) steps choices rows nodes key span walked found in
+      let f = walked_found (slots r discipline) steps choices rows nodes key span walked found in
       record {
         some = f.is.some;
         within = f.is.within;
-        same = again_rows r gates steps choices rows (f.node_key, span) n left f.is (f.same ∙ keyed) word deep;
-        count = again_count r gates steps choices rows (f.node_key, span) n left f.is (f.same ∙ keyed) word deep;
+        same = again_rows r discipline steps choices rows (f.node_key, span) n left f.is (f.same ∙ keyed) word deep;
+        count = again_count r discipline steps choices rows (f.node_key, span) n left f.is (f.same ∙ keyed) word deep;
       }
 
 -- ---- one row more is taken again

@@ -18,7 +18,7 @@ whole_parts sys choices steps = record { apart = (tt, tt); rows = append_none (r
 -- the one empty word is a cutting
 pub whole_cutting : (r : Tables) (l : Limits) (words : List (ArrayVec ℕ)) → words_of words ≡ [] ∷ [] → CutsTable r l words
 whole_cutting r l words e =
-    let sys = slots r l.gates in
+    let sys = slots r l.discipline in
     let used : Each (λ w. IsUsed w (run sys l.choices l.steps w)) (words_of words) = subst (Each (λ w. IsUsed w (run sys l.choices l.steps w))) (sym e) (used_empty sys l.steps l.choices (opened sys l.steps), tt) in
     let parts = subst (Parts sys l.choices l.steps) (sym e) (whole_parts sys l.choices l.steps) in
     record {

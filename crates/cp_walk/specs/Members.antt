@@ -16,7 +16,7 @@ row_of l = record { word = record { items = l.word }; outcome = l.outcome }
 
 abbrev pub lines_behind : Tables → Limits → Option (ArrayVec ℕ) → List Line
 lines_behind r l None = []
-lines_behind r l (Some word) = rows_behind (slots r l.gates) l.choices l.steps word.items
+lines_behind r l (Some word) = rows_behind (slots r l.discipline) l.choices l.steps word.items
 
 -- the rows that begin with the member of this number
 abbrev pub member_rows : Tables → Limits → List (ArrayVec ℕ) → ℕ → List Row
@@ -25,5 +25,5 @@ member_rows r l words i = map row_of (lines_behind r l (slice_get words i))
 -- at most 4,096 words, which cut the table of a program under limits
 pub record CutsTable (r : Tables) (l : Limits) (words : List (ArrayVec ℕ)) : Type 0 where
   pub few : length words ≤ 4096
-  pub cutting : IsCutting (slots r l.gates) l.choices l.steps (words_of words)
-  pub parts : Parts (slots r l.gates) l.choices l.steps (words_of words)
+  pub cutting : IsCutting (slots r l.discipline) l.choices l.steps (words_of words)
+  pub parts : Parts (slots r l.discipline) l.choices l.steps (words_of words)

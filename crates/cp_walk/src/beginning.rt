@@ -39,7 +39,7 @@ fn lie_in_memory(rows: &[Row])
 /// The number of different words that begin a word of a table, the empty word and the words themselves counted. The rows are in
 /// dictionary order, so a word adds what goes beyond its common front with the word before.
 pub fn beginnings(table: &Table) -> u64
-    requires rows { (r : Tables) × (l : Limits) × (map line_of table.now.rows ≡ all_lines (slots r l.gates) l.choices l.steps) }
+    requires rows { (r : Tables) × (l : Limits) × (map line_of table.now.rows ≡ all_lines (slots r l.discipline) l.choices l.steps) }
     ensures { result ≡ spec.beginnings (spec.words_of_rows table.now.rows) }
 {
     let rows = table.rows.as_slice();

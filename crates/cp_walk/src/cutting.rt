@@ -50,9 +50,9 @@ impl<'a> Cutting<'a> {
     pub fn split(&mut self, alloc: Global, i: usize) -> Result<(), SplitFault>
         requires member { i < length self.old.words.items }
         ensures job { self.new.job ≡ self.old.job }
-        ensures split { OnOk result (split_of (slots self.old.job.program.now self.old.job.limits.gates) self.old.job.limits.choices self.old.job.limits.steps (words_of self.old.words.items) i ≡ Ok (words_of self.new.words.items)) }
+        ensures split { OnOk result (split_of (slots self.old.job.program.now self.old.job.limits.discipline) self.old.job.limits.choices self.old.job.limits.steps (words_of self.old.words.items) i ≡ Ok (words_of self.new.words.items)) }
         ensures unchanged { IfErr result (λ e. self.new.words.items ≡ self.old.words.items) }
-        ensures fault { IfErr result (λ e. IsSplitFault e → split_of (slots self.old.job.program.now self.old.job.limits.gates) self.old.job.limits.choices self.old.job.limits.steps (words_of self.old.words.items) i ≡ Err e) }
+        ensures fault { IfErr result (λ e. IsSplitFault e → split_of (slots self.old.job.program.now self.old.job.limits.discipline) self.old.job.limits.choices self.old.job.limits.steps (words_of self.old.words.items) i ≡ Err e) }
     {
         let ready = match numbers_wanted_after(alloc, self.job, self.words[i].as_slice()) {
             Ok(Some(ready)) => ready,
@@ -73,8 +73,8 @@ impl<'a> Cutting<'a> {
     /// Full.
     pub fn to_depth(&mut self, alloc: Global, depth: u8) -> Result<(), AllocError>
         ensures job { self.new.job ≡ self.old.job }
-        ensures splits { (n : ℕ) × (deepened (slots self.old.job.program.now self.old.job.limits.gates) self.old.job.limits.choices self.old.job.limits.steps depth n (words_of self.old.words.items) ≡ Some (words_of self.new.words.items)) }
-        ensures done { OnOk result (deeper (slots self.old.job.program.now self.old.job.limits.gates) self.old.job.limits.choices self.old.job.limits.steps depth (words_of self.new.words.items) ≡ None) }
+        ensures splits { (n : ℕ) × (deepened (slots self.old.job.program.now self.old.job.limits.discipline) self.old.job.limits.choices self.old.job.limits.steps depth n (words_of self.old.words.items) ≡ Some (words_of self.new.words.items)) }
+        ensures done { OnOk result (deeper (slots self.old.job.program.now self.old.job.limits.discipline) self.old.job.limits.choices self.old.job.limits.steps depth (words_of self.new.words.items) ≡ None) }
     {
         self.to_depth_observed(alloc, depth, &mut Unobserved)
     }
@@ -87,8 +87,8 @@ impl<'a> Cutting<'a> {
         observer: &mut O,
     ) -> Result<(), AllocError>
         ensures job { self.new.job ≡ self.old.job }
-        ensures splits { (n : ℕ) × (deepened (slots self.old.job.program.now self.old.job.limits.gates) self.old.job.limits.choices self.old.job.limits.steps depth n (words_of self.old.words.items) ≡ Some (words_of self.new.words.items)) }
-        ensures done { OnOk result (deeper (slots self.old.job.program.now self.old.job.limits.gates) self.old.job.limits.choices self.old.job.limits.steps depth (words_of self.new.words.items) ≡ None) }
+        ensures splits { (n : ℕ) × (deepened (slots self.old.job.program.now self.old.job.limits.discipline) self.old.job.limits.choices self.old.job.limits.steps depth n (words_of self.old.words.items) ≡ Some (words_of self.new.words.items)) }
+        ensures done { OnOk result (deeper (slots self.old.job.program.now self.old.job.limits.discipline) self.old.job.limits.choices self.old.job.limits.steps depth (words_of self.new.words.items) ≡ None) }
     {
         let mut at = 0;
         while at < self.words.len() {
@@ -114,10 +114,10 @@ impl<'a> Cutting<'a> {
         at: usize,
     ) -> Result<Option<usize>, AllocError>
         requires member { at < length self.old.words.items }
-        requires settled { Settled (slots self.old.job.program.now self.old.job.limits.gates) self.old.job.limits.choices self.old.job.limits.steps depth (words_of self.old.words.items) at }
+        requires settled { Settled (slots self.old.job.program.now self.old.job.limits.discipline) self.old.job.limits.choices self.old.job.limits.steps depth (words_of self.old.words.items) at }
         ensures job { self.new.job ≡ self.old.job }
         ensures unchanged { IfErr result (λ e. self.new.words.items ≡ self.old.words.items) }
-        ensures advanced { IfOk result (λ o. Advanced (slots self.old.job.program.now self.old.job.limits.gates) self.old.job.limits.choices self.old.job.limits.steps depth (words_of self.old.words.items) at (words_of self.new.words.items) o) }
+        ensures advanced { IfOk result (λ o. Advanced (slots self.old.job.program.now self.old.job.limits.discipline) self.old.job.limits.choices self.old.job.limits.steps depth (words_of self.old.words.items) at (words_of self.new.words.items) o) }
     {
         if self.words[at].len() >= depth as usize {
             return Ok(Some(at + 1));

@@ -33,14 +33,14 @@ pub fn member_rows<S: Ledger, C: Ledger, N: ObserveWalk>(
     requires other_one { C.parts ≡ 1 }
     requires short { length word.now ≤ 20 }
     requires few { limits.choices ≤ 20 }
-    ensures rows { IfOk result (λ v. map line_of v.items ≡ rows_behind (slots program.now limits.gates) limits.choices limits.steps word.now) }
+    ensures rows { IfOk result (λ v. map line_of v.items ≡ rows_behind (slots program.now limits.discipline) limits.choices limits.steps word.now) }
     ensures few { IfOk result (λ v. length v.items ≤ 50000) }
-    ensures many { IfErr result (λ e. IsTooMany e → 50000 < length (rows_behind (slots program.now limits.gates) limits.choices limits.steps word.now)) }
+    ensures many { IfErr result (λ e. IsTooMany e → 50000 < length (rows_behind (slots program.now limits.discipline) limits.choices limits.steps word.now)) }
 {
     let mut steps: Ticks<S> = Ticks::new(blank);
     let mut calls: Ticks<C> = Ticks::new(other);
     let mut rows = Vec::new(alloc);
-    let Ok(mut state) = State::start(alloc, program, limits.gates) else {
+    let Ok(mut state) = State::start(alloc, program, limits.discipline) else {
         return Err(ExploreFault::Memory);
     };
     let mut halt = open(program, limits, &mut state, &mut steps, &mut calls);

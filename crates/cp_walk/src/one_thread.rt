@@ -31,9 +31,9 @@ pub fn walk_on_one_thread<L: Ledger>(
     calls: &mut Ticks<L>,
 ) -> Result<Table, ExploreFault>
     requires { job.limits.choices ≤ 20 }
-    ensures table { IfOk result (λ t. map line_of t.rows ≡ table (slots job.entry.program.now job.entry.limits.gates) job.entry.limits.choices job.entry.limits.steps) }
+    ensures table { IfOk result (λ t. map line_of t.rows ≡ table (slots job.entry.program.now job.entry.limits.discipline) job.entry.limits.choices job.entry.limits.steps) }
     ensures few { IfOk result (λ t. length t.rows ≤ 50000) }
-    ensures many { IfErr result (λ e. IsTooMany e → 50000 < length (table (slots job.entry.program.now job.entry.limits.gates) job.entry.limits.choices job.entry.limits.steps)) }
+    ensures many { IfErr result (λ e. IsTooMany e → 50000 < length (table (slots job.entry.program.now job.entry.limits.discipline) job.entry.limits.choices job.entry.limits.steps)) }
     ensures calls { IfOk result (λ t. calls.new ≤ calls.old + beginnings (words_of_rows t.rows)) }
 {
     explore_counted::<Brand, L>(alloc, job.program, job.limits, calls, Blank::new(1))
@@ -50,13 +50,13 @@ fn explore_counted<S: Ledger, C: Ledger>(
     requires parts { blank.parts ≡ S.parts }
     requires one { S.parts ≡ 1 }
     requires short { limits.choices ≤ 20 }
-    ensures table { IfOk result (λ t. map line_of t.rows ≡ table (slots program.now limits.gates) limits.choices limits.steps) }
+    ensures table { IfOk result (λ t. map line_of t.rows ≡ table (slots program.now limits.discipline) limits.choices limits.steps) }
     ensures few { IfOk result (λ t. length t.rows ≤ 50000) }
-    ensures many { IfErr result (λ e. IsTooMany e → 50000 < length (table (slots program.now limits.gates) limits.choices limits.steps)) }
+    ensures many { IfErr result (λ e. IsTooMany e → 50000 < length (table (slots program.now limits.discipline) limits.choices limits.steps)) }
     ensures calls { IfOk result (λ t. calls.new ≤ calls.old + beginnings (words_of_rows t.rows)) }
 {
     let mut steps: Ticks<S> = Ticks::new(blank);
-    let Ok(mut first) = State::start(alloc, program, limits.gates) else {
+    let Ok(mut first) = State::start(alloc, program, limits.discipline) else {
         return Err(ExploreFault::Memory);
     };
     let halt = open(program, limits, &mut first, &mut steps, calls);
@@ -97,11 +97,11 @@ pub fn walk_on<S: Ledger, C: Ledger, N: ObserveWalk>(
     requires room { length word.now + left ≤ 20 }
     requires deep { length word.now + left ≡ limits.choices }
     requires rows { length rows.old.items ≤ 50000 }
-    requires due { IsDue (slots program.now limits.gates) (node_of halt (machine_of state.old)) }
-    ensures rows { IfOk result (λ _. map line_of rows.new.items ≡ map line_of rows.old.items ++ map (behind word.now) (walk (slots program.now limits.gates) limits.steps left (node_of halt (machine_of state.old)))) }
+    requires due { IsDue (slots program.now limits.discipline) (node_of halt (machine_of state.old)) }
+    ensures rows { IfOk result (λ _. map line_of rows.new.items ≡ map line_of rows.old.items ++ map (behind word.now) (walk (slots program.now limits.discipline) limits.steps left (node_of halt (machine_of state.old)))) }
     ensures few { IfOk result (λ _. length rows.new.items ≤ 50000) }
-    ensures many { IfErr result (λ e. IsTooMany e → 50000 < length rows.old.items + length (walk (slots program.now limits.gates) limits.steps left (node_of halt (machine_of state.old)))) }
-    ensures calls { IfOk result (λ _. calls.new + 1 ≤ calls.old + beginnings (words_in (walk (slots program.now limits.gates) limits.steps left (node_of halt (machine_of state.old))))) }
+    ensures many { IfErr result (λ e. IsTooMany e → 50000 < length rows.old.items + length (walk (slots program.now limits.discipline) limits.steps left (node_of halt (machine_of state.old)))) }
+    ensures calls { IfOk result (λ _. calls.new + 1 ≤ calls.old + beginnings (words_in (walk (slots program.now limits.discipline) limits.steps left (node_of halt (machine_of state.old))))) }
 {
     let Ok(mut kept) = copies(alloc, program, state, left) else {
         return Err(ExploreFault::Memory);

@@ -25,9 +25,9 @@ pub fn walk_on_threads<X: Threads + Sync, G: StartGate + Sync, O: ObserveProgres
     observer: &mut O,
 ) -> Result<Table, ExploreFault>
     requires workers { (0 < workers) × (workers ≤ 16) }
-    ensures table { IfOk result (λ t. map line_of t.rows ≡ table (slots cutting.now.job.program.now cutting.now.job.limits.gates) cutting.now.job.limits.choices cutting.now.job.limits.steps) }
+    ensures table { IfOk result (λ t. map line_of t.rows ≡ table (slots cutting.now.job.program.now cutting.now.job.limits.discipline) cutting.now.job.limits.choices cutting.now.job.limits.steps) }
     ensures few { IfOk result (λ t. length t.rows ≤ 50000) }
-    ensures many { result ≡ Err ExploreFault.TooManyRows → 50000 < length (table (slots cutting.now.job.program.now cutting.now.job.limits.gates) cutting.now.job.limits.choices cutting.now.job.limits.steps) }
+    ensures many { result ≡ Err ExploreFault.TooManyRows → 50000 < length (table (slots cutting.now.job.program.now cutting.now.job.limits.discipline) cutting.now.job.limits.choices cutting.now.job.limits.steps) }
 {
     match explore_tasks(
         rt,

@@ -78,17 +78,17 @@ pub fn walk_from<S: Ledger, C: Ledger, N: ObserveWalk>(
     requires room { array_vec_len word.old + length kept.old ≤ 20 }
     requires rows { length rows.old.items ≤ 50000 }
     requires deep { length word.old.items + length kept.old ≡ limits.choices }
-    requires walked { AreWalked (slots program.now limits.gates) limits.steps limits.choices (map line_of rows.old.items) walked.old.nodes.entries }
-    requires due { IsDue (slots program.now limits.gates) (node_of halt (machine_of state.old)) }
-    ensures rows { IfOk result (λ _. map line_of rows.new.items ≡ map line_of rows.old.items ++ map (behind word.old.items) (walk (slots program.now limits.gates) limits.steps (length kept.old) (node_of halt (machine_of state.old)))) }
+    requires walked { AreWalked (slots program.now limits.discipline) limits.steps limits.choices (map line_of rows.old.items) walked.old.nodes.entries }
+    requires due { IsDue (slots program.now limits.discipline) (node_of halt (machine_of state.old)) }
+    ensures rows { IfOk result (λ _. map line_of rows.new.items ≡ map line_of rows.old.items ++ map (behind word.old.items) (walk (slots program.now limits.discipline) limits.steps (length kept.old) (node_of halt (machine_of state.old)))) }
     ensures word { IfOk result (λ _. word.new.items ≡ word.old.items) }
-    ensures walked { IfOk result (λ _. AreWalked (slots program.now limits.gates) limits.steps limits.choices (map line_of rows.new.items) walked.new.nodes.entries) }
+    ensures walked { IfOk result (λ _. AreWalked (slots program.now limits.discipline) limits.steps limits.choices (map line_of rows.new.items) walked.new.nodes.entries) }
     ensures own { IsStateOf program.now state.new }
     ensures kept { All (IsStateOf program.now) kept.new }
     ensures few { IfOk result (λ _. length rows.new.items ≤ 50000) }
-    ensures many { IfErr result (λ e. IsTooMany e → 50000 < length rows.old.items + length (walk (slots program.now limits.gates) limits.steps (length kept.old) (node_of halt (machine_of state.old)))) }
-    ensures some { IfOk result (λ _. 0 < length (walk (slots program.now limits.gates) limits.steps (length kept.old) (node_of halt (machine_of state.old)))) }
-    ensures calls { IfOk result (λ _. calls.new + 1 ≤ calls.old + beginnings (words_in (walk (slots program.now limits.gates) limits.steps (length kept.old) (node_of halt (machine_of state.old))))) }
+    ensures many { IfErr result (λ e. IsTooMany e → 50000 < length rows.old.items + length (walk (slots program.now limits.discipline) limits.steps (length kept.old) (node_of halt (machine_of state.old)))) }
+    ensures some { IfOk result (λ _. 0 < length (walk (slots program.now limits.discipline) limits.steps (length kept.old) (node_of halt (machine_of state.old)))) }
+    ensures calls { IfOk result (λ _. calls.new + 1 ≤ calls.old + beginnings (words_in (walk (slots program.now limits.discipline) limits.steps (length kept.old) (node_of halt (machine_of state.old))))) }
 {
     if let Halt::Ended(kind) = halt {
         return add_row(alloc, state, kind, word, rows, observer);
@@ -133,17 +133,17 @@ fn walk_once<S: Ledger, C: Ledger, N: ObserveWalk>(
     requires room { array_vec_len word.old + length kept.old ≤ 20 }
     requires rows { length rows.old.items ≤ 50000 }
     requires deep { length word.old.items + length kept.old ≡ limits.choices }
-    requires walked { AreWalked (slots program.now limits.gates) limits.steps limits.choices (map line_of rows.old.items) walked.old.nodes.entries }
-    requires due { IsDue (slots program.now limits.gates) (node_of halt (machine_of state.old)) }
-    ensures rows { IfOk result (λ _. map line_of rows.new.items ≡ map line_of rows.old.items ++ map (behind word.old.items) (walk (slots program.now limits.gates) limits.steps (length kept.old) (node_of halt (machine_of state.old)))) }
+    requires walked { AreWalked (slots program.now limits.discipline) limits.steps limits.choices (map line_of rows.old.items) walked.old.nodes.entries }
+    requires due { IsDue (slots program.now limits.discipline) (node_of halt (machine_of state.old)) }
+    ensures rows { IfOk result (λ _. map line_of rows.new.items ≡ map line_of rows.old.items ++ map (behind word.old.items) (walk (slots program.now limits.discipline) limits.steps (length kept.old) (node_of halt (machine_of state.old)))) }
     ensures word { IfOk result (λ _. word.new.items ≡ word.old.items) }
-    ensures walked { IfOk result (λ _. AreWalked (slots program.now limits.gates) limits.steps limits.choices (map line_of rows.new.items) walked.new.nodes.entries) }
+    ensures walked { IfOk result (λ _. AreWalked (slots program.now limits.discipline) limits.steps limits.choices (map line_of rows.new.items) walked.new.nodes.entries) }
     ensures own { IsStateOf program.now state.new }
     ensures kept { All (IsStateOf program.now) kept.new }
     ensures few { IfOk result (λ _. length rows.new.items ≤ 50000) }
-    ensures many { IfErr result (λ e. IsTooMany e → 50000 < length rows.old.items + length (walk (slots program.now limits.gates) limits.steps (length kept.old) (node_of halt (machine_of state.old)))) }
-    ensures some { IfOk result (λ _. 0 < length (walk (slots program.now limits.gates) limits.steps (length kept.old) (node_of halt (machine_of state.old)))) }
-    ensures calls { IfOk result (λ _. calls.new + 1 ≤ calls.old + beginnings (words_in (walk (slots program.now limits.gates) limits.steps (length kept.old) (node_of halt (machine_of state.old))))) }
+    ensures many { IfErr result (λ e. IsTooMany e → 50000 < length rows.old.items + length (walk (slots program.now limits.discipline) limits.steps (length kept.old) (node_of halt (machine_of state.old)))) }
+    ensures some { IfOk result (λ _. 0 < length (walk (slots program.now limits.discipline) limits.steps (length kept.old) (node_of halt (machine_of state.old)))) }
+    ensures calls { IfOk result (λ _. calls.new + 1 ≤ calls.old + beginnings (words_in (walk (slots program.now limits.discipline) limits.steps (length kept.old) (node_of halt (machine_of state.old))))) }
 {
     if let Halt::Ended(_) = halt {
         return walk_from(
@@ -193,21 +193,21 @@ fn walk_child<S: Ledger, C: Ledger, N: ObserveWalk>(
     observer: &mut N,
 ) -> Result<(), ExploreFault>
     requires own { IsStateOf program.now state.old }
-    requires may { may (slots program.now limits.gates) (machine_of state.old) process ≡ true }
+    requires may { may (slots program.now limits.discipline) (machine_of state.old) process ≡ true }
     requires deeper { All (IsStateOf program.now) deeper.old }
     requires room { array_vec_len word.old + length deeper.old < 20 }
     requires rows { length rows.old.items ≤ 50000 }
     requires deep { length word.old.items + length deeper.old + 1 ≡ limits.choices }
-    requires walked { AreWalked (slots program.now limits.gates) limits.steps limits.choices (map line_of rows.old.items) walked.old.nodes.entries }
-    ensures rows { IfOk result (λ _. map line_of rows.new.items ≡ map line_of rows.old.items ++ map (behind (word.old.items ++ process ∷ [])) (walk (slots program.now limits.gates) limits.steps (length deeper.old) (chosen (slots program.now limits.gates) limits.steps (machine_of state.old) process))) }
+    requires walked { AreWalked (slots program.now limits.discipline) limits.steps limits.choices (map line_of rows.old.items) walked.old.nodes.entries }
+    ensures rows { IfOk result (λ _. map line_of rows.new.items ≡ map line_of rows.old.items ++ map (behind (word.old.items ++ process ∷ [])) (walk (slots program.now limits.discipline) limits.steps (length deeper.old) (chosen (slots program.now limits.discipline) limits.steps (machine_of state.old) process))) }
     ensures word { IfOk result (λ _. word.new.items ≡ word.old.items) }
-    ensures walked { IfOk result (λ _. AreWalked (slots program.now limits.gates) limits.steps limits.choices (map line_of rows.new.items) walked.new.nodes.entries) }
+    ensures walked { IfOk result (λ _. AreWalked (slots program.now limits.discipline) limits.steps limits.choices (map line_of rows.new.items) walked.new.nodes.entries) }
     ensures own { IsStateOf program.now state.new }
     ensures deeper { All (IsStateOf program.now) deeper.new }
     ensures few { IfOk result (λ _. length rows.new.items ≤ 50000) }
-    ensures many { IfErr result (λ e. IsTooMany e → 50000 < length rows.old.items + length (walk (slots program.now limits.gates) limits.steps (length deeper.old) (chosen (slots program.now limits.gates) limits.steps (machine_of state.old) process))) }
-    ensures some { IfOk result (λ _. 0 < length (walk (slots program.now limits.gates) limits.steps (length deeper.old) (chosen (slots program.now limits.gates) limits.steps (machine_of state.old) process))) }
-    ensures calls { IfOk result (λ _. calls.new ≤ calls.old + beginnings (words_in (walk (slots program.now limits.gates) limits.steps (length deeper.old) (chosen (slots program.now limits.gates) limits.steps (machine_of state.old) process)))) }
+    ensures many { IfErr result (λ e. IsTooMany e → 50000 < length rows.old.items + length (walk (slots program.now limits.discipline) limits.steps (length deeper.old) (chosen (slots program.now limits.discipline) limits.steps (machine_of state.old) process))) }
+    ensures some { IfOk result (λ _. 0 < length (walk (slots program.now limits.discipline) limits.steps (length deeper.old) (chosen (slots program.now limits.discipline) limits.steps (machine_of state.old) process))) }
+    ensures calls { IfOk result (λ _. calls.new ≤ calls.old + beginnings (words_in (walk (slots program.now limits.discipline) limits.steps (length deeper.old) (chosen (slots program.now limits.discipline) limits.steps (machine_of state.old) process)))) }
 {
     let halt = choose(
         program,

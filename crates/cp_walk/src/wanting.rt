@@ -21,7 +21,7 @@ pub fn numbers_wanted_after(
     word: &[u8],
 ) -> Result<Option<ArrayVec<u8, 16>>, AllocError>
     requires { length word.now ≤ 20 }
-    ensures { IfOk result (λ o. option_map (λ r. r.items) o ≡ wanted_in (run (slots job.entry.program.now job.entry.limits.gates) job.entry.limits.choices job.entry.limits.steps word.now)) }
+    ensures { IfOk result (λ o. option_map (λ r. r.items) o ≡ wanted_in (run (slots job.entry.program.now job.entry.limits.discipline) job.entry.limits.choices job.entry.limits.steps word.now)) }
 {
     numbers_wanted_by::<Brand>(alloc, job.program, job.limits, word, Blank::new(1))
 }
@@ -37,7 +37,7 @@ fn numbers_wanted_by<S: Ledger>(
     requires parts { blank.parts ≡ S.parts }
     requires one { S.parts ≡ 1 }
     requires short { length word.now ≤ 20 }
-    ensures { IfOk result (λ o. option_map (λ r. r.items) o ≡ wanted_in (run (slots program.now limits.gates) limits.choices limits.steps word.now)) }
+    ensures { IfOk result (λ o. option_map (λ r. r.items) o ≡ wanted_in (run (slots program.now limits.discipline) limits.choices limits.steps word.now)) }
 {
     let mut steps: Ticks<S> = Ticks::new(blank);
     match run(alloc, program, limits, word, &mut steps)? {

@@ -8,12 +8,12 @@ use Rattle.cp_slots.specs.Tables.{Tables}
 use Rattle.cp_lawful.specs.Accepted.{IsAccepted}
 use Rattle.cp_legend.specs.declared.legend.Legend as code_legend
 use Rattle.cp_legend.specs.Names.{legend_seen}
-use Rattle.cp_machine.specs.declared.gates.Gates.{Gates}
+use Rattle.cp_machine.specs.declared.discipline.Discipline.{Discipline}
 use Rattle.cp_resolved.proofs.Resolving.{read_names}
 use Rattle.cp_run.specs.Slots.{slots}
 use Rattle.cp_run.specs.Table.{table}
 use Rattle.cp_refine.specs.Law.{SameRuns}
-use Rattle.cp_refine.specs.Named.{named, named_gates}
+use Rattle.cp_refine.specs.Named.{named, named_discipline}
 use Rattle.cp_refine.proofs.Meaning.{runs_as_meant}
 use Rattle.cp_story_laws.specs.Statements.{TellsEvents, TellsStop, TellsWaits, event_on_names, wait_on_names}
 use Rattle.cp_story_laws.proofs.StoriesOfTrees.{events_law, stop_law, waits_law}
@@ -28,18 +28,18 @@ use Rattle.cpx_show.specs.Summaries.{AreOutcomesOf}
 use Rattle.cpx_show.specs.declared.schedules.ScheduleForm.{ScheduleForm}
 
 module _ (t : Tree) (r : Tables) (read : ∥ IsRead t.program ∥₁) (ok : IsAccepted t) (tables : plain r ≡ laid t) (o : Options) where
-  same : SameRuns (named t (named_gates o.gates)) (slots r o.gates) o.choices o.steps
-  same = runs_as_meant t r o.gates read ok tables o.choices o.steps
+  same : SameRuns (named t (named_discipline o.discipline)) (slots r o.discipline) o.choices o.steps
+  same = runs_as_meant t r o.discipline read ok tables o.choices o.steps
 
   module _ (l : code_legend.Legend) (is : AreNamed t r l) where
-    events_agree : (word : List ℕ) → ∥ TellsEvents t r (legend_seen l) o.gates o.choices o.steps word ∥₁
-    events_agree word = ∥∥₁_map read (λ it. events_law t is.symbols r l o.gates it ok is.noted tables is.legend o.choices o.steps word)
+    events_agree : (word : List ℕ) → ∥ TellsEvents t r (legend_seen l) o.discipline o.choices o.steps word ∥₁
+    events_agree word = ∥∥₁_map read (λ it. events_law t is.symbols r l o.discipline it ok is.noted tables is.legend o.choices o.steps word)
 
-    waits_agree : (word : List ℕ) → ∥ TellsWaits t r (legend_seen l) o.gates o.choices o.steps word ∥₁
-    waits_agree word = ∥∥₁_map read (λ it. waits_law t is.symbols r l o.gates it ok is.noted tables is.legend o.choices o.steps word)
+    waits_agree : (word : List ℕ) → ∥ TellsWaits t r (legend_seen l) o.discipline o.choices o.steps word ∥₁
+    waits_agree word = ∥∥₁_map read (λ it. waits_law t is.symbols r l o.discipline it ok is.noted tables is.legend o.choices o.steps word)
 
-    stop_agrees : (word : List ℕ) → ∥ TellsStop t r (legend_seen l) o.gates o.choices o.steps word ∥₁
-    stop_agrees word = ∥∥₁_map read (λ it. stop_law t is.symbols r l o.gates it ok is.noted tables is.legend o.choices o.steps word)
+    stop_agrees : (word : List ℕ) → ∥ TellsStop t r (legend_seen l) o.discipline o.choices o.steps word ∥₁
+    stop_agrees word = ∥∥₁_map read (λ it. stop_law t is.symbols r l o.discipline it ok is.noted tables is.legend o.choices o.steps word)
 
     in_names : (f : ScheduleForm) (source : List (List ℕ)) (word text : List ℕ) → IsStoryText f o r (legend_seen l) source word text → IsTraceInNames f o t r l source word text
     in_names f source word text h =
@@ -59,9 +59,9 @@ module _ (t : Tree) (r : Tables) (read : ∥ IsRead t.program ∥₁) (ok : IsAc
   outcomes l form verdict text h =
       let asked = h.asked in
       let found = h.told.meant t read ok (subst (λ (x : Tables). plain x ≡ laid t) (sym asked.program) tables) in
-      let by_gates = subst (λ (g : Gates). IsFoundIn (λ choices. table (named t (named_gates g)) choices h.subject.limits.steps) h.subject.limits.choices h.told.finding) asked.gates found in
-      let by_steps = subst (λ (n : ℕ). IsFoundIn (λ choices. table (named t (named_gates o.gates)) choices n) h.subject.limits.choices h.told.finding) asked.steps by_gates in
-      record { so = h; found = subst (λ (n : ℕ). IsFoundIn (λ choices. table (named t (named_gates o.gates)) choices o.steps) n h.told.finding) asked.choices by_steps }
+      let by_gates = subst (λ (g : Discipline). IsFoundIn (λ choices. table (named t (named_discipline g)) choices h.subject.limits.steps) h.subject.limits.choices h.told.finding) asked.gates found in
+      let by_steps = subst (λ (n : ℕ). IsFoundIn (λ choices. table (named t (named_discipline o.discipline)) choices n) h.subject.limits.choices h.told.finding) asked.steps by_gates in
+      record { so = h; found = subst (λ (n : ℕ). IsFoundIn (λ choices. table (named t (named_discipline o.discipline)) choices o.steps) n h.told.finding) asked.choices by_steps }
 
 -- the schedule that is asked for
 pub traced : (t : Tree) (r : Tables) (l : code_legend.Legend) (a : Asked) (f : ScheduleForm) (source : List (List ℕ)) (verdict : ShowVerdict) (text : List ℕ) → ∥ IsRead t.program ∥₁ → IsAccepted t → AreNamed t r l → IsTracedAs (IsStoryText f a.options r (legend_seen l) source) a r verdict text → IsTracedAs (IsTraceInNames f a.options t r l source) a r verdict text

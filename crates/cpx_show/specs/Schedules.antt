@@ -34,7 +34,7 @@ pub record IsJobOf (job : Job) (o : Options) (r : Tables) : Type 0 where
   pub program : job.program.now ≡ r
   pub choices : job.limits.choices ≡ o.choices
   pub steps : job.limits.steps ≡ o.steps
-  pub gates : job.limits.gates ≡ o.gates
+  pub gates : job.limits.discipline ≡ o.discipline
 
 -- the first schedule of the outcome with a number, or a simplest one
 abbrev pub IsOfOutcome : (simplest : Bool) → Job → (number : ℕ) → First → Type 0
@@ -63,7 +63,7 @@ IsWrittenAs (form.Picture view) r l source word story text = Unit {0}
 -- the text of the story of a word
 pub record IsStoryText (f : ScheduleForm) (o : Options) (r : Tables) (l : Legend) (source : List (List ℕ)) (word : List ℕ) (text : List ℕ) : Type 0 where
   pub story : Story
-  pub so : IsStoryOf l r o.gates o.choices o.steps word story
+  pub so : IsStoryOf l r o.discipline o.choices o.steps word story
   pub written : IsWrittenAs f r l source word story text
 
 -- The schedule that is asked for is told so, where there is one. Of rounds nothing is said.

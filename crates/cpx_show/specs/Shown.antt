@@ -14,7 +14,7 @@ use Rattle.cp_run.specs.Code.{answer_of}
 use Rattle.cp_run.specs.Run.{run}
 use Rattle.cp_run.specs.Table.{table}
 use Rattle.cp_run.specs.Trace.{trace}
-use Rattle.cp_refine.specs.Named.{named, named_gates}
+use Rattle.cp_refine.specs.Named.{named, named_discipline}
 use Rattle.cp_tool.specs.declared.options.Options.{Options}
 use Rattle.cp_story.specs.Halted.{halted_seen}
 use Rattle.cp_story.specs.Told.{lines_of}
@@ -55,12 +55,12 @@ pub record AreNamed (t : Tree) (r : Tables) (l : code_legend.Legend) : Type 0 wh
 -- names; so is the last choice, who waits where the run stops, and how it stops where no event tells of it; and it ends as the run does.
 pub record IsTraceInNames (f : ScheduleForm) (o : Options) (t : Tree) (r : Tables) (l : code_legend.Legend) (source : List (List ℕ)) (word : List ℕ) (text : List ℕ) : Type 0 where
   pub told : IsStoryText f o r (legend_seen l) source word text
-  pub lines : lines_of told.story.events.items ≡ trace (named t (named_gates o.gates)) o.choices o.steps word
-  pub events : ∥ map (event_on_names (legend_seen l)) (map told_of told.story.events.items) ≡ events_on_names t (named_gates o.gates) o.choices o.steps word ∥₁
-  pub last_choice : ∥ option_map decision_of told.story.last_choice ≡ (names_telling t (named_gates o.gates) o.choices o.steps word).past.choice ∥₁
-  pub waits : ∥ map (wait_on_names (legend_seen l)) (map wait_of told.story.waits.items) ≡ who_waits_on_names t (named_gates o.gates) o.choices o.steps word ∥₁
-  pub stop : ∥ option_map halted_seen told.story.stop ≡ stop_on_names t (named_gates o.gates) o.choices o.steps word ∥₁
-  pub end : answer_of told.story.end ≡ run (named t (named_gates o.gates)) o.choices o.steps word
+  pub lines : lines_of told.story.events.items ≡ trace (named t (named_discipline o.discipline)) o.choices o.steps word
+  pub events : ∥ map (event_on_names (legend_seen l)) (map told_of told.story.events.items) ≡ events_on_names t (named_discipline o.discipline) o.choices o.steps word ∥₁
+  pub last_choice : ∥ option_map decision_of told.story.last_choice ≡ (names_telling t (named_discipline o.discipline) o.choices o.steps word).past.choice ∥₁
+  pub waits : ∥ map (wait_on_names (legend_seen l)) (map wait_of told.story.waits.items) ≡ who_waits_on_names t (named_discipline o.discipline) o.choices o.steps word ∥₁
+  pub stop : ∥ option_map halted_seen told.story.stop ≡ stop_on_names t (named_discipline o.discipline) o.choices o.steps word ∥₁
+  pub end : answer_of told.story.end ≡ run (named t (named_discipline o.discipline)) o.choices o.steps word
   pub constants : r.names ≡ constant_names t.program
 
 -- ---- the outcomes of all schedules
@@ -68,7 +68,7 @@ pub record IsTraceInNames (f : ScheduleForm) (o : Options) (t : Tree) (r : Table
 -- what is told of them is found in the table of the meaning
 pub record AreOutcomes (form : Format) (o : Options) (t : Tree) (r : Tables) (l : code_legend.Legend) (verdict : ShowVerdict) (text : List ℕ) : Type 0 where
   pub so : AreOutcomesOf form o r l verdict text
-  pub found : IsFoundIn (λ choices. table (named t (named_gates o.gates)) choices o.steps) o.choices so.told.finding
+  pub found : IsFoundIn (λ choices. table (named t (named_discipline o.discipline)) choices o.steps) o.choices so.told.finding
 
 -- with what no schedule comes to behind them, where that is asked for
 abbrev pub AreOutcomesShown : (json cover : Bool) → Options → Tree → Tables → code_legend.Legend → ShowVerdict → List ℕ → Type 0
@@ -78,11 +78,11 @@ AreOutcomesShown json cover o t r l verdict text = (told : List ℕ) × AreOutco
 
 -- the program that is marked, the limits within which it is, and the form in which that is told
 abbrev pub setting_of : (json : Bool) → Options → Tables → code_legend.Legend → (source : List (List ℕ)) → Setting
-setting_of json o r l source = record { legend = legend_seen l; program = r; gates = o.gates; choices = o.choices; steps = o.steps; states = o.states; source = source; as_json = json }
+setting_of json o r l source = record { legend = legend_seen l; program = r; gates = o.discipline; choices = o.choices; steps = o.steps; states = o.states; source = source; as_json = json }
 
 -- the mark of what is read to be expected, by the table of the meaning; and the text or the object that tells it
 pub record IsMarkOf (json : Bool) (o : Options) (t : Tree) (r : Tables) (l : code_legend.Legend) (source : List (List ℕ)) (reading : Reading) (verdict : ShowVerdict) (text : List ℕ) : Type 0 where
-  pub told : TellsMark (constant_names t.program) reading.expectations.items (table (named t (named_gates o.gates)) o.choices o.steps) verdict
+  pub told : TellsMark (constant_names t.program) reading.expectations.items (table (named t (named_discipline o.discipline)) o.choices o.steps) verdict
   pub written : TellsText (setting_of json o r l source) reading.expectations.items (option_map (λ w. w.now) reading.doubtful) verdict text
 
 -- the mark of the expectations that the words or the comments of the source give, by the meaning; and what tells it of schedules within the limits

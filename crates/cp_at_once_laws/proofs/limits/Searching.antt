@@ -1,5 +1,5 @@
 -- What the search at once takes is gone through, whatever the limit of steps; and what goes on for ever in it is told.
-use Rattle.std.proofs.Common.{◌≡◌, ◌⊎◌, inl, inr, ◌∙◌, ◌+◌, ◌≤◌, ◌<◌, ℕ, zero, suc, None, Some, ap, sym, refl, subst, arith}
+use Rattle.std.proofs.Common.{◌≡◌, ◌⊎◌, inl, inr, ◌∙◌, ◌+◌, ◌≤◌, ℕ, zero, suc, None, Some, ap, sym, refl, subst, arith}
 use Rattle.cp_at_once_laws.proofs.Words.{OutcomeKind, Turn, Over, Due, Goes, System, Repeats, repeated_part, IsTurnKnown, FollowsEach, FollowsOne, GoesThrough, some_same}
 use Rattle.cp_at_once_laws.proofs.Words.{distance, AnyOf, Moment, stretch_moments, IsCut, IsRound, spot_after, spot_by, from_there, rounds, happens_early}
 use Rattle.cp_run.specs.Run.{Node, Choosing, node_at, turn_after, stretch}

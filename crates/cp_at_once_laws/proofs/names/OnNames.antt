@@ -1,6 +1,6 @@
 -- What the search at once on the slot machine goes through leaves nothing out of the meaning of the program on its own names.
-use Rattle.cp_at_once_laws.proofs.Words.{◌≡◌, ℕ, true, false, List, ap, subst, Contains, IsRead, Tree, plain, laid, Tables, IsAccepted, well_formed, Machine, First}
-use Rattle.cp_at_once_laws.proofs.Words.{first_gates, State, IsWellFormed, OutcomeKind, CanGo, GoInStep, Commutes, ShowsValue, names, IsSomewhere, IsQuietStep}
+use Rattle.cp_at_once_laws.proofs.Words.{◌≡◌, ℕ, true, false, List, ap, subst, Contains, IsRead, Tree, plain, laid, Tables, IsAccepted, well_formed, Machine, by_the_book}
+use Rattle.cp_at_once_laws.proofs.Words.{book_discipline, State, IsWellFormed, OutcomeKind, CanGo, GoInStep, Commutes, ShowsValue, names, IsSomewhere, IsQuietStep}
 use Rattle.cp_at_once_laws.proofs.Words.{SearchesAtOnce, HasQuietLeg, IsPlain, slots, named, is_some, named_without_output, silent_slots}
 use Rattle.cp_machine.specs.declared.shown.Shown.{Shown}
 use Rattle.cp_refine.proofs.Meaning.{goes_in_step}
@@ -18,7 +18,7 @@ use Rattle.cp_at_once_laws.proofs.names.Values.{IsShownIn, shown_in, shows_call}
 use Rattle.cp_at_once_laws.proofs.rules.Started.{starts_known}
 
 module _ (t : Tree) (r : Tables) (read : IsRead t.program) (ok : IsAccepted t) (rules : StartsKnown t.program) (same : plain r ≡ laid t) where
-  go : GoInStep (names t) (silent_slots r First) (OnSlots t r)
+  go : GoInStep (names t) (silent_slots r by_the_book) (OnSlots t r)
   go = in_step t r read ok rules same
 
   wf : IsWellFormed t.program
@@ -36,34 +36,34 @@ module _ (t : Tree) (r : Tables) (read : IsRead t.program) (ok : IsAccepted t) (
   plain_names : IsPlain (names t) (IsSomewhere t)
   plain_names = is_plain t wf (kept t wf rules) (beside_law t wf rules)
 
-  module _ (steps most : ℕ) (states : Machine → Type 0) (told : OutcomeKind → Type 0) (alone spins : ℕ → Type 0) (told_value : Shown → Type 0) (search : SearchesAtOnce (silent_slots r First) steps most (IsQuietOnSlots r) states told alone spins (Tells r told_value)) where
+  module _ (steps most : ℕ) (states : Machine → Type 0) (told : OutcomeKind → Type 0) (alone spins : ℕ → Type 0) (told_value : Shown → Type 0) (search : SearchesAtOnce (silent_slots r by_the_book) steps most (IsQuietOnSlots r) states told alone spins (Tells r told_value)) where
     -- a step that shows the value on names, and is told on slots
-    value_of : (v : Shown) → IsShown (names t) (silent_slots r First) (OnSlots t r) go free (IsQuietStep t) (IsQuietOnSlots r) quick (IsSomewhere t) law plain_names steps most states told alone spins (Tells r told_value) search (ShowsValue t v) → told_value v
+    value_of : (v : Shown) → IsShown (names t) (silent_slots r by_the_book) (OnSlots t r) go free (IsQuietStep t) (IsQuietOnSlots r) quick (IsSomewhere t) law plain_names steps most states told alone spins (Tells r told_value) search (ShowsValue t v) → told_value v
     value_of v m =
-        let can : CanGo (named t first_gates) m.state m.process = record { below = m.can.below; ready = m.can.ready; free = m.can.free } in
-        let there = (goes_in_step t r first_gates read ok same).step m.state m.other m.process m.same can in
-        let alike = ((goes_in_step t r first_gates read ok same).alike ((named t first_gates).step m.state m.process) ((slots r First).step m.other m.process) there).output in
+        let can : CanGo (named t book_discipline) m.state m.process = record { below = m.can.below; ready = m.can.ready; free = m.can.free } in
+        let there = (goes_in_step t r book_discipline read ok same).step m.state m.other m.process m.same can in
+        let alike = ((goes_in_step t r book_discipline read ok same).alike ((named t book_discipline).step m.state m.process) ((slots r by_the_book).step m.other m.process) there).output in
         m.shows v (subst (λ (out : List Shown). Contains out v) alike m.mark)
 
-    values_told : (limit : ℕ) (word : List ℕ) (v : Shown) → ShowsAfter (named t first_gates) named_without_output limit word v → told_value v
+    values_told : (limit : ℕ) (word : List ℕ) (v : Shown) → ShowsAfter (named t book_discipline) named_without_output limit word v → told_value v
     values_told limit word v h =
-        let x : IsShownIn (named t first_gates) named_without_output limit word v = shown_in (named t first_gates) named_without_output limit word v h in
+        let x : IsShownIn (named t book_discipline) named_without_output limit word v = shown_in (named t book_discipline) named_without_output limit word v h in
         let here = met_there (names t) (IsSomewhere t) (IsQuietStep t) law plain_names limit word x.begin x.first x.after x.state x.process x.sets_out x.stands in
         let none = (known t wf (kept t wf rules) here.0.happened x.state here.0.met).output in
         value_of v
-        (marks_told (names t) (silent_slots r First) (OnSlots t r) go free (IsQuietStep t) (IsQuietOnSlots r) quick (IsSomewhere t) law plain_names steps most states told alone spins (Tells r told_value) search (ShowsValue t v)
+        (marks_told (names t) (silent_slots r by_the_book) (OnSlots t r) go free (IsQuietStep t) (IsQuietOnSlots r) quick (IsSomewhere t) law plain_names steps most states told alone spins (Tells r told_value) search (ShowsValue t v)
         (shows_there t wf (kept t wf rules) (beside_law t wf rules) v) (shows_back t wf (kept t wf rules) (beside_law t wf rules) v) limit word x.begin x.first x.after x.state x.process x.sets_out x.stands (shows_call t x.state x.process v none x.shown) x.shown)
 
     pub none_left : LeavesNone t told alone spins told_value
     none_left =
         record {
-          ends = no_end_left (names t) (silent_slots r First) (OnSlots t r) go free (IsQuietStep t) (IsQuietOnSlots r) quick (IsSomewhere t) law plain_names steps most states told alone spins (Tells r told_value) search;
+          ends = no_end_left (names t) (silent_slots r by_the_book) (OnSlots t r) go free (IsQuietStep t) (IsQuietOnSlots r) quick (IsSomewhere t) law plain_names steps most states told alone spins (Tells r told_value) search;
           values = values_told;
         }
 
 -- for predicates of any kind
 pub leaves_none : (t : Tree) (r : Tables) → IsRead t.program → IsAccepted t → plain r ≡ laid t → (steps most : ℕ) (kept : Machine → Type 0) (known : OutcomeKind → Type 0) (alone spins : ℕ → Type 0) (told : Shown → Type 0) →
-    SearchesAtOnce (silent_slots r First) steps most (IsQuietOnSlots r) kept known alone spins (Tells r told) → LeavesNone t known alone spins told
+    SearchesAtOnce (silent_slots r by_the_book) steps most (IsQuietOnSlots r) kept known alone spins (Tells r told) → LeavesNone t known alone spins told
 leaves_none t r read ok same steps most kept known alone spins told search = none_left t r read ok (starts_known t read ok) same steps most kept known alone spins told search
 
 pub leaves_nothing_out : LeavesNothingOut

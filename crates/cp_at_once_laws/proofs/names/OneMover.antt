@@ -1,6 +1,6 @@
 -- Where a stretch that goes on for ever comes back to the same processes, one process makes each of its steps.
 use Rattle.std.proofs.Common.{◌≡◌, ◌≢◌, ℕ, zero, suc, ◌+◌, ◌≤◌, ◌∙◌, ◌⊎◌, inl, inr, true, Ok, Err, ap, sym, refl, subst, arith}
-use Rattle.cp_at_once_laws.proofs.Words.{Tree, Outcome, Status, ready, process_at, first_gates, State, delays, Doing, kernel_step, IsWellFormed, OrderlyState}
+use Rattle.cp_at_once_laws.proofs.Words.{Tree, Outcome, Status, ready, process_at, book_discipline, State, delays, Doing, kernel_step, IsWellFormed, OrderlyState}
 use Rattle.cp_at_once_laws.proofs.Words.{reached, Over, Goes, turn_after, event_of, is_call, names, IsSomewhere, IsPlain, status_told}
 use Rattle.cp_machine.specs.declared.event.Event as slot_event
 use Rattle.cp_machine.specs.declared.event.Event.TheVariants as event
@@ -53,19 +53,19 @@ module _ (t : Tree) (wf : IsWellFormed t.program) (rules : StartsKnown t.program
 
     module _ (d : Doing) (f : Facts t.program s pid d) (is : step_of t.program s pid ≡ kernel_step t.program s pid d d.move) where
       inv : OrderlyState s
-      inv = (reached t.program wf first_gates s k.reach).1
+      inv = (reached t.program wf book_discipline s k.reach).1
 
       now_of : (z : ℕ) → status_of ((names t).step s pid) z ≡ status_of (kernel_step t.program s pid d d.move).state z
       now_of z = ap (λ x. (process_at x.state.processes z).status) is
 
       call_of : (m : ℕ) → GoesFrom d.move m → is_call ((names t).event s pid) ≡ true
-      call_of m g = ap (λ x. is_call (event_of pid (line_at t s pid) x.event)) is ∙ goes_call t.program s pid d is_ready inv.orderly.lines (λ m. f.good.layout.line m) k.gates pid (line_at t s pid) d.move m g
+      call_of m g = ap (λ x. is_call (event_of pid (line_at t s pid) x.event)) is ∙ goes_call t.program s pid d is_ready inv.orderly.lines (λ m. f.good.layout.line m) k.discipline pid (line_at t s pid) d.move m g
 
-      woken : (z : ℕ) → Woken t.program s pid d is_ready inv.orderly.lines (λ m. f.good.layout.line m) k.gates d.move z (process_at (kernel_step t.program s pid d d.move).state.processes z)
-      woken z = woken_by t.program s pid d is_ready inv.orderly.lines (λ m. f.good.layout.line m) k.gates d.move z
+      woken : (z : ℕ) → Woken t.program s pid d is_ready inv.orderly.lines (λ m. f.good.layout.line m) k.discipline d.move z (process_at (kernel_step t.program s pid d d.move).state.processes z)
+      woken z = woken_by t.program s pid d is_ready inv.orderly.lines (λ m. f.good.layout.line m) k.discipline d.move z
 
       own_now : (status_of (kernel_step t.program s pid d d.move).state pid ≡ ready) ⊎ Becomes d.move (status_of (kernel_step t.program s pid d d.move).state pid)
-      own_now = own_status t.program s pid d is_ready inv.orderly.lines (λ m. f.good.layout.line m) k.gates d.move
+      own_now = own_status t.program s pid d is_ready inv.orderly.lines (λ m. f.good.layout.line m) k.discipline d.move
 
       -- two would be ready, and a choice due
       never_two : (m z : ℕ) → z ≢ pid → status_of (kernel_step t.program s pid d d.move).state z ≡ ready → GoesFrom d.move m → ((status : Status) → Becomes d.move status → status ≡ ready) → ⊥
@@ -78,7 +78,7 @@ module _ (t : Tree) (wf : IsWellFormed t.program) (rules : StartsKnown t.program
       stuck_after : (z : ℕ) → IsStuck (status_of s z) → IsStuck (status_of ((names t).step s pid) z)
       stuck_after z h = subst IsStuck (sym (now_of z)) (go (woken z))
         where
-          go : Woken t.program s pid d is_ready inv.orderly.lines (λ m. f.good.layout.line m) k.gates d.move z (process_at (kernel_step t.program s pid d d.move).state.processes z) → IsStuck (status_of (kernel_step t.program s pid d d.move).state z)
+          go : Woken t.program s pid d is_ready inv.orderly.lines (λ m. f.good.layout.line m) k.discipline d.move z (process_at (kernel_step t.program s pid d d.move).state.processes z) → IsStuck (status_of (kernel_step t.program s pid d d.move).state z)
           go (unchanged e) = subst IsStuck (sym e) h
           go (own e) = absurd (not_ready_stuck (status_of s z) (ap (status_of s) e ∙ is_ready) h)
           go (both_ready m ne now g b) = absurd (never_two m z ne now g b)
@@ -95,7 +95,7 @@ module _ (t : Tree) (wf : IsWellFormed t.program) (rules : StartsKnown t.program
           delayed_now m move (inl e) = inl (λ now. (let call = call_of m (subst (λ v. GoesFrom v m) (sym move) refl) in
               not_ready_gate (status_of s z) (ap (status_of s) (alone_ready call z now ∙ sym (alone_ready call pid (now_of pid ∙ e))) ∙ is_ready) h))
 
-          go : Woken t.program s pid d is_ready inv.orderly.lines (λ m. f.good.layout.line m) k.gates d.move z (process_at (kernel_step t.program s pid d d.move).state.processes z) → IsAtGate (status_of ((names t).step s pid) z) ⊎ IsStuck (status_of ((names t).step s pid) pid)
+          go : Woken t.program s pid d is_ready inv.orderly.lines (λ m. f.good.layout.line m) k.discipline d.move z (process_at (kernel_step t.program s pid d d.move).state.processes z) → IsAtGate (status_of ((names t).step s pid) z) ⊎ IsStuck (status_of ((names t).step s pid) pid)
           go (unchanged e) = inl (subst IsAtGate (sym (now_of z ∙ e)) h)
           go (own e) = absurd (not_ready_gate (status_of s z) (ap (status_of s) e ∙ is_ready) h)
           go (both_ready m ne now g b) = absurd (never_two m z ne now g b)
@@ -107,7 +107,7 @@ module _ (t : Tree) (wf : IsWellFormed t.program) (rules : StartsKnown t.program
           go (begun_now e) = absurd (subst IsAtGate e h)
 
       mover_after : (y ≡ pid) ⊎ (IsAtGate (status_of ((names t).step s pid) pid) ⊎ IsStuck (status_of ((names t).step s pid) pid))
-      mover_after = go (own_what t.program s pid d is_ready inv.orderly.lines (λ m. f.good.layout.line m) k.gates d.move)
+      mover_after = go (own_what t.program s pid d is_ready inv.orderly.lines (λ m. f.good.layout.line m) k.discipline d.move)
         where
           here : status_of ((names t).step s pid) pid ≡ ready → (e : slot_event.Event) → (names t).event s pid ≡ e → EventKind e → y ≡ pid
           here now _ e is_local =
@@ -128,7 +128,7 @@ module _ (t : Tree) (wf : IsWellFormed t.program) (rules : StartsKnown t.program
       ends_after : (names t).event s pid ≡ event.Ended → IsStuck (status_of ((names t).step s pid) pid)
       ends_after e =
           subst IsStuck (sym (now_of pid))
-          (end_stuck t.program s pid d is_ready inv.orderly.lines (λ m. f.good.layout.line m) k.gates (within_of s.processes pid is_ready) pid (line_at t s pid) (ap (λ x. event_of pid (line_at t s pid) x.event) (sym is) ∙ e))
+          (end_stuck t.program s pid d is_ready inv.orderly.lines (λ m. f.good.layout.line m) k.discipline (within_of s.processes pid is_ready) pid (line_at t s pid) (ap (λ x. event_of pid (line_at t s pid) x.event) (sym is) ∙ e))
 
     by_outcome : (o : Outcome Doing) → AllFacts t.program s pid o → step_of t.program s pid ≡ settled t.program s pid o → GoesOnTo s pid y
     by_outcome (Ok d) f is = record { stuck = stuck_after d f is; gate = gate_after d f is; mover = mover_after d f is; ends = ends_after d f is }
@@ -139,7 +139,7 @@ module _ (t : Tree) (wf : IsWellFormed t.program) (rules : StartsKnown t.program
 
     step_goes : GoesOnTo s pid y
     step_goes =
-        let inv = reached t.program wf first_gates s k.reach in
+        let inv = reached t.program wf book_discipline s k.reach in
         by_outcome (done t.program s pid) (facts t.program s pid wf inv.0 inv.1 (within_of s.processes pid is_ready) is_ready rules k.unknown) refl
 
   -- ---- a stretch that goes on for ever

@@ -1,6 +1,6 @@
 -- At the start process 0 alone is ready.
 use Rattle.cp_at_once_laws.proofs.Words.{◌≡◌, ◌∙◌, ℕ, zero, suc, List, [], ◌∷◌, sym, refl, SystemKind, Program, Component, unstarted, ready, Process, process_at}
-use Rattle.cp_at_once_laws.proofs.Words.{first_gates, first_components, process_first, processes_from, own_begun, opening, kind_at, program_kind}
+use Rattle.cp_at_once_laws.proofs.Words.{book_discipline, first_components, process_first, processes_from, own_begun, opening, kind_at, program_kind}
 use Rattle.cp_tree.specs.declared.declaration.SystemKind.TheVariants as system_kind
 
 unstarted_first : (k : SystemKind) (n : ℕ) (ps : List Process) → ((q : ℕ) → (process_at ps q).status ≡ unstarted) → (q : ℕ) → (process_at (process_first k n ps) q).status ≡ unstarted
@@ -16,7 +16,7 @@ unstarted_later : (p : Program) (cs : List Component) (ps : List Process) → ((
 unstarted_later p (c ∷ cs) [] h q = h (suc q)
 unstarted_later p _ _ h q = h (suc q)
 
-pub later_not_ready : (p : Program) (q : ℕ) → (process_at (opening p first_gates).processes (suc q)).status ≡ ready → ⊥
+pub later_not_ready : (p : Program) (q : ℕ) → (process_at (opening p book_discipline).processes (suc q)).status ≡ ready → ⊥
 later_not_ready p q e = (let bad : unstarted ≡ ready = sym (unstarted_later p (first_components p) (processes_from 0 (first_components p)) (unstarted_from 0 (first_components p)) q) ∙ e in cc)
 
 -- the first component is the program's
@@ -31,5 +31,5 @@ first_of p (c ∷ cs) ne e = own_ready p c.kind c cs (processes_from 1 cs) e
 is_cons : (c : Component) (cs : List Component) → c ∷ cs ≡ [] → ⊥
 is_cons c cs e = absurd cc
 
-pub first_ready : (p : Program) → (process_at (opening p first_gates).processes 0).status ≡ ready
+pub first_ready : (p : Program) → (process_at (opening p book_discipline).processes 0).status ≡ ready
 first_ready p = first_of p (first_components p) (is_cons _ _) (program_kind p)

@@ -1,6 +1,6 @@
 -- A leg that may be made at once on slots is a quiet leg on names: what is as it was after the leg was so after each of its steps.
 use Rattle.cp_at_once_laws.proofs.Words.{◌≡◌, ◌∙◌, ◌⊎◌, inl, inr, ℕ, ◌<◌, ◌≤◌, length, ap, sym, refl, arith, IsRead, Program, Tree, SystemKind, plain, laid, Tables}
-use Rattle.cp_at_once_laws.proofs.Words.{IsAccepted, well_formed, Machine, First, first_components, kind_at, status_at, reached, CanGo, GoInStep, is_call, QuietLeg}
+use Rattle.cp_at_once_laws.proofs.Words.{IsAccepted, well_formed, Machine, by_the_book, first_components, kind_at, status_at, reached, CanGo, GoInStep, is_call, QuietLeg}
 use Rattle.cp_at_once_laws.proofs.Words.{calls_quietly, after_quiet, HasQuietLeg, status_told, slots, named, names, is_quiet, IsQuietStep}
 use Rattle.std.proofs.lemmas.Bool.{cases_lt}
 use Rattle.std.specs.Prelude.{slice_index_or}
@@ -10,7 +10,7 @@ use Rattle.cp_slots.specs.declared.tables.ComponentKind.TheVariants as kind
 use Rattle.cp_slots.specs.Tables as tables
 use Rattle.cp_machine.specs.declared.state.Phase.{Phase}
 use Rattle.cp_machine.specs.declared.state.Phase.TheVariants.{Uninitialised, Initialising, Initialised}
-use Rattle.cp_meaning.specs.State.{ComponentStatus, uninitialised, initialising, initialised, process_at, first_gates, State}
+use Rattle.cp_meaning.specs.State.{ComponentStatus, uninitialised, initialising, initialised, process_at, book_discipline, State}
 use Rattle.cp_meaning.proofs.Held.{kind_past}
 use Rattle.cp_resolved.specs.Resolved.{KindIs}
 use Rattle.cp_resolved.specs.TreeLayouts.{layouts_of}
@@ -29,7 +29,7 @@ use Rattle.cp_at_once_laws.proofs.pairs.Onwards.{rank, rank_same, Onwards, onwar
 
 -- the machine stands for the state on names
 abbrev pub OnSlots : Tree → Tables → State → Machine → Type 0
-OnSlots t r = Simulates t r (layouts_of t) first_gates
+OnSlots t r = Simulates t r (layouts_of t) book_discipline
 
 -- ---- a phase is one status
 
@@ -64,10 +64,10 @@ is_process system_kind.Process = inl refl
 is_process x = inr (λ e. cc)
 
 module _ (t : Tree) (r : Tables) (read : IsRead t.program) (ok : IsAccepted t) (rules : StartsKnown t.program) (same : plain r ≡ laid t) where
-  pub in_step : GoInStep (names t) (silent_slots r First) (OnSlots t r)
+  pub in_step : GoInStep (names t) (silent_slots r by_the_book) (OnSlots t r)
   in_step =
-      silent_in_step (named t first_gates) (slots r First) (OnSlots t r) (goes_in_step t r first_gates read ok same) named_without_output without_output
-      (λ s m h. forgets t r (layouts_of t) first_gates s m h) (leaves t first_gates)
+      silent_in_step (named t book_discipline) (slots r by_the_book) (OnSlots t r) (goes_in_step t r book_discipline read ok same) named_without_output without_output
+      (λ s m h. forgets t r (layouts_of t) book_discipline s m h) (leaves t book_discipline)
 
   -- ---- the states after a leg
 
@@ -75,9 +75,9 @@ module _ (t : Tree) (r : Tables) (read : IsRead t.program) (ok : IsAccepted t) (
   on_names s m p h can n =
       let wf = well_formed t ok in
       let u = unpending t.program wf rules s h.reached in
-      let inv = reached t.program wf first_gates s h.reached in
+      let inv = reached t.program wf book_discipline s h.reached in
       let is_ready = status_told (process_at s.processes p).status can.ready in
-      step_onwards t.program wf rules s p u.gates inv.0 inv.1 (within_of s.processes p is_ready) is_ready u.unknown n
+      step_onwards t.program wf rules s p u.discipline inv.0 inv.1 (within_of s.processes p is_ready) is_ready u.unknown n
 
   record Along (s : State) (p : ℕ) (u : Machine) : Type 0 where
     after : State
@@ -85,7 +85,7 @@ module _ (t : Tree) (r : Tables) (read : IsRead t.program) (ok : IsAccepted t) (
     onwards : (n : ℕ) → Onwards (first_components t.program) s.components after.components n
     quietly : ((n : ℕ) → status_at after.components n ≡ status_at s.components n) → QuietLeg (names t) (IsQuietStep t) s p after
 
-  along : (m : Machine) (p : ℕ) (u : Machine) → QuietLeg (silent_slots r First) (IsQuietEvent r) m p u → (s : State) → OnSlots t r s m → CanGo (names t) s p → Along s p u
+  along : (m : Machine) (p : ℕ) (u : Machine) → QuietLeg (silent_slots r by_the_book) (IsQuietEvent r) m p u → (s : State) → OnSlots t r s m → CanGo (names t) s p → Along s p u
   along _ _ _ (calls_quietly m p k h) s stands can =
       let event = in_step.event s m p stands can in
       record {
@@ -94,12 +94,12 @@ module _ (t : Tree) (r : Tables) (read : IsRead t.program) (ok : IsAccepted t) (
         onwards = on_names s m p stands can;
         quietly = λ keeps. calls_quietly s p (record { event = ap is_quiet event ∙ k; statuses = keeps }) (ap is_call event ∙ h);
       }
-  along _ _ _ (after_quiet m p u k h l) s stands can = go (along ((silent_slots r First).step m p) p u l ((names t).step s p) there still)
+  along _ _ _ (after_quiet m p u k h l) s stands can = go (along ((silent_slots r by_the_book).step m p) p u l ((names t).step s p) there still)
     where
-      event : (names t).event s p ≡ (silent_slots r First).event m p
+      event : (names t).event s p ≡ (silent_slots r by_the_book).event m p
       event = in_step.event s m p stands can
 
-      there : OnSlots t r ((names t).step s p) ((silent_slots r First).step m p)
+      there : OnSlots t r ((names t).step s p) ((silent_slots r by_the_book).step m p)
       there = in_step.step s m p stands can
 
       still : CanGo (names t) ((names t).step s p) p
@@ -139,7 +139,7 @@ module _ (t : Tree) (r : Tables) (read : IsRead t.program) (ok : IsAccepted t) (
       ∙ sym (phase_told r t.program n (kind_at (first_components t.program) n) (tables.component_at r n).kind kinds other (status_at s.components n) (slice_index_or m.phases n Uninitialised) (hs.represents.components n below_s).phase)
     where
       stands : length r.components ≡ length (first_components t.program)
-      stands = (it t r first_gates read ok same).stands.count
+      stands = (it t r book_discipline read ok same).stands.count
 
       less : n < length (first_components t.program)
       less = go (cases_lt n (length (first_components t.program)))
@@ -158,7 +158,7 @@ module _ (t : Tree) (r : Tables) (read : IsRead t.program) (ok : IsAccepted t) (
       below_x = (let l = there in let e = hx.represents.component_count in omega (arith, l, e))
 
       kinds : KindIs r t.program n (kind_at (first_components t.program) n) (tables.component_at r n).kind
-      kinds = ((it t r first_gates read ok same).stands.components n there).kind
+      kinds = ((it t r book_discipline read ok same).stands.components n there).kind
 
   pub quiet_leg : (s : State) (m : Machine) (p : ℕ) → OnSlots t r s m → CanGo (names t) s p → IsQuietOnSlots r m p → HasQuietLeg (names t) (IsQuietStep t) s p
   quiet_leg s m p h can q = (a.after, a.quietly keeps)

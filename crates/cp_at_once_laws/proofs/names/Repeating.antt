@@ -1,6 +1,6 @@
 -- A stretch that is seen to repeat on slots goes on for ever on names, and one process makes each of its steps.
 use Rattle.std.proofs.Common.{◌≡◌, inl, inr, ◌∙◌, ◌+◌, ◌≤◌, ℕ, zero, suc, true, List, Option, None, Some, ap, sym, refl, subst, arith}
-use Rattle.cp_at_once_laws.proofs.Words.{IsRead, Tree, plain, laid, Tables, IsAccepted, well_formed, Machine, First, State, IsWellFormed, Turn, Over, Due, Goes, System}
+use Rattle.cp_at_once_laws.proofs.Words.{IsRead, Tree, plain, laid, Tables, IsAccepted, well_formed, Machine, by_the_book, State, IsWellFormed, Turn, Over, Due, Goes, System}
 use Rattle.cp_at_once_laws.proofs.Words.{Choosing, opened, turn_after, CanGo, GoInStep, AnyOf, stretch_moments, silent_slots, Commutes, names, IsSomewhere, IsQuietStep}
 use Rattle.cp_at_once_laws.proofs.Words.{IsPlain, some_same, distance, Repeats, repeated_part, CallsAt, IsKernelCall, from_there, rounds, happens_early}
 use Rattle.cp_machine.specs.declared.event.Event as slot_event
@@ -52,9 +52,9 @@ step_told {S} sys x y e = go (turn_after sys (sys.step x.0 x.1) x.1 (sys.event x
 
 -- ---- a stretch that repeats
 
-module _ (t : Tree) (r : Tables) (read : IsRead t.program) (ok : IsAccepted t) (same : plain r ≡ laid t) (limit : ℕ) (word : List ℕ) (begin : Machine) (first : ℕ) (out : SetsOut (silent_slots r First) limit word begin first) (rep : Repeats (silent_slots r First) limit begin first) where
+module _ (t : Tree) (r : Tables) (read : IsRead t.program) (ok : IsAccepted t) (same : plain r ≡ laid t) (limit : ℕ) (word : List ℕ) (begin : Machine) (first : ℕ) (out : SetsOut (silent_slots r by_the_book) limit word begin first) (rep : Repeats (silent_slots r by_the_book) limit begin first) where
   abbrev b : System Machine
-  b = silent_slots r First
+  b = silent_slots r by_the_book
 
   abbrev V : Machine → State → ℕ → Type 0
   V m s p = OnSlots t r s m × CanGo (names t) s p
@@ -65,27 +65,27 @@ module _ (t : Tree) (r : Tables) (read : IsRead t.program) (ok : IsAccepted t) (
   wf : IsWellFormed t.program
   wf = well_formed t ok
 
-  go : GoInStep (names t) (silent_slots r First) (OnSlots t r)
+  go : GoInStep (names t) (silent_slots r by_the_book) (OnSlots t r)
   go = in_step t r read ok rules same
 
-  alike : ChoicesAlike (silent_slots r First) (names t) limit (λ m s. OnSlots t r s m) V
-  alike = turned (names t) (silent_slots r First) limit (OnSlots t r) (λ s m p. OnSlots t r s m × CanGo (names t) s p) (in_choices (names t) (silent_slots r First) (OnSlots t r) go limit)
+  alike : ChoicesAlike (silent_slots r by_the_book) (names t) limit (λ m s. OnSlots t r s m) V
+  alike = turned (names t) (silent_slots r by_the_book) limit (OnSlots t r) (λ s m p. OnSlots t r s m × CanGo (names t) s p) (in_choices (names t) (silent_slots r by_the_book) (OnSlots t r) go limit)
 
-  round : IsRound (silent_slots r First) begin first
+  round : IsRound (silent_slots r by_the_book) begin first
   round = record { before = limit; state = rep.state; process = rep.process; comes = rep.comes; after = rep.after; returns = rep.returns }
 
-  spot : (n : ℕ) → (x : Machine × ℕ) × (spot_after (silent_slots r First) n begin first ≡ Some x)
-  spot n = a_spot (spot_after (silent_slots r First) n begin first) (rounds (silent_slots r First) begin first round n)
+  spot : (n : ℕ) → (x : Machine × ℕ) × (spot_after (silent_slots r by_the_book) n begin first ≡ Some x)
+  spot n = a_spot (spot_after (silent_slots r by_the_book) n begin first) (rounds (silent_slots r by_the_book) begin first round n)
 
   begun : (s : State) × SetsOut (names t) limit word s first × V begin s first
-  begun = sets_out_there (silent_slots r First) (names t) limit (λ m s. OnSlots t r s m) V alike word begin first out
+  begun = sets_out_there (silent_slots r by_the_book) (names t) limit (λ m s. OnSlots t r s m) V alike word begin first out
 
   abbrev There : ℕ → Type 0
   There n = (s : State) × V (spot n).0.0 s (spot n).0.1 × (spot_after (names t) n begun.0 first ≡ Some (s, (spot n).0.1))
 
   there_next : (n : ℕ) → There n → There (suc n)
   there_next n h =
-      let y = spot_there V (spot (suc n)).0.0 (spot (suc n)).0.1 (spot_after (silent_slots r First) 1 (spot n).0.0 (spot n).0.1) (spot_after (names t) 1 h.0 (spot n).0.1) (one_more (silent_slots r First) begin first n (spot n).0 (spot (suc n)).0 (spot n).1 (spot (suc n)).1) (alike.spots_on (spot n).0.0 h.0 (spot n).0.1 h.1) in
+      let y = spot_there V (spot (suc n)).0.0 (spot (suc n)).0.1 (spot_after (silent_slots r by_the_book) 1 (spot n).0.0 (spot n).0.1) (spot_after (names t) 1 h.0 (spot n).0.1) (one_more (silent_slots r by_the_book) begin first n (spot n).0 (spot (suc n)).0 (spot n).1 (spot (suc n)).1) (alike.spots_on (spot n).0.0 h.0 (spot n).0.1 h.1) in
       (y.0, y.2, ap (λ i. spot_after (names t) i begun.0 first) (sym (one_more_step n)) ∙ from_there (names t) n 1 begun.0 first h.0 (spot n).0.1 h.2 ∙ y.1)
 
   there : (n : ℕ) → There n
@@ -130,11 +130,11 @@ module _ (t : Tree) (r : Tables) (read : IsRead t.program) (ok : IsAccepted t) (
       shifted : limit + (suc rep.after + d.0) ≡ n + suc rep.after
       shifted = (let e = d.1 in omega (arith, e))
 
-      back : spot_after (silent_slots r First) (n + suc rep.after) begin first ≡ spot_after (silent_slots r First) n begin first
+      back : spot_after (silent_slots r by_the_book) (n + suc rep.after) begin first ≡ spot_after (silent_slots r by_the_book) n begin first
       back =
-          ap (λ i. spot_after (silent_slots r First) i begin first) (sym shifted) ∙ from_there (silent_slots r First) limit (suc rep.after + d.0) begin first rep.state rep.process rep.comes
-          ∙ from_there (silent_slots r First) (suc rep.after) d.0 rep.state rep.process rep.state rep.process rep.returns
-          ∙ sym (from_there (silent_slots r First) limit d.0 begin first rep.state rep.process rep.comes) ∙ ap (λ i. spot_after (silent_slots r First) i begin first) d.1
+          ap (λ i. spot_after (silent_slots r by_the_book) i begin first) (sym shifted) ∙ from_there (silent_slots r by_the_book) limit (suc rep.after + d.0) begin first rep.state rep.process rep.comes
+          ∙ from_there (silent_slots r by_the_book) (suc rep.after) d.0 rep.state rep.process rep.state rep.process rep.returns
+          ∙ sym (from_there (silent_slots r by_the_book) limit d.0 begin first rep.state rep.process rep.comes) ∙ ap (λ i. spot_after (silent_slots r by_the_book) i begin first) d.1
 
   at_limit : mover limit ≡ rep.process
   unfolding mover
@@ -146,39 +146,39 @@ module _ (t : Tree) (r : Tables) (read : IsRead t.program) (ok : IsAccepted t) (
   pub goes_on : GoesOnBy (names t) limit word rep.process
   goes_on = record { begin = begun.0; first = first; sets_out = begun.1; since = limit; moves = λ n. (state (limit + n), stands (limit + n) ∙ ap (λ i. Some (state (limit + n), i)) (one n)) }
 
-  event_there : (n : ℕ) → (names t).event (state n) (mover n) ≡ (silent_slots r First).event (spot n).0.0 (spot n).0.1
+  event_there : (n : ℕ) → (names t).event (state n) (mover n) ≡ (silent_slots r by_the_book).event (spot n).0.0 (spot n).0.1
   unfolding state mover
   event_there n = go.event (there n).0 (spot n).0.0 (spot n).0.1 (there n).1.0 (there n).1.1
 
-  pub is_alone : AnyOf (CallsAt (silent_slots r First)) (repeated_part rep) → IsAloneBy (names t) limit word rep.process
+  pub is_alone : AnyOf (CallsAt (silent_slots r by_the_book)) (repeated_part rep) → IsAloneBy (names t) limit word rep.process
   unfolding goes_on
   is_alone calls = record { goes_on = goes_on; calls = often }
     where
       often : (n : ℕ) → (m : ℕ) × (n ≤ m) × IsKernelCall ((names t).event (state (limit + m)) rep.process)
-      often n = at (calls_again (silent_slots r First) limit begin first rep (CallsAt (silent_slots r First)) calls (limit + n))
+      often n = at (calls_again (silent_slots r by_the_book) limit begin first rep (CallsAt (silent_slots r by_the_book)) calls (limit + n))
         where
-          at : (k : ℕ) × (limit + n ≤ k) × ((m : Machine) × (q : ℕ) × (spot_after (silent_slots r First) k begin first ≡ Some (m, q)) × CallsAt (silent_slots r First) (record { state = m; mover = q })) → (m : ℕ) × (n ≤ m) × IsKernelCall ((names t).event (state (limit + m)) rep.process)
+          at : (k : ℕ) × (limit + n ≤ k) × ((m : Machine) × (q : ℕ) × (spot_after (silent_slots r by_the_book) k begin first ≡ Some (m, q)) × CallsAt (silent_slots r by_the_book) (record { state = m; mover = q })) → (m : ℕ) × (n ≤ m) × IsKernelCall ((names t).event (state (limit + m)) rep.process)
           at x =
               let less = x.1 in
               let d = distance limit x.0 (omega (arith, less)) in
               let e = d.1 in
               let here = some_same (x.2.0, x.2.1) (spot x.0).0 (sym x.2.2 ∙ (spot x.0).1) in
-              let call : IsKernelCall ((names t).event (state x.0) (mover x.0)) = subst IsKernelCall (sym (event_there x.0)) (subst (λ (z : Machine × ℕ). IsKernelCall ((silent_slots r First).event z.0 z.1)) here x.2.3) in
+              let call : IsKernelCall ((names t).event (state x.0) (mover x.0)) = subst IsKernelCall (sym (event_there x.0)) (subst (λ (z : Machine × ℕ). IsKernelCall ((silent_slots r by_the_book).event z.0 z.1)) here x.2.3) in
               (d.0, omega (arith, less, e), subst (λ i. IsKernelCall ((names t).event (state (limit + d.0)) i)) (one d.0) (subst (λ i. IsKernelCall ((names t).event (state i) (mover i))) (sym d.1) call))
 
   -- a kernel call after the limit would be one in the part that repeats
-  no_call : (AnyOf (CallsAt (silent_slots r First)) (repeated_part rep) → ⊥) → (n : ℕ) → IsKernelCall ((names t).event (state (limit + n)) (mover (limit + n))) → ⊥
+  no_call : (AnyOf (CallsAt (silent_slots r by_the_book)) (repeated_part rep) → ⊥) → (n : ℕ) → IsKernelCall ((names t).event (state (limit + n)) (mover (limit + n))) → ⊥
   no_call none n call =
-      let again_round : IsRound (silent_slots r First) rep.state rep.process = record { before = 0; state = rep.state; process = rep.process; comes = refl; after = rep.after; returns = rep.returns } in
-      none (subst (λ i. AnyOf (CallsAt (silent_slots r First)) (stretch_moments (silent_slots r First) i rep.state rep.process)) (zero_less (suc rep.after))
-      (happens_early (silent_slots r First) rep.state rep.process again_round (CallsAt (silent_slots r First)) (suc n)
-      (any_moment (silent_slots r First) (CallsAt (silent_slots r First)) (suc n) rep.state rep.process n (spot (limit + n)).0.0 (spot (limit + n)).0.1 (omega arith) (sym (from_there (silent_slots r First) limit n begin first rep.state rep.process rep.comes) ∙ (spot (limit + n)).1)
+      let again_round : IsRound (silent_slots r by_the_book) rep.state rep.process = record { before = 0; state = rep.state; process = rep.process; comes = refl; after = rep.after; returns = rep.returns } in
+      none (subst (λ i. AnyOf (CallsAt (silent_slots r by_the_book)) (stretch_moments (silent_slots r by_the_book) i rep.state rep.process)) (zero_less (suc rep.after))
+      (happens_early (silent_slots r by_the_book) rep.state rep.process again_round (CallsAt (silent_slots r by_the_book)) (suc n)
+      (any_moment (silent_slots r by_the_book) (CallsAt (silent_slots r by_the_book)) (suc n) rep.state rep.process n (spot (limit + n)).0.0 (spot (limit + n)).0.1 (omega arith) (sym (from_there (silent_slots r by_the_book) limit n begin first rep.state rep.process rep.comes) ∙ (spot (limit + n)).1)
       (subst IsKernelCall (event_there (limit + n)) call))))
     where
       zero_less : (n : ℕ) → 0 + n ≡ n
       zero_less n = omega arith
 
-  pub does_spin : (AnyOf (CallsAt (silent_slots r First)) (repeated_part rep) → ⊥) → SpinsBy (names t) limit word rep.process
+  pub does_spin : (AnyOf (CallsAt (silent_slots r by_the_book)) (repeated_part rep) → ⊥) → SpinsBy (names t) limit word rep.process
   unfolding goes_on
   does_spin none = record { goes_on = goes_on; local = local }
     where
@@ -202,5 +202,5 @@ pub repeats_by_one : RepeatsByOneLaw
 repeats_by_one t r read ok same =
     record {
       alone = λ limit word q x. subst (IsAloneBy (names t) limit word) x.is (is_alone t r read ok same limit word x.begin x.first x.sets_out x.repeats x.calls);
-      spins = λ limit word q x. subst (SpinsBy (names t) limit word) x.is (does_spin t r read ok same limit word x.begin x.first x.sets_out x.repeats (λ calls. each_none (CallsAt (silent_slots r First)) (repeated_part x.repeats) x.calls_none calls));
+      spins = λ limit word q x. subst (SpinsBy (names t) limit word) x.is (does_spin t r read ok same limit word x.begin x.first x.sets_out x.repeats (λ calls. each_none (CallsAt (silent_slots r by_the_book)) (repeated_part x.repeats) x.calls_none calls));
     }

@@ -1,7 +1,7 @@
 -- What is known of the states that are met without output, where the first of a line goes in.
 use Rattle.std.proofs.Common.{◌≡◌, ◌⊎◌, inl, inr, ◌∙◌, ◌+◌, ◌<◌, ◌≤◌, ℕ, zero, suc, true, false, List, [], ◌∷◌, length, None, ap, sym, refl, arith}
 use Rattle.std.proofs.lemmas.Bool.{cases_order}
-use Rattle.cp_at_once_laws.proofs.Words.{SystemKind, Program, Tree, Component, ready, Process, process_at, Gates, first_gates, State, IsWellFormed, kind_at, OrderlyState}
+use Rattle.cp_at_once_laws.proofs.Words.{SystemKind, Program, Tree, Component, ready, Process, process_at, Discipline, book_discipline, State, IsWellFormed, kind_at, OrderlyState}
 use Rattle.cp_at_once_laws.proofs.Words.{reached, OwnedState, is_some, names, IsSomewhere, status_told, program_kind}
 use Rattle.cp_tree.specs.declared.declaration.SystemKind.TheVariants as system_kind
 use Rattle.cp_meaning.specs.Steps.{first_components, process_first, processes_from, own_begun, opening, step_of, IsReached, at_first, by_step, by_forgetting}
@@ -87,21 +87,21 @@ kind_first base (x ∷ ps) h (suc q) less = kind_first base ps h.1 q (omega (ari
 -- what two more invariants keep
 pub record Kept (p : Program) : Type 0 where
   pub rules : StartsKnown p
-  pub waiting_opening : (g : Gates) → Waiting (opening p g)
-  pub waiting_step : (s : State) (pid : ℕ) → OwnedState (first_components p) s → OrderlyState s → s.gates ≡ first_gates → s.pending ≡ None → pid < length s.processes → (process_at s.processes pid).status ≡ ready → Waiting s → Waiting (step_of p s pid).state
-  pub unknown_opening : (g : Gates) → ProcessesUnknown p (opening p g)
-  pub unknown_step : (s : State) (pid : ℕ) → OwnedState (first_components p) s → OrderlyState s → s.gates ≡ first_gates → pid < length s.processes → (process_at s.processes pid).status ≡ ready → ProcessesUnknown p s → ProcessesUnknown p (step_of p s pid).state
+  pub waiting_opening : (g : Discipline) → Waiting (opening p g)
+  pub waiting_step : (s : State) (pid : ℕ) → OwnedState (first_components p) s → OrderlyState s → s.discipline ≡ book_discipline → s.pending ≡ None → pid < length s.processes → (process_at s.processes pid).status ≡ ready → Waiting s → Waiting (step_of p s pid).state
+  pub unknown_opening : (g : Discipline) → ProcessesUnknown p (opening p g)
+  pub unknown_step : (s : State) (pid : ℕ) → OwnedState (first_components p) s → OrderlyState s → s.discipline ≡ book_discipline → pid < length s.processes → (process_at s.processes pid).status ≡ ready → ProcessesUnknown p s → ProcessesUnknown p (step_of p s pid).state
 
 module _ (t : Tree) (wf : IsWellFormed t.program) (kept : Kept t.program) where
   abbrev p : Program
   p = t.program
 
   abbrev first_state : State
-  first_state = opening p first_gates
+  first_state = opening p book_discipline
 
   pub record Known (s : State) : Type 0 where
-    pub reach : IsReached p first_gates s
-    pub gates : s.gates ≡ first_gates
+    pub reach : IsReached p book_discipline s
+    pub discipline : s.discipline ≡ book_discipline
     pub pending : s.pending ≡ None
     pub output : s.output ≡ []
     pub many : length s.processes ≡ length first_state.processes
@@ -115,18 +115,18 @@ module _ (t : Tree) (wf : IsWellFormed t.program) (kept : Kept t.program) where
 
   stepped : (s : State) (q : ℕ) → Known s → q < length s.processes → (process_at s.processes q).status ≡ ready → Known ((names t).step s q)
   stepped s q k less now_ready =
-      let inv = reached p wf first_gates s k.reach in
+      let inv = reached p wf book_discipline s k.reach in
       let f = facts p s q wf inv.0 inv.1 less now_ready kept.rules k.unknown in
-      let st = step_stands p wf s q k.gates inv.0 inv.1 less now_ready f in
+      let st = step_stands p wf s q k.discipline inv.0 inv.1 less now_ready f in
       record {
         reach = by_forgetting (step_of p s q).state (by_step s q k.reach k.pending less now_ready);
-        gates = st.shape.gates ∙ k.gates;
+        discipline = st.shape.discipline ∙ k.discipline;
         pending = st.shape.pending ∙ k.pending;
         output = refl;
         many = sym st.shape.many ∙ k.many;
         owners = λ n. st.other.owners n ∙ k.owners n;
-        waits = kept.waiting_step s q inv.0 inv.1 k.gates k.pending less now_ready k.waits;
-        unknown = kept.unknown_step s q inv.0 inv.1 k.gates less now_ready k.unknown;
+        waits = kept.waiting_step s q inv.0 inv.1 k.discipline k.pending less now_ready k.waits;
+        unknown = kept.unknown_step s q inv.0 inv.1 k.discipline less now_ready k.unknown;
       }
 
   -- the processes of the system are those of the state
@@ -140,13 +140,13 @@ module _ (t : Tree) (wf : IsWellFormed t.program) (kept : Kept t.program) where
   known _ _ met_first =
       record {
         reach = by_forgetting first_state at_first;
-        gates = refl;
+        discipline = refl;
         pending = refl;
         output = refl;
         many = refl;
         owners = λ q. refl;
-        waits = kept.waiting_opening first_gates;
-        unknown = kept.unknown_opening first_gates;
+        waits = kept.waiting_opening book_discipline;
+        unknown = kept.unknown_opening book_discipline;
       }
   known _ _ (met_by_step hs s q before can) = let k = known hs s before in stepped s q k (below s k q can.below) (ready_told s q can.ready)
   known _ _ (met_by_admission hs s q before can) = let k = known hs s before in absurd (none_pending s can.due k.pending)
@@ -154,12 +154,12 @@ module _ (t : Tree) (wf : IsWellFormed t.program) (kept : Kept t.program) where
   pub fits : (s : State) → IsSomewhere t s → Fits p s
   fits s met =
       let k = known met.happened s met.met in
-      let inv = reached p wf first_gates s k.reach in
+      let inv = reached p wf book_discipline s k.reach in
       let base = first_components p in
       let rising = rising_begun p base (processes_from 0 base) (rising_from 0 base) in
       let are = kinds_begun p base base (processes_from 0 base) (program_kind p) (kinds_from base 0 base (λ n. ap (kind_at base) (plain n))) in
       record {
-        first = k.gates;
+        first = k.discipline;
         free = k.pending;
         shown = k.output;
         owned = inv.0;

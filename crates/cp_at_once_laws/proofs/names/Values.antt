@@ -6,7 +6,8 @@ use Rattle.cp_at_once_laws.proofs.Words.{Status, unstarted, ready, delayed, proc
 use Rattle.std.proofs.lemmas.List.Elements.{Contains-append_cases}
 use Rattle.cp_machine.specs.declared.shown.Shown.{Shown}
 use Rattle.cp_meaning.specs.State as meaning
-use Rattle.cp_meaning.specs.Kernel.{Event, display_event, Stepped, output_room, line_of, moved_to, first_in, one_in, let_in, is_anybody_inside, entering, is_delayed_in, continuing, process_of, starting_as, starting, displaying, kernel_step}
+use Rattle.cp_meaning.specs.State.{Call, Item, Signals, return_signals, continue_signals, wait_signals}
+use Rattle.cp_meaning.specs.Kernel.{Event, display_event, Stepped, output_room, line_of, moved_to, first_in, one_in, let_in, is_anybody_inside, entering, is_delayed_in, waits_inside, continuing, notifying, yielding, going_on, signalling, process_of, starting_as, starting, displaying, kernel_step}
 use Rattle.cp_meaning.specs.Steps.{settled, step_of, view_of, line_at}
 use Rattle.cp_run.specs.Table.{each}
 use Rattle.cp_endless.specs.Forgetting.{forgetting_system}
@@ -105,8 +106,21 @@ module _ (p : Program) (s : State) (pid : ℕ) (d : Doing) where
   if_kept false t u h k = k
 
   continue_kept : (t : State) (m : ℕ) (o : Option ℕ) → Kept t → Kept (continuing t m o)
-  continue_kept t m None h = in_kept t.gates t m h
-  continue_kept t m (Some r) h = if_kept (is_delayed_in m (process_at t.processes r).status) _ _ h (in_kept t.gates t m h)
+  continue_kept t m None h = in_kept t.discipline.gates t m h
+  continue_kept t m (Some r) h = if_kept (is_delayed_in m (process_at t.processes r).status) _ _ h (in_kept t.discipline.gates t m h)
+
+  notify_kept : (t : State) (m : ℕ) (o : Option ℕ) → Kept t → Kept (notifying t m o)
+  notify_kept t m None h = h
+  notify_kept t m (Some r) h = if_kept (waits_inside t m r) _ _ h h
+
+  yield_kept : (e : Doing) (m : ℕ) (o : Option ℕ) → Kept (yielding s pid m e o)
+  yield_kept e m None = refl
+  yield_kept e m (Some r) = if_kept (waits_inside s m r) _ _ refl refl
+
+  signal_kept : (w : Signals) (m : ℕ) (o : Option ℕ) (going : List Call) (items : List Item) → Kept (signalling w s pid d m o going items)
+  signal_kept return_signals m o going items = continue_kept (moved_to ready s pid d) m o refl
+  signal_kept continue_signals m o going items = notify_kept (moved_to ready s pid (going_on d going items)) m o refl
+  signal_kept wait_signals m o going items = yield_kept (going_on d going items) m o
 
   enter_kept : (b : Bool) (m : ℕ) → Kept (entering b s pid m d)
   enter_kept true m = refl
@@ -130,9 +144,9 @@ module _ (p : Program) (s : State) (pid : ℕ) (d : Doing) where
 
   kernel_kept : (move : Move) → KeptOrShown (kernel_step p s pid d move)
   kernel_kept (enters m) = inl (enter_kept (is_anybody_inside m s.processes) m)
-  kernel_kept (leaves m) = inl (in_kept s.gates (moved_to ready s pid d) m refl)
-  kernel_kept (delays m) = inl (in_kept s.gates (moved_to (delayed m) s pid d) m refl)
-  kernel_kept (continues m o) = inl (continue_kept (moved_to ready s pid d) m o refl)
+  kernel_kept (leaves m) = inl (in_kept s.discipline.gates (moved_to ready s pid d) m refl)
+  kernel_kept (delays m) = inl (in_kept s.discipline.gates (moved_to (delayed m) s pid d) m refl)
+  kernel_kept (continues m o going items) = inl (signal_kept s.discipline.signals m o going items)
   kernel_kept (starts c e) = inl (start_kept (process_of c (moved_to ready s pid d).processes) c e)
   kernel_kept (shows y) = show_kept (length s.output == output_room) y
   kernel_kept _ = inl refl

@@ -3,11 +3,12 @@ use Rattle.std.proofs.Common.{◌≡◌, ◌≢◌, ℕ, ◌<◌, ◌≤◌, ◌
 use Rattle.cp_at_once_laws.proofs.Words.{Program, LineFits, Finished, AllWaiting, Turn, Over, Goes, System, turn_after, settled_turn, event_of, is_call}
 use Rattle.cp_machine.specs.declared.event.Event as slot_event
 use Rattle.cp_machine.specs.declared.event.Event.TheVariants as event
-use Rattle.cp_meaning.specs.State.{Status, unstarted, ready, at_gate, delayed, ended, Process, process_at, Gates, first_gates, any_gates, State}
+use Rattle.cp_meaning.specs.State.{Status, unstarted, ready, at_gate, delayed, ended, Process, process_at, Gates, first_gates, any_gates, book_discipline, State}
 use Rattle.cp_meaning.specs.Move.{Move, stays, enters, leaves, delays, continues, starts, shows, ends, Doing}
 use Rattle.cp_meaning.specs.Kernel.{output_room, moved_to, with_process_status, first_in, let_in, process_of, starting_as, starting, displaying, kernel_step}
 use Rattle.cp_meaning.proofs.Orderly as orderly
 use Rattle.cp_at_once_laws.proofs.limits.Turns.{CallTurn, nobody, alone, choice, call_turn, which_turn, one_ready}
+use Rattle.cp_at_once_laws.proofs.pairs.ByTheBook.{gates_first}
 use Rattle.cp_at_once_laws.proofs.pairs.Changes.{GoesFrom, Becomes, left_by, replaced_at, Changes, same, itself, woken, begins, moved_other, kernel_changes}
 
 -- ---- the turn after a call
@@ -45,7 +46,7 @@ IsAtGate ended = ⊥
 IsAtGate unstarted = ⊥
 IsAtGate ready = ⊥
 
-module _ (p : Program) (s : State) (pid : ℕ) (d : Doing) (is_ready : (process_at s.processes pid).status ≡ ready) (lines : (m : ℕ) → LineFits s.components s.processes m (orderly.line_at s.components m)) (kept : (m : ℕ) → orderly.line_at d.components m ≡ orderly.line_at s.components m) (first : s.gates ≡ first_gates) where
+module _ (p : Program) (s : State) (pid : ℕ) (d : Doing) (is_ready : (process_at s.processes pid).status ≡ ready) (lines : (m : ℕ) → LineFits s.components s.processes m (orderly.line_at s.components m)) (kept : (m : ℕ) → orderly.line_at d.components m ≡ orderly.line_at s.components m) (first : s.discipline ≡ book_discipline) where
   abbrev was : ℕ → Status
   was z = (process_at s.processes z).status
 
@@ -73,8 +74,8 @@ module _ (p : Program) (s : State) (pid : ℕ) (d : Doing) (is_ready : (process_
 
   by_move : (move : Move) (m z : ℕ) → GoesFrom move m → z ≢ pid → (process_at (kernel_step p s pid d move).state.processes z).status ≡ ready → Woken move z (process_at (kernel_step p s pid d move).state.processes z)
   by_move (leaves k) m z g ne e = both_ready k ne e refl (λ status b. b)
-  by_move (continues k o) m z g ne e = both_ready k ne e refl (λ status b. b)
-  by_move (delays k) m z g ne e = let_go k e refl (in_wakes k s.gates first z ne e)
+  by_move (continues k o going items) m z g ne e = both_ready k ne e refl (λ status b. b)
+  by_move (delays k) m z g ne e = let_go k e refl (in_wakes k s.discipline.gates (gates_first s first) z ne e)
   by_move _ m z g ne e = absurd g
 
   pub woken_by : (move : Move) (z : ℕ) → Woken move z (process_at (kernel_step p s pid d move).state.processes z)
@@ -114,7 +115,7 @@ module _ (p : Program) (s : State) (pid : ℕ) (d : Doing) (is_ready : (process_
 
   pub goes_call : (q line : ℕ) (move : Move) (m : ℕ) → GoesFrom move m → is_call (event_of q line (kernel_step p s pid d move).event) ≡ true
   goes_call q line (leaves k) m g = refl
-  goes_call q line (continues k o) m g = refl
+  goes_call q line (continues k o going items) m g = refl
   goes_call q line (delays k) m g = refl
   goes_call q line _ m g = absurd g
 
@@ -125,7 +126,7 @@ module _ (p : Program) (s : State) (pid : ℕ) (d : Doing) (is_ready : (process_
   end_move q line (enters m) e = absurd (cc)
   end_move q line (leaves m) e = absurd (cc)
   end_move q line (delays m) e = absurd (cc)
-  end_move q line (continues m o) e = absurd (cc)
+  end_move q line (continues m o going items) e = absurd (cc)
   end_move q line (starts c x) e = absurd (start_end (process_of c (moved_to ready s pid d).processes) e)
     where
       as_end : (r : ℕ) (status : Status) → event_of q line (starting_as p s pid d r status c x).event ≡ event.Ended → ⊥

@@ -1,7 +1,7 @@
 -- A step of a process needs nothing of others: from what it holds and what its call concerns.
 use Rattle.std.proofs.Common.{◌≡◌, ℕ, ◌<◌, ◌≤◌, ◌∙◌, ◌⊎◌, inl, inr, Bool, true, false, List, [], ◌∷◌, length, Ok, Err, ap, sym, refl, subst, length-set}
 use Rattle.cp_at_once_laws.proofs.Words.{Program, Outcome, View, Doing, takes, moved_to, first_components, status_at, HeldBy, HeldCalls, OrderlyState, OwnedState}
-use Rattle.cp_meaning.specs.State.{initialised, initial_statement, CallKind, Call, Item, init_end, ready, Process, process_at, first_gates, State}
+use Rattle.cp_meaning.specs.State.{initialised, initial_statement, CallKind, Call, Item, init_end, ready, Process, process_at, book_discipline, State}
 use Rattle.cp_meaning.proofs.Frames.{Frame, frames, TopStarts, ItemsFit}
 use Rattle.cp_at_once_laws.proofs.reading.Reading.{OwnCalls}
 use Rattle.cp_at_once_laws.proofs.reading.Taking.{LeavesOthers, EndsOwn}
@@ -44,7 +44,7 @@ module _ (procs own ln : ℕ → Bool) (x : State) (p : Program) (s : State) (pi
   Moves (Ok d) = MoveOwn procs own ln x s pid d d.move
   Moves (Err e) = Unit {0}
 
-  module _ (first : s.gates ≡ first_gates) (owned : OwnedState (first_components p) s) (orderly : OrderlyState s) (lt : pid < length s.processes) (o : Open p s pid) (other : Other s x) (flagged : Flagged) where
+  module _ (first : s.discipline ≡ book_discipline) (owned : OwnedState (first_components p) s) (orderly : OrderlyState s) (lt : pid < length s.processes) (o : Open p s pid) (other : Other s x) (flagged : Flagged) where
     held_calls : OwnCalls own (o.call ∷ o.calls)
     held_calls = subst (OwnCalls own) o.are (calls_own own (first_components p) me.component me.calls flagged.held (owned.processes pid lt).held)
 

@@ -13,7 +13,7 @@ use Rattle.cp_at_once_laws.proofs.pairs.Shape.{is_failure, kernel_exact}
 goes_decided : (move : Move) (m : ℕ) → GoesFrom move m ⊎ (GoesFrom move m → ⊥)
 goes_decided (leaves k) m = cases_eq k m
 goes_decided (delays k) m = cases_eq k m
-goes_decided (continues k o) m = cases_eq k m
+goes_decided (continues k o going items) m = cases_eq k m
 goes_decided _ m = inr (λ h. h)
 
 entered_at : Move → Option ℕ

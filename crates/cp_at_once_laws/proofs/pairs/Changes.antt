@@ -1,9 +1,10 @@
 -- What a step changes: which processes, and how.
 use Rattle.std.proofs.Common.{◌≡◌, ◌≢◌, ℕ, ◌<◌, ◌≤◌, ◌==◌, ◌∙◌, ◌⊎◌, inl, inr, Bool, true, false, if◌then◌else◌, List, [], ◌∷◌, length, slice_set, Option, Some, None, ap, sym, refl, subst}
 use Rattle.cp_at_once_laws.proofs.Words.{Program, system_of, delayed_told, LineFits, line_at, process_found, different, at_set}
-use Rattle.cp_meaning.specs.State.{Environment, component_at, Status, unstarted, ready, at_gate, delayed, ended, Process, process_at, no_process, Gates, first_gates, any_gates, Shown, State}
+use Rattle.cp_meaning.specs.State.{Environment, component_at, Status, unstarted, ready, at_gate, delayed, ended, Process, process_at, no_process, Call, Item, Gates, first_gates, any_gates, book_discipline, Shown, State}
 use Rattle.cp_meaning.specs.Move.{Move, stays, enters, leaves, delays, continues, starts, shows, ends, Doing}
 use Rattle.cp_meaning.specs.Kernel.{output_room, moved_to, with_process_status, made_ready, first_in, let_in, is_anybody_inside, entering, is_delayed_in, continuing, process_of, begun, starting_as, starting, displaying, kernel_step}
+use Rattle.cp_at_once_laws.proofs.pairs.ByTheBook.{gates_first, returns_at_once}
 
 -- ---- one process replaced
 
@@ -17,7 +18,7 @@ replaced_at ps k n z = at_set ps k n z no_process
 abbrev pub GoesFrom : Move → ℕ → Type 0
 GoesFrom (leaves m) n = m ≡ n
 GoesFrom (delays m) n = m ≡ n
-GoesFrom (continues m o) n = m ≡ n
+GoesFrom (continues m o going items) n = m ≡ n
 GoesFrom (enters m) n = ⊥
 GoesFrom stays n = ⊥
 GoesFrom (starts c e) n = ⊥
@@ -30,7 +31,7 @@ Becomes (enters m) status = (status ≡ ready) ⊎ (status ≡ at_gate m)
 Becomes (delays m) status = status ≡ delayed m
 Becomes ends status = status ≡ ended
 Becomes (leaves m) status = status ≡ ready
-Becomes (continues m o) status = status ≡ ready
+Becomes (continues m o going items) status = status ≡ ready
 Becomes stays status = status ≡ ready
 Becomes (starts c e) status = status ≡ ready
 Becomes (shows y) status = status ≡ ready
@@ -106,13 +107,13 @@ module _ (p : Program) (s : State) (pid : ℕ) (d : Doing) (is_ready : (process_
       go (inl e) = absurd (let bad : ready ≡ delayed m = sym (ap (λ y. y.status) e.2) ∙ h in cc)
       go (inr e) = let was = sym (ap (λ y. y.status) e.1) ∙ h in (not_ready r m was, was)
 
-  continue_here : (m : ℕ) (o : Option ℕ) → s.gates ≡ first_gates → Here (continues m o) (continuing (moved_to ready s pid d) m o)
-  continue_here m None first = in_here s.gates (continues m None) ready m first refl refl
-  continue_here m (Some r) first = go (is_delayed_in m (process_at (moved_to ready s pid d).processes r).status) refl
+  continue_here : (m : ℕ) (o : Option ℕ) (going : List Call) (items : List Item) → s.discipline ≡ book_discipline → Here (continues m o going items) (continuing (moved_to ready s pid d) m o)
+  continue_here m None going items first = in_here s.discipline.gates (continues m None going items) ready m (gates_first s first) refl refl
+  continue_here m (Some r) going items first = go (is_delayed_in m (process_at (moved_to ready s pid d).processes r).status) refl
     where
-      go : (b : Bool) → is_delayed_in m (process_at (moved_to ready s pid d).processes r).status ≡ b → Here (continues m (Some r)) (if b then made_ready (moved_to ready s pid d) r else let_in s.gates (moved_to ready s pid d) m)
-      go true e = let was = still_delayed r m (delayed_told m (process_at (moved_to ready s pid d).processes r).status e) in readied (continues m (Some r)) ready m r refl refl was.0 (inr was.1)
-      go false e = in_here s.gates (continues m (Some r)) ready m first refl refl
+      go : (b : Bool) → is_delayed_in m (process_at (moved_to ready s pid d).processes r).status ≡ b → Here (continues m (Some r) going items) (if b then made_ready (moved_to ready s pid d) r else let_in s.discipline.gates (moved_to ready s pid d) m)
+      go true e = let was = still_delayed r m (delayed_told m (process_at (moved_to ready s pid d).processes r).status e) in readied (continues m (Some r) going items) ready m r refl refl was.0 (inr was.1)
+      go false e = in_here s.discipline.gates (continues m (Some r) going items) ready m (gates_first s first) refl refl
 
   enter_here : (b : Bool) (m : ℕ) → Here (enters m) (entering b s pid m d)
   enter_here true m = moved_at (enters m) (at_gate m) (inr refl)
@@ -152,12 +153,12 @@ module _ (p : Program) (s : State) (pid : ℕ) (d : Doing) (is_ready : (process_
   show_here true y = nothing_here (shows y)
   show_here false y = moved_at (shows y) ready refl
 
-  pub kernel_changes : (move : Move) → s.gates ≡ first_gates → Here move (kernel_step p s pid d move).state
+  pub kernel_changes : (move : Move) → s.discipline ≡ book_discipline → Here move (kernel_step p s pid d move).state
   kernel_changes stays first = moved_at stays ready refl
   kernel_changes (enters m) first = enter_here (is_anybody_inside m s.processes) m
-  kernel_changes (leaves m) first = in_here s.gates (leaves m) ready m first refl refl
-  kernel_changes (delays m) first = in_here s.gates (delays m) (delayed m) m first refl refl
-  kernel_changes (continues m o) first = continue_here m o first
+  kernel_changes (leaves m) first = in_here s.discipline.gates (leaves m) ready m (gates_first s first) refl refl
+  kernel_changes (delays m) first = in_here s.discipline.gates (delays m) (delayed m) m (gates_first s first) refl refl
+  kernel_changes (continues m o going items) first = subst (Here (continues m o going items)) (returns_at_once s pid d m o going items first) (continue_here m o going items first)
   kernel_changes (starts c e) first = start_here (process_of c (moved_to ready s pid d).processes) c e refl
   kernel_changes (shows y) first = show_here (length s.output == output_room) y
   kernel_changes ends first = moved_at ends ended refl

@@ -2,7 +2,7 @@
 use Rattle.std.proofs.Common.{◌≡◌, ◌≢◌, ℕ, ◌<◌, ◌≤◌, ◌∙◌, ◌⊎◌, inl, inr, Bool, true, false, not, if◌then◌else◌, List, [], ◌∷◌, ◌++◌, length, slice_set, Option, ap, sym, refl, subst, arith}
 use Rattle.std.proofs.lemmas.List.{set_comm, set-set, get_or-set_same, get_or-set_other, ext_get_or, set-get_or}
 use Rattle.cp_at_once_laws.proofs.Words.{cases_eq, length-set, SystemKind, Path, Doing}
-use Rattle.cp_meaning.specs.State.{Environment, ComponentStatus, Component, component_at, no_component, Status, ready, at_gate, Process, process_at, no_process, Gates, State}
+use Rattle.cp_meaning.specs.State.{Environment, ComponentStatus, Component, component_at, no_component, Status, ready, at_gate, Process, process_at, no_process, Discipline, State}
 use Rattle.cp_meaning.specs.Kernel.{with_line, with_line_of, line_of, moved_to, with_process_status, made_ready, first_in, entering}
 use Rattle.cp_meaning.proofs.Stored.{field_kept}
 use Rattle.cp_meaning.proofs.Orderly.{line_which, line_at}
@@ -178,10 +178,10 @@ relined_all cs ds m l lt e h k =
 
 -- ---- states
 
-state_of : List Process → List Component → Gates → Option ℕ → State
-state_of ps cs g o = record { processes = ps; components = cs; output = []; gates = g; pending = o }
+state_of : List Process → List Component → Discipline → Option ℕ → State
+state_of ps cs g o = record { processes = ps; components = cs; output = []; discipline = g; pending = o }
 
-state_same : (ps qs : List Process) (cs ds : List Component) (g : Gates) (o : Option ℕ) → ps ≡ qs → cs ≡ ds → state_of ps cs g o ≡ state_of qs ds g o
+state_same : (ps qs : List Process) (cs ds : List Component) (g : Discipline) (o : Option ℕ) → ps ≡ qs → cs ≡ ds → state_of ps cs g o ≡ state_of qs ds g o
 state_same ps qs cs ds g o h k = ap (λ y. state_of y cs g o) h ∙ ap (λ y. state_of qs y g o) k
 
 same_fields : (cs : List Component) → AllButLine cs cs
@@ -227,7 +227,7 @@ module _ (s : State) (own : ℕ → Bool) (a b m : ℕ) (ne : a ≢ b) (da db : 
   pub alone_in_line : line_at da.components m ≡ [] → silent (entering false a_moved b m (then_b a_moved)) ≡ silent (first_in (line_of both_moved m) both_moved m)
   unfolding state_of
   alone_in_line empty =
-      state_same _ _ _ _ s.gates s.pending (alone_processes s.processes a b m ne da db status b_there)
+      state_same _ _ _ _ s.discipline s.pending (alone_processes s.processes a b m ne da db status b_there)
       (sym (self_line (then_b a_moved).components m) ∙ ap (λ l. with_line (then_b a_moved).components m l) below ∙ same_relined da.components [] refl (same_fields da.components) (λ n other. refl)) ∙
       ap (λ l. silent (first_in l both_moved m)) (sym (waits_line ∙ ap (λ l. l ++ b ∷ []) (sym (lines m) ∙ empty)))
     where
@@ -239,7 +239,7 @@ module _ (s : State) (own : ℕ → Bool) (a b m : ℕ) (ne : a ≢ b) (da db : 
       (let t = with_line_of (made_ready a_moved h) m l in silent (entering true t b m (then_b t))) ≡ silent (first_in (line_of both_moved m) both_moved m)
   unfolding state_of
   last_in_line h l not_a not_b is =
-      state_same _ _ _ _ s.gates s.pending (woken_processes s.processes a b m ne da db status h not_a not_b)
+      state_same _ _ _ _ s.discipline s.pending (woken_processes s.processes a b m ne da db status h not_a not_b)
       (ap (λ k. with_line (then_b (with_line_of (made_ready a_moved h) m l)).components m (k ++ b ∷ [])) below ∙ same_relined (with_line da.components m l) (l ++ b ∷ []) (with_line_size da.components m l) (relined_same da.components m l) (λ n other. relined_other da.components m n l other)) ∙
       ap (λ k. silent (first_in k both_moved m)) (sym (waits_line ∙ ap (λ k. k ++ b ∷ []) (sym (lines m) ∙ is)))
     where
@@ -251,7 +251,7 @@ module _ (s : State) (own : ℕ → Bool) (a b m : ℕ) (ne : a ≢ b) (da db : 
   pub last_after_woken : (r : ℕ) → r ≢ a → r ≢ b → (let t = made_ready a_moved r in silent (entering true t b m (then_b t))) ≡ silent (made_ready both_moved r)
   unfolding state_of
   last_after_woken r not_a not_b =
-      state_same _ _ _ _ s.gates s.pending (woken_processes s.processes a b m ne da db status r not_a not_b)
+      state_same _ _ _ _ s.discipline s.pending (woken_processes s.processes a b m ne da db status r not_a not_b)
       (ap (λ k. with_line (then_b (made_ready a_moved r)).components m (k ++ b ∷ [])) (below ∙ lines m) ∙ same_relined da.components (line_at db.components m ++ b ∷ []) refl (same_fields da.components) (λ n other. refl) ∙
       ap (λ k. with_line both_moved.components m k) (sym waits_line) ∙ self_line both_moved.components m)
     where

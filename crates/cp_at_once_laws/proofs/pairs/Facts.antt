@@ -35,7 +35,7 @@ module _ (p : Program) (s : State) (pid : ℕ) where
   GivesNone (starts c e) = (k : ℕ) (x : Name) → content_of x e ≡ Some (knows k) → NoProcess k
   GivesNone (leaves m) = Unit {0}
   GivesNone (delays m) = Unit {0}
-  GivesNone (continues m o) = Unit {0}
+  GivesNone (continues m o going items) = Unit {0}
   GivesNone stays = Unit {0}
   GivesNone (enters m) = Unit {0}
   GivesNone (shows x) = Unit {0}
@@ -155,7 +155,7 @@ module _ (p : Program) (s : State) (pid : ℕ) where
       from_held : (gs : List Frame) (m : Move) → FromHere p c calls s.components pid NoProcess gs m → (n : ℕ) → GoesFrom m n → HeldBy (first_components p) me.component (frames (c ∷ calls)) n
       from_held gs (leaves m) h n g = subst (HeldBy (first_components p) me.component (frames (c ∷ calls))) (h ∙ g) held.0
       from_held gs (delays m) h n g = subst (HeldBy (first_components p) me.component (frames (c ∷ calls))) (h.0 ∙ g) held.0
-      from_held gs (continues m o) h n g = subst (HeldBy (first_components p) me.component (frames (c ∷ calls))) (h ∙ g) held.0
+      from_held gs (continues m o going items) h n g = subst (HeldBy (first_components p) me.component (frames (c ∷ calls))) (h ∙ g) held.0
       from_held gs _ h n g = absurd g
 
       starting_of : (gs : List Frame) (m : Move) → FromHere p c calls s.components pid NoProcess gs m → (d : ℕ) (x : Environment) → m ≡ starts d x → d < length (first_components p) → kind_at (first_components p) d ≡ system_kind.Process →
@@ -179,7 +179,7 @@ module _ (p : Program) (s : State) (pid : ℕ) where
       where
         goes : (n : ℕ) (m : Move) → GoesOut p c calls s.components pid n m → GoesFrom m n
         goes n (leaves m) h = h
-        goes n (continues m x) h = h
+        goes n (continues m x going items) h = h
         goes n stays h = absurd h
         goes n (enters m) h = absurd h
         goes n (delays m) h = absurd h

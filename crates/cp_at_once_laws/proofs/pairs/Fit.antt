@@ -1,5 +1,5 @@
 -- What is known of a program, and of each of its states that is met.
-use Rattle.cp_at_once_laws.proofs.Words.{◌≡◌, ℕ, ◌<◌, ◌⊎◌, List, [], length, None, Program, Component, unstarted, delayed, Process, process_at, first_gates, State}
+use Rattle.cp_at_once_laws.proofs.Words.{◌≡◌, ℕ, ◌<◌, ◌⊎◌, List, [], length, None, Program, Component, unstarted, delayed, Process, process_at, book_discipline, State}
 use Rattle.cp_at_once_laws.proofs.Words.{first_components, frames, entry_in, initial_in, kind_at, IsMonitor, Known, OrderlyState, OwnedState, true}
 use Rattle.cp_tree.specs.declared.declaration.SystemKind.TheVariants as system_kind
 pub use Rattle.cp_at_once_laws.proofs.rules.StartsKnown.{HasNoProcess, StartsKnown}
@@ -17,7 +17,7 @@ abbrev pub ProcessesUnknown : Program → State → Type 0
 ProcessesUnknown p s = Known (λ n d. d < length (first_components p) → kind_at (first_components p) d ≡ system_kind.Process → ⊥) s.components
 
 pub record Fits (p : Program) (s : State) : Type 0 where
-  pub first : s.gates ≡ first_gates
+  pub first : s.discipline ≡ book_discipline
   pub free : s.pending ≡ None
   pub shown : s.output ≡ []
   pub owned : OwnedState (first_components p) s

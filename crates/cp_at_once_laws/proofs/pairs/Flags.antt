@@ -21,7 +21,7 @@ use Rattle.cp_at_once_laws.proofs.pairs.Shape.{is_failure, starts_fresh}
 abbrev pub touched : Move → Process → Bool
 touched (leaves m) z = waits_at m z.status
 touched (delays m) z = waits_at m z.status
-touched (continues m o) z = waits_at m z.status
+touched (continues m o going items) z = waits_at m z.status
 touched (starts c e) z = z.component == c
 touched stays z = false
 touched (enters m) z = false
@@ -33,7 +33,7 @@ abbrev pub starts_at : Move → ℕ → Bool
 starts_at (starts c e) n = n == c
 starts_at (leaves m) n = false
 starts_at (delays m) n = false
-starts_at (continues m o) n = false
+starts_at (continues m o going items) n = false
 starts_at stays n = false
 starts_at (enters m) n = false
 starts_at (shows y) n = false
@@ -43,7 +43,7 @@ starts_at ends n = false
 abbrev pub goes_from : Move → ℕ → Bool
 goes_from (leaves m) n = m == n
 goes_from (delays m) n = m == n
-goes_from (continues m o) n = m == n
+goes_from (continues m o going items) n = m == n
 goes_from (starts c e) n = false
 goes_from stays n = false
 goes_from (enters m) n = false
@@ -53,26 +53,26 @@ goes_from ends n = false
 touched_waits : (move : Move) (z : Process) (m : ℕ) → GoesFrom move m → waits_at m z.status ≡ true → touched move z ≡ true
 touched_waits (leaves k) z m g h = ap (λ j. waits_at j z.status) g ∙ h
 touched_waits (delays k) z m g h = ap (λ j. waits_at j z.status) g ∙ h
-touched_waits (continues k o) z m g h = ap (λ j. waits_at j z.status) g ∙ h
+touched_waits (continues k o going items) z m g h = ap (λ j. waits_at j z.status) g ∙ h
 touched_waits _ z m g h = absurd g
 
 pub untouched : (move : Move) (z : Process) → ((m : ℕ) → GoesFrom move m → waits_at m z.status ≡ false) → ((c : ℕ) (e : Environment) → move ≡ starts c e → z.component ≡ c → ⊥) → touched move z ≡ false
 untouched (leaves k) z h g = h k refl
 untouched (delays k) z h g = h k refl
-untouched (continues k o) z h g = h k refl
+untouched (continues k o going items) z h g = h k refl
 untouched (starts c e) z h g = different z.component c (g c e refl)
 untouched _ z h g = refl
 
 pub goes_told : (move : Move) (m : ℕ) → GoesFrom move m → goes_from move m ≡ true
 goes_told (leaves k) m g = eq-eqb k m g
 goes_told (delays k) m g = eq-eqb k m g
-goes_told (continues k o) m g = eq-eqb k m g
+goes_told (continues k o going items) m g = eq-eqb k m g
 goes_told _ m g = absurd g
 
 pub goes_not : (move : Move) (k : ℕ) → ((m : ℕ) → GoesFrom move m → m ≢ k) → goes_from move k ≡ false
 goes_not (leaves m) k h = different m k (h m refl)
 goes_not (delays m) k h = different m k (h m refl)
-goes_not (continues m o) k h = different m k (h m refl)
+goes_not (continues m o going items) k h = different m k (h m refl)
 goes_not _ k h = refl
 
 pub starts_not : (move : Move) (n : ℕ) → ((c : ℕ) (e : Environment) → move ≡ starts c e → n ≡ c → ⊥) → starts_at move n ≡ false
@@ -250,7 +250,7 @@ module _ (p : Program) (ok : IsWellFormed p) (rules : StartsKnown p) (s : State)
       moves_a X still (enters m) is = absurd (quiet.no_enter m is)
       moves_a X still (leaves m) is = let g = out_here (leaves m) m is refl in (goes_told da.move m g, line_flagged X m g)
       moves_a X still (delays m) is = let g = out_here (delays m) m is refl in (goes_told da.move m g, line_flagged X m g)
-      moves_a X still (continues m o) is = let g = out_here (continues m o) m is refl in (goes_told da.move m g, line_flagged X m g, woken_flagged X m o still g)
+      moves_a X still (continues m o going items) is = let g = out_here (continues m o going items) m is refl in (goes_told da.move m g, line_flagged X m g, woken_flagged X m o still g)
       moves_a X still (starts c e) is = started_flagged X c e is
       moves_a X still _ is = tt
 

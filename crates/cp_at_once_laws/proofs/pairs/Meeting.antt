@@ -3,7 +3,7 @@ use Rattle.std.proofs.Common.{◌≡◌, ◌≢◌, ℕ, ◌<◌, ◌∙◌, ◌
 use Rattle.cp_at_once_laws.proofs.Words.{cases_eq, Program, Move, enters, leaves, delays, continues, starts, Doing, settled, step_of, IsWellFormed, frames, entry_in}
 use Rattle.cp_at_once_laws.proofs.Words.{initial_in, IsMonitor, NoneEntered, MoveFits, status_at, line_status, inside_from, LineFits, line_at, Nobody, Orderly}
 use Rattle.cp_tree.specs.declared.declaration.SystemKind.TheVariants as system_kind
-use Rattle.cp_meaning.specs.State.{component_at, initialising, initialised, is_inside, waits_at, Status, unstarted, ready, at_gate, delayed, Process, process_at, Gates, first_gates, any_gates, State}
+use Rattle.cp_meaning.specs.State.{component_at, initialising, initialised, is_inside, waits_at, Status, unstarted, ready, at_gate, delayed, Process, process_at, Gates, first_gates, any_gates, book_discipline, State}
 use Rattle.cp_meaning.specs.Kernel.{enter_event, Stepped, line_of, with_line_of, moved_to, with_process_status, made_ready, first_in, one_in, let_in, is_anybody_inside, entering, is_delayed_in, continuing, kernel_step}
 use Rattle.cp_meaning.proofs.KernelLaw.{begun_process, delayed_told, nobody_left, nobody_delayed, goes_on}
 use Rattle.cp_meaning.proofs.LocalLaw.{within}
@@ -11,6 +11,7 @@ use Rattle.cp_at_once_laws.proofs.reading.Mixed.{one_of, mix_at}
 use Rattle.cp_at_once_laws.proofs.reading.Taking.{also_mixed, all_mixed}
 use Rattle.cp_at_once_laws.proofs.pairs.Apart.{Other, itself, Moves, apart, taken}
 use Rattle.cp_at_once_laws.proofs.pairs.Beside.{Beside, stands, other_same, procs, own, ln, leaves_a, leaves_b, quiet_after, t_is, self_still}
+use Rattle.cp_at_once_laws.proofs.pairs.ByTheBook.{gates_first, returns_at_once}
 use Rattle.cp_at_once_laws.proofs.pairs.Changes.{GoesFrom, moved_status}
 use Rattle.cp_at_once_laws.proofs.pairs.Entering.{other_at, same_at, nothing, alone_in_line, last_in_line, last_after_woken}
 use Rattle.cp_at_once_laws.proofs.pairs.Facts.{done, Facts}
@@ -26,7 +27,7 @@ every_line : (procs own ln : ℕ → Bool) (X s : State) (a : ℕ) (d : Doing) (
 every_line procs own ln X s a d (enters k) h = (h.0, refl)
 every_line procs own ln X s a d (leaves k) h = (refl, h.1)
 every_line procs own ln X s a d (delays k) h = (refl, h.1)
-every_line procs own ln X s a d (continues k o) h = (refl, h.1, h.2)
+every_line procs own ln X s a d (continues k o going items) h = (refl, h.1, h.2)
 every_line procs own ln X s a d (starts c e) h = h
 every_line procs own ln X s a d _ h = tt
 
@@ -75,7 +76,7 @@ module _ (p : Program) (ok : IsWellFormed p) (rules : StartsKnown p) (s : State)
 
   entered_now : (move : Move) → GoesFrom move m → MoveFits s.components (frames (process_at s.processes a).calls) (frames da.calls) move → entry_in m (frames (process_at s.processes a).calls) ≡ true
   entered_now (leaves k) g h = subst (λ j. entry_in j (frames (process_at s.processes a).calls) ≡ true) g (h.1 (subst (IsMonitor s.components) (sym g) mon)).0
-  entered_now (continues k o) g h = subst (λ j. entry_in j (frames (process_at s.processes a).calls) ≡ true) g (h.1 (subst (IsMonitor s.components) (sym g) mon)).0
+  entered_now (continues k o going items) g h = subst (λ j. entry_in j (frames (process_at s.processes a).calls) ≡ true) g (h.1 (subst (IsMonitor s.components) (sym g) mon)).0
   entered_now (delays k) g h = go (subst (λ j. (entry_in j (frames (process_at s.processes a).calls) ≡ true) ⊎ (initial_in j (frames (process_at s.processes a).calls) ≡ true)) g (h.1 (subst (IsMonitor s.components) (sym g) mon)))
     where
       go : (entry_in m (frames (process_at s.processes a).calls) ≡ true) ⊎ (initial_in m (frames (process_at s.processes a).calls) ≡ true) → entry_in m (frames (process_at s.processes a).calls) ≡ true
@@ -96,7 +97,7 @@ module _ (p : Program) (ok : IsWellFormed p) (rules : StartsKnown p) (s : State)
       ap (settled p s b) is_b ∙ ap (kernel_step p s b db) eb ∙ ap (λ v. let y : Stepped = record { state = entering v s b m db; event = enter_event } in y) occupied
 
   silent_w : silent (step_of p s b).state ≡ W
-  silent_w = ap (λ y. silent y.state) b_done ∙ ap (λ o. let y : State = record { processes = W.processes; components = W.components; output = o; gates = W.gates; pending = W.pending } in y) (sym f.shown)
+  silent_w = ap (λ y. silent y.state) b_done ∙ ap (λ o. let y : State = record { processes = W.processes; components = W.components; output = o; discipline = W.discipline; pending = W.pending } in y) (sym f.shown)
 
   apart_b : IsApart (flipped P) (flipped O) (flipped nothing) s p s b
   apart_b =
@@ -191,9 +192,9 @@ module _ (p : Program) (ok : IsWellFormed p) (rules : StartsKnown p) (s : State)
       last_in_line s O a b m ne da db status size static there lb lines h l (not_ready a h ra waits.2) (not_ready b h rb waits.2) e
 
   -- the line is let in
-  let_in_case : (status : Status) → Orderly da.components (moved status).processes → Nobody (moved status).processes m → enters_after (let_in s.gates (moved status) m) ≡ silent (let_in s.gates (both status) m)
+  let_in_case : (status : Status) → Orderly da.components (moved status).processes → Nobody (moved status).processes m → enters_after (let_in s.discipline.gates (moved status) m) ≡ silent (let_in s.discipline.gates (both status) m)
   let_in_case status now nobody =
-      ap (λ g. enters_after (let_in g (moved status) m)) f.first ∙ line_case status now nobody (line_at da.components m) refl ∙ ap (λ g. silent (let_in g (both status) m)) (sym f.first)
+      ap (λ g. enters_after (let_in g (moved status) m)) (gates_first s f.first) ∙ line_case status now nobody (line_at da.components m) refl ∙ ap (λ g. silent (let_in g (both status) m)) (sym (gates_first s f.first))
 
   -- who is delayed in m, in both orders
   delayed_both : (r : ℕ) → is_delayed_in m (process_at (both ready).processes r).status ≡ is_delayed_in m (process_at (moved ready).processes r).status
@@ -224,9 +225,9 @@ module _ (p : Program) (ok : IsWellFormed p) (rules : StartsKnown p) (s : State)
 
   continue_case : (o : Option ℕ) → Orderly da.components (moved ready).processes → Nobody (moved ready).processes m → enters_after (continuing (moved ready) m o) ≡ silent (continuing (both ready) m o)
   continue_case None now nobody = let_in_case ready now nobody
-  continue_case (Some r) now nobody = go (is_delayed_in m (process_at (moved ready).processes r).status) refl ∙ ap (λ v. silent (if v then made_ready (both ready) r else let_in s.gates (both ready) m)) (sym (delayed_both r))
+  continue_case (Some r) now nobody = go (is_delayed_in m (process_at (moved ready).processes r).status) refl ∙ ap (λ v. silent (if v then made_ready (both ready) r else let_in s.discipline.gates (both ready) m)) (sym (delayed_both r))
     where
-      go : (v : Bool) → is_delayed_in m (process_at (moved ready).processes r).status ≡ v → enters_after (if v then made_ready (moved ready) r else let_in s.gates (moved ready) m) ≡ silent (if v then made_ready (both ready) r else let_in s.gates (both ready) m)
+      go : (v : Bool) → is_delayed_in m (process_at (moved ready).processes r).status ≡ v → enters_after (if v then made_ready (moved ready) r else let_in s.discipline.gates (moved ready) m) ≡ silent (if v then made_ready (both ready) r else let_in s.discipline.gates (both ready) m)
       go true e = woken_case r (sym (moved_status s a da ra r) ∙ delayed_told m (process_at (moved ready).processes r).status e)
       go false e = let_in_case ready now nobody
 
@@ -240,13 +241,15 @@ module _ (p : Program) (ok : IsWellFormed p) (rules : StartsKnown p) (s : State)
   same_orders : (move : Move) → da.move ≡ move → GoesFrom move m → enters_after (kernel_step p s a da move).state ≡ silent (kernel_step p W a (also_mixed O nothing W.components da) move).state
   same_orders (leaves k) e g =
       let fits = subst (MoveFits s.components (frames (process_at s.processes a).calls) (frames da.calls)) (e ∙ ap leaves g) fact_a.good.moves in
-      subst (λ j. enters_after (let_in s.gates (moved ready) j) ≡ silent (let_in s.gates (both ready) j)) (sym g) (let_in_case ready (orderly_now ready fits.0) (nobody_left p s a f.orderly.orderly f.free la ra da da.move fact_a.good m fits.1 at_monitor))
+      subst (λ j. enters_after (let_in s.discipline.gates (moved ready) j) ≡ silent (let_in s.discipline.gates (both ready) j)) (sym g) (let_in_case ready (orderly_now ready fits.0) (nobody_left p s a f.orderly.orderly f.free la ra da da.move fact_a.good m fits.1 at_monitor))
   same_orders (delays k) e g =
       let fits = subst (MoveFits s.components (frames (process_at s.processes a).calls) (frames da.calls)) (e ∙ ap delays g) fact_a.good.moves in
-      subst (λ j. enters_after (let_in s.gates (moved (delayed j)) j) ≡ silent (let_in s.gates (both (delayed j)) j)) (sym g) (let_in_case (delayed m) (orderly_now (delayed m) fits.0) (nobody_delayed p s a f.orderly.orderly f.free la ra da da.move fact_a.good m fits.1 at_monitor))
-  same_orders (continues k o) e g =
-      let fits = subst (MoveFits s.components (frames (process_at s.processes a).calls) (frames da.calls)) (e ∙ ap (λ j. continues j o) g) fact_a.good.moves in
-      subst (λ j. enters_after (continuing (moved ready) j o) ≡ silent (continuing (both ready) j o)) (sym g) (continue_case o (orderly_now ready fits.0) (nobody_left p s a f.orderly.orderly f.free la ra da da.move fact_a.good m fits.1 at_monitor))
+      subst (λ j. enters_after (let_in s.discipline.gates (moved (delayed j)) j) ≡ silent (let_in s.discipline.gates (both (delayed j)) j)) (sym g) (let_in_case (delayed m) (orderly_now (delayed m) fits.0) (nobody_delayed p s a f.orderly.orderly f.free la ra da da.move fact_a.good m fits.1 at_monitor))
+  same_orders (continues k o going items) e g =
+      let fits = subst (MoveFits s.components (frames (process_at s.processes a).calls) (frames da.calls)) (e ∙ ap (λ j. continues j o going items) g) fact_a.good.moves in
+      ap enters_after (sym (returns_at_once s a da k o going items f.first)) ∙
+      subst (λ j. enters_after (continuing (moved ready) j o) ≡ silent (continuing (both ready) j o)) (sym g) (continue_case o (orderly_now ready fits.0) (nobody_left p s a f.orderly.orderly f.free la ra da da.move fact_a.good m fits.1 at_monitor)) ∙
+      ap silent (returns_at_once W a (also_mixed O nothing W.components da) k o going items f.first)
   same_orders _ e g = absurd g
 
   -- ---- and so all of it
@@ -258,7 +261,7 @@ module _ (p : Program) (ok : IsWellFormed p) (rules : StartsKnown p) (s : State)
   same_event : (move : Move) → GoesFrom move m → (v : State) (d : Doing) → (kernel_step p v a d move).event ≡ (kernel_step p s a da move).event
   same_event (leaves k) g v d = refl
   same_event (delays k) g v d = refl
-  same_event (continues k o) g v d = refl
+  same_event (continues k o going items) g v d = refl
   same_event _ g v d = absurd g
 
   in_output : (g : Gates) (v : State) (k : ℕ) → (let_in g v k).output ≡ v.output
@@ -277,18 +280,18 @@ module _ (p : Program) (ok : IsWellFormed p) (rules : StartsKnown p) (s : State)
       go any_gates = one (line_of v k)
 
   continue_output : (v : State) (k : ℕ) (o : Option ℕ) → (continuing v k o).output ≡ v.output
-  continue_output v k None = in_output v.gates v k
+  continue_output v k None = in_output v.discipline.gates v k
   continue_output v k (Some r) = go (is_delayed_in k (process_at v.processes r).status)
     where
-      go : (w : Bool) → (if w then made_ready v r else let_in v.gates v k).output ≡ v.output
+      go : (w : Bool) → (if w then made_ready v r else let_in v.discipline.gates v k).output ≡ v.output
       go true = refl
-      go false = in_output v.gates v k
+      go false = in_output v.discipline.gates v k
 
-  out_output : (move : Move) → GoesFrom move m → (v : State) (d : Doing) → (kernel_step p v a d move).state.output ≡ v.output
-  out_output (leaves k) g v d = in_output v.gates (moved_to ready v a d) k
-  out_output (delays k) g v d = in_output v.gates (moved_to (delayed k) v a d) k
-  out_output (continues k o) g v d = continue_output (moved_to ready v a d) k o
-  out_output _ g v d = absurd g
+  out_output : (move : Move) → GoesFrom move m → (v : State) (d : Doing) → v.discipline ≡ book_discipline → (kernel_step p v a d move).state.output ≡ v.output
+  out_output (leaves k) g v d first = in_output v.discipline.gates (moved_to ready v a d) k
+  out_output (delays k) g v d first = in_output v.discipline.gates (moved_to (delayed k) v a d) k
+  out_output (continues k o going items) g v d first = ap (λ (y : State). y.output) (sym (returns_at_once v a d k o going items first)) ∙ continue_output (moved_to ready v a d) k o
+  out_output _ g v d first = absurd g
 
   enter_output : (w : Bool) (v : State) (d : Doing) → (entering w v b m d).output ≡ v.output
   enter_output true v d = refl
@@ -320,7 +323,7 @@ module _ (p : Program) (ok : IsWellFormed p) (rules : StartsKnown p) (s : State)
         other_same = other_same p ok rules s f a b ra (λ e. ne (sym e)) rb;
         same = other_same p ok rules s f b a rb ne ra;
         event = λ h. a_event;
-        output = λ h. ap (λ y. y.state.output) then_a ∙ out_output da.move ga W (also_mixed O nothing W.components da) ∙ sym (ap (λ o. (settled p s a o).state.output) quiet.is ∙ out_output da.move ga s da);
+        output = λ h. ap (λ y. y.state.output) then_a ∙ out_output da.move ga W (also_mixed O nothing W.components da) f.first ∙ sym (ap (λ o. (settled p s a o).state.output) quiet.is ∙ out_output da.move ga s da f.first);
         still = λ h. record {
           event = ap is_failure a_event ∙ a_fails;
           no_enter = λ e. quiet.no_enter_event (sym (ap (λ o. (settled p s a o).event) quiet.is) ∙ sym a_event ∙ e);

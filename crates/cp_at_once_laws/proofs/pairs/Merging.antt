@@ -1,9 +1,10 @@
 -- A step does the same where others have changed what is not its process's own: what the kernel does.
 use Rattle.std.proofs.Common.{◌≡◌, ℕ, zero, suc, ◌==◌, ◌∙◌, ◌⊎◌, inl, inr, Bool, true, false, if◌then◌else◌, List, [], ◌∷◌, ◌++◌, length, slice_set, Option, Some, None, Ok, Err, ap, sym, refl, arith}
 use Rattle.cp_at_once_laws.proofs.Words.{Program, system_of, takes, view_of, settled, step_of, status_at, Outcome, init_twice, View, with_permanents}
-use Rattle.cp_meaning.specs.State.{Environment, initialised, Component, component_at, Call, Status, unstarted, ready, at_gate, delayed, ended, Process, process_at, no_process, Gates, first_gates, any_gates, Shown, State}
+use Rattle.cp_meaning.specs.State.{Environment, initialised, Component, component_at, Call, Status, unstarted, ready, at_gate, delayed, ended, Process, process_at, no_process, Gates, first_gates, any_gates, book_discipline, Shown, State}
 use Rattle.cp_meaning.specs.Move.{Move, stays, enters, leaves, delays, continues, starts, shows, ends, Doing}
 use Rattle.cp_meaning.specs.Kernel.{fault_event, start_event, display_event, Stepped, output_room, with_line, with_line_of, line_of, moved_to, with_process_status, made_ready, first_in, let_in, is_anybody_inside, entering, is_delayed_in, continuing, after, process_of, begun, with_begun, starting_as, starting, displaying, kernel_step}
+use Rattle.cp_at_once_laws.proofs.pairs.ByTheBook.{gates_first, returns_at_once}
 use Rattle.cp_at_once_laws.proofs.reading.Mixed.{one_of, mix, mix_at, mix_set, mix_system}
 use Rattle.cp_at_once_laws.proofs.reading.Reading.{OwnCalls}
 use Rattle.cp_at_once_laws.proofs.reading.Taking.{mix_permanents, also_mixed, all_mixed, LeavesOthers, EndsOwn, takes_reads}
@@ -65,7 +66,7 @@ module _ (procs own ln : ℕ → Bool) (x : State) where
         processes = mixed_processes procs s.processes x.processes;
         components = mix own ln s.components x.components;
         output = s.output;
-        gates = s.gates;
+        discipline = s.discipline;
         pending = s.pending;
       }
 
@@ -77,20 +78,20 @@ module _ (procs own ln : ℕ → Bool) (x : State) where
 
   moved_merged : (status : Status) (s : State) (pid : ℕ) (d : Doing) → length s.processes ≡ length x.processes → procs pid ≡ true → moved_to status (merged s) pid (doing d) ≡ merged (moved_to status s pid d)
   moved_merged status s pid d e h =
-      ap (λ y. let t : State = record { processes = slice_set (mixed_processes procs s.processes x.processes) pid (let z : Process = record { component = y.component; status = status; calls = d.calls; items = d.items } in z); components = mix own ln d.components x.components; output = s.output; gates = s.gates; pending = s.pending } in t) (process_own procs s.processes x.processes pid e h) ∙
-      ap (λ ps. let t : State = record { processes = ps; components = mix own ln d.components x.components; output = s.output; gates = s.gates; pending = s.pending } in t)
+      ap (λ y. let t : State = record { processes = slice_set (mixed_processes procs s.processes x.processes) pid (let z : Process = record { component = y.component; status = status; calls = d.calls; items = d.items } in z); components = mix own ln d.components x.components; output = s.output; discipline = s.discipline; pending = s.pending } in t) (process_own procs s.processes x.processes pid e h) ∙
+      ap (λ ps. let t : State = record { processes = ps; components = mix own ln d.components x.components; output = s.output; discipline = s.discipline; pending = s.pending } in t)
       (set_process procs s.processes x.processes pid (let z : Process = record { component = (process_at s.processes pid).component; status = status; calls = d.calls; items = d.items } in z) h)
 
   line_merged : (s : State) (k : ℕ) (l : List ℕ) → length s.components ≡ length x.components → ln k ≡ true → with_line_of (merged s) k l ≡ merged (with_line_of s k l)
-  line_merged s k l size h = ap (λ cs. let t : State = record { processes = mixed_processes procs s.processes x.processes; components = cs; output = s.output; gates = s.gates; pending = s.pending } in t) (mix_line own ln s.components x.components k l size h)
+  line_merged s k l size h = ap (λ cs. let t : State = record { processes = mixed_processes procs s.processes x.processes; components = cs; output = s.output; discipline = s.discipline; pending = s.pending } in t) (mix_line own ln s.components x.components k l size h)
 
   same_line : (s : State) (k : ℕ) → length s.components ≡ length x.components → ln k ≡ true → line_of (merged s) k ≡ line_of s k
   same_line s k size h = ap (λ c. c.line) (mix_at own ln s.components x.components k size ∙ ap (λ b. one_of (own k) b (component_at s.components k) (component_at x.components k)) h)
 
   readied_merged : (s : State) (r : ℕ) → length s.processes ≡ length x.processes → procs r ≡ true → made_ready (merged s) r ≡ merged (made_ready s r)
   readied_merged s r e h =
-      ap (λ y. let t : State = record { processes = slice_set (mixed_processes procs s.processes x.processes) r (with_process_status y ready); components = mix own ln s.components x.components; output = s.output; gates = s.gates; pending = s.pending } in t) (process_own procs s.processes x.processes r e h) ∙
-      ap (λ ps. let t : State = record { processes = ps; components = mix own ln s.components x.components; output = s.output; gates = s.gates; pending = s.pending } in t) (set_process procs s.processes x.processes r (with_process_status (process_at s.processes r) ready) h)
+      ap (λ y. let t : State = record { processes = slice_set (mixed_processes procs s.processes x.processes) r (with_process_status y ready); components = mix own ln s.components x.components; output = s.output; discipline = s.discipline; pending = s.pending } in t) (process_own procs s.processes x.processes r e h) ∙
+      ap (λ ps. let t : State = record { processes = ps; components = mix own ln s.components x.components; output = s.output; discipline = s.discipline; pending = s.pending } in t) (set_process procs s.processes x.processes r (with_process_status (process_at s.processes r) ready) h)
 
   -- who is first in a line is flagged
   abbrev pub HeadOwn : List ℕ → Type 0
@@ -125,23 +126,23 @@ module _ (procs own ln : ℕ → Bool) (x : State) where
   either_false true k y z h g = h
   either_false false k y z h g = g
 
-  continue_merged : (o : Option ℕ) (s : State) (k : ℕ) → s.gates ≡ first_gates → length s.processes ≡ length x.processes → length s.components ≡ length x.components → ln k ≡ true → HeadOwn (line_of s k) → WokenOwn s k o → continuing (merged s) k o ≡ merged (continuing s k o)
-  continue_merged None s k first e size h g w = in_merged s.gates s k first e size h g
+  continue_merged : (o : Option ℕ) (s : State) (k : ℕ) → s.discipline ≡ book_discipline → length s.processes ≡ length x.processes → length s.components ≡ length x.components → ln k ≡ true → HeadOwn (line_of s k) → WokenOwn s k o → continuing (merged s) k o ≡ merged (continuing s k o)
+  continue_merged None s k first e size h g w = in_merged s.discipline.gates s k (gates_first s first) e size h g
   continue_merged (Some r) s k first e size h g (inl w) =
-      ap (λ y. if is_delayed_in k y.status then made_ready (merged s) r else let_in s.gates (merged s) k) (process_own procs s.processes x.processes r e w) ∙
-      if_merged (is_delayed_in k (process_at s.processes r).status) (made_ready (merged s) r) (made_ready s r) (let_in s.gates (merged s) k) (let_in s.gates s k) (readied_merged s r e w) (in_merged s.gates s k first e size h g)
+      ap (λ y. if is_delayed_in k y.status then made_ready (merged s) r else let_in s.discipline.gates (merged s) k) (process_own procs s.processes x.processes r e w) ∙
+      if_merged (is_delayed_in k (process_at s.processes r).status) (made_ready (merged s) r) (made_ready s r) (let_in s.discipline.gates (merged s) k) (let_in s.discipline.gates s k) (readied_merged s r e w) (in_merged s.discipline.gates s k (gates_first s first) e size h g)
   continue_merged (Some r) s k first e size h g (inr w) =
-      ap (λ b. if b then made_ready (merged s) r else let_in s.gates (merged s) k) (ap (λ y. is_delayed_in k y.status) (process_mixed procs s.processes x.processes r e) ∙ either_false (procs r) k (process_at s.processes r) (process_at x.processes r) w.0 w.1) ∙
-      in_merged s.gates s k first e size h g ∙
-      ap (λ b. merged (if b then made_ready s r else let_in s.gates s k)) (sym w.0)
+      ap (λ b. if b then made_ready (merged s) r else let_in s.discipline.gates (merged s) k) (ap (λ y. is_delayed_in k y.status) (process_mixed procs s.processes x.processes r e) ∙ either_false (procs r) k (process_at s.processes r) (process_at x.processes r) w.0 w.1) ∙
+      in_merged s.discipline.gates s k (gates_first s first) e size h g ∙
+      ap (λ b. merged (if b then made_ready s r else let_in s.discipline.gates s k)) (sym w.0)
 
   begun_merged : (p : Program) (s : State) (r c : ℕ) (e : Environment) → length s.components ≡ length x.components → procs r ≡ true → own c ≡ true → with_begun p (merged s) r c e ≡ merged (with_begun p s r c e)
   begun_merged p s r c e size h g =
-      ap (λ j. let t : State = record { processes = slice_set (mixed_processes procs s.processes x.processes) r (begun c (system_of p j)); components = with_permanents (mix own ln s.components x.components) c (e ++ (component_at (mix own ln s.components x.components) c).environment); output = s.output; gates = s.gates; pending = s.pending } in t) (mix_system own ln s.components x.components c size) ∙
-      ap (λ ps. let t : State = record { processes = ps; components = with_permanents (mix own ln s.components x.components) c (e ++ (component_at (mix own ln s.components x.components) c).environment); output = s.output; gates = s.gates; pending = s.pending } in t) (set_process procs s.processes x.processes r (begun c (system_of p (component_at s.components c).system)) h) ∙
-      ap (λ k. let t : State = record { processes = mixed_processes procs (slice_set s.processes r (begun c (system_of p (component_at s.components c).system))) x.processes; components = with_permanents (mix own ln s.components x.components) c (e ++ k.environment); output = s.output; gates = s.gates; pending = s.pending } in t)
+      ap (λ j. let t : State = record { processes = slice_set (mixed_processes procs s.processes x.processes) r (begun c (system_of p j)); components = with_permanents (mix own ln s.components x.components) c (e ++ (component_at (mix own ln s.components x.components) c).environment); output = s.output; discipline = s.discipline; pending = s.pending } in t) (mix_system own ln s.components x.components c size) ∙
+      ap (λ ps. let t : State = record { processes = ps; components = with_permanents (mix own ln s.components x.components) c (e ++ (component_at (mix own ln s.components x.components) c).environment); output = s.output; discipline = s.discipline; pending = s.pending } in t) (set_process procs s.processes x.processes r (begun c (system_of p (component_at s.components c).system)) h) ∙
+      ap (λ k. let t : State = record { processes = mixed_processes procs (slice_set s.processes r (begun c (system_of p (component_at s.components c).system))) x.processes; components = with_permanents (mix own ln s.components x.components) c (e ++ k.environment); output = s.output; discipline = s.discipline; pending = s.pending } in t)
       (mix_at own ln s.components x.components c size ∙ ap (λ b. one_of b (ln c) (component_at s.components c) (component_at x.components c)) g) ∙
-      ap (λ cs. let t : State = record { processes = mixed_processes procs (slice_set s.processes r (begun c (system_of p (component_at s.components c).system))) x.processes; components = cs; output = s.output; gates = s.gates; pending = s.pending } in t)
+      ap (λ cs. let t : State = record { processes = mixed_processes procs (slice_set s.processes r (begun c (system_of p (component_at s.components c).system))) x.processes; components = cs; output = s.output; discipline = s.discipline; pending = s.pending } in t)
       (mix_permanents own ln s.components x.components c (e ++ (component_at s.components c).environment) size g)
 
   start_as_merged : (p : Program) (s : State) (pid : ℕ) (d : Doing) (r c : ℕ) (e : Environment) (status : Status) → length s.processes ≡ length x.processes → length d.components ≡ length x.components → procs pid ≡ true → procs r ≡ true → own c ≡ true → starting_as p (merged s) pid (doing d) r status c e ≡ merged_step (starting_as p s pid d r status c e)
@@ -194,11 +195,11 @@ module _ (procs own ln : ℕ → Bool) (x : State) where
   MoveOwn s pid d (enters k) = (is_anybody_inside k (mixed_processes procs s.processes x.processes) ≡ is_anybody_inside k s.processes) × (ln k ≡ true)
   MoveOwn s pid d (leaves k) = (ln k ≡ true) × HeadOwn (component_at d.components k).line
   MoveOwn s pid d (delays k) = (ln k ≡ true) × HeadOwn (component_at d.components k).line
-  MoveOwn s pid d (continues k o) = (ln k ≡ true) × HeadOwn (component_at d.components k).line × WokenOwn (moved_to ready s pid d) k o
+  MoveOwn s pid d (continues k o going items) = (ln k ≡ true) × HeadOwn (component_at d.components k).line × WokenOwn (moved_to ready s pid d) k o
   MoveOwn s pid d (starts c e) = StartedOwn (moved_to ready s pid d) c (process_of c (moved_to ready s pid d).processes)
 
   pub record Fitting (s : State) (pid : ℕ) (d : Doing) : Type 0 where
-    pub first : s.gates ≡ first_gates
+    pub first : s.discipline ≡ book_discipline
     pub processes : length s.processes ≡ length x.processes
     pub processes_after : (status : Status) → length (moved_to status s pid d).processes ≡ length x.processes
     pub components : length d.components ≡ length x.components
@@ -212,13 +213,14 @@ module _ (procs own ln : ℕ → Bool) (x : State) where
       ap (λ t. let y : Stepped = record { state = t; event = Rattle.cp_meaning.specs.Kernel.enter_event } in y) (enter_merged (is_anybody_inside k s.processes) s pid k d f.processes f.components f.mine h.1)
   kernel_merged p s pid d (leaves k) f h =
       ap (λ t. let y : Stepped = record { state = t; event = Rattle.cp_meaning.specs.Kernel.leave_event } in y)
-      (ap (λ t. let_in s.gates t k) (moved_merged ready s pid d f.processes f.mine) ∙ in_merged s.gates (moved_to ready s pid d) k f.first (f.processes_after ready) f.components h.0 h.1)
+      (ap (λ t. let_in s.discipline.gates t k) (moved_merged ready s pid d f.processes f.mine) ∙ in_merged s.discipline.gates (moved_to ready s pid d) k (gates_first s f.first) (f.processes_after ready) f.components h.0 h.1)
   kernel_merged p s pid d (delays k) f h =
       ap (λ t. let y : Stepped = record { state = t; event = Rattle.cp_meaning.specs.Kernel.delay_event } in y)
-      (ap (λ t. let_in s.gates t k) (moved_merged (delayed k) s pid d f.processes f.mine) ∙ in_merged s.gates (moved_to (delayed k) s pid d) k f.first (f.processes_after (delayed k)) f.components h.0 h.1)
-  kernel_merged p s pid d (continues k o) f h =
+      (ap (λ t. let_in s.discipline.gates t k) (moved_merged (delayed k) s pid d f.processes f.mine) ∙ in_merged s.discipline.gates (moved_to (delayed k) s pid d) k (gates_first s f.first) (f.processes_after (delayed k)) f.components h.0 h.1)
+  kernel_merged p s pid d (continues k o going items) f h =
       ap (λ t. let y : Stepped = record { state = t; event = Rattle.cp_meaning.specs.Kernel.continue_event } in y)
-      (ap (λ t. continuing t k o) (moved_merged ready s pid d f.processes f.mine) ∙ continue_merged o (moved_to ready s pid d) k f.first (f.processes_after ready) f.components h.0 h.1 h.2)
+      (sym (returns_at_once (merged s) pid (doing d) k o going items f.first) ∙ ap (λ t. continuing t k o) (moved_merged ready s pid d f.processes f.mine) ∙ continue_merged o (moved_to ready s pid d) k f.first (f.processes_after ready) f.components h.0 h.1 h.2 ∙
+      ap merged (returns_at_once s pid d k o going items f.first))
   kernel_merged p s pid d (starts c e) f h =
       ap (λ t. starting p (merged s) pid (doing d) (process_of c t.processes) c e) (moved_merged ready s pid d f.processes f.mine) ∙
       ap (λ o. starting p (merged s) pid (doing d) o c e) (process_of_mixed procs c (moved_to ready s pid d).processes x.processes f.owners) ∙

@@ -3,7 +3,7 @@ use Rattle.std.proofs.Common.{◌≡◌, ℕ, ◌<◌, ◌≤◌, ◌==◌, ◌&
 use Rattle.cp_tree.specs.declared.declaration.SystemKind.TheVariants as system_kind
 use Rattle.cp_at_once_laws.proofs.Words.{Program, Outcome, Doing, kernel_step, owner_of, first_components, settled, step_of, IsWellFormed, kind_at, own_owner, status_at}
 use Rattle.cp_at_once_laws.proofs.Words.{StatusMoves, or_cases, OrderlyState, OwnedState, HeldBy, HeldCalls, Bottom, held_more}
-use Rattle.cp_meaning.specs.State.{ComponentStatus, uninitialised, initialising, initialised, Component, own_statement, initial_statement, local_routine, entry_routine, Call, ready, process_at, first_gates, State}
+use Rattle.cp_meaning.specs.State.{ComponentStatus, uninitialised, initialising, initialised, Component, own_statement, initial_statement, local_routine, entry_routine, Call, ready, process_at, book_discipline, State}
 use Rattle.cp_meaning.proofs.Frames.{Frame, frames, is_initial_kind, initial_in, system_at, Descends}
 use Rattle.cp_at_once_laws.proofs.pairs.Facts.{Facts, AllFacts, done, facts}
 use Rattle.cp_at_once_laws.proofs.pairs.Fit.{StartsKnown, ProcessesUnknown}
@@ -116,14 +116,14 @@ module _ (p : Program) (s : State) (pid : ℕ) (d : Doing) (f : Facts p s pid d)
             process = λ process. absurd (no_initial (first_components p) s.components (process_at s.processes pid).component n (process_at s.processes pid).calls held order bottom process m.1);
           }
 
-  kernel_onwards : s.gates ≡ first_gates → (n : ℕ) → Onwards (first_components p) s.components (kernel_step p s pid d d.move).state.components n
+  kernel_onwards : s.discipline ≡ book_discipline → (n : ℕ) → Onwards (first_components p) s.components (kernel_step p s pid d d.move).state.components n
   kernel_onwards first n = go ((kernel_shape p s pid d d.move first).status n)
     where
       go : (status_at (kernel_step p s pid d d.move).state.components n ≡ status_at d.components n) ⊎ (status_at (kernel_step p s pid d d.move).state.components n ≡ status_at s.components n) → Onwards (first_components p) s.components (kernel_step p s pid d d.move).state.components n
       go (inl e) = onwards_then (first_components p) s.components d.components (kernel_step p s pid d d.move).state.components n (item_onwards n) (onwards_same (first_components p) d.components (kernel_step p s pid d d.move).state.components n e)
       go (inr e) = onwards_same (first_components p) s.components (kernel_step p s pid d d.move).state.components n e
 
-module _ (p : Program) (ok : IsWellFormed p) (rules : StartsKnown p) (s : State) (pid : ℕ) (first : s.gates ≡ first_gates) (owned : OwnedState (first_components p) s) (orderly : OrderlyState s) (lt : pid < length s.processes) (is_ready : (process_at s.processes pid).status ≡ ready) (unknown : ProcessesUnknown p s) where
+module _ (p : Program) (ok : IsWellFormed p) (rules : StartsKnown p) (s : State) (pid : ℕ) (first : s.discipline ≡ book_discipline) (owned : OwnedState (first_components p) s) (orderly : OrderlyState s) (lt : pid < length s.processes) (is_ready : (process_at s.processes pid).status ≡ ready) (unknown : ProcessesUnknown p s) where
   settled_onwards : (o : Outcome Doing) → AllFacts p s pid o → (n : ℕ) → Onwards (first_components p) s.components (settled p s pid o).state.components n
   settled_onwards (Ok d) f n = kernel_onwards p s pid d f (owned.processes pid lt).held (orderly.orderly.processes pid lt).order (owned.processes pid lt).bottom first n
   settled_onwards (Err e) f n = onwards_same (first_components p) s.components s.components n refl

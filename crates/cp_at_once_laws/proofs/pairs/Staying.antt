@@ -1,8 +1,8 @@
 -- Nobody but a process itself makes it unready, and it is ready after a local step.
-use Rattle.std.proofs.Common.{◌≡◌, ◌≢◌, ℕ, ◌<◌, ◌≤◌, ◌==◌, ◌∙◌, ◌⊎◌, inl, inr, Bool, true, false, if◌then◌else◌, List, [], ◌∷◌, length, get_or, set, slice_set, Option, Some, None, Ok, Err, ap, refl}
+use Rattle.std.proofs.Common.{◌≡◌, ◌≢◌, ℕ, ◌<◌, ◌≤◌, ◌==◌, ◌∙◌, ◌⊎◌, inl, inr, Bool, true, false, ◌&&◌, if◌then◌else◌, List, [], ◌∷◌, length, get_or, set, slice_set, Option, Some, None, Ok, Err, ap, sym, refl, subst}
 use Rattle.cp_at_once_laws.proofs.Words.{Program, Outcome, settled, step_of, Move, stays, enters, leaves, delays, continues, starts, shows, ends, Doing, at_set}
-use Rattle.cp_meaning.specs.State.{Environment, Status, unstarted, ready, at_gate, delayed, ended, Process, process_at, no_process, Gates, first_gates, any_gates, Shown, State}
-use Rattle.cp_meaning.specs.Kernel.{output_room, line_of, moved_to, first_in, one_in, let_in, is_anybody_inside, entering, is_delayed_in, continuing, process_of, starting_as, starting, displaying, kernel_step}
+use Rattle.cp_meaning.specs.State.{Environment, component_at, Call, Item, Status, unstarted, ready, at_gate, delayed, ended, Process, process_at, no_process, has_entry, Gates, first_gates, any_gates, Signals, return_signals, continue_signals, wait_signals, Shown, State}
+use Rattle.cp_meaning.specs.Kernel.{output_room, line_of, moved_to, first_in, one_in, let_in, is_anybody_inside, entering, is_delayed_in, is_monitor, waits_inside, continuing, at_gate_last, notifying, yielding, going_on, signalling, process_of, starting_as, starting, displaying, kernel_step}
 use Rattle.cp_at_once_laws.proofs.pairs.Merging.{done_of}
 
 abbrev status_of : List Process → ℕ → Status
@@ -44,8 +44,28 @@ in_stays n first_gates s m = first_stays n (line_of s m) s m
 in_stays n any_gates s m = one_stays n (line_of s m) s m
 
 continue_stays : (n : ℕ) (s : State) (m : ℕ) (o : Option ℕ) → Stays n s (continuing s m o)
-continue_stays n s m None = in_stays n s.gates s m
-continue_stays n s m (Some q) = if_stays n (is_delayed_in m (process_at s.processes q).status) s _ _ (replaced_ready s.processes q _ n refl) (in_stays n s.gates s m)
+continue_stays n s m None = in_stays n s.discipline.gates s m
+continue_stays n s m (Some q) = if_stays n (is_delayed_in m (process_at s.processes q).status) s _ _ (replaced_ready s.processes q _ n refl) (in_stays n s.discipline.gates s m)
+
+-- who waits in a queue is not ready
+waits_unready : (a b : Bool) (m : ℕ) (status : Status) → (a && b && is_delayed_in m status) ≡ true → status ≡ ready → ⊥
+waits_unready a b m status e h = go a b (subst (λ u. (a && b && is_delayed_in m u) ≡ true) h e)
+  where
+    go : (a b : Bool) → (a && b && false) ≡ true → ⊥
+    go true true e = cc
+    go true false e = cc
+    go false b e = cc
+
+notify_stays : (n : ℕ) (s : State) (m : ℕ) (o : Option ℕ) → Stays n s (notifying s m o)
+notify_stays n s m None r = r
+notify_stays n s m (Some q) r = go (waits_inside s m q) refl
+  where
+    unready : waits_inside s m q ≡ true → n ≢ q
+    unready e same = waits_unready (is_monitor (component_at s.components m).kind) (has_entry m (process_at s.processes q).calls) m (status_of s.processes q) e (ap (status_of s.processes) (sym same) ∙ r)
+
+    go : (b : Bool) → waits_inside s m q ≡ b → status_of (if b then at_gate_last s m q else s).processes n ≡ ready
+    go true e = other_ready s.processes q _ n (unready e) r
+    go false e = r
 
 module _ (n : ℕ) (p : Program) (s : State) (pid : ℕ) (ne : n ≢ pid) (d : Doing) where
   moved_stays : (status : Status) → Stays n s (moved_to status s pid d)
@@ -67,12 +87,21 @@ module _ (n : ℕ) (p : Program) (s : State) (pid : ℕ) (ne : n ≢ pid) (d : D
   show_stays true x h = h
   show_stays false x h = moved_stays ready h
 
+  yield_stays : (d : Doing) (m : ℕ) (o : Option ℕ) → Stays n s (yielding s pid m d o)
+  yield_stays d m None = other_ready s.processes pid _ n ne
+  yield_stays d m (Some q) = if_stays n (waits_inside s m q) s _ _ (λ r. replaced_ready (moved_to (at_gate m) s pid d).processes q _ n refl (other_ready s.processes pid _ n ne r)) (other_ready s.processes pid _ n ne)
+
+  signal_stays : (w : Signals) (m : ℕ) (o : Option ℕ) (going : List Call) (items : List Item) → Stays n s (signalling w s pid d m o going items)
+  signal_stays return_signals m o going items r = continue_stays n (moved_to ready s pid d) m o (moved_stays ready r)
+  signal_stays continue_signals m o going items r = notify_stays n (moved_to ready s pid (going_on d going items)) m o (other_ready s.processes pid _ n ne r)
+  signal_stays wait_signals m o going items r = yield_stays (going_on d going items) m o r
+
   kernel_stays : (move : Move) → Stays n s (kernel_step p s pid d move).state
   kernel_stays stays h = moved_stays ready h
   kernel_stays (enters m) h = enter_stays (is_anybody_inside m s.processes) m h
-  kernel_stays (leaves m) h = in_stays n s.gates (moved_to ready s pid d) m (moved_stays ready h)
-  kernel_stays (delays m) h = in_stays n s.gates (moved_to (delayed m) s pid d) m (moved_stays (delayed m) h)
-  kernel_stays (continues m o) h = continue_stays n (moved_to ready s pid d) m o (moved_stays ready h)
+  kernel_stays (leaves m) h = in_stays n s.discipline.gates (moved_to ready s pid d) m (moved_stays ready h)
+  kernel_stays (delays m) h = in_stays n s.discipline.gates (moved_to (delayed m) s pid d) m (moved_stays (delayed m) h)
+  kernel_stays (continues m o going items) h = signal_stays s.discipline.signals m o going items h
   kernel_stays (starts c e) h = start_stays (process_of c (moved_to ready s pid d).processes) c e h
   kernel_stays (shows x) h = show_stays (length s.output == output_room) x h
   kernel_stays ends h = moved_stays ended h

@@ -1,6 +1,6 @@
 -- Two steps whose processes have nothing in common make the same state in either order.
 use Rattle.std.proofs.Common.{◌≡◌, ℕ, suc, ◌∙◌, Bool, true, false, not, if◌then◌else◌, List, [], ◌∷◌, length, Option, ap, sym, refl, arith}
-use Rattle.cp_at_once_laws.proofs.Words.{SystemKind, Program, Path, step_of, Environment, ComponentStatus, Component, component_at, Process, Gates, Shown, State}
+use Rattle.cp_at_once_laws.proofs.Words.{SystemKind, Program, Path, step_of, Environment, ComponentStatus, Component, component_at, Process, Discipline, Shown, State}
 use Rattle.cp_at_once_laws.proofs.reading.Mixed.{one_of, mix}
 use Rattle.cp_at_once_laws.proofs.pairs.Merging.{mixed_processes, merged, merged_step, IsApart, step_merged}
 
@@ -64,27 +64,27 @@ pub processes_self : (own : ℕ → Bool) (ps : List Process) → mixed_processe
 processes_self own [] = refl
 processes_self own (p ∷ ps) = ap (λ y. y ∷ mixed_processes (λ n. own (suc n)) ps ps) (either_self (own 0) p) ∙ ap (λ l. p ∷ l) (processes_self (λ n. own (suc n)) ps)
 
-state_of : List Process → List Component → List Shown → Gates → Option ℕ → State
-state_of ps cs out g o = record { processes = ps; components = cs; output = out; gates = g; pending = o }
+state_of : List Process → List Component → List Shown → Discipline → Option ℕ → State
+state_of ps cs out g o = record { processes = ps; components = cs; output = out; discipline = g; pending = o }
 
 pub merged_self : (procs own ln : ℕ → Bool) (s : State) → merged procs own ln s s ≡ s
 unfolding state_of
 merged_self procs own ln s =
-    ap (λ ps. state_of ps (mix own ln s.components s.components) s.output s.gates s.pending) (processes_self procs s.processes) ∙
-    ap (λ cs. state_of s.processes cs s.output s.gates s.pending) (mix_self own ln s.components)
+    ap (λ ps. state_of ps (mix own ln s.components s.components) s.output s.discipline s.pending) (processes_self procs s.processes) ∙
+    ap (λ cs. state_of s.processes cs s.output s.discipline s.pending) (mix_self own ln s.components)
 
 -- ---- two steps
 
 -- without what was displayed
 abbrev pub silent : State → State
-silent s = record { processes = s.processes; components = s.components; output = []; gates = s.gates; pending = s.pending }
+silent s = record { processes = s.processes; components = s.components; output = []; discipline = s.discipline; pending = s.pending }
 
 -- no step changes these
 pub record SameShape (s x : State) : Type 0 where
   pub many : length s.processes ≡ length x.processes
   pub size : length s.components ≡ length x.components
   pub static : AllStatic s.components x.components
-  pub gates : x.gates ≡ s.gates
+  pub discipline : x.discipline ≡ s.discipline
   pub pending : x.pending ≡ s.pending
 
 abbrev pub flipped : (ℕ → Bool) → ℕ → Bool
@@ -100,11 +100,11 @@ pub others_state : (procs own ln : ℕ → Bool) (p : Program) (s : State) (b : 
 unfolding state_of
 others_state procs own ln p s b out shape apart =
     ap silent (own_changed (flipped procs) (flipped own) (flipped ln) p s b apart) ∙
-    ap (λ ps. state_of ps (mix (flipped own) (flipped ln) u.components s.components) [] u.gates u.pending) (sym (processes_flip procs s.processes u.processes shape.many)) ∙
-    ap (λ cs. state_of (mixed_processes procs s.processes u.processes) cs [] u.gates u.pending) (sym (mix_flip own ln s.components u.components shape.size shape.static)) ∙
-    ap (λ g. state_of (mixed_processes procs s.processes u.processes) (mix own ln s.components u.components) [] g u.pending) shape.gates ∙
-    ap (λ o. state_of (mixed_processes procs s.processes u.processes) (mix own ln s.components u.components) [] s.gates o) shape.pending ∙
-    ap (λ out. state_of (mixed_processes procs s.processes u.processes) (mix own ln s.components u.components) out s.gates s.pending) (sym out)
+    ap (λ ps. state_of ps (mix (flipped own) (flipped ln) u.components s.components) [] u.discipline u.pending) (sym (processes_flip procs s.processes u.processes shape.many)) ∙
+    ap (λ cs. state_of (mixed_processes procs s.processes u.processes) cs [] u.discipline u.pending) (sym (mix_flip own ln s.components u.components shape.size shape.static)) ∙
+    ap (λ g. state_of (mixed_processes procs s.processes u.processes) (mix own ln s.components u.components) [] g u.pending) shape.discipline ∙
+    ap (λ o. state_of (mixed_processes procs s.processes u.processes) (mix own ln s.components u.components) [] s.discipline o) shape.pending ∙
+    ap (λ out. state_of (mixed_processes procs s.processes u.processes) (mix own ln s.components u.components) out s.discipline s.pending) (sym out)
   where
     u : State
     u = (step_of p s b).state
@@ -142,10 +142,10 @@ two_steps procs own ln p s a b out shape_a shape_b first second =
 
     same : silent (merged (flipped procs) (flipped own) (flipped ln) t u) ≡ silent (merged procs own ln u t)
     same =
-        ap (λ ps. state_of ps (mix (flipped own) (flipped ln) u.components t.components) [] u.gates u.pending) (sym (processes_flip procs t.processes u.processes (sym shape_a.many ∙ shape_b.many))) ∙
-        ap (λ cs. state_of (mixed_processes procs t.processes u.processes) cs [] u.gates u.pending) (sym (mix_flip own ln t.components u.components (sym shape_a.size ∙ shape_b.size) (static_both s.components t.components u.components shape_a.static shape_b.static))) ∙
-        ap (λ g. state_of (mixed_processes procs t.processes u.processes) (mix own ln t.components u.components) [] g u.pending) (shape_b.gates ∙ sym shape_a.gates) ∙
-        ap (λ o. state_of (mixed_processes procs t.processes u.processes) (mix own ln t.components u.components) [] t.gates o) (shape_b.pending ∙ sym shape_a.pending)
+        ap (λ ps. state_of ps (mix (flipped own) (flipped ln) u.components t.components) [] u.discipline u.pending) (sym (processes_flip procs t.processes u.processes (sym shape_a.many ∙ shape_b.many))) ∙
+        ap (λ cs. state_of (mixed_processes procs t.processes u.processes) cs [] u.discipline u.pending) (sym (mix_flip own ln t.components u.components (sym shape_a.size ∙ shape_b.size) (static_both s.components t.components u.components shape_a.static shape_b.static))) ∙
+        ap (λ g. state_of (mixed_processes procs t.processes u.processes) (mix own ln t.components u.components) [] g u.pending) (shape_b.discipline ∙ sym shape_a.discipline) ∙
+        ap (λ o. state_of (mixed_processes procs t.processes u.processes) (mix own ln t.components u.components) [] t.discipline o) (shape_b.pending ∙ sym shape_a.pending)
 
 turned : (cs ds : List Component) → AllStatic cs ds → AllStatic ds cs
 turned cs ds h n = record { path = sym (h n).path; system = sym (h n).system; kind = sym (h n).kind }
@@ -156,11 +156,11 @@ pub others_flipped : (procs own ln : ℕ → Bool) (p : Program) (s : State) (a 
 unfolding state_of
 others_flipped procs own ln p s a out shape apart =
     ap silent (own_changed procs own ln p s a apart) ∙
-    ap (λ ps. state_of ps (mix own ln u.components s.components) [] u.gates u.pending) (processes_flip procs u.processes s.processes (sym shape.many)) ∙
-    ap (λ cs. state_of (mixed_processes (flipped procs) s.processes u.processes) cs [] u.gates u.pending) (mix_flip own ln u.components s.components (sym shape.size) (turned s.components u.components shape.static)) ∙
-    ap (λ g. state_of (mixed_processes (flipped procs) s.processes u.processes) (mix (flipped own) (flipped ln) s.components u.components) [] g u.pending) shape.gates ∙
-    ap (λ o. state_of (mixed_processes (flipped procs) s.processes u.processes) (mix (flipped own) (flipped ln) s.components u.components) [] s.gates o) shape.pending ∙
-    ap (λ out. state_of (mixed_processes (flipped procs) s.processes u.processes) (mix (flipped own) (flipped ln) s.components u.components) out s.gates s.pending) (sym out)
+    ap (λ ps. state_of ps (mix own ln u.components s.components) [] u.discipline u.pending) (processes_flip procs u.processes s.processes (sym shape.many)) ∙
+    ap (λ cs. state_of (mixed_processes (flipped procs) s.processes u.processes) cs [] u.discipline u.pending) (mix_flip own ln u.components s.components (sym shape.size) (turned s.components u.components shape.static)) ∙
+    ap (λ g. state_of (mixed_processes (flipped procs) s.processes u.processes) (mix (flipped own) (flipped ln) s.components u.components) [] g u.pending) shape.discipline ∙
+    ap (λ o. state_of (mixed_processes (flipped procs) s.processes u.processes) (mix (flipped own) (flipped ln) s.components u.components) [] s.discipline o) shape.pending ∙
+    ap (λ out. state_of (mixed_processes (flipped procs) s.processes u.processes) (mix (flipped own) (flipped ln) s.components u.components) out s.discipline s.pending) (sym out)
   where
     u : State
     u = (step_of p s a).state

@@ -184,6 +184,6 @@ module _ (p : Program) (ok : IsWellFormed p) (rules : StartsKnown p) (s : State)
       moves_b still all inside apart (enters m) is = (inside m is, ap not (goes_not da.move m (λ k g e. apart m is (subst (GoesFrom da.move) e g))))
       moves_b still all inside apart (leaves m) is = let g : GoesFrom db.move m = subst (λ k. GoesFrom k m) (sym is) refl in (goes_free m g, line_free m g)
       moves_b still all inside apart (delays m) is = let g : GoesFrom db.move m = subst (λ k. GoesFrom k m) (sym is) refl in (goes_free m g, line_free m g)
-      moves_b still all inside apart (continues m o) is = let g : GoesFrom db.move m = subst (λ k. GoesFrom k m) (sym is) refl in (goes_free m g, line_free m g, woken_free m o still g)
+      moves_b still all inside apart (continues m o going items) is = let g : GoesFrom db.move m = subst (λ k. GoesFrom k m) (sym is) refl in (goes_free m g, line_free m g, woken_free m o still g)
       moves_b still all inside apart (starts c e) is = started_free c e is all
       moves_b still all inside apart _ is = tt

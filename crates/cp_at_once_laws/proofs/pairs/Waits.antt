@@ -3,7 +3,7 @@ use Rattle.std.proofs.Common.{◌≡◌, ℕ, zero, suc, ◌<◌, ◌∙◌, ◌
 use Rattle.cp_at_once_laws.proofs.Words.{SystemKind, Program, Outcome, system_of, View, bound, Move, enters, delays, ends, Doing, takes, kernel_step, IsWellFormed}
 use Rattle.cp_at_once_laws.proofs.Words.{frames, entry_in, initial_in, HeldCalls, Bottom, OrderlyState, MoveFits, Good, GoodOutcome, Owned, OwnedBy, both, starts_process}
 use Rattle.cp_tree.specs.declared.declaration.SystemKind.TheVariants as system_kind
-use Rattle.cp_meaning.specs.State.{Component, component_at, Call, Environment, Status, unstarted, ready, at_gate, delayed, ended, Process, process_at, Gates, first_gates, State}
+use Rattle.cp_meaning.specs.State.{Component, component_at, Call, Environment, Status, unstarted, ready, at_gate, delayed, ended, Process, process_at, Discipline, book_discipline, State}
 use Rattle.cp_meaning.specs.Steps.{first_components, unstarted_process, process_first, processes_from, own_begun, opening, settled, step_of}
 use Rattle.cp_meaning.proofs.OwnKernel.{OwnedState, kernel_step_owned}
 use Rattle.cp_at_once_laws.proofs.reading.Sources.{AllKnow, FromHere, AllCome, takes_comes}
@@ -48,7 +48,7 @@ fresh_waits : (cs : List Component) (x : Process) → Fresh x → Waits cs x
 fresh_waits cs x (inl h) = record { delayed_inside = λ m mon e. (let bad : unstarted ≡ delayed m = sym h.0 ∙ e in absurd cc); unstarted_outside = λ e. h.1 }
 fresh_waits cs x (inr h) = record { delayed_inside = λ m mon e. (let bad : ready ≡ delayed m = sym h ∙ e in absurd cc); unstarted_outside = λ e. (let bad : ready ≡ unstarted = sym h ∙ e in absurd cc) }
 
-pub waiting_opening : (p : Program) (g : Gates) → Waiting (opening p g)
+pub waiting_opening : (p : Program) (g : Discipline) → Waiting (opening p g)
 unfolding AllFresh
 waiting_opening p g q = fresh_waits (first_components p) _ (fresh_begun p (first_components p) (processes_from 0 (first_components p)) (fresh_from (first_components p) 0) q)
 
@@ -87,7 +87,7 @@ any_known : (p : Program) (c : Call) (calls : List Call) (cs : List Component) (
 any_known p c calls cs pid (Ok e) = λ k x h. tt
 any_known p c calls cs pid (Err e) = tt
 
-module _ (p : Program) (ok : IsWellFormed p) (s : State) (pid : ℕ) (owned : OwnedState (first_components p) s) (orderly : OrderlyState s) (first : s.gates ≡ first_gates) (free : s.pending ≡ None) (lt : pid < length s.processes) (is_ready : (process_at s.processes pid).status ≡ ready) (old : Waiting s) where
+module _ (p : Program) (ok : IsWellFormed p) (s : State) (pid : ℕ) (owned : OwnedState (first_components p) s) (orderly : OrderlyState s) (first : s.discipline ≡ book_discipline) (free : s.pending ≡ None) (lt : pid < length s.processes) (is_ready : (process_at s.processes pid).status ≡ ready) (old : Waiting s) where
   abbrev x : Process
   x = process_at s.processes pid
 

@@ -27,7 +27,7 @@ module _ (p : Program) (c : Call) (calls : List Call) (cs : List Component) (pid
   abbrev pub FromHere : (ℕ → Type 0) → List Frame → Move → Type 0
   FromHere Good gs (leaves m) = c.component ≡ m
   FromHere Good gs (delays m) = (c.component ≡ m) × (gs ≡ frames (c ∷ calls))
-  FromHere Good gs (continues m o) = c.component ≡ m
+  FromHere Good gs (continues m o going items) = c.component ≡ m
   FromHere Good gs (starts d e) = ((q : Place) × (d ≡ component_there v q)) × Knows Good e
   FromHere Good gs stays = Unit {0}
   FromHere Good gs (enters m) = Unit {0}

@@ -261,8 +261,8 @@ module _ (own ln : ℕ → Bool) (xs : List Component) where
 
     continue_reads : (k : CallKind) (items : List Item) (q : Place) → OwnPlace own q.holder → continued_from b k items q ≡ also_mixed (continued_from a k items q)
     continue_reads entry_routine items q h =
-        ap (λ u. let y : Doing = record { calls = callers u.calls; items = after_return items; components = u.components; move = continues c.component (waiting_in (value_at b q)) } in y) (stored_same a q (queue_value None) size h) ∙
-        ap (λ w. let u = mixed (stored a q (queue_value None)) in let y : Doing = record { calls = callers u.calls; items = after_return items; components = u.components; move = continues c.component (waiting_in w) } in y) (read_same own ln xs p c calls cs size held q h)
+        ap (λ u. let y : Doing = record { calls = callers u.calls; items = after_return items; components = u.components; move = continues c.component (waiting_in (value_at b q)) u.calls items } in y) (stored_same a q (queue_value None) size h) ∙
+        ap (λ w. let u = mixed (stored a q (queue_value None)) in let y : Doing = record { calls = callers u.calls; items = after_return items; components = u.components; move = continues c.component (waiting_in w) u.calls items } in y) (read_same own ln xs p c calls cs size held q h)
     continue_reads _ items q h = refl
 
     invoked_reads : (x : Option Meaning) (d : Designator) (es : Expressions) (items : List Item) → Reads (invoked b pid x d es items) (invoked a pid x d es items)

@@ -6,7 +6,7 @@ use Rattle.cp_layout.specs.Laid.{plain, laid}
 use Rattle.cp_lawful.specs.Accepted.{IsAccepted}
 use Rattle.cp_resolved.specs.TreeLayouts.{layouts_of}
 use Rattle.cp_refine.specs.Law.{ground_of, Simulates}
-use Rattle.cp_refine.specs.Named.{named, gates_of}
+use Rattle.cp_refine.specs.Named.{named, discipline_of}
 use Rattle.cp_refine.proofs.HoldsInReached.{reached_stands}
 use Rattle.cp_refine.proofs.Meaning.{it, goes_in_step, meaning_law}
 use Rattle.cp_refine.proofs.ReachedKinds.{kinds_agree}
@@ -25,10 +25,10 @@ use Rattle.cp_endless.proofs.possible.Settled.{settled}
 use Rattle.cp_endless.proofs.possible.Tables.{tables_known, witnesses}
 use Rattle.cp_endless.proofs.slots.Output.{slots_forget}
 
-pub leaves : (t : Tree) (g : named.Gates) → Leaves (named t g) named_without_output
+pub leaves : (t : Tree) (g : named.Discipline) → Leaves (named t g) named_without_output
 leaves t g = record { ready = λ s p. refl; pending = λ s. refl }
 
-module _ (t : Tree) (r : Tables) (g : named.Gates) (read : IsRead t.program) (ok : IsAccepted t) (same : plain r ≡ laid t) where
+module _ (t : Tree) (r : Tables) (g : named.Discipline) (read : IsRead t.program) (ok : IsAccepted t) (same : plain r ≡ laid t) where
   abbrev R : State → Machine → Type 0
   R = Simulates t r (layouts_of t) g
 
@@ -36,9 +36,9 @@ module _ (t : Tree) (r : Tables) (g : named.Gates) (read : IsRead t.program) (ok
   a = silent_named t g
 
   abbrev b : System Machine
-  b = silent_slots r (gates_of g)
+  b = silent_slots r (discipline_of g)
 
-  go : GoInStep (named t g) (slots r (gates_of g)) R
+  go : GoInStep (named t g) (slots r (discipline_of g)) R
   go = goes_in_step t r g read ok same
 
   keeps : (s : State) (m : Machine) → R s m → R (named_without_output s) (without_output m)
@@ -54,13 +54,13 @@ module _ (t : Tree) (r : Tables) (g : named.Gates) (read : IsRead t.program) (ok
   V s m p = R s m × CanGo a s p
 
   alike : (steps : ℕ) → ChoicesAlike a b steps R V
-  alike steps = in_choices a b R (silent_in_step (named t g) (slots r (gates_of g)) R go named_without_output without_output keeps (leaves t g)) steps
+  alike steps = in_choices a b R (silent_in_step (named t g) (slots r (discipline_of g)) R go named_without_output without_output keeps (leaves t g)) steps
 
   means : (steps : ℕ) → MeansTheSame t r g steps
   means steps =
       record {
         ends = ends_the_same a b steps R V (alike steps);
-        values = shows_the_same (named t g) (slots r (gates_of g)) R go named_without_output without_output keeps (leaves t g) steps;
+        values = shows_the_same (named t g) (slots r (discipline_of g)) R go named_without_output without_output keeps (leaves t g) steps;
         waits = waits_the_same a b steps R V (alike steps) waits_on_names waits_on_slots waits;
         lingers = lingers_the_same a b steps R V (alike steps) in_call_on_names waits_on_names in_call_on_slots waits_on_slots inside waits;
       }
@@ -71,13 +71,13 @@ endless_meaning t r g read ok same steps = means t r g read ok same steps
 pub settled_meaning : SettledMeaningLaw
 settled_meaning t r g read ok same steps states ends h =
     let m = (means t r g read ok same steps).ends in
-    let s = (settled (silent_slots r (gates_of g)) steps states ends h).1 in
+    let s = (settled (silent_slots r (discipline_of g)) steps states ends h).1 in
     let runs = meaning_law t r g read ok same in
     record {
       all = λ kind. (λ i. (s kind).0 (m.there kind i), λ c. m.back kind ((s kind).1 c));
       tables = λ choices. subst (λ (ls : List Line). HasKnownEnds ends ls) (sym (runs choices steps).tables)
-          (tables_known (slots r (gates_of g)) without_output ShowsLess (slots_forget r (gates_of g)) (Contains states) steps ends h.closed choices);
+          (tables_known (slots r (discipline_of g)) without_output ShowsLess (slots_forget r (discipline_of g)) (Contains states) steps ends h.closed choices);
       witness = λ word kind e choices le.
-          (let w = witnesses (slots r (gates_of g)) without_output ShowsLess (slots_forget r (gates_of g)) steps word kind (m.after_there word kind e) choices le in
+          (let w = witnesses (slots r (discipline_of g)) without_output ShowsLess (slots_forget r (discipline_of g)) steps word kind (m.after_there word kind e) choices le in
           (w.0, w.1, (runs choices steps).runs word ∙ w.2, w.3));
     }

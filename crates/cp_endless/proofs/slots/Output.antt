@@ -78,7 +78,7 @@ silent_less : (m n : Machine) → ShowsLess m n → ShowsLess m (without_output 
 silent_less m n a = record { same = ap without_output a.same; less = omega arith; room = a.room }
 
 pub slots_forget : SlotsForgetLaw
-slots_forget r gates =
+slots_forget r discipline =
     record {
       start = record { same = refl; less = omega arith; room = omega arith };
       forgets = silent_less;

@@ -1,11 +1,11 @@
 -- What goes on for ever on slots does so on the program's own names.
 use Rattle.cp_ends.proofs.Vocabulary.{◌≡◌, inl, inr, ◌∙◌, ℕ, zero, suc, List, Some, sym, ap, subst, Tree, IsRead, plain, laid, Tables, IsAccepted, Machine, Event}
 use Rattle.cp_ends.proofs.Vocabulary.{slots, System, Choosing, opened, from_there}
-use Rattle.cp_meaning.specs.State.{Gates, State}
+use Rattle.cp_meaning.specs.State.{Discipline, State}
 use Rattle.cp_resolved.specs.TreeLayouts.{layouts_of}
 use Rattle.cp_refine.specs.InStep.{CanGo, GoInStep}
 use Rattle.cp_refine.specs.Law.{Simulates}
-use Rattle.cp_refine.specs.Named.{named, gates_of}
+use Rattle.cp_refine.specs.Named.{named, discipline_of}
 use Rattle.cp_refine.proofs.Forgetting.{forgets}
 use Rattle.cp_refine.proofs.Meaning.{goes_in_step}
 use Rattle.cp_endless.specs.Repeats.{IsKernelCall}
@@ -66,11 +66,11 @@ module _ {S T : Type 0} (a : System S) (b : System T) (steps : ℕ) (R : S → T
 
 -- ---- from slots to names
 
-module _ (t : Tree) (r : Tables) (g : Gates) (read : IsRead t.program) (ok : IsAccepted t) (same : plain r ≡ laid t) (steps : ℕ) where
+module _ (t : Tree) (r : Tables) (g : Discipline) (read : IsRead t.program) (ok : IsAccepted t) (same : plain r ≡ laid t) (steps : ℕ) where
   abbrev R : State → Machine → Type 0
   R = Simulates t r (layouts_of t) g
 
-  go : GoInStep (named t g) (slots r (gates_of g)) R
+  go : GoInStep (named t g) (slots r (discipline_of g)) R
   go = goes_in_step t r g read ok same
 
   keeps : (s : State) (m : Machine) → R s m → R (named_without_output s) (without_output m)
@@ -80,10 +80,10 @@ module _ (t : Tree) (r : Tables) (g : Gates) (read : IsRead t.program) (ok : IsA
   a = silent_named t g
 
   abbrev b : System Machine
-  b = silent_slots r (gates_of g)
+  b = silent_slots r (discipline_of g)
 
   silent : GoInStep a b R
-  silent = silent_in_step (named t g) (slots r (gates_of g)) R go named_without_output without_output keeps (leaves t g)
+  silent = silent_in_step (named t g) (slots r (discipline_of g)) R go named_without_output without_output keeps (leaves t g)
 
   abbrev V : State → Machine → ℕ → Type 0
   V s m p = R s m × CanGo a s p

@@ -4,8 +4,8 @@ use Rattle.std.specs.List.{AllPairs}
 use Rattle.cp_ends.proofs.Vocabulary.{All, Contains, Tree, IsRead, plain, laid, Tables, IsAccepted, Shown, Machine, OutcomeKind, StepLimit, slots, System}
 use Rattle.cp_ends.proofs.Vocabulary.{EndsAfter, repeating, EndsSo, ShowsSo, same_key, Over, Alone, Spins}
 use Rattle.std.proofs.lemmas.Bool.{cases_order, lt-ltb}
-use Rattle.cp_meaning.specs.State.{Gates}
-use Rattle.cp_refine.specs.Named.{gates_of}
+use Rattle.cp_meaning.specs.State.{Discipline}
+use Rattle.cp_refine.specs.Named.{discipline_of}
 use Rattle.cp_refine.proofs.Meaning.{meaning_law}
 use Rattle.cp_endless.specs.Layers.{IsPossibleTo}
 use Rattle.cp_endless.specs.Meaning.{MeansTheSame}
@@ -56,16 +56,16 @@ of_short {A} d P found f once sorted = record { looked_at = λ a word c. (f a wo
         (λ (long : d < length other). (let le = (f a word c).is.1 in shorter_first word other (omega (arith, le, long))))
         (lengths (length other) d)
 
-module _ (t : Tree) (r : Tables) (g : Gates) (read : IsRead t.program) (ok : IsAccepted t) (same : plain r ≡ laid t) where
+module _ (t : Tree) (r : Tables) (g : Discipline) (read : IsRead t.program) (ok : IsAccepted t) (same : plain r ≡ laid t) where
   abbrev b : System Machine
-  b = silent_slots r (gates_of g)
+  b = silent_slots r (discipline_of g)
 
   means : (steps : ℕ) → MeansTheSame t r g steps
   means steps = endless_meaning t r g read ok same steps
 
   schedule : (steps : ℕ) (word : List ℕ) (kind : OutcomeKind) → EndsAfter b steps word kind → IsSchedule t g steps word kind
   schedule steps word kind e choices le =
-      let w = witnesses (slots r (gates_of g)) without_output ShowsLess (slots_forget r (gates_of g)) steps word kind e choices le in
+      let w = witnesses (slots r (discipline_of g)) without_output ShowsLess (slots_forget r (discipline_of g)) steps word kind e choices le in
       (w.0, w.1, (meaning_law t r g read ok same choices steps).runs word ∙ w.2, w.3)
 
   module _ (steps : ℕ) where
@@ -82,17 +82,17 @@ module _ (t : Tree) (r : Tables) (g : Gates) (read : IsRead t.program) (ok : IsA
     runs_so (Alone q) word so = λ more. schedule (more + steps) word StepLimit ((repeating b).alone steps word q so more)
     runs_so (Spins q) word so = λ more. schedule (more + steps) word StepLimit ((repeating b).spins steps word q so more)
 
-    shows_so : (v : Shown) (word : List ℕ) → ShowsSo (slots r (gates_of g)) without_output steps v word → ShowsOnNames t g steps v word
+    shows_so : (v : Shown) (word : List ℕ) → ShowsSo (slots r (discipline_of g)) without_output steps v word → ShowsOnNames t g steps v word
     shows_so v word (inl x) = inl ((means steps).values.back word v x)
     shows_so v word (inr x) =
-        inr (each_limit word (again_ends (slots r (gates_of g)) without_output steps word v x), (means (steps + steps)).values.back word v (again_shown (slots r (gates_of g)) without_output steps word v x))
+        inr (each_limit word (again_ends (slots r (discipline_of g)) without_output steps word v x), (means (steps + steps)).values.back word v (again_shown (slots r (discipline_of g)) without_output steps word v x))
 
     -- ---- ends
 
     module _ (looked : Option ℕ) (ends : List (End × List ℕ)) (firsts : AreFirstOf looked (EndsSo b steps) ends) (all : (end : End) (word : List ℕ) → IsLookedAt looked word → EndsSo b steps end word → HasWord ends end) where
       told : (word : List ℕ) (kind : OutcomeKind) → IsLookedAt looked word → EndsAfter (silent_named t g) steps word kind → IsTold ends kind word
       told word kind at e =
-          let o = over_so (slots r (gates_of g)) without_output same_key steps key_same key_self word kind ((means steps).ends.after_there word kind e) in
+          let o = over_so (slots r (discipline_of g)) without_output same_key steps key_same key_self word kind ((means steps).ends.after_there word kind e) in
           let h = all o.0 word at o.2 in
           (o.0, h.0, h.1, o.1, firsts.first o.0 h.0 word h.1 o.2)
 
@@ -114,9 +114,9 @@ module _ (t : Tree) (r : Tables) (g : Gates) (read : IsRead t.program) (ok : IsA
 
     -- ---- values
 
-    module _ (looked : Option ℕ) (most : ℕ) (values : List (Shown × List ℕ)) (firsts : AreFirstOf looked (ShowsSo (slots r (gates_of g)) without_output steps) values)
-        (all : (v : Shown) (word : List ℕ) → IsLookedAt looked word → ShowsSo (slots r (gates_of g)) without_output steps v word → HasWord values v ⊎ ((length values ≡ most) × All (λ x. is_up_to x.1 word ≡ true) values)) where
-      so_told : (v : Shown) (word : List ℕ) → IsLookedAt looked word → ShowsSo (slots r (gates_of g)) without_output steps v word → IsValueTold most values v word
+    module _ (looked : Option ℕ) (most : ℕ) (values : List (Shown × List ℕ)) (firsts : AreFirstOf looked (ShowsSo (slots r (discipline_of g)) without_output steps) values)
+        (all : (v : Shown) (word : List ℕ) → IsLookedAt looked word → ShowsSo (slots r (discipline_of g)) without_output steps v word → HasWord values v ⊎ ((length values ≡ most) × All (λ x. is_up_to x.1 word ≡ true) values)) where
+      so_told : (v : Shown) (word : List ℕ) → IsLookedAt looked word → ShowsSo (slots r (discipline_of g)) without_output steps v word → IsValueTold most values v word
       so_told v word at so = ⊎_elim
           (λ (h : HasWord values v). inl (h.0, h.1, firsts.first v h.0 word h.1 so))
           (λ (full : (length values ≡ most) × All (λ (x : Shown × List ℕ). is_up_to x.1 word ≡ true) values). inr full)
@@ -133,9 +133,9 @@ module _ (t : Tree) (r : Tables) (g : Gates) (read : IsRead t.program) (ok : IsA
             sorted = firsts.sorted;
           }
 
-    answer : (most : ℕ) (states : List (Machine × List ℕ)) (ends : List (End × List ℕ)) (values : List (Shown × List ℕ)) → IsAnswerOnSlots r (gates_of g) steps most states ends values → IsAnswerOnNames t g steps most ends values
+    answer : (most : ℕ) (states : List (Machine × List ℕ)) (ends : List (End × List ℕ)) (values : List (Shown × List ℕ)) → IsAnswerOnSlots r (discipline_of g) steps most states ends values → IsAnswerOnNames t g steps most ends values
     answer most states ends values h =
-        let sys = slots r (gates_of g) in
+        let sys = slots r (discipline_of g) in
         record {
           all_ends = are_ends None ends (of_all (EndsSo b steps) ends h.all_ends.first h.all_ends.once h.all_ends.sorted) (λ end word at so. h.all_ends.all end word so);
           all_values = are_values None most values (of_all (ShowsSo sys without_output steps) values h.all_values.first h.all_values.once h.all_values.sorted) (λ v word at so. h.all_values.all v word so);
@@ -151,12 +151,12 @@ module _ (t : Tree) (r : Tables) (g : Gates) (read : IsRead t.program) (ok : IsA
 
     -- ---- of at most so many choices
 
-    module _ (choices most : ℕ) (ends : List (End × List ℕ)) (values : List (Shown × List ℕ)) (h : IsAnswerToOnSlots r (gates_of g) steps choices most ends values) where
+    module _ (choices most : ℕ) (ends : List (End × List ℕ)) (values : List (Shown × List ℕ)) (h : IsAnswerToOnSlots r (discipline_of g) steps choices most ends values) where
       short_ends : AreEndsOnNames t g steps (Some choices) ends
       short_ends = are_ends (Some choices) ends (of_short choices (EndsSo b steps) ends h.all_ends.first h.all_ends.once h.all_ends.sorted) (λ end word at so. h.all_ends.all end word (so, at))
 
       short_values : AreValuesOnNames t g steps (Some choices) most values
-      short_values = are_values (Some choices) most values (of_short choices (ShowsSo (slots r (gates_of g)) without_output steps) values h.all_values.first h.all_values.once h.all_values.sorted) (λ v word at so. h.all_values.all v word (so, at))
+      short_values = are_values (Some choices) most values (of_short choices (ShowsSo (slots r (discipline_of g)) without_output steps) values h.all_values.first h.all_values.once h.all_values.sorted) (λ v word at so. h.all_values.all v word (so, at))
 
       possible : (kind : OutcomeKind) → IsPossibleTo (silent_named t g) steps choices kind → Contains (kinds_of ends) kind
       possible kind i =

@@ -1,13 +1,16 @@
 -- What the frames of a process may name stays there.
 use Rattle.std.proofs.Common.{◌≡◌, ℕ, zero, suc, ◌+◌, ◌^◌, ◌<◌, ◌≤◌, ◌∙◌, List, [], ◌∷◌, length, Option, Some, None, ap, sym, refl, subst, arith, get_or-set_other}
 use Rattle.cp_machine.proofs.Words.{ℤ, pos, slice_set, slice_index_or, length-set, Tables, routine_at, IsSound, Argument, Bound, Address, Permanent, Local}
-use Rattle.cp_machine.proofs.Words.{Frame, SetValue, Entry, Rest, Successor, Return, InitEnd, Status, Ready, AtGate, Delayed, Gates, First, Any, StackFits, with_memory}
+use Rattle.cp_machine.proofs.Words.{Frame, SetValue, Entry, Rest, Successor, Return, InitEnd, Status, Ready, AtGate, Delayed, Discipline, First, Any, StackFits, with_memory}
 use Rattle.cp_machine.proofs.Words.{set_written, admitted, admitted_at, IsBehind, FrameReaches, StackReaches, ThreadReaches, rest_of, from_end, put_value, put_in_frame}
 use Rattle.cp_machine.proofs.Words.{bound_in_frame, bound_in_component, Memory, cell_at, moved, nowhere, onward, put_number, put_copy, referred}
 use Rattle.cp_store.specs.declared.argument.Bound.TheVariants.{Scalar, Set, Copy, Reference, Component}
 use Rattle.cp_store.specs.Sets.{put_set}
 use Rattle.cp_machine.proofs.ListLemmas.{each_set}
-use Rattle.cp_machine.specs.Kernel.{let_in, let_in_by, first_in, one_in, goes_in, entered, entered_by, delayed, continued, resumed, waits_in}
+use Rattle.cp_machine.specs.declared.discipline.Gates.{Gates}
+use Rattle.cp_machine.specs.Kernel.{let_in, let_in_by, first_in, one_in, goes_in, entered, entered_by, delayed, continued, resumed, waits_in, signalled_by, signalled}
+use Rattle.cp_machine.specs.declared.discipline.Signals.{Signals}
+use Rattle.cp_machine.specs.declared.discipline.Signals.TheVariants as signals
 use Rattle.cp_machine.specs.Machine.{Machine, Thread, thread_at, no_thread, monitor_at, with_permanents, with_thread, with_status, with_stack}
 
 abbrev pub Framed : Tables → Machine → Type 0
@@ -90,7 +93,7 @@ let_in_by_framed r First m monitor line h = first_in_framed r m monitor line h
 let_in_by_framed r Any m monitor line h = one_in_framed r m monitor line h
 
 pub let_in_framed : (r : Tables) (m : Machine) (monitor : ℕ) → Framed r m → Framed r (let_in m monitor)
-let_in_framed r m monitor h = let_in_by_framed r m.gates m monitor (monitor_at m monitor).line h
+let_in_framed r m monitor h = let_in_by_framed r m.discipline.gates m monitor (monitor_at m monitor).line h
 
 entered_by_framed : (r : Tables) (holder : Option ℕ) (m : Machine) (pid monitor : ℕ) → Framed r m → Framed r (entered_by holder m pid monitor)
 entered_by_framed r None m pid monitor h = h
@@ -162,3 +165,12 @@ names_below x g [] bs few k lt = refl
 names_below x g (a ∷ arguments) [] few k lt = refl
 names_below x g (a ∷ arguments) (b ∷ bs) few k lt =
     names_in_frame x g a.slot b few k lt ∙ names_below (put_in_frame x g a.slot b) g arguments bs few k lt
+
+signalled_by_framed : (r : Tables) (signals : Signals) (waiter : Option ℕ) (m : Machine) (pid monitor : ℕ) → Framed r m → Framed r (signalled_by signals waiter m pid monitor)
+signalled_by_framed r signals None m pid monitor h = h
+signalled_by_framed r signals.Wait (Some q) m pid monitor h = goes_in_framed r (with_status m pid (AtGate monitor)) monitor q (pid ∷ (monitor_at m monitor).line) (status_framed r m pid (AtGate monitor) h)
+signalled_by_framed r signals.Return (Some q) m pid monitor h = status_framed r m q (AtGate monitor) h
+signalled_by_framed r signals.Continue (Some q) m pid monitor h = status_framed r m q (AtGate monitor) h
+
+pub signalled_framed : (r : Tables) (m : Machine) (pid monitor cell : ℕ) → Framed r m → Framed r (signalled m pid monitor cell)
+signalled_framed r m pid monitor cell h = signalled_by_framed r m.discipline.signals (waits_in m cell) (record m { permanents = slice_set m.permanents cell (pos 0) }) pid monitor h

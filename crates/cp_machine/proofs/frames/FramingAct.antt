@@ -10,9 +10,11 @@ use Rattle.cp_machine.proofs.Words.{is_initialised, is_uninitialised, is_unstart
 use Rattle.cp_slots.specs.declared.tables.ComponentKind.TheVariants as kind
 use Rattle.cp_store.specs.declared.memory.Address.TheVariants as address
 use Rattle.cp_store.specs.Sets as sets
-use Rattle.cp_machine.specs.Calls.{called, left, called_in, called_by, start_inside, started, opened, delayed_in, delay_at, continued_from, continue_at}
+use Rattle.cp_machine.specs.Calls.{called, left, called_in, called_by, start_inside, started, opened, delayed_in, delay_at, continued_from, continued_in, continue_by, continue_at}
+use Rattle.cp_machine.specs.declared.discipline.Signals.{Signals}
+use Rattle.cp_machine.specs.declared.discipline.Signals.TheVariants as signals
 use Rattle.cp_machine.specs.Memory.{memory_at, value_of, set_of, address_of, component_of, arguments_of, origin_of, number_put, set_put, set_written, cells_put, parameters_bound}
-use Rattle.cp_machine.proofs.frames.Framing.{Framed, rest_reaches, end_reaches, stack_framed, status_framed, memory_framed, let_in_framed, entered_framed, delayed_framed, continued_framed, names_number, names_set, names_copy, names_component}
+use Rattle.cp_machine.proofs.frames.Framing.{Framed, rest_reaches, end_reaches, stack_framed, status_framed, memory_framed, let_in_framed, entered_framed, delayed_framed, continued_framed, signalled_framed, names_number, names_set, names_copy, names_component}
 use Rattle.cp_machine.proofs.frames.FramingSteps.{left_framed, opened_framed, called_framed}
 use Rattle.cp_machine.proofs.rooms.Keeping.{end_fits, rest_fits, stack_fits}
 use Rattle.cp_machine.proofs.rooms.KeepingAct.{action_fits, list_fits}
@@ -181,9 +183,13 @@ module _ (r : Tables) (m : Machine) (pid : ℕ) (lt : pid < length m.threads) (s
         continued_good n (Return caller slot None ∷ es) cell l f h s b = h
         continued_good n (Return caller slot (Some monitor) ∷ es) cell l f h s b = continued_framed r (left r n pid caller slot es) monitor cell (left_framed r n pid l sound typed f h caller slot es s.0 s.3 b.2)
 
-        continues : (p : Address) → Good r (continue_at r m pid (item_at r at).next es p)
-        continues (address.Local cell) = going
-        continues (address.Permanent cell) =
+        goes_on : (cell : ℕ) (k : ComponentKind) → Good r (continued_in m pid cell k (rest_of (item_at r at).next es))
+        goes_on cell (kind.Monitor monitor) = signalled_framed r (with_stack m pid (rest_of (item_at r at).next es)) pid monitor cell going
+        goes_on cell kind.Class = going
+        goes_on cell (kind.Process number) = going
+
+        returns : (cell : ℕ) → Good r (continued_from r (with_stack m pid (from_end es)) pid cell (from_end es))
+        returns cell =
             let e = end_fits r t.frame es s.1 in
             let b = end_reaches r t.references t.frame es below in
             let x : Thread = record t { stack = from_end es } in
@@ -192,6 +198,15 @@ module _ (r : Tables) (m : Machine) (pid : ℕ) (lt : pid < length m.threads) (s
             let long : length n.threads ≡ length m.threads = length-set m.threads pid x in
             continued_good n (from_end es) cell (omega (arith, lt, long)) (stack_fits r m pid _ e fits) (with_entries (from_end es) b)
             (subst (λ y. StackFits r y.frame (from_end es)) (sym same) e) (subst (λ y. StackReaches r y.references y.frame (from_end es)) (sym same) b)
+
+        by : (signals : Signals) (cell : ℕ) → Good r (continue_by signals r m pid cell (item_at r at).next es)
+        by signals.Return cell = returns cell
+        by signals.Continue cell = goes_on cell (component_at r (thread_at m.threads pid).frame.component).kind
+        by signals.Wait cell = goes_on cell (component_at r (thread_at m.threads pid).frame.component).kind
+
+        continues : (p : Address) → Good r (continue_at r m pid (item_at r at).next es p)
+        continues (address.Local cell) = going
+        continues (address.Permanent cell) = by m.discipline.signals cell
     acts (Display value kind) a =
         value_good r (value_of m pid value) _ _ (λ e. framed) (λ v is. either_good r (length m.output == MOST_SHOWN) _ _ framed going)
 

@@ -1,5 +1,5 @@
 -- A step, an admission and the opening keep what the frames of all processes may name there.
-use Rattle.cp_machine.proofs.Words.{◌≡◌, ℕ, ◌<◌, length, true, IsSound, IsTyped, parameter_count, Tables, component_at, process_at, Gates, LinesFit}
+use Rattle.cp_machine.proofs.Words.{◌≡◌, ℕ, ◌<◌, length, true, IsSound, IsTyped, parameter_count, Tables, component_at, process_at, Discipline, LinesFit}
 use Rattle.cp_machine.proofs.Words.{MachineFits, Machine, in_line, is_ready, admitted, opening, Reaches, step_at}
 use Rattle.cp_machine.proofs.parameters.Executing.{admitted_executes}
 use Rattle.cp_machine.proofs.parameters.ExecutingAct.{process_finds, step_executes}
@@ -26,5 +26,5 @@ pub admitted_reaches : (r : Tables) (m : Machine) (pid : ℕ) → in_line m pid 
 admitted_reaches r m pid waits h = reaches_of r (admitted m pid) (admitted_framed r m pid h.frames) (admitted_executes r m pid waits (executing_of r m h))
 
 -- the program has no parameters
-pub opening_reaches : (r : Tables) (gates : Gates) → IsSound r → IsTyped r → parameter_count r (component_at r (process_at r 0).component).system ≡ 0 → Reaches r (opening r gates)
-opening_reaches r gates sound typed alone = reaches_of r (opening r gates) (opening_framed r gates sound typed) (opening_executes r gates sound typed alone)
+pub opening_reaches : (r : Tables) (discipline : Discipline) → IsSound r → IsTyped r → parameter_count r (component_at r (process_at r 0).component).system ≡ 0 → Reaches r (opening r discipline)
+opening_reaches r discipline sound typed alone = reaches_of r (opening r discipline) (opening_framed r discipline sound typed) (opening_executes r discipline sound typed alone)

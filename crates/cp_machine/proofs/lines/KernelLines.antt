@@ -1,7 +1,11 @@
 -- What the kernel does keeps each line the line of those at its gate.
 use Rattle.std.proofs.Common.{◌≡◌, ◌∙◌, ℕ, suc, ◌<◌, ◌≤◌, ◌⊎◌, inl, inr, List, [], ◌∷◌, ◌++◌, length, Option, Some, None, true, false, eqb, ap, sym, refl, subst, arith, length-append}
-use Rattle.cp_machine.proofs.Words.{IfSome, pos, slice_index_or, slice_set, IsDistinct, Gates, First, Any, Status, Unstarted, Ready, AtGate, Delayed, LinesFit, admitted}
+use Rattle.cp_machine.proofs.Words.{IfSome, pos, slice_index_or, slice_set, IsDistinct, Discipline, First, Any, Status, Unstarted, Ready, AtGate, Delayed, LinesFit, admitted}
+use Rattle.cp_machine.specs.declared.discipline.Gates.{Gates}
 use Rattle.cp_machine.proofs.Words.{admitted_at, without, let_in, let_in_by, first_in, one_in, freed, goes_in, entered, entered_by, delayed, continued, resumed, waits_in}
+use Rattle.cp_machine.specs.declared.discipline.Signals.{Signals}
+use Rattle.cp_machine.specs.declared.discipline.Signals.TheVariants as signals
+use Rattle.cp_machine.specs.Kernel.{joined, changed_places, signalled_by, signalled}
 use Rattle.std.proofs.lemmas.Bool.{cases_eq, eq-eqb, eqb-true, ne_eqb}
 use Rattle.std.proofs.lemmas.List.{get_or-set_same, get_or-set_other}
 use Rattle.std.proofs.lemmas.List.Quantifiers.{position-Some}
@@ -9,7 +13,7 @@ use Rattle.std.proofs.lemmas.Map.Keys.{IsDistinct-tail}
 use Rattle.std.proofs.lemmas.Map.Steps.{length-le_from_distinct_below}
 use Rattle.cp_machine.specs.Machine.{Machine, Thread, Monitor, thread_at, no_thread, monitor_at, no_monitor, is_at_gate, is_delayed_at, is_ready_status, is_unstarted, in_line, in_line_of, with_status}
 use Rattle.cp_machine.proofs.ListLemmas.{set_related, passes_within}
-use Rattle.cp_machine.proofs.lines.LineLists.{has, has_first, has_pushed, pushed_other, pushed_once, first_gone, first_other, without_gone, without_other, without_once}
+use Rattle.cp_machine.proofs.lines.LineLists.{has, has_first, has_pushed, pushed_other, pushed_once, first_once, first_gone, first_other, without_gone, without_other, without_once}
 
 abbrev pub line_of : List Monitor → ℕ → List ℕ
 line_of ms g = (slice_index_or ms g no_monitor).line
@@ -110,6 +114,16 @@ joined_lined ts ms g p x y h there here off at line =
     (λ q ne. ap (λ l. has l q) line ∙ pushed_other (line_of ms g) p q ne)
     (subst (IsDistinct eqb) (sym line) (pushed_once (line_of ms g) p (h.1 g) (sym (h.0 g p) ∙ off g)))
 
+-- a process that is at no gate becomes the first of a line
+first_joined : (ts : List Thread) (ms : List Monitor) (g p : ℕ) (x : Thread) (y : Monitor) → Lined ts ms → p < length ts → g < length ms → IsOff (thread_at ts p).status → x.status ≡ AtGate g → y.line ≡ p ∷ line_of ms g → Lined (slice_set ts p x) (slice_set ms g y)
+first_joined ts ms g p x y h there here off at line =
+    moved_lined ts ms h g p x y there here
+    (ap (is_at_gate g) at ∙ eq-eqb g g refl ∙ sym (ap (λ l. has l p) line ∙ has_first p (line_of ms g)))
+    (λ k nf. ap (is_at_gate k) at ∙ ne_eqb g k (λ e. nf (sym e)))
+    (λ k nf. off k)
+    (λ q ne. ap (λ l. has l q) line ∙ sym (first_other p q (line_of ms g) ne))
+    (subst (IsDistinct eqb) (sym line) (first_once p (line_of ms g) (h.1 g) (sym (h.0 g p) ∙ off g)))
+
 -- ---- the kernel
 
 abbrev pub Two : Machine → Option ℕ → Type 0
@@ -147,7 +161,7 @@ let_in_by_lines First m g line e h still = lines_still (first_in m g line) (firs
 let_in_by_lines Any m g line e h still = one_lines m g line e h still
 
 pub let_in_lines : (m : Machine) (g : ℕ) → Lined m.threads m.monitors → m.pending ≡ None → LinesFit (let_in m g)
-let_in_lines m g h still = let_in_by_lines m.gates m g (monitor_at m g).line refl h still
+let_in_lines m g h still = let_in_by_lines m.discipline.gates m g (monitor_at m g).line refl h still
 
 pub entered_lines : (m : Machine) (p g : ℕ) → Lined m.threads m.monitors → m.pending ≡ None → p < length m.threads → IsOff (thread_at m.threads p).status → g < length m.monitors → LinesFit (entered m p g)
 entered_lines m p g h still there off here = go (monitor_at m g).holder
@@ -170,6 +184,30 @@ continued_lines m g cell h still = go (waits_in m cell) refl
     go (Some q) e =
         let found = position-Some (λ (t : Thread). is_delayed_at cell t.status) m.threads q no_thread e in
         lines_still (goes_in marked g q (monitor_at m g).line) (held_lined _ m.monitors g _ refl (off_lined m.threads m.monitors q _ (delayed_off cell _ found.1) (λ k. refl) h)) still
+
+ready_delayed : {A : Type 0} (cell : ℕ) (s : Status) → is_ready_status s ≡ true → is_delayed_at cell s ≡ true → A
+ready_delayed cell Ready h k = absurd (cc)
+ready_delayed cell s h k = absurd (cc)
+
+signalled_by_lines : (signals : Signals) (waiter : Option ℕ) (m : Machine) (p g cell : ℕ) → Lined m.threads m.monitors → m.pending ≡ None → p < length m.threads → is_ready_status (thread_at m.threads p).status ≡ true → g < length m.monitors → ((q : ℕ) → waiter ≡ Some q → (q < length m.threads) × (is_delayed_at cell (thread_at m.threads q).status ≡ true)) →
+    LinesFit (signalled_by signals waiter m p g)
+signalled_by_lines signals None m p g cell h still there ready here found = lines_still m h still
+signalled_by_lines signals.Wait (Some q) m p g cell h still there ready here found =
+    let at = (found q refl).1 in
+    let caller : Thread = record (thread_at m.threads p) { status = AtGate g } in
+    let first = first_joined m.threads m.monitors g p caller (record { holder = Some q; line = p ∷ line_of m.monitors g }) h there here (ready_off _ ready) refl refl in
+    let other : q ≡ p → ⊥ = λ e. ready_delayed cell (thread_at m.threads q).status (ap (λ j. is_ready_status (thread_at m.threads j).status) e ∙ ready) at in
+    let same : thread_at (slice_set m.threads p caller) q ≡ thread_at m.threads q = get_or-set_other m.threads p q caller no_thread other in
+    lines_still (changed_places m g p q) (off_lined (slice_set m.threads p caller) _ q _ (delayed_off cell _ (ap (λ (t : Thread). is_delayed_at cell t.status) same ∙ at)) (λ k. refl) first) still
+signalled_by_lines signals.Return (Some q) m p g cell h still there ready here found =
+    lines_still (joined m g q) (joined_lined m.threads m.monitors g q _ _ h (found q refl).0 here (delayed_off cell _ (found q refl).1) refl refl) still
+signalled_by_lines signals.Continue (Some q) m p g cell h still there ready here found =
+    lines_still (joined m g q) (joined_lined m.threads m.monitors g q _ _ h (found q refl).0 here (delayed_off cell _ (found q refl).1) refl refl) still
+
+pub signalled_lines : (m : Machine) (p g cell : ℕ) → Lined m.threads m.monitors → m.pending ≡ None → p < length m.threads → is_ready_status (thread_at m.threads p).status ≡ true → g < length m.monitors → LinesFit (signalled m p g cell)
+signalled_lines m p g cell h still there ready here =
+    signalled_by_lines m.discipline.signals (waits_in m cell) (record m { permanents = slice_set m.permanents cell (pos 0) }) p g cell h still there ready here
+    (λ q e. (let found = position-Some (λ (t : Thread). is_delayed_at cell t.status) m.threads q no_thread e in (found.0, found.1)))
 
 admitted_at_lines : (pending : Option ℕ) (m : Machine) (p : ℕ) → Lined m.threads m.monitors → in_line_of pending (thread_at m.threads p).status ≡ true → LinesFit (admitted_at pending m p)
 admitted_at_lines None m p h at = absurd (cc)

@@ -35,6 +35,19 @@ pushed_other line p q ne = list_any-append (eqb q) line (p ∷ []) ∙ ap (λ b.
 pub pushed_once : (line : List ℕ) (p : ℕ) → IsDistinct eqb line → has line p ≡ false → IsDistinct eqb (line ++ p ∷ [])
 pushed_once line p once new = IsDistinct-push nat_eq_equiv line p once new
 
+-- ---- one more before the first
+
+none_has : (p : ℕ) (line : List ℕ) → has line p ≡ false → AllByRecursion (λ y. eqb p y ≡ false) line
+none_has p [] h = tt
+none_has p (q ∷ line) h = let parts = neither (eqb p q) (has line p) h in (parts.0, none_has p line parts.1)
+  where
+    neither : (a b : Bool) → (a || b) ≡ false → (a ≡ false) × (b ≡ false)
+    neither false false e = (refl, refl)
+    neither a b e = absurd (cc)
+
+pub first_once : (p : ℕ) (line : List ℕ) → IsDistinct eqb line → has line p ≡ false → IsDistinct eqb (p ∷ line)
+first_once p line once new = IsDistinct-cons eqb p line (none_has p line new) once
+
 -- ---- the first leaves
 
 pub has_first : (p : ℕ) (line : List ℕ) → has (p ∷ line) p ≡ true

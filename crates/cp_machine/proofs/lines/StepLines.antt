@@ -5,7 +5,7 @@ use Rattle.cp_machine.specs.Machine.{Machine, Thread, thread_at, is_at_gate, is_
 use Rattle.cp_machine.proofs.CallerLemmas.{ready_thread}
 use Rattle.cp_machine.proofs.Stepping.{Walking, step_blind, show_either}
 use Rattle.cp_machine.proofs.rooms.Keeping.{kind_fits}
-use Rattle.cp_machine.proofs.lines.KernelLines.{Lined, IsOff, line_of, like_lined, lines_as, lines_still, off_lined, read_set, ready_off, unstarted_off, entered_lines, let_in_lines, delayed_lines, continued_lines}
+use Rattle.cp_machine.proofs.lines.KernelLines.{Lined, IsOff, line_of, like_lined, lines_as, lines_still, off_lined, read_set, ready_off, unstarted_off, entered_lines, let_in_lines, delayed_lines, continued_lines, signalled_lines}
 
 abbrev Fine : Stepped → Type 0
 Fine x = LinesFit x.machine
@@ -55,6 +55,10 @@ module _ (r : Tables) (m : Machine) (pid : ℕ) (sound : IsSound r) (fits : Mach
         leaves = λ monitor n s. let_in_lines n monitor (lined n s) (calm n s);
         delays = λ monitor cell n s. delayed_lines n pid monitor cell (lined n s) (calm n s) (off n s);
         continues = λ monitor cell n s. continued_lines n monitor cell (lined n s) (calm n s);
+        signals = λ component monitor is cell n s.
+            let within : monitor < r.monitors = subst (KindFits r) is (kind_fits r component sound) in
+            let count : length n.monitors ≡ length m.monitors = ap length s.1 in
+            signalled_lines n pid monitor cell (lined n s) (calm n s) (ready_thread n pid (still_ready n s)) (still_ready n s) (omega (arith, count, fits.monitors, within));
         ends = lines_still (with_status m pid Ended) (off_lined m.threads m.monitors pid _ (ready_off _ ready) (λ k. refl) (lines_as m lines)) still;
         shows = λ rest v. show_either Fine m pid rest v lines (kept _ (same_thread m pid _ refl));
       }

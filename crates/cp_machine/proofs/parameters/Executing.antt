@@ -1,11 +1,14 @@
 -- What the kernel does keeps what is known of components.
 use Rattle.std.proofs.Common.{◌≡◌, ◌∙◌, ℕ, ◌+◌, ◌<◌, List, [], ◌∷◌, length, Option, Some, None, true, false, ap, sym, refl, subst, arith}
-use Rattle.cp_machine.proofs.Words.{pos, slice_index_or, slice_set, length-set, IsOf, Tables, component_at, parameter_at, ComponentKind, Memory, Frame, Gates}
+use Rattle.cp_machine.proofs.Words.{pos, slice_index_or, slice_set, length-set, IsOf, Tables, component_at, parameter_at, ComponentKind, Memory, Frame, Discipline}
 use Rattle.cp_machine.proofs.Words.{First, Any, Entry, Rest, Successor, Return, InitEnd, Status, Ready, AtGate, Delayed, Phase, Uninitialised, LinesFit, with_memory}
 use Rattle.cp_machine.proofs.Words.{admitted, admitted_at, AreBound, EndsBegun, ExecutesAs, HasBegunAs, StackExecutes}
 use Rattle.std.proofs.lemmas.List.Quantifiers.{position-Some}
 use Rattle.cp_slots.specs.declared.tables.ComponentKind.TheVariants as kind
-use Rattle.cp_machine.specs.Kernel.{let_in, let_in_by, first_in, one_in, goes_in, entered, entered_by, delayed, continued, resumed, waits_in}
+use Rattle.cp_machine.specs.declared.discipline.Gates.{Gates}
+use Rattle.cp_machine.specs.Kernel.{let_in, let_in_by, first_in, one_in, goes_in, entered, entered_by, delayed, continued, resumed, waits_in, signalled_by, signalled}
+use Rattle.cp_machine.specs.declared.discipline.Signals.{Signals}
+use Rattle.cp_machine.specs.declared.discipline.Signals.TheVariants as signals
 use Rattle.cp_machine.specs.Machine.{Machine, Thread, in_line, in_line_of, is_at_gate, is_delayed_at, is_uninitialised, is_unstarted, monitor_at, no_thread, phase_at, thread_at, with_permanents, with_phase, with_stack, with_status, with_thread}
 use Rattle.cp_machine.proofs.ListLemmas.{set_related, each_set}
 use Rattle.cp_machine.proofs.parameters.ExecutingLemmas.{Executing}
@@ -156,7 +159,7 @@ let_in_by_executes r First m monitor line started h = first_in_executes r m moni
 let_in_by_executes r Any m monitor line started h = one_in_executes r m monitor line started h
 
 pub let_in_executes : (r : Tables) (m : Machine) (monitor : ℕ) → LineStarted m (monitor_at m monitor).line → Executing r m → Executing r (let_in m monitor)
-let_in_executes r m monitor started h = let_in_by_executes r m.gates m monitor (monitor_at m monitor).line started h
+let_in_executes r m monitor started h = let_in_by_executes r m.discipline.gates m monitor (monitor_at m monitor).line started h
 
 pub entered_executes : (r : Tables) (m : Machine) (pid monitor : ℕ) → HasStarted m pid → Executing r m → Executing r (entered m pid monitor)
 entered_executes r m pid monitor started h = go (monitor_at m monitor).holder
@@ -186,6 +189,20 @@ continued_executes r m monitor cell line h = go (waits_in m cell) refl
     go (Some q) e =
         let found = position-Some (λ (t : Thread). is_delayed_at cell t.status) m.threads q no_thread e in
         goes_in_executes r marked monitor q (monitor_at m monitor).line (delayed_started cell _ found.1) calm
+
+signalled_by_executes : (r : Tables) (signals : Signals) (waiter : Option ℕ) (m : Machine) (pid monitor : ℕ) → HasStarted m pid → ((q : ℕ) → waiter ≡ Some q → HasStarted m q) → Executing r m → Executing r (signalled_by signals waiter m pid monitor)
+signalled_by_executes r signals None m pid monitor started found h = h
+signalled_by_executes r signals.Wait (Some q) m pid monitor started found h =
+    let waits = read_set (λ (u : Thread). is_unstarted u.status) m.threads pid (record (thread_at m.threads pid) { status = AtGate monitor }) (sym started) in
+    goes_in_executes r (with_status m pid (AtGate monitor)) monitor q (pid ∷ (monitor_at m monitor).line) (waits q ∙ found q refl) (status_executes r m pid (AtGate monitor) (sym started) h)
+signalled_by_executes r signals.Return (Some q) m pid monitor started found h = same_executes r (with_status m q (AtGate monitor)) _ refl refl refl (status_executes r m q (AtGate monitor) (sym (found q refl)) h)
+signalled_by_executes r signals.Continue (Some q) m pid monitor started found h = same_executes r (with_status m q (AtGate monitor)) _ refl refl refl (status_executes r m q (AtGate monitor) (sym (found q refl)) h)
+
+pub signalled_executes : (r : Tables) (m : Machine) (pid monitor cell : ℕ) → HasStarted m pid → Executing r m → Executing r (signalled m pid monitor cell)
+signalled_executes r m pid monitor cell started h =
+    let marked : Machine = record m { permanents = slice_set m.permanents cell (pos 0) } in
+    signalled_by_executes r m.discipline.signals (waits_in m cell) marked pid monitor started
+    (λ q e. delayed_started cell _ (position-Some (λ (t : Thread). is_delayed_at cell t.status) m.threads q no_thread e).1) (same_executes r m marked refl refl refl h)
 
 -- ---- admission
 

@@ -8,9 +8,11 @@ use Rattle.cp_slots.specs.Systems.{Hands, IsOf, IsOwn, IsTyped, StaysInside, own
 use Rattle.cp_slots.specs.declared.place.ComponentPlace.TheVariants.{Own}
 use Rattle.cp_slots.specs.declared.tables.ComponentKind.TheVariants as kind
 use Rattle.cp_store.specs.declared.memory.Address.TheVariants as address
-use Rattle.cp_machine.specs.Calls.{called, called_by, called_in, continue_at, continued_from, delay_at, delayed_in, frame_behind, left, opened, start_inside, start_process, started}
+use Rattle.cp_machine.specs.Calls.{called, called_by, called_in, continue_at, continue_by, continued_from, continued_in, delay_at, delayed_in, frame_behind, left, opened, start_inside, start_process, started}
 use Rattle.cp_machine.specs.Machine.{Machine, Thread, is_initialised, is_ready, is_uninitialised, is_unstarted, monitor_at, phase_at, thread_at, with_bindings, with_phase, with_stack, with_thread}
-use Rattle.cp_machine.proofs.parameters.Executing.{HasStarted, KeepsPhases, LineStarted, continued_executes, delayed_executes, ends_later, entered_executes, line_started, memory_executes, stack_executes, stack_later, thread_executes}
+use Rattle.cp_machine.specs.declared.discipline.Signals.{Signals}
+use Rattle.cp_machine.specs.declared.discipline.Signals.TheVariants as signals
+use Rattle.cp_machine.proofs.parameters.Executing.{HasStarted, KeepsPhases, LineStarted, continued_executes, delayed_executes, ends_later, entered_executes, line_started, memory_executes, signalled_executes, stack_executes, stack_later, thread_executes}
 use Rattle.cp_machine.proofs.parameters.ExecutingHanded.{handed}
 use Rattle.cp_machine.proofs.parameters.ExecutingLemmas.{Executing, named_component, ok_is, ready_started}
 use Rattle.cp_machine.proofs.parameters.ExecutingStarts.{initialising_begun, initialising_keeps, inside_begins, process_begins}
@@ -143,13 +145,26 @@ module _ (r : Tables) (m : Machine) (pid : ℕ) (typed : IsTyped r) (fits : Mach
       continued_executes r o monitor cell (λ q there. (later q ∙ line monitor q there)) (left_going n caller slot es k (s.0.1, s.1))
   continued_from_going n k line cell f _ s = k
 
-  pub continue_at_going : (next : Option ℕ) (es : List Entry) (a : Address) → Runs r m pid own.frame es → Going r (continue_at r m pid next es a)
-  continue_at_going next es (address.Permanent cell) s =
+  continued_in_going : (cell : ℕ) (k : ComponentKind) (rest : List Entry) → Runs r m pid own.frame rest → Going r (continued_in m pid cell k rest)
+  continued_in_going cell (kind.Monitor monitor) rest s =
+      let n = with_stack m pid rest in
+      let calm : Calm m n = thread_calm m pid _ refl in
+      signalled_executes r n pid monitor cell (calm pid ∙ has_started) (stack_going rest s)
+  continued_in_going cell kind.Class rest s = stack_going rest s
+  continued_in_going cell (kind.Process number) rest s = stack_going rest s
+
+  continue_by_going : (signals : Signals) (cell : ℕ) (next : Option ℕ) (es : List Entry) → Runs r m pid own.frame es → Going r (continue_by signals r m pid cell next es)
+  continue_by_going signals.Return cell next es s =
       let end = end_runs r m pid own.frame es s in
       let n = with_stack m pid (from_end es) in
       let calm : Calm m n = thread_calm m pid _ refl in
       let later : Runs r n pid own.frame (from_end es) = (stack_later r m n pid own.frame (from_end es) (λ c b. b) end.0, ends_later m n (from_end es) (λ c b. b) end.1) in
       continued_from_going n (stack_going (from_end es) end) (λ monitor. calm_line n monitor calm) cell own.frame (from_end es) later
+  continue_by_going signals.Continue cell next es s = continued_in_going cell (component_at r own.frame.component).kind (rest_of next es) (rest_runs r m pid own.frame next es s)
+  continue_by_going signals.Wait cell next es s = continued_in_going cell (component_at r own.frame.component).kind (rest_of next es) (rest_runs r m pid own.frame next es s)
+
+  pub continue_at_going : (next : Option ℕ) (es : List Entry) (a : Address) → Runs r m pid own.frame es → Going r (continue_at r m pid next es a)
+  continue_at_going next es (address.Permanent cell) s = continue_by_going m.discipline.signals cell next es s
   continue_at_going next es (address.Local cell) s = stack_going (rest_of next es) (rest_runs r m pid own.frame next es s)
 
   -- ---- starts, of a component whose system type is the routine's

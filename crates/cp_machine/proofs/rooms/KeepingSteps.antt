@@ -5,11 +5,13 @@ use Rattle.cp_machine.proofs.Words.{ResolvedArm, Argument, PlaceOrigin, Componen
 use Rattle.cp_machine.proofs.Words.{InitEnd, Ready, Initialising, StackFits, MachineFits, rest_of, from_end}
 use Rattle.cp_slots.specs.declared.tables.ComponentKind.TheVariants as kind
 use Rattle.cp_store.specs.declared.memory.Address.TheVariants as address
-use Rattle.cp_machine.specs.Calls.{called, called_in, called_by, start_inside, started, delayed_in, delay_at, continued_from, continue_at}
+use Rattle.cp_machine.specs.Calls.{called, called_in, called_by, start_inside, started, delayed_in, delay_at, continued_from, continued_in, continue_by, continue_at}
+use Rattle.cp_machine.specs.declared.discipline.Signals.{Signals}
+use Rattle.cp_machine.specs.declared.discipline.Signals.TheVariants as signals
 use Rattle.cp_machine.specs.Machine.{Machine, Thread, thread_at, no_thread, phase_at, is_initialised, is_uninitialised, is_unstarted, with_stack}
 use Rattle.cp_machine.specs.Statements.{arm_for, has_label, gone_on}
 use Rattle.cp_machine.proofs.rooms.Keeping.{Fit, either_fits, rest_fits, inner_fits, end_fits, length_rest, stack_fits, phase_fits, memory_fits, parameters_fit, kind_fits, behind_follows, opened_thread, left_fits}
-use Rattle.cp_machine.proofs.rooms.KernelFits.{thread_fits, status_fits, entered_fits, delayed_fits, continued_fits}
+use Rattle.cp_machine.proofs.rooms.KernelFits.{thread_fits, status_fits, entered_fits, delayed_fits, continued_fits, signalled_fits}
 use Rattle.cp_machine.proofs.StoreLemmas.{kept_number, kept_frame}
 
 arm_or : (P : Option ℕ → Type 0) (b : Bool) (body : Option ℕ) (others : Result (Option ℕ) ErrorName) (list : Option ℕ) → (if b then Ok body else others) ≡ Ok list → P body → (others ≡ Ok list → P list) → P list
@@ -98,8 +100,18 @@ continued_from_fits r m pid cell _ s h = h
 pub frame_kept : (m : Machine) (pid : ℕ) (stack : List Entry) → pid < length m.threads → (thread_at (with_stack m pid stack).threads pid).frame ≡ (thread_at m.threads pid).frame
 frame_kept m pid stack lt = ap (λ t. t.frame) (get_or-set_same m.threads pid (record (thread_at m.threads pid) { stack = stack }) no_thread lt)
 
-pub continue_at_fits : (r : Tables) (m : Machine) (pid : ℕ) (next : Option ℕ) (es : List Entry) (a : Address) → pid < length m.threads → MachineFits r m → StackFits r (thread_at m.threads pid).frame es → StackFits r (thread_at m.threads pid).frame (rest_of next es) → Fit r (continue_at r m pid next es a)
-continue_at_fits r m pid next es (address.Permanent cell) lt h s n =
+continued_in_fits : (r : Tables) (m : Machine) (pid cell : ℕ) (k : ComponentKind) (rest : List Entry) → MachineFits r m → StackFits r (thread_at m.threads pid).frame rest → Fit r (continued_in m pid cell k rest)
+continued_in_fits r m pid cell (kind.Monitor monitor) rest h n = signalled_fits r _ pid monitor cell (stack_fits r m pid rest n h)
+continued_in_fits r m pid cell kind.Class rest h n = stack_fits r m pid rest n h
+continued_in_fits r m pid cell (kind.Process number) rest h n = stack_fits r m pid rest n h
+
+continue_by_fits : (r : Tables) (signals : Signals) (m : Machine) (pid cell : ℕ) (next : Option ℕ) (es : List Entry) → pid < length m.threads → MachineFits r m → StackFits r (thread_at m.threads pid).frame es → StackFits r (thread_at m.threads pid).frame (rest_of next es) → Fit r (continue_by signals r m pid cell next es)
+continue_by_fits r signals.Return m pid cell next es lt h s n =
     let e = end_fits r _ es s in
     continued_from_fits r _ pid cell (from_end es) (subst (λ f. StackFits r f (from_end es)) (sym (frame_kept m pid (from_end es) lt)) e) (stack_fits r m pid _ e h)
+continue_by_fits r signals.Continue m pid cell next es lt h s n = continued_in_fits r m pid cell (component_at r (thread_at m.threads pid).frame.component).kind (rest_of next es) h n
+continue_by_fits r signals.Wait m pid cell next es lt h s n = continued_in_fits r m pid cell (component_at r (thread_at m.threads pid).frame.component).kind (rest_of next es) h n
+
+pub continue_at_fits : (r : Tables) (m : Machine) (pid : ℕ) (next : Option ℕ) (es : List Entry) (a : Address) → pid < length m.threads → MachineFits r m → StackFits r (thread_at m.threads pid).frame es → StackFits r (thread_at m.threads pid).frame (rest_of next es) → Fit r (continue_at r m pid next es a)
+continue_at_fits r m pid next es (address.Permanent cell) lt h s n = continue_by_fits r m.discipline.signals m pid cell next es lt h s n
 continue_at_fits r m pid next es (address.Local cell) lt h s n = stack_fits r m pid _ n h

@@ -1,9 +1,12 @@
 -- What the kernel does keeps each process inside what was reserved for it.
 use Rattle.std.proofs.Common.{◌≡◌, ℕ, ◌<◌, ◌∙◌, List, [], ◌∷◌, Option, Some, None, length, arith}
-use Rattle.cp_machine.proofs.Words.{ℤ, IfSome, pos, slice_set, length-set, Tables, Gates, First, Any, Status, Ready, AtGate, Delayed, MachineFits}
+use Rattle.cp_machine.proofs.Words.{ℤ, IfSome, pos, slice_set, length-set, Tables, Discipline, First, Any, Status, Ready, AtGate, Delayed, MachineFits}
 use Rattle.cp_machine.proofs.Words.{ThreadFits, admitted, admitted_at, without}
 use Rattle.cp_machine.proofs.ListLemmas.{each_set}
-use Rattle.cp_machine.specs.Kernel.{let_in, let_in_by, first_in, one_in, freed, goes_in, entered, entered_by, delayed, continued, resumed, waits_in}
+use Rattle.cp_machine.specs.declared.discipline.Gates.{Gates}
+use Rattle.cp_machine.specs.Kernel.{let_in, let_in_by, first_in, one_in, freed, goes_in, entered, entered_by, delayed, continued, resumed, waits_in, signalled_by, signalled}
+use Rattle.cp_machine.specs.declared.discipline.Signals.{Signals}
+use Rattle.cp_machine.specs.declared.discipline.Signals.TheVariants as signals
 use Rattle.cp_machine.specs.Machine.{Machine, Thread, Monitor, thread_at, no_thread, monitor_at, with_thread, with_status, with_monitor, with_pending, with_permanents}
 
 -- ---- parts of a machine
@@ -53,7 +56,7 @@ let_in_by_fits r First m monitor line h lt = first_in_fits r m monitor line h
 let_in_by_fits r Any m monitor line h lt = one_in_fits r m monitor line h lt
 
 pub let_in_fits : (r : Tables) (m : Machine) (monitor : ℕ) → MachineFits r m → monitor < r.monitors → MachineFits r (let_in m monitor)
-let_in_fits r m monitor h lt = let_in_by_fits r m.gates m monitor (monitor_at m monitor).line h lt
+let_in_fits r m monitor h lt = let_in_by_fits r m.discipline.gates m monitor (monitor_at m monitor).line h lt
 
 entered_by_fits : (r : Tables) (holder : Option ℕ) (m : Machine) (pid monitor : ℕ) → MachineFits r m → MachineFits r (entered_by holder m pid monitor)
 entered_by_fits r None m pid monitor h = monitor_fits r m monitor _ h
@@ -75,6 +78,15 @@ resumed_fits r (Some q) m monitor h lt = goes_in_fits r m monitor q (monitor_at 
 
 pub continued_fits : (r : Tables) (m : Machine) (monitor cell : ℕ) → MachineFits r m → monitor < r.monitors → MachineFits r (continued m monitor cell)
 continued_fits r m monitor cell h lt = resumed_fits r (waits_in m cell) _ monitor (marked_fits r m cell (pos 0) h) lt
+
+signalled_by_fits : (r : Tables) (signals : Signals) (waiter : Option ℕ) (m : Machine) (pid monitor : ℕ) → MachineFits r m → MachineFits r (signalled_by signals waiter m pid monitor)
+signalled_by_fits r signals None m pid monitor h = h
+signalled_by_fits r signals.Wait (Some q) m pid monitor h = goes_in_fits r (with_status m pid (AtGate monitor)) monitor q (pid ∷ (monitor_at m monitor).line) (status_fits r m pid (AtGate monitor) h)
+signalled_by_fits r signals.Return (Some q) m pid monitor h = monitor_fits r (with_status m q (AtGate monitor)) monitor _ (status_fits r m q (AtGate monitor) h)
+signalled_by_fits r signals.Continue (Some q) m pid monitor h = monitor_fits r (with_status m q (AtGate monitor)) monitor _ (status_fits r m q (AtGate monitor) h)
+
+pub signalled_fits : (r : Tables) (m : Machine) (pid monitor cell : ℕ) → MachineFits r m → MachineFits r (signalled m pid monitor cell)
+signalled_fits r m pid monitor cell h = signalled_by_fits r m.discipline.signals (waits_in m cell) _ pid monitor (marked_fits r m cell (pos 0) h)
 
 -- ---- admission
 

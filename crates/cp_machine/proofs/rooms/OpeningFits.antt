@@ -1,6 +1,6 @@
 -- The opening state is the program's.
 use Rattle.cp_machine.proofs.Words.{◌≡◌, ℕ, ◌-◌, ◌<◌, ◌≤◌, ◌∙◌, [], Option, None, Some, length, map, sym, refl, subst, arith, ◌⊎◌, inl, inr, slice_set, cases_eq, Tables}
-use Rattle.cp_machine.proofs.Words.{item_at, routine_at, process_at, no_process, IsSound, ListFits, nowhere, Frame, Gates, Status, Uninitialised, FrameFits, EntryFits}
+use Rattle.cp_machine.proofs.Words.{item_at, routine_at, process_at, no_process, IsSound, ListFits, nowhere, Frame, Discipline, Status, Uninitialised, FrameFits, EntryFits}
 use Rattle.cp_machine.proofs.Words.{MachineFits, StackFits, ThreadFits, Machine, Thread, thread_at, no_monitor, no_thread, with_status, unstarted_thread, still, rest_of}
 use Rattle.std.proofs.lemmas.List.{length-map, length-replicate, length-set, get_or-map, get_or-set_same, get_or-set_other}
 
@@ -23,8 +23,8 @@ unstarted_fits r q within sound =
       references = (let long = length-replicate (routine_at r (process_at r q).routine).references nowhere in omega (arith, long));
     }
 
-pub still_fits : (r : Tables) (gates : Gates) → IsSound r → MachineFits r (still r gates)
-still_fits r gates sound =
+pub still_fits : (r : Tables) (discipline : Discipline) → IsSound r → MachineFits r (still r discipline)
+still_fits r discipline sound =
     record {
       threads = length-map r.processes (unstarted_thread r);
       permanents = refl;

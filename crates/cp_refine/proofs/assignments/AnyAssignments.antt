@@ -1,5 +1,5 @@
 -- The whole step of an assignment, of whatever type the target is.
-use Rattle.std.proofs.Common.{◌≡◌, ◌∙◌, ℕ, true, List, ◌∷◌, ◌++◌, Option, Some, ap, sym, refl, subst, arith}
+use Rattle.std.proofs.Common.{◌≡◌, ◌∙◌, ℕ, true, List, ◌∷◌, ◌++◌, Option, Some, ap, sym, refl, subst}
 use Rattle.cp_refine.proofs.Words.{ℤ, pos, int_le, slice_index, Program, Expression, Designator, assign, Address, Frame, put_number, Entry, Machine}
 use Rattle.cp_refine.proofs.Words.{thread_at, with_stack, memory_at, number_put, rest_of, step_at, Range, Ty, ordinal, set_over, array_over, record_with, is_within}
 use Rattle.cp_refine.proofs.Words.{number_value, Place, Item, statement_item, State, stored, becomes, view_of, step_of, settled, cells_of, Layouts, here, HasType, Sees}

@@ -124,7 +124,7 @@ module _ (g : Ground) (p : Program) (l : Layouts) (s : State) (m : Machine) (rep
             queued = λ z q n a v c e h d. rep.queues.queued z q n a (old_view v) refl e h (sym (place_same v z n a c e h) ∙ d);
           };
           pending = rep.pending;
-          gates = rep.gates;
+          discipline = rep.discipline;
           output = rep.output;
         }
 

@@ -5,7 +5,7 @@ use Rattle.cp_refine.proofs.Words.{take_top, step_at, Name, Range, Ty, ordinal, 
 use Rattle.cp_refine.proofs.Words.{Ground, result_cell, ResultGoes, SameKind, KindsAgree, First, Any, takes, with_result, leaving_move, return_move}
 use Rattle.cp_tree.specs.declared.declaration.SystemKind.TheVariants as system_kind
 use Rattle.cp_slots.specs.declared.tables.ComponentKind.TheVariants as kind
-use Rattle.cp_machine.specs.declared.gates.Gates as slot_gates
+use Rattle.cp_machine.specs.declared.discipline.Gates as slot_gates
 use Rattle.cp_machine.specs.declared.process.Status.TheVariants as status
 use Rattle.cp_machine.specs.Calls as calls
 use Rattle.cp_machine.specs.Kernel as machine
@@ -40,7 +40,7 @@ one_freed m j a (q ∷ r ∷ line) = ap (λ (ms : List Monitor). record m { moni
 pub let_in_freed : (m : Machine) (j : ℕ) → j < length m.monitors → machine.let_in (record m { monitors = slice_set m.monitors j (record { holder = None; line = (monitor_at m j).line }) }) j ≡ machine.let_in m j
 let_in_freed m j less =
     let a : Monitor = record { holder = None; line = (monitor_at m j).line } in
-    ap (λ (w : Monitor). machine.let_in_by m.gates (record m { monitors = slice_set m.monitors j a }) j w.line) (set_here m.monitors j a no_monitor less) ∙ go a m.gates (monitor_at m j).line
+    ap (λ (w : Monitor). machine.let_in_by m.discipline.gates (record m { monitors = slice_set m.monitors j a }) j w.line) (set_here m.monitors j a no_monitor less) ∙ go a m.discipline.gates (monitor_at m j).line
   where
     go : (a : Monitor) (c : slot_gates.Gates) (line : List ℕ) → machine.let_in_by c (record m { monitors = slice_set m.monitors j a }) j line ≡ machine.let_in_by c m j line
     go a First line = first_freed m j a line
@@ -198,9 +198,9 @@ module _ (g : Ground) (p : Program) (l : Layouts) (s : State) (m : Machine) (q :
     pub outside : is_inside n (process_back o) ≡ false
     outside = ap (λ b. b && true) has_returned.out
 
-    pub lets_line_in : Represents g p l (meaning.let_in s.gates state_out n) (machine.let_in machine_out j)
+    pub lets_line_in : Represents g p l (meaning.let_in s.discipline.gates state_out n) (machine.let_in machine_out j)
     lets_line_in =
-        subst (λ w. Represents g p l (meaning.let_in s.gates state_out n) w) (let_in_freed machine_out j (may.known j is))
+        subst (λ w. Represents g p l (meaning.let_in s.discipline.gates state_out n) w) (let_in_freed machine_out j (may.known j is))
         (lets_in g p l state_out machine_freed n j left_free may.own is (let e = length-set m.monitors j (record { holder = None; line = (monitor_at m j).line }) in let w = may.known j is in omega (arith, e, w)) there_n
         (none_left n q (process_back o) s.processes k.there may.exclusive outside)
         (first_waits_kept s q n (process_back o) (meaning.line_of s n) k.was may.line))
@@ -238,11 +238,11 @@ module _ (g : Ground) (p : Program) (l : Layouts) (s : State) (m : Machine) (q :
       }
 
   leave_back : (line j : ℕ) → (component_at g.tables call.component).kind ≡ kind.Monitor j → call.kind ≡ entry_routine → MayLeave g s m q call.component →
-      StepIs g p l q line (record { state = meaning.let_in s.gates (state_back done.calls done.components) call.component; event = leave_event }) (calls.returned g.tables m q caller slot (Some j) es)
+      StepIs g p l q line (record { state = meaning.let_in s.discipline.gates (state_back done.calls done.components) call.component; event = leave_event }) (calls.returned g.tables m q caller slot (Some j) es)
   leave_back line j is entry may =
       record {
-        state = as_done (λ w. Represents g p l (meaning.let_in s.gates w call.component) (machine.let_in (with_thread m q (thread_back slot)) j))
-            (as_slot (λ r. Represents g p l (meaning.let_in s.gates (record s { processes = slice_set s.processes q (process_back goes_to) }) call.component) (machine.let_in (with_thread m q (thread_back r)) j))
+        state = as_done (λ w. Represents g p l (meaning.let_in s.discipline.gates w call.component) (machine.let_in (with_thread m q (thread_back slot)) j))
+            (as_slot (λ r. Represents g p l (meaning.let_in s.discipline.gates (record s { processes = slice_set s.processes q (process_back goes_to) }) call.component) (machine.let_in (with_thread m q (thread_back r)) j))
             (lets_line_in goes_to return_is.1 call.component j is (let e = k.rep.component_count in let w = there_call in omega (arith, e, w)) entry refl may));
         event = refl;
       }

@@ -10,7 +10,6 @@ use Rattle.std.proofs.lemmas.List.{map-append, length-map}
 use Rattle.cp_slots.specs.declared.item.Action.TheVariants as action
 use Rattle.cp_slots.specs.declared.item.ShownKind.{ShownKind}
 use Rattle.cp_slots.specs.declared.place.OrdinalExpression as code_expression
-use Rattle.cp_slots.specs.declared.tables.ComponentKind.TheVariants as kind
 use Rattle.cp_slots.specs.Code as code
 use Rattle.cp_store.specs.declared.error.ErrorName as slots
 use Rattle.cp_machine.specs.declared.event.Event.TheVariants as event
@@ -20,7 +19,6 @@ use Rattle.cp_machine.specs.declared.shown.Shown.TheVariants as shown_variant
 use Rattle.cp_machine.specs.Machine.{Machine, thread_at, with_stack, with_output}
 use Rattle.cp_machine.specs.Statements as statements
 use Rattle.cp_machine.specs.Statements.{shown_as}
-use Rattle.cp_meaning.specs.State as named
 use Rattle.cp_meaning.specs.LocalRules.{invoked, shown}
 use Rattle.cp_resolved.specs.Stands.{Ground, DisplayItem, InvokedBy, kind_of}
 use Rattle.cp_refine.specs.Named.{shown_by, shown_of}

@@ -1,5 +1,5 @@
 -- The step of a process that has done all its items: it has ended.
-use Rattle.cp_refine.proofs.Words.{◌≡◌, ◌∙◌, ℕ, ◌<◌, not, List, [], ◌∷◌, ap, sym, refl, subst, length, ◌&&◌, slice_set, Program, component_at, Entry}
+use Rattle.cp_refine.proofs.Words.{◌≡◌, ℕ, ◌<◌, not, List, [], ◌∷◌, ap, sym, refl, subst, length, ◌&&◌, slice_set, Program, component_at, Entry}
 use Rattle.cp_refine.proofs.Words.{Machine, Thread, thread_at, with_thread, take_top, step_at, takes, view_of, step_of, settled, Layouts, Ground, StackIs, Runs}
 use Rattle.cp_refine.proofs.Words.{Represents, ready, ended, Status, Item, end, Process, State, has_entry, waits_at}
 use Rattle.cp_machine.specs.declared.process.Status.TheVariants as status

@@ -95,7 +95,7 @@ represents_with g p l s m os us pn pd shown pending rep =
       monitors = λ n h. monitor_from s (record s { output = os; pending = pn }) m (record m { output = us; pending = pd }) n (component_at g.tables n).kind refl refl (λ j b. refl) (rep.monitors n h);
       queues = record { waiting = rep.queues.waiting; queued = rep.queues.queued };
       pending = pending;
-      gates = rep.gates;
+      discipline = rep.discipline;
       output = shown;
     }
 
@@ -217,7 +217,7 @@ moved g p l s m q x t cs ms pn pd rep mv =
       monitors = λ n h. mv.monitors n (before n h);
       queues = queues_stand g p l s m rep q mv.there x t mv.was_awake.1 mv.awake.1 is_after go_after (λ v y n a c e h. place_kept s.components cs mv.same_environment v y n c e);
       pending = mv.pending;
-      gates = rep.gates;
+      discipline = rep.discipline;
       output = rep.output;
     }
   where

@@ -124,7 +124,7 @@ module _ (n : ℕ) (cs : List Component) (line : List ℕ) (there : n < length c
   abbrev changed : Component
   changed = record (named.component_at cs n) { line = line }
 
-  lined : IsLined n cs (with_line cs n line)
+  pub lined : IsLined n cs (with_line cs n line)
   lined =
       record {
         count = length-set cs n changed;
@@ -133,7 +133,7 @@ module _ (n : ℕ) (cs : List Component) (line : List ℕ) (there : n < length c
         others = λ k d. ap (λ (c : Component). c.line) (set_there cs n k changed no_component d);
       }
 
-  new_line : (named.component_at (with_line cs n line) n).line ≡ line
+  pub new_line : (named.component_at (with_line cs n line) n).line ≡ line
   new_line = ap (λ (c : Component). c.line) (set_here cs n changed no_component there)
 
 -- ---- a process that enters or leaves a monitor
@@ -144,7 +144,7 @@ module _ (g : Ground) (p : Program) (l : Layouts) (s : State) (m : Machine) (q :
   monitor_at_first = subst (MonitorIs s m n) is (rep.monitors n there_n)
 
   -- who is inside of each other monitor is as before
-  gate_changes : IsAwake (named.process_at s.processes q).status → IsAwake x.status → ProcessIs g p l q x t → (cs : List Component) (y : Monitor) → IsLined n s.components cs →
+  pub gate_changes : IsAwake (named.process_at s.processes q).status → IsAwake x.status → ProcessIs g p l q x t → (cs : List Component) (y : Monitor) → IsLined n s.components cs →
       y.line ≡ (named.component_at cs n).line → y.holder ≡ first_inside n (slice_set s.processes q x) → ((k : ℕ) → k ≢ n → is_inside k x ≡ is_inside k (named.process_at s.processes q)) →
       Represents g p l (record s { processes = slice_set s.processes q x; components = cs }) (record m { threads = slice_set m.threads q t; monitors = slice_set m.monitors j y })
   gate_changes was now stands cs y lines line holder inside =

@@ -3,6 +3,7 @@ use Rattle.cp_refine.proofs.Words.{◌≡◌, ◌∙◌, ℕ, ◌<◌, true, Lis
 use Rattle.cp_refine.proofs.Words.{component_at, Machine, Monitor, no_monitor, monitor_at, first_inside, Layouts, Ground, gates_of, MonitorIs}
 use Rattle.cp_refine.proofs.Words.{PendingIs, Represents, set-get_or, at_gate, has_entry, Gates, first_gates, any_gates, State}
 use Rattle.cp_slots.specs.declared.tables.ComponentKind.TheVariants as kind
+use Rattle.cp_machine.specs.declared.discipline.Discipline as slot_discipline
 use Rattle.cp_machine.specs.Kernel as machine
 use Rattle.cp_meaning.specs.Kernel as meaning
 use Rattle.cp_meaning.specs.State as named
@@ -51,7 +52,7 @@ module _ (g : Ground) (p : Program) (l : Layouts) (s : State) (m : Machine) (n j
       go (q ∷ []) w same = enters q [] w
       go (q ∷ r ∷ ks) w same = pending_is g p l s (machine.freed m j (q ∷ r ∷ ks)) (Some n) (Some j) is (freed_is (q ∷ r ∷ ks) same)
 
-  pub lets_in : FirstWaits s n (meaning.line_of s n) → Represents g p l (meaning.let_in s.gates s n) (machine.let_in m j)
+  pub lets_in : FirstWaits s n (meaning.line_of s n) → Represents g p l (meaning.let_in s.discipline.gates s n) (machine.let_in m j)
   lets_in w =
-      subst (λ c. Represents g p l (meaning.let_in s.gates s n) (machine.let_in_by c m j (monitor_at m j).line)) (sym rep.gates)
-      (subst (λ ks. Represents g p l (meaning.let_in s.gates s n) (machine.let_in_by (gates_of s.gates) m j ks)) (sym here.0) (by_gates s.gates (meaning.line_of s n) w here.0 refl))
+      subst (λ c. Represents g p l (meaning.let_in s.discipline.gates s n) (machine.let_in_by c m j (monitor_at m j).line)) (sym (ap (λ (d : slot_discipline.Discipline). d.gates) rep.discipline))
+      (subst (λ ks. Represents g p l (meaning.let_in s.discipline.gates s n) (machine.let_in_by (gates_of s.discipline.gates) m j ks)) (sym here.0) (by_gates s.discipline.gates (meaning.line_of s n) w here.0 refl))

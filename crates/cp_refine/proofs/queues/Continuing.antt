@@ -3,6 +3,7 @@ use Rattle.std.proofs.Common.{◌≡◌, ◌≢◌, ◌∙◌, ℕ, ◌^◌, ◌
 use Rattle.cp_refine.proofs.Words.{pos, slice_set, Program, component_at, Frame, Entry, Rest, Successor, Return, InitEnd, StackFits, ThreadFits, Name, same_name, Range}
 use Rattle.cp_refine.proofs.Words.{Ty, ordinal, queue_type, Value, queue_value, Choice, after_return, first_inside, Layouts, Here, here, look, chosen_at, RoutineIs}
 use Rattle.cp_refine.proofs.Words.{Ground, ItemsAre, StackIs, frames_of, Represents, from_end}
+use Rattle.cp_tree.specs.declared.declaration.SystemKind.TheVariants as system_kind
 use Rattle.cp_slots.specs.declared.tables.ComponentKind.TheVariants as kind
 use Rattle.cp_machine.specs.declared.process.Status.TheVariants as status
 use Rattle.cp_machine.specs.Kernel as machine
@@ -105,6 +106,7 @@ pub record MayContinue (g : Ground) (p : Program) (l : Layouts) (s : State) (m :
   pub few : length (thread_at m.threads q).cells < 2 ^ 64
   pub routines : (i : ℕ) → i < length g.tables.routines → RoutineIs g p l i
   pub simple : (i : ℕ) (u : Ty) → (l.meanings i).result ≡ Some u → (r : Range) × (u ≡ ordinal r)
+  pub monitor : (named.component_at s.components n).kind ≡ system_kind.Monitor
   -- who is delayed in the monitor has an open entry call of it
   pub called : (r : ℕ) → r < length s.processes → (named.process_at s.processes r).status ≡ delayed n → has_entry n (named.process_at s.processes r).calls ≡ true
 
@@ -203,13 +205,13 @@ module _ (g : Ground) (p : Program) (l : Layouts) (s : State) (m : Machine) (q :
 
   module _ (y : Name) (u : Ty) (choices : List Choice) (offset : ℕ) (there : n < length g.tables.components) (known : look y (l.systems (component_at g.tables n).system).variables ≡ Some u) (chosen : chosen_at u choices ≡ Some (offset, queue_type)) where
     abbrev pub at : ℕ
-    at = resumed.at g p l state_left machine_empty left_so may.apart may.parts_apart may.leave.own n j may.is known_empty nobody y u choices offset there known chosen
+    at = resumed.at g p l state_left machine_empty left_so may.apart may.parts_apart n y u choices offset there known chosen
 
     abbrev pub old_queue : Value
-    old_queue = resumed.old_queue g p l state_left machine_empty left_so may.apart may.parts_apart may.leave.own n j may.is known_empty nobody y u choices offset there known chosen
+    old_queue = resumed.old_queue g p l state_left machine_empty left_so may.apart may.parts_apart n y u choices offset there known chosen
 
     abbrev pub state_emptied : State
-    state_emptied = record state_left { components = resumed.emptied g p l state_left machine_empty left_so may.apart may.parts_apart may.leave.own n j may.is known_empty nobody y u choices offset there known chosen }
+    state_emptied = record state_left { components = resumed.emptied g p l state_left machine_empty left_so may.apart may.parts_apart n y u choices offset there known chosen }
 
     -- the machine that the queue's cell is written in, before the monitor is let go
     abbrev pub machine_emptied : Machine
@@ -217,27 +219,27 @@ module _ (g : Ground) (p : Program) (l : Layouts) (s : State) (m : Machine) (q :
 
     line_left : FirstWaits state_emptied n (meaning.line_of state_emptied n)
     line_left =
-        subst (λ ks. FirstWaits state_emptied n ks) (sym (resumed.lines_same g p l state_left machine_empty left_so may.apart may.parts_apart may.leave.own n j may.is known_empty nobody y u choices offset there known chosen n))
+        subst (λ ks. FirstWaits state_emptied n ks) (sym (resumed.lines_same g p l state_left machine_empty left_so may.apart may.parts_apart n y u choices offset there known chosen n))
         (first_waits_kept state_ends q n (process_back g p l state_ends machine_ends q ends.caller ends.slot ends.monitor ends.entries returns None) (meaning.line_of s n) returns.was leave_ends.line)
 
     -- nobody waited: the line is let in
     none_on : old_queue ≡ queue_value None → Represents g p l (meaning.continuing state_emptied n None) (machine.continued machine_left j at)
     none_on free =
-        subst (λ o. Represents g p l (meaning.continuing state_emptied n None) (machine.resumed o machine_emptied j)) (sym (resumed.found_none g p l state_left machine_empty left_so may.apart may.parts_apart may.leave.own n j may.is known_empty nobody y u choices offset there known chosen free))
-        (subst (λ w. Represents g p l (meaning.let_in s.gates state_emptied n) w) (let_in_freed machine_emptied j known_j)
+        subst (λ o. Represents g p l (meaning.continuing state_emptied n None) (machine.resumed o machine_emptied j)) (sym (resumed.found_none g p l state_left machine_empty left_so may.apart may.parts_apart n y u choices offset there known chosen free))
+        (subst (λ w. Represents g p l (meaning.let_in s.discipline.gates state_emptied n) w) (let_in_freed machine_emptied j known_j)
         (lets_in g p l state_emptied (record machine_emptied { monitors = slice_set m.monitors j (record { holder = None; line = (monitor_at m j).line }) }) n j
-        (resumed.emptied_none g p l state_left machine_empty left_so may.apart may.parts_apart may.leave.own n j may.is known_empty nobody y u choices offset there known chosen free) may.leave.own may.is known_empty
-        (subst (λ i. n < i) (sym (resumed.count g p l state_left machine_empty left_so may.apart may.parts_apart may.leave.own n j may.is known_empty nobody y u choices offset there known chosen)) there_n) nobody line_left))
+        (resumed.emptied_none g p l state_left machine_empty left_so may.apart may.parts_apart n y u choices offset there known chosen free) may.leave.own may.is known_empty
+        (subst (λ i. n < i) (sym (resumed.count g p l state_left machine_empty left_so may.apart may.parts_apart n y u choices offset there known chosen)) there_n) nobody line_left))
 
     -- a process waited: it goes on inside
     some_on : (r : ℕ) → old_queue ≡ queue_value (Some r) → Represents g p l (meaning.continuing state_emptied n (Some r)) (machine.continued machine_left j at)
     some_on r somebody =
-        let w = resumed.is_waiting g p l state_left machine_empty left_so may.apart may.parts_apart may.leave.own n j may.is known_empty nobody y u choices offset there known chosen r somebody in
-        subst (λ (v : Status). Represents g p l (if meaning.is_delayed_in n v then meaning.made_ready state_emptied r else meaning.let_in s.gates state_emptied n) (machine.continued machine_left j at)) (sym w.1)
-        (subst (λ b. Represents g p l (if b then meaning.made_ready state_emptied r else meaning.let_in s.gates state_emptied n) (machine.continued machine_left j at)) (sym (eq-eqb n n refl))
-        (subst (λ o. Represents g p l (meaning.made_ready state_emptied r) (machine.resumed o machine_emptied j)) (sym (resumed.found_some g p l state_left machine_empty left_so may.apart may.parts_apart may.leave.own n j may.is known_empty nobody y u choices offset there known chosen r somebody))
+        let w = resumed.is_waiting g p l state_left machine_empty left_so may.apart may.parts_apart n y u choices offset there known chosen r somebody in
+        subst (λ (v : Status). Represents g p l (if meaning.is_delayed_in n v then meaning.made_ready state_emptied r else meaning.let_in s.discipline.gates state_emptied n) (machine.continued machine_left j at)) (sym w.1)
+        (subst (λ b. Represents g p l (if b then meaning.made_ready state_emptied r else meaning.let_in s.discipline.gates state_emptied n) (machine.continued machine_left j at)) (sym (eq-eqb n n refl))
+        (subst (λ o. Represents g p l (meaning.made_ready state_emptied r) (machine.resumed o machine_emptied j)) (sym (resumed.found_some g p l state_left machine_empty left_so may.apart may.parts_apart n y u choices offset there known chosen r somebody))
         (subst (λ v. Represents g p l (meaning.made_ready state_emptied r) v) (machine_same r)
-        (resumed.resumed_some g p l state_left machine_empty left_so may.apart may.parts_apart may.leave.own n j may.is known_empty nobody y u choices offset there known chosen r somebody (called_left r w.0 w.1)))))
+        (resumed.resumed_some g p l state_left machine_empty left_so may.apart may.parts_apart n y u choices offset there known chosen r somebody may.leave.own j may.is known_empty nobody (called_left r w.0 w.1)))))
       where
         -- the monitor is written once and twice
         machine_same : (r : ℕ) → (record machine_emptied { threads = slice_set machine_left.threads r (record (thread_at machine_left.threads r) { status = status.Ready }); monitors = slice_set (slice_set m.monitors j (record { holder = None; line = (monitor_at m j).line })) j (record { holder = Some r; line = (monitor_at machine_empty j).line }) })

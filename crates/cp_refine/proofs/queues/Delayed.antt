@@ -199,7 +199,7 @@ module _ (g : Ground) (p : Program) (l : Layouts) (s : State) (m : Machine) (q :
           monitors = λ i h. monitors_stand i (let e : length state_out.components ≡ length s.components = length-set s.components n _ in omega (arith, e, h));
           queues = record { waiting = waiting; queued = queued };
           pending = k.rep.pending;
-          gates = k.rep.gates;
+          discipline = k.rep.discipline;
           output = k.rep.output;
         }
 
@@ -207,8 +207,8 @@ module _ (g : Ground) (p : Program) (l : Layouts) (s : State) (m : Machine) (q :
     line_waits = subst (λ ks. FirstWaits state_out n ks) (sym (lines_same n)) (first_waits_kept s q n new_process (meaning.line_of s n) k.was may.line)
 
     -- the line is let in
-    pub delayed_out : Represents g p l (meaning.let_in s.gates state_out n) (machine.let_in machine_out j)
+    pub delayed_out : Represents g p l (meaning.let_in s.discipline.gates state_out n) (machine.let_in machine_out j)
     delayed_out =
-        subst (λ w. Represents g p l (meaning.let_in s.gates state_out n) w) (let_in_freed machine_out j may.known)
+        subst (λ w. Represents g p l (meaning.let_in s.discipline.gates state_out n) w) (let_in_freed machine_out j may.known)
         (lets_in g p l state_out machine_freed n j delayed_freed may.own may.is (let e = length-set m.monitors j (record { holder = None; line = (monitor_at m j).line }) in let w = may.known in omega (arith, e, w))
         (subst (λ c. n < c) (sym (length-set s.components n _)) there_component) nobody line_waits)

@@ -73,6 +73,9 @@ module _ (g : Ground) (p : Program) (l : Layouts) (s : State) (m : Machine) (q a
       let top = top_frame thread.frame es in
       call_component g.tables l (own_memory thread) (named.process_at s.processes q).calls thread.frame top.0 (subst (λ fs. CallsHold g.tables l (own_memory thread) (named.process_at s.processes q).calls fs) top.1 k.calls)
 
+  pub frame_kind : (component_at g.tables thread.frame.component).kind ≡ kind.Monitor j
+  frame_kind = ap (λ i. (component_at g.tables i).kind) (sym this_is) ∙ may.is
+
   -- ---- a queue of the component
 
   module _ (pl : Place) (a : Address) (h : PlaceAt g.tables l (frames_of thread.frame es) (record { holder = in_component n; name = pl.name; choices = pl.choices }) queue_type a) where
@@ -118,7 +121,7 @@ module _ (g : Ground) (p : Program) (l : Layouts) (s : State) (m : Machine) (q a
     waits : part_at old_variable pl.choices ≡ queue_value None → StepIs g p l q line (settled p s q (Ok doing)) (record { machine = machine.delayed (with_stack m q rest) q j at_cell; event = event.Kernel event_call.Delay })
     waits free =
         record {
-          state = subst (λ w. Represents g p l (meaning.let_in s.gates (meaning.moved_to (named.delayed n) s q doing) n) (machine.let_in w j)) (sym machine_is)
+          state = subst (λ w. Represents g p l (meaning.let_in s.discipline.gates (meaning.moved_to (named.delayed n) s q doing) n) (machine.let_in w j)) (sym machine_is)
               (delayed_out g p l s m q es (goes g p l s m q at item_here mid es xs ys k) (xs ++ ys) rest (stack_after g p l s m q at item_here mid es xs ys k) (frames_rest thread.frame mid es) n j may pl.name h.whole pl.choices h.offset h.begins.there h.begins.known h.chosen free);
           event = refl;
         }
@@ -132,9 +135,6 @@ module _ (g : Ground) (p : Program) (l : Layouts) (s : State) (m : Machine) (q a
         go : (o : Option ℕ) → part_at old_variable pl.choices ≡ queue_value o → StepIs g p l q line (settled p s q (queue_free o >>= λ u. Ok doing)) (if is_true (flag_of o) then statements.fault m q line error.QueueInUse else record { machine = machine.delayed (with_stack m q rest) q j at_cell; event = event.Kernel event_call.Delay })
         go None w = waits w
         go (Some r) w = fails g p l s m q at item_here mid es xs ys k line queue_in_use error.QueueInUse refl
-
-    frame_kind : (component_at g.tables thread.frame.component).kind ≡ kind.Monitor j
-    frame_kind = ap (λ i. (component_at g.tables i).kind) (sym this_is) ∙ may.is
 
     in_queue : StepIs g p l q line (settled p s q (delayed_in view q (xs ++ ys) place)) (calls.delay_at g.tables m q line rest a)
     in_queue =

@@ -1,16 +1,16 @@
--- A queue is emptied: who waited in it is ready and inside its monitor, where nobody was.
+-- A queue is emptied: who waited in it comes to the gate of its monitor, or is ready and inside, where nobody was.
 use Rattle.std.proofs.Common.{◌≡◌, ◌≢◌, ◌∙◌, ℕ, suc, zero, ◌+◌, ◌<◌, ◌==◌, ◌⊎◌, inl, inr, Bool, true, false, cond, ltb, List, [], ◌∷◌, Some, None, ap, sym, refl, subst, arith, length, length-set, eq-eqb}
 use Rattle.std.specs.Prelude.{◌&&◌, not, position, pos, slice_index_or, slice_set}
 use Rattle.cp_refine.proofs.Words.{position_or_len, eqb-true, lt-ltb, le-ltb, Program, component_at, Address, Permanent, Name, same_name, Ty, queue_type}
 use Rattle.cp_refine.proofs.Words.{Value, queue_value, Choice, part_at, View, content_of, value_held, environment_of, value_at, first_inside, Layouts, look, chosen_at}
-use Rattle.cp_refine.proofs.Words.{Ground, further, LiesAt, StatusIs, ProcessIs, MonitorIs, BeginsAt, PlaceAt, all_permanents, Represents}
+use Rattle.cp_refine.proofs.Words.{Ground, further, LiesAt, Runs, StatusIs, MonitorIs, BeginsAt, PlaceAt, all_permanents, Represents}
 use Rattle.cp_slots.specs.declared.tables.ComponentKind.TheVariants as kind
 use Rattle.cp_machine.specs.declared.process.Status as slot_status
 use Rattle.cp_machine.specs.declared.process.Status.TheVariants as status
 use Rattle.cp_machine.specs.Kernel as machine
-use Rattle.cp_machine.specs.Machine.{Machine, Thread, no_thread, monitor_at, thread_at, is_delayed_at}
+use Rattle.cp_machine.specs.Machine.{Machine, Monitor, Thread, no_thread, monitor_at, thread_at, is_delayed_at}
 use Rattle.cp_meaning.specs.State as named
-use Rattle.cp_meaning.specs.State.{Holder, in_call, in_component, Place, Component, ready, delayed, Status, Process, State, has_entry, waits_at}
+use Rattle.cp_meaning.specs.State.{Holder, in_call, in_component, Place, Component, ready, at_gate, delayed, Status, Process, State, has_entry, waits_at}
 use Rattle.cp_refine.proofs.gates.Gates.{OwnNumbers, all_outside, only_one, monitors_change}
 use Rattle.cp_refine.proofs.control.Moving.{set_here, same_or_other, inside_same, monitor_from, delayed_process, here_process, counts_stand, still_there, processes_stand, unstarted_still, delayed_before, delayed_after}
 use Rattle.cp_refine.proofs.queues.QueueWriting.{old, components_after, permanents_after, old_lies, line_same, components_stand, variables_after, IsWritten, written_value, old_written, queue_kept, cell, there_named}
@@ -47,8 +47,7 @@ position_missing test xs d others =
 
 module _ (g : Ground) (p : Program) (l : Layouts) (s : State) (m : Machine) (rep : Represents g p l s m) (apart : ComponentsApart g.tables l)
     (parts_apart : (n : ℕ) (x w : Name) (t u : Ty) → look x (l.systems n).parts ≡ Some t → look w (l.systems n).variables ≡ Some u → same_name x w ≡ false)
-    (own : OwnNumbers g) (n j : ℕ) (is : (component_at g.tables n).kind ≡ kind.Monitor j) (known_j : j < length m.monitors) (free : first_inside n s.processes ≡ None)
-    (y : Name) (u : Ty) (choices : List Choice) (offset : ℕ) (there : n < length g.tables.components) (known : look y (l.systems (component_at g.tables n).system).variables ≡ Some u) (chosen : chosen_at u choices ≡ Some (offset, queue_type)) where
+    (n : ℕ) (y : Name) (u : Ty) (choices : List Choice) (offset : ℕ) (there : n < length g.tables.components) (known : look y (l.systems (component_at g.tables n).system).variables ≡ Some u) (chosen : chosen_at u choices ≡ Some (offset, queue_type)) where
   abbrev pub at : ℕ
   at = cell g p l s m rep apart parts_apart n y u choices offset None there known chosen
 
@@ -203,21 +202,18 @@ module _ (g : Ground) (p : Program) (l : Layouts) (s : State) (m : Machine) (rep
             queued = λ x r i a v c e h w. rep.queues.queued x r i a (old_view v) refl e h (waited x r i a v c e h w);
           };
           pending = rep.pending;
-          gates = rep.gates;
+          discipline = rep.discipline;
           output = rep.output;
         }
 
-  -- ---- a process waited
+  -- ---- a process waited, and waits in no queue now
 
-  module _ (r : ℕ) (somebody : old_queue ≡ queue_value (Some r)) (called : has_entry n (named.process_at s.processes r).calls ≡ true) where
+  module _ (r : ℕ) (somebody : old_queue ≡ queue_value (Some r)) where
     abbrev before : Process
     before = named.process_at s.processes r
 
-    abbrev process_on : Process
-    process_on = record before { status = ready }
-
-    abbrev thread_on : Thread
-    thread_on = record (thread_at m.threads r) { status = status.Ready }
+    abbrev thread : Thread
+    thread = thread_at m.threads r
 
     there_r : r < length s.processes
     there_r = (is_waiting r somebody).0
@@ -225,52 +221,81 @@ module _ (g : Ground) (p : Program) (l : Layouts) (s : State) (m : Machine) (rep
     was : before.status ≡ delayed n
     was = (is_waiting r somebody).1
 
-    abbrev state_on : State
-    state_on = record s { processes = slice_set s.processes r process_on; components = emptied }
+    runs_in_queue : Runs g p l before thread
+    runs_in_queue = subst (λ w. StatusIs g p l r before thread (delayed n) w) (is_waiting r somebody).2 (subst (λ w. StatusIs g p l r before thread w thread.status) was (rep.processes r there_r).status)
 
-    abbrev machine_on : Machine
-    machine_on = record memory_after { threads = slice_set m.threads r thread_on; monitors = slice_set m.monitors j (record { holder = Some r; line = (monitor_at m j).line }) }
+    module _ (now : Status) (slot : slot_status.Status) (ms : List Monitor) where
+      abbrev pub process_on : Process
+      process_on = record before { status = now }
 
-    runs_on : ProcessIs g p l r process_on thread_on
-    runs_on =
-        let runs = subst (λ w. StatusIs g p l r before (thread_at m.threads r) (delayed n) w) (is_waiting r somebody).2 (subst (λ w. StatusIs g p l r before (thread_at m.threads r) w (thread_at m.threads r).status) was (rep.processes r there_r).status) in
-        record { component = (rep.processes r there_r).component; status = record { stack = runs.stack; calls = runs.calls } }
+      abbrev pub thread_on : Thread
+      thread_on = record thread { status = slot }
 
-    monitor_here : MonitorIs s m n (kind.Monitor j)
-    monitor_here = subst (MonitorIs s m n) is (rep.monitors n there_component)
+      abbrev pub state_on : State
+      state_on = record s { processes = slice_set s.processes r process_on; components = emptied }
 
-    inside_on : first_inside n (slice_set s.processes r process_on) ≡ Some r
-    inside_on = only_one n r process_on s.processes there_r (λ i h d. all_outside n s.processes free i h) (ap (λ b. b && true) called)
+      abbrev pub machine_on : Machine
+      machine_on = record memory_after { threads = slice_set m.threads r thread_on; monitors = ms }
 
-    holders_on : (i : ℕ) → i ≢ n → first_inside i (slice_set s.processes r process_on) ≡ first_inside i s.processes
-    holders_on i d = inside_same i r process_on s.processes (sym (ap (λ (v : Status). has_entry i before.calls && not (waits_at i v)) was ∙ ap (λ b. has_entry i before.calls && not b) (differs n i (λ e. d (sym e))))) there_r
+      module _ (awake : (i : ℕ) → now ≡ delayed i → ⊥) (stands : StatusIs g p l r process_on thread_on now slot) where
+        waiting_on : (k i a : ℕ) (v : View) → k < length (slice_set s.processes r process_on) → (named.process_at (slice_set s.processes r process_on) k).status ≡ delayed i → (thread_at (slice_set m.threads r thread_on) k).status ≡ status.Delayed a → v.components ≡ emptied → Waits k i a v
+        waiting_on k i a v h e f c = go (same_or_other k r)
+          where
+            go : (k ≡ r) ⊎ (k ≢ r) → Waits k i a v
+            go (inl d) = absurd (awake i (sym (ap (λ b. (named.process_at (slice_set s.processes r process_on) b).status) d ∙ ap (λ (x : Process). x.status) (here_process g p l s m rep r there_r process_on thread_on)) ∙ e))
+            go (inr d) =
+                let w = delayed_before g p l s m rep r there_r process_on thread_on k i a d e f in
+                still_waits k i a v c (λ w. d (process_is k r (sym w ∙ somebody))) (rep.queues.waiting k i a (old_view v) (still_there g p l s m rep r there_r process_on thread_on k h) w.0 w.1 refl)
 
-    waiting_on : (k i a : ℕ) (v : View) → k < length (slice_set s.processes r process_on) → (named.process_at (slice_set s.processes r process_on) k).status ≡ delayed i → (thread_at (slice_set m.threads r thread_on) k).status ≡ status.Delayed a → v.components ≡ emptied → Waits k i a v
-    waiting_on k i a v h e f c = go (same_or_other k r)
-      where
-        go : (k ≡ r) ⊎ (k ≢ r) → Waits k i a v
-        go (inl d) = absurd (let w : ready ≡ delayed i = sym (ap (λ b. (named.process_at (slice_set s.processes r process_on) b).status) d ∙ ap (λ (x : Process). x.status) (here_process g p l s m rep r there_r process_on thread_on)) ∙ e in cc)
-        go (inr d) =
-            let w = delayed_before g p l s m rep r there_r process_on thread_on k i a d e f in
-            still_waits k i a v c (λ w. d (process_is k r (sym w ∙ somebody))) (rep.queues.waiting k i a (old_view v) (still_there g p l s m rep r there_r process_on thread_on k h) w.0 w.1 refl)
+        queued_on : (x : Place) (k i a : ℕ) (v : View) → v.components ≡ emptied → x.holder ≡ in_component i → PlaceAt g.tables l [] x queue_type (Permanent a) → value_at v x ≡ queue_value (Some k) →
+            (k < length (slice_set s.processes r process_on)) × ((named.process_at (slice_set s.processes r process_on) k).status ≡ delayed i) × ((thread_at (slice_set m.threads r thread_on) k).status ≡ status.Delayed a)
+        queued_on x k i a v c e h w =
+            let old = rep.queues.queued x k i a (old_view v) refl e h (waited x k i a v c e h w) in
+            let other : k ≢ r = (λ d. (let same : a ≡ at = cell_is a at (sym old.2 ∙ (ap (λ b. (thread_at m.threads b).status) d ∙ (is_waiting r somebody).2)) in nobody_there v x i k c e (subst (λ b. PlaceAt g.tables l [] x queue_type (Permanent b)) same h) w)) in
+            delayed_after g p l s m rep r there_r process_on thread_on k i a other old
 
-    queued_on : (x : Place) (k i a : ℕ) (v : View) → v.components ≡ emptied → x.holder ≡ in_component i → PlaceAt g.tables l [] x queue_type (Permanent a) → value_at v x ≡ queue_value (Some k) →
-        (k < length (slice_set s.processes r process_on)) × ((named.process_at (slice_set s.processes r process_on) k).status ≡ delayed i) × ((thread_at (slice_set m.threads r thread_on) k).status ≡ status.Delayed a)
-    queued_on x k i a v c e h w =
-        let old = rep.queues.queued x k i a (old_view v) refl e h (waited x k i a v c e h w) in
-        let other : k ≢ r = (λ d. (let same : a ≡ at = cell_is a at (sym old.2 ∙ (ap (λ b. (thread_at m.threads b).status) d ∙ (is_waiting r somebody).2)) in nobody_there v x i k c e (subst (λ b. PlaceAt g.tables l [] x queue_type (Permanent b)) same h) w)) in
-        delayed_after g p l s m rep r there_r process_on thread_on k i a other old
+        leaves_queue : ((i : ℕ) → i < length s.components → MonitorIs state_on machine_on i (component_at g.tables i).kind) → Represents g p l state_on machine_on
+        leaves_queue monitors =
+            record {
+              process_count = counts_stand g p l s m rep r there_r process_on thread_on;
+              component_count = count ∙ rep.component_count;
+              processes = processes_stand g p l s m rep r there_r process_on thread_on (record { component = (rep.processes r there_r).component; status = stands });
+              components = components_stand g p l s m rep apart parts_apart n y u choices offset None there known chosen state_on machine_on (unstarted_still g p l s m rep r there_r process_on thread_on (λ e. (let w = was in cc)));
+              monitors = λ i h. monitors i (let e = count in omega (arith, e, h));
+              queues = record { waiting = waiting_on; queued = queued_on };
+              pending = rep.pending;
+              discipline = rep.discipline;
+              output = rep.output;
+            }
 
-    pub resumed_some : Represents g p l state_on machine_on
-    resumed_some =
-        record {
-          process_count = counts_stand g p l s m rep r there_r process_on thread_on;
-          component_count = count ∙ rep.component_count;
-          processes = processes_stand g p l s m rep r there_r process_on thread_on runs_on;
-          components = components_stand g p l s m rep apart parts_apart n y u choices offset None there known chosen state_on machine_on (unstarted_still g p l s m rep r there_r process_on thread_on (λ e. (let w = was in cc)));
-          monitors = λ i h. monitors_change g s state_on m machine_on n j own is (record { holder = Some r; line = (monitor_at m j).line }) known_j refl (monitor_here.0 ∙ sym (lines_same n)) (sym inside_on) (λ a d. lines_same a) holders_on i (component_at g.tables i).kind refl (rep.monitors i (let e = count in omega (arith, e, h)));
-          queues = record { waiting = waiting_on; queued = queued_on };
-          pending = rep.pending;
-          gates = rep.gates;
-          output = rep.output;
-        }
+    -- ---- it comes to the gate, and lines stand as they did
+
+    module _ (j : ℕ) (is : (component_at g.tables n).kind ≡ kind.Monitor j) where
+      -- who waits in a monitor is inside of the same others in its queue and at its gate
+      holders_stand : (i : ℕ) → first_inside i (slice_set s.processes r (process_on (at_gate n) (status.AtGate j) m.monitors)) ≡ first_inside i s.processes
+      holders_stand i = inside_same i r (process_on (at_gate n) (status.AtGate j) m.monitors) s.processes (sym (ap (λ (v : Status). has_entry i before.calls && not (waits_at i v)) was)) there_r
+
+      pub comes_to_gate : Represents g p l (state_on (at_gate n) (status.AtGate j) m.monitors) (machine_on (at_gate n) (status.AtGate j) m.monitors)
+      comes_to_gate =
+          leaves_queue (at_gate n) (status.AtGate j) m.monitors (λ i e. cc) (is, record { stack = runs_in_queue.stack; calls = runs_in_queue.calls })
+          (λ i h. monitor_from s (state_on (at_gate n) (status.AtGate j) m.monitors) m (machine_on (at_gate n) (status.AtGate j) m.monitors) i (component_at g.tables i).kind refl (lines_same i) (λ a e. holders_stand i) (rep.monitors i h))
+
+    -- ---- it is ready and inside, where nobody was
+
+    module _ (own : OwnNumbers g) (j : ℕ) (is : (component_at g.tables n).kind ≡ kind.Monitor j) (known_j : j < length m.monitors) (free : first_inside n s.processes ≡ None) (called : has_entry n before.calls ≡ true) where
+      abbrev monitors_on : List Monitor
+      monitors_on = slice_set m.monitors j (record { holder = Some r; line = (monitor_at m j).line })
+
+      monitor_here : MonitorIs s m n (kind.Monitor j)
+      monitor_here = subst (MonitorIs s m n) is (rep.monitors n there_component)
+
+      inside_on : first_inside n (slice_set s.processes r (process_on ready status.Ready monitors_on)) ≡ Some r
+      inside_on = only_one n r (process_on ready status.Ready monitors_on) s.processes there_r (λ i h d. all_outside n s.processes free i h) (ap (λ b. b && true) called)
+
+      holders_on : (i : ℕ) → i ≢ n → first_inside i (slice_set s.processes r (process_on ready status.Ready monitors_on)) ≡ first_inside i s.processes
+      holders_on i d = inside_same i r (process_on ready status.Ready monitors_on) s.processes (sym (ap (λ (v : Status). has_entry i before.calls && not (waits_at i v)) was ∙ ap (λ b. has_entry i before.calls && not b) (differs n i (λ e. d (sym e))))) there_r
+
+      pub resumed_some : Represents g p l (state_on ready status.Ready monitors_on) (machine_on ready status.Ready monitors_on)
+      resumed_some =
+          leaves_queue ready status.Ready monitors_on (λ i e. cc) (record { stack = runs_in_queue.stack; calls = runs_in_queue.calls })
+          (λ i h. monitors_change g s (state_on ready status.Ready monitors_on) m (machine_on ready status.Ready monitors_on) n j own is (record { holder = Some r; line = (monitor_at m j).line }) known_j refl (monitor_here.0 ∙ sym (lines_same n)) (sym inside_on) (λ a d. lines_same a) holders_on i (component_at g.tables i).kind refl (rep.monitors i h))

@@ -2,9 +2,9 @@
 use Rattle.std.proofs.Common.{◌≡◌, ◌∙◌, ◌⊎◌, inl, inr, ℕ, zero, suc, ◌<◌, ◌==◌, Bool, true, false, if◌then◌else◌, List, [], ◌∷◌, ◌++◌, length, slice_set, Option, Some, None, Ok, Err, ap, sym, refl, subst, arith}
 use Rattle.cp_refine.proofs.Words.{Program, RoutineMeaning, takes, Outcome, system_of, IsWellFormed, items_of_all, frames, Descends, FramesFit, reached, Layouts}
 use Rattle.cp_refine.proofs.Words.{initial_meaning, Traits, scope_of, body_of, RoutinesKnown, CallsFit, ItemsFit, StandsInBodies}
-use Rattle.cp_meaning.specs.Kernel.{output_room, line_of, moved_to, with_process_status, made_ready, first_in, one_in, let_in, is_anybody_inside, entering, is_delayed_in, continuing, process_of, begun, starting_as, starting, displaying, kernel_step}
+use Rattle.cp_meaning.specs.Kernel.{output_room, line_of, moved_to, with_process_status, made_ready, first_in, one_in, let_in, is_anybody_inside, entering, is_delayed_in, continuing, waits_inside, at_gate_last, notifying, at_gate_first, yielding, going_on, signalling, process_of, begun, starting_as, starting, displaying, kernel_step}
 use Rattle.cp_meaning.specs.Move.{Move, stays, enters, leaves, delays, continues, starts, shows, ends, Doing}
-use Rattle.cp_meaning.specs.State.{Environment, Component, component_at, Call, Item, end, Status, unstarted, ready, at_gate, delayed, ended, Process, process_at, Gates, first_gates, any_gates, Shown, State, has_entry}
+use Rattle.cp_meaning.specs.State.{Environment, Component, component_at, Call, Item, end, Status, unstarted, ready, at_gate, delayed, ended, Process, process_at, Gates, first_gates, any_gates, Signals, return_signals, continue_signals, wait_signals, Discipline, Shown, State, has_entry}
 use Rattle.cp_meaning.specs.Steps.{first_components, processes_from, own_begun, opening, settled, step_of, view_of, admitted_to, IsReached, at_first, by_step, by_admission, by_forgetting}
 use Rattle.cp_meaning.proofs.Orderly.{which, within_set}
 use Rattle.cp_refine.proofs.reached.BodiesKept.{MoveFits, DoingFits, OutcomeFits, takes_fits, fit_append}
@@ -53,12 +53,20 @@ module _ (p : Program) (l : Layouts) (f : Traits) (known : RoutinesKnown p l f) 
   let_in_stands any_gates s m h = one_stands (line_of s m) s m h
 
   continuing_stands : (s : State) (m : ℕ) (o : Option ℕ) → All s.processes → All (continuing s m o).processes
-  continuing_stands s m None h = let_in_stands s.gates s m h
+  continuing_stands s m None h = let_in_stands s.discipline.gates s m h
   continuing_stands s m (Some r) h = go (is_delayed_in m (process_at s.processes r).status)
     where
-      go : (b : Bool) → All (if b then made_ready s r else let_in s.gates s m).processes
+      go : (b : Bool) → All (if b then made_ready s r else let_in s.discipline.gates s m).processes
       go true = all_ready s.processes r h
-      go false = let_in_stands s.gates s m h
+      go false = let_in_stands s.discipline.gates s m h
+
+  notifying_stands : (s : State) (m : ℕ) (o : Option ℕ) → All s.processes → All (notifying s m o).processes
+  notifying_stands s m None h = h
+  notifying_stands s m (Some r) h = go (waits_inside s m r)
+    where
+      go : (b : Bool) → All (if b then at_gate_last s m r else s).processes
+      go true = all_set s.processes r (with_process_status (process_at s.processes r) (at_gate m)) h (λ less. record { stands = (h r less).stands; waits = tt })
+      go false = h
 
   -- ---- a process that begins
 
@@ -97,12 +105,30 @@ module _ (p : Program) (l : Layouts) (f : Traits) (known : RoutinesKnown p l f) 
     starting_stands None c e = moved_stands ready tt
     starting_stands (Some r) c e = starting_as_stands r (process_at (moved_to ready s pid d).processes r).status c e
 
-    kernel_stands : (move : Move) → MoveFits d.calls move → All (kernel_step p s pid d move).state.processes
+    -- the caller of `continue`, where it goes on
+    module _ (calls : List Call) (items : List Item) (stands : StandsInBodies l f calls items) where
+      on_stands : (status : Status) → WaitsInside status calls → All (moved_to status s pid (going_on d calls items)).processes
+      on_stands status waits = all_set s.processes pid _ old (λ less. record { stands = stands; waits = waits })
+
+      yielding_stands : (m : ℕ) (o : Option ℕ) → All (yielding s pid m (going_on d calls items) o).processes
+      yielding_stands m None = on_stands ready tt
+      yielding_stands m (Some r) = go (waits_inside s m r)
+        where
+          go : (b : Bool) → All (if b then made_ready (at_gate_first s pid m (going_on d calls items)) r else moved_to ready s pid (going_on d calls items)).processes
+          go true = all_ready (moved_to (at_gate m) s pid (going_on d calls items)).processes r (on_stands (at_gate m) tt)
+          go false = on_stands ready tt
+
+      signalling_stands : (w : Signals) (m : ℕ) (o : Option ℕ) → All (signalling w s pid d m o calls items).processes
+      signalling_stands return_signals m o = continuing_stands (moved_to ready s pid d) m o (moved_stands ready tt)
+      signalling_stands continue_signals m o = notifying_stands (moved_to ready s pid (going_on d calls items)) m o (on_stands ready tt)
+      signalling_stands wait_signals m o = yielding_stands m o
+
+    kernel_stands : (move : Move) → MoveFits l f d.calls move → All (kernel_step p s pid d move).state.processes
     kernel_stands stays h = moved_stands ready tt
     kernel_stands (enters m) h = entering_stands (is_anybody_inside m s.processes) m
-    kernel_stands (leaves m) h = let_in_stands s.gates (moved_to ready s pid d) m (moved_stands ready tt)
-    kernel_stands (delays m) h = let_in_stands s.gates (moved_to (delayed m) s pid d) m (moved_stands (delayed m) h)
-    kernel_stands (continues m o) h = continuing_stands (moved_to ready s pid d) m o (moved_stands ready tt)
+    kernel_stands (leaves m) h = let_in_stands s.discipline.gates (moved_to ready s pid d) m (moved_stands ready tt)
+    kernel_stands (delays m) h = let_in_stands s.discipline.gates (moved_to (delayed m) s pid d) m (moved_stands (delayed m) h)
+    kernel_stands (continues m o calls items) h = signalling_stands calls items h s.discipline.signals m o
     kernel_stands (starts c e) h = starting_stands (process_of c (moved_to ready s pid d).processes) c e
     kernel_stands (shows x) h = displaying_stands (length s.output == output_room) x
     kernel_stands ends h = moved_stands ended tt
@@ -128,12 +154,12 @@ module _ (p : Program) (l : Layouts) (f : Traits) (known : RoutinesKnown p l f) 
   own_stands (c ∷ cs) (x ∷ ps) e h = all_more (begun 0 (system_of p c.system)) ps (begun_stands 0 c.system e) (λ q less. h (suc q) (omega arith))
   own_stands _ _ e h = h
 
-  opening_stands : (g : Gates) → All (opening p g).processes
+  opening_stands : (g : Discipline) → All (opening p g).processes
   opening_stands g =
       own_stands (first_components p) (processes_from 0 (first_components p)) refl
       (λ q less. (let u = all_unstarted 0 (first_components p) q in unstarted_stands (process_at (processes_from 0 (first_components p)) q) u.status u.calls u.items))
 
-  module _ (ok : IsWellFormed p) (g : Gates) where
+  module _ (ok : IsWellFormed p) (g : Discipline) where
     step_stands : (s : State) (pid : ℕ) → IsReached p g s → pid < length s.processes → (process_at s.processes pid).status ≡ ready → All s.processes → All (step_of p s pid).state.processes
     step_stands s pid before less was old =
         let holds = holds_in_reached p ok g s before in

@@ -2,7 +2,7 @@
 use Rattle.std.proofs.Common.{◌≡◌, ◌∙◌, ◌⊎◌, inl, inr, ℕ, ◌<◌, ◌≤◌, ◌==◌, ℤ, Bool, true, false, if◌then◌else◌, List, [], ◌∷◌, ◌++◌, length, get_or, set, slice_set, Option, Some, None, Ok, Err, ap, sym, refl, subst, eq-eqb}
 use Rattle.cp_refine.proofs.Words.{◌&&◌, ◌||◌, Identifier, Direction, SystemKind, Name, temporary, result_name, Outcome, ◌>>=◌, Value, number_value, queue_value}
 use Rattle.cp_refine.proofs.Words.{number_of, waiting_in, RoutineMeaning, system_of, first_components, same_integer, is_true, checked, items_of, items_of_all}
-use Rattle.cp_refine.proofs.Words.{until_items, Layouts, initial_meaning, Move, enters, stays, delays, starts, ends, Doing}
+use Rattle.cp_refine.proofs.Words.{until_items, Layouts, initial_meaning, Move, enters, stays, delays, continues, starts, ends, Doing}
 use Rattle.cp_tree.specs.declared.declaration.SystemKind.TheVariants as system_kind
 use Rattle.cp_tree.specs.Syntax.{Expressions, Designator, Start, Statement, assign, invoke, block, if_then, if_else, case_of, while_do, repeat_until, for_do, cycle, Arms, no_arms, more_arms, arm, Program, Statements}
 use Rattle.cp_meaning.specs.Scopes.{Meaning, constant_meaning, type_meaning, local_variable, permanent_variable, routine_meaning, standard_meaning, delay_procedure, continue_procedure, display_procedure, Scope, find}
@@ -70,15 +70,16 @@ systems_stored p v q w k = systems_holder p v q.holder _ k
 
 -- ---- an item of a process whose innermost call executes the routine n
 
--- who waits in a queue of a component has an open entry call of it
-abbrev pub MoveFits : List Call → Move → Type 0
-MoveFits calls (delays m) = has_entry m calls ≡ true
-MoveFits calls move = Unit {0}
+-- who waits in a queue of a component has an open entry call of it; and a caller of `continue` that goes on stands in the bodies as well
+abbrev pub MoveFits : Layouts → Traits → List Call → Move → Type 0
+MoveFits l f calls (delays m) = has_entry m calls ≡ true
+MoveFits l f calls (continues m o going items) = StandsInBodies l f going items
+MoveFits l f calls move = Unit {0}
 
 pub record DoingFits (p : Program) (l : Layouts) (f : Traits) (d : Doing) : Type 0 where
   pub stands : StandsInBodies l f d.calls d.items
   pub systems : SystemsKept p d.components
-  pub moves : MoveFits d.calls d.move
+  pub moves : MoveFits l f d.calls d.move
 
 abbrev pub OutcomeFits : Program → Layouts → Traits → Outcome Doing → Type 0
 OutcomeFits p l f (Ok d) = DoingFits p l f d
@@ -149,7 +150,7 @@ module _ (p : Program) (l : Layouts) (f : Traits) (known : RoutinesKnown p l f) 
   alike_stored : (u : View) (q : Place) (w : Value) → Alike u → Alike (stored u q w)
   alike_stored u q w a = record { still_fits = fit_stored p l f u (n ∷ ns) q w a.still_fits; still_systems = systems_stored p u q w a.still_systems }
 
-  items_fit : (u : View) (items : List Item) (move : Move) → Alike u → ItemsFit l (n ∷ ns) items → MoveFits u.calls move → DoingFits p l f (with_move (with_items u items) move)
+  items_fit : (u : View) (items : List Item) (move : Move) → Alike u → ItemsFit l (n ∷ ns) items → MoveFits l f u.calls move → DoingFits p l f (with_move (with_items u items) move)
   items_fit u items move a k moves = record { stands = record { numbers = n ∷ ns; executes = a.still_fits; remains = k }; systems = a.still_systems; moves = moves }
 
   becomes_fit : (u : View) (items : List Item) → Alike u → ItemsFit l (n ∷ ns) items → Fits (becomes u items)
@@ -186,7 +187,7 @@ module _ (p : Program) (l : Layouts) (f : Traits) (known : RoutinesKnown p l f) 
 
   -- ---- calls
 
-  above : (d : ℕ) (kind : CallKind) (r : RoutineMeaning) (k : ℕ) (o : Option Name) (items : List Item) (e : Environment) → r ≡ l.meanings k → KindFits f kind k → QuietAbove f kind k (n ∷ ns) → (r.result ≡ None → o ≡ None) → ItemsFit l (n ∷ ns) items → (move : Move) → MoveFits (opened v d kind r o items e).calls move →
+  above : (d : ℕ) (kind : CallKind) (r : RoutineMeaning) (k : ℕ) (o : Option Name) (items : List Item) (e : Environment) → r ≡ l.meanings k → KindFits f kind k → QuietAbove f kind k (n ∷ ns) → (r.result ≡ None → o ≡ None) → ItemsFit l (n ∷ ns) items → (move : Move) → MoveFits l f (opened v d kind r o items e).calls move →
       DoingFits p l f (with_move (opened v d kind r o items e) move)
   above d kind r k o items e same fit quiet gives rest move moves =
       record {
@@ -264,7 +265,7 @@ module _ (p : Program) (l : Layouts) (f : Traits) (known : RoutinesKnown p l f) 
 
   -- ---- ends of calls
 
-  ended_fits : (u : View) (items : List Item) (move : Move) → CallsFit l f u.calls ns → SystemsKept p u.components → ItemsFit l ns items → MoveFits u.calls move → DoingFits p l f (with_move (with_items u items) move)
+  ended_fits : (u : View) (items : List Item) (move : Move) → CallsFit l f u.calls ns → SystemsKept p u.components → ItemsFit l ns items → MoveFits l f u.calls move → DoingFits p l f (with_move (with_items u items) move)
   ended_fits u items move a k rest moves = record { stands = record { numbers = ns; executes = a; remains = rest }; systems = k; moves = moves }
 
   result_fits : (o : Option Name) → CallsFit l f (with_result v o).calls ns × SystemsKept p (with_result v o).components
@@ -274,11 +275,11 @@ module _ (p : Program) (l : Layouts) (f : Traits) (known : RoutinesKnown p l f) 
       let w = value_at v (plain_place (this_call v) result_name) in
       (fit_stored p l f (outer v) ns there w fits.2, systems_stored p (outer v) there w systems)
 
-  leaving_fits : (k : SystemKind) (m : ℕ) (xs : List Call) → MoveFits xs (leaving_move k m)
+  leaving_fits : (k : SystemKind) (m : ℕ) (xs : List Call) → MoveFits l f xs (leaving_move k m)
   leaving_fits system_kind.Monitor m xs = tt
   leaving_fits _ m xs = tt
 
-  return_fits : (b : Bool) (k : SystemKind) (m : ℕ) (xs : List Call) → MoveFits xs (if b then leaving_move k m else stays)
+  return_fits : (b : Bool) (k : SystemKind) (m : ℕ) (xs : List Call) → MoveFits l f xs (if b then leaving_move k m else stays)
   return_fits true k m xs = leaving_fits k m xs
   return_fits false k m xs = tt
 
@@ -309,7 +310,7 @@ module _ (p : Program) (l : Layouts) (f : Traits) (known : RoutinesKnown p l f) 
       record {
         stands = record { numbers = ns; executes = fewer (stored v q (queue_value None)).calls a.still_fits; remains = after_fits c.component n ns (frames calls) items (subst (λ k. FramesFit ((k, c.component) ∷ frames calls) items) e g) rest };
         systems = a.still_systems;
-        moves = tt;
+        moves = record { numbers = n ∷ ns; executes = a.still_fits; remains = rest };
       }
   continued_fits _ items q e g rest = items_fit v items stays alike rest tt
 

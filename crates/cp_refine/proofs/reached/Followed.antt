@@ -1,14 +1,14 @@
 -- In each reached state the next step of a ready process is one by the rules.
 use Rattle.cp_refine.proofs.Words.{◌≡◌, ◌∙◌, ℕ, ◌<◌, List, [], ◌∷◌, ◌++◌, Option, Some, None, ap, sym, refl, subst, arith, length, IsRead, plain, laid, Tables, Entry}
-use Rattle.cp_refine.proofs.Words.{Rest, Successor, Return, InitEnd, MachineFits, Machine, thread_at, Reaches, IsAccepted, name_of, temporary, View, is_ready, ready}
-use Rattle.cp_refine.proofs.Words.{Item, statement_item, function_call, start_item, Gates, State, view_of, IsReached, at_first, by_step, by_admission, by_forgetting}
+use Rattle.cp_refine.proofs.Words.{Rest, Successor, Return, InitEnd, MachineFits, Machine, thread_at, Reaches, IsAccepted, name_of, temporary, View, this_component, is_ready, ready}
+use Rattle.cp_refine.proofs.Words.{Item, statement_item, function_call, start_item, Discipline, State, view_of, IsReached, at_first, by_step, by_admission, by_forgetting}
 use Rattle.cp_refine.proofs.Words.{Layouts, Here, here, AreTablesOf, Ground, InvokedBy, layouts_of, slots, AllKnown, GoInStep, InvokeKnown, StatementKnown, ItemKnown}
 use Rattle.cp_refine.proofs.Words.{ground_of, Simulates, Prepared, StackIs, StateKnown, Tree, Program, Expressions, no_expressions, more_expressions, Designator}
 use Rattle.cp_refine.proofs.Words.{Statement, invoke, init, Meaning, standard_meaning, Standard, delay_procedure, continue_procedure, display_procedure, find}
 use Rattle.cp_refine.specs.Followed.{IsInvoked, StatementFollows, ItemsFollow, StepFollows}
 use Rattle.cp_meaning.specs.State as named
 use Rattle.cp_refine.specs.Following.{FollowingLaw}
-use Rattle.cp_refine.specs.Named.{named as on_names, gates_of, is_some, in_line_of}
+use Rattle.cp_refine.specs.Named.{named as on_names, discipline_of, is_some, in_line_of}
 use Rattle.cp_refine.proofs.steps.Beginning.{same_count}
 use Rattle.cp_refine.proofs.control.Control.{Taken, scope_is}
 use Rattle.cp_refine.proofs.Forgetting.{forgets}
@@ -46,7 +46,7 @@ module _ (t : Tree) (r : Tables) (l : Layouts) (prepared : Prepared t r l) (s : 
       standard_so delay_procedure (more_expressions e more) k is rules own = delay_follows t r l prepared s known m ready fits reach q going at mid es xs ys token d e more k rules
       standard_so continue_procedure (more_expressions e more) k is rules own = (
         states.continues q (record { there = going.there; ready_now = going.was; token = token; name = d; arguments = more_expressions e more; items = xs ++ ys; next = k.items; standard = ap (find (name_of d)) (scope_is g p l s m q at (statement_item (invoke token d (more_expressions e more))) mid es xs ys k) ∙ is }),
-        continue_follows t r l prepared s known m ready fits reach q going at mid es xs ys token d e more k rules.0 is,
+        continue_follows t r l prepared s known m ready fits reach q going at mid es xs ys token d e more k rules.0 (λ i h w. states.delayed (this_component view) i h w) is,
       )
       standard_so display_procedure no_expressions k is rules own = absurd own
       standard_so delay_procedure no_expressions k is rules own = absurd own
@@ -85,7 +85,7 @@ module _ (t : Tree) (r : Tables) (l : Layouts) (prepared : Prepared t r l) (s : 
 
 -- ---- a program that was read and is accepted
 
-module _ (t : Tree) (r : Tables) (g : Gates) (read : IsRead t.program) (ok : IsAccepted t) (same : plain r ≡ laid t) where
+module _ (t : Tree) (r : Tables) (g : Discipline) (read : IsRead t.program) (ok : IsAccepted t) (same : plain r ≡ laid t) where
   abbrev l : Layouts
   l = layouts_of t
 
@@ -98,7 +98,7 @@ module _ (t : Tree) (r : Tables) (g : Gates) (read : IsRead t.program) (ok : IsA
   prepared : Prepared t r l
   prepared = record { stands = tables.stands; sound = tables.sound; program = asked.program }
 
-  go : GoInStep (on_names t g) (slots r (gates_of g)) (Simulates t r l g)
+  go : GoInStep (on_names t g) (slots r (discipline_of g)) (Simulates t r l g)
   go = goes_in_step t r g read ok same
 
   abbrev IsStoodFor : State → Type 0
@@ -109,14 +109,14 @@ module _ (t : Tree) (r : Tables) (g : Gates) (read : IsRead t.program) (ok : IsA
 
   -- a machine stands for each reached state
   stood_for : (s : State) → IsReached t.program g s → IsStoodFor s
-  stood_for _ at_first = ((slots r (gates_of g)).start, go.start)
+  stood_for _ at_first = ((slots r (discipline_of g)).start, go.start)
   stood_for _ (by_step s q before none less was) =
       let x = stood_for s before in
-      ((slots r (gates_of g)).step x.0 q, go.step s x.0 q x.1 (record { below = below s x.0 q x.1 less; ready = ap is_ready was; free = ap is_some none }))
+      ((slots r (discipline_of g)).step x.0 q, go.step s x.0 q x.1 (record { below = below s x.0 q x.1 less; ready = ap is_ready was; free = ap is_some none }))
   stood_for _ (by_admission s n q before is member) =
       let x = stood_for s before in
       let less = (reached_stands t ok g s before).line n q member in
-      ((slots r (gates_of g)).admit x.0 q, go.admit s x.0 q x.1 (record { below = below s x.0 q x.1 less.there; due = ap is_some is; lined = ap (λ o. in_line_of o s q) is ∙ member }))
+      ((slots r (discipline_of g)).admit x.0 q, go.admit s x.0 q x.1 (record { below = below s x.0 q x.1 less.there; due = ap is_some is; lined = ap (λ o. in_line_of o s q) is ∙ member }))
   stood_for _ (by_forgetting s before) =
       let x = stood_for s before in
       (record x.0 { output = [] }, forgets t r l g s x.0 x.1)

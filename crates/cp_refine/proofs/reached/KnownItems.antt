@@ -10,7 +10,7 @@ use Rattle.cp_refine.proofs.Words.{scope_of, body_of, RoutinesKnown, ItemsFit, M
 use Rattle.cp_refine.proofs.Words.{find, HasQueue, Opening, openings_of, meaning_in, IsAmong, IsAmongArms, IsPartOf, IsWithin, listed, inside, IsAmongStarts, ItemStands}
 use Rattle.cp_meaning.specs.Types as named
 use Rattle.cp_meaning.specs.State as state
-use Rattle.cp_meaning.specs.State.{current, Item, statement_item, function_call, start_item, until, successor, return, init_end, end, Gates, State}
+use Rattle.cp_meaning.specs.State.{current, Item, statement_item, function_call, start_item, until, successor, return, init_end, end, Discipline, State}
 use Rattle.cp_resolved.specs.Enumerations.{constants_before}
 use Rattle.cp_resolved.specs.TreeLayouts.{owner_in, layouts_of}
 use Rattle.cp_resolved.proofs.statements.EachStatement.{EachIn, EachOf, EachArm, the_statement}
@@ -204,13 +204,13 @@ module _ (t : Tree) (r : Tables) (read : IsRead t.program) (ok : IsAccepted t) (
 
   -- ---- reached states
 
-  pub next_known : (counted : length r.routines ≡ length (openings_of p)) (typed : (k : ℕ) → k < length r.routines → NamesTyped l k) (gates : Gates) (s : State) (m : Machine) → Simulates t r l gates s m → NextKnown t r l s m
-  next_known counted typed gates s m sim q i items less was is =
+  pub next_known : (counted : length r.routines ≡ length (openings_of p)) (typed : (k : ℕ) → k < length r.routines → NamesTyped l k) (discipline : Discipline) (s : State) (m : Machine) → Simulates t r l discipline s m → NextKnown t r l s m
+  next_known counted typed discipline s m sim q i items less was is =
       let go : Going g p l s m q = going g p l s m q sim.represents less (ap is_ready was) in
       let top = top_frame (thread_at m.threads q).frame (thread_at m.threads q).stack in
       let held : CallIs r l (current (state.process_at s.processes q).calls) (thread_at m.threads q).frame =
       held_routine r l (own_memory (thread_at m.threads q)) (state.process_at s.processes q).calls (thread_at m.threads q).frame top.0 (subst (λ fs. CallsHold r l (own_memory (thread_at m.threads q)) (state.process_at s.processes q).calls fs) top.1 go.calls) in
-      let x : Executed t ok l f known gates s sim.reached q (state.process_at s.processes q).items = executed t ok l f known gates s sim.reached q less was in
+      let x : Executed t ok l f known discipline s sim.reached q (state.process_at s.processes q).items = executed t ok l f known discipline s sim.reached q less was in
       let k : ℕ = (thread_at m.threads q).frame.routine in
       let stands = subst (λ (is : List Item). ItemsFit l (x.number ∷ x.numbers) is) is x.remains in
       by_item i x.number x.numbers items stands k (sym x.scope ∙ held.scope) (subst (λ (j : ℕ). k < j) counted held.routine) (typed k held.routine)

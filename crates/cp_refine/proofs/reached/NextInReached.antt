@@ -2,7 +2,7 @@
 use Rattle.std.proofs.Common.{◌≡◌, ◌∙◌, ℕ, ◌<◌, true, false, List, [], ◌∷◌, length, Some, None, ap, sym, refl, subst}
 use Rattle.cp_refine.proofs.Words.{Designator, Expressions, invoke, Program, Tree, name_of, standard_meaning, continue_procedure, find, IsReached, IsAccepted}
 use Rattle.cp_refine.proofs.Words.{well_formed, frames, FramesFit, reached, Layouts, Traits, scope_of, RoutinesKnown, KindFits, CallsFit, ItemsFit}
-use Rattle.cp_meaning.specs.State.{CallKind, local_routine, entry_routine, Call, current, Item, statement_item, function_call, start_item, until, successor, return, init_end, end, unstarted, ready, delayed, process_at, Gates, State, has_entry, Status}
+use Rattle.cp_meaning.specs.State.{CallKind, local_routine, entry_routine, Call, current, Item, statement_item, function_call, start_item, until, successor, return, init_end, end, unstarted, ready, delayed, process_at, Discipline, State, has_entry, Status}
 use Rattle.cp_refine.proofs.reached.BodiesInReached.{WaitsInside, AllStand, reached_in_bodies}
 use Rattle.cp_refine.proofs.HoldsInReached.{HoldsInReached, reached_stands}
 
@@ -27,7 +27,7 @@ returns_nothing l m n ns fs (successor at i z d b t ∷ items) none g h = return
 
 -- ---- reached states
 
-module _ (t : Tree) (ok : IsAccepted t) (l : Layouts) (f : Traits) (known : RoutinesKnown t.program l f) (g : Gates) (s : State) (before : IsReached t.program g s) where
+module _ (t : Tree) (ok : IsAccepted t) (l : Layouts) (f : Traits) (known : RoutinesKnown t.program l f) (g : Discipline) (s : State) (before : IsReached t.program g s) where
   abbrev p : Program
   p = t.program
 

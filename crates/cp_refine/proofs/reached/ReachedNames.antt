@@ -1,7 +1,7 @@
 -- What a component names in a reached state, but for processes, is of an earlier type.
 use Rattle.std.proofs.Common.{◌≡◌, ◌∙◌, ℕ, zero, suc, ◌<◌, ◌≤◌, ◌==◌, Bool, true, false, if◌then◌else◌, List, [], ◌∷◌, ◌++◌, Option, Some, ap, sym, refl, subst, eqb-true, arith, length}
 use Rattle.cp_tree.specs.declared.declaration.SystemKind.TheVariants as system_kind
-use Rattle.cp_refine.proofs.Words.{Program, first_components, IsReached, IsWellFormed, Gates, reached, PathStep, Path, step_down, same_path}
+use Rattle.cp_refine.proofs.Words.{Program, first_components, IsReached, IsWellFormed, Discipline, reached, PathStep, Path, step_down, same_path}
 use Rattle.cp_meaning.specs.State.{Component, component_at, Content, knows, Holder, in_call, in_component, Place, Call, current, State}
 use Rattle.cp_meaning.specs.Places.{View, content_of, component_with, element_chosen, around_of, component_known, component_by, component_there}
 use Rattle.cp_meaning.proofs.Frames.{system_at}
@@ -23,7 +23,7 @@ past_kind [] n le = refl
 past_kind (c ∷ cs) zero le = absurd (omega arith)
 past_kind (c ∷ cs) (suc n) le = past_kind cs n (omega arith)
 
-module _ (p : Program) (ok : IsWellFormed p) (g : Gates) (s : State) (before : IsReached p g s) (calls : List Call) (c : ℕ) (is : (current calls).component ≡ c) (there : c < length s.components) where
+module _ (p : Program) (ok : IsWellFormed p) (g : Discipline) (s : State) (before : IsReached p g s) (calls : List Call) (c : ℕ) (is : (current calls).component ≡ c) (there : c < length s.components) where
   abbrev base : List Component
   base = first_components p
 

@@ -7,7 +7,7 @@ use Rattle.cp_slots.specs.Tables.{Tables, component_at, process_at}
 use Rattle.cp_slots.specs.declared.tables.ComponentKind.TheVariants as kind
 use Rattle.cp_machine.specs.declared.state.Phase.TheVariants as phase
 use Rattle.cp_meaning.specs.State as named
-use Rattle.cp_meaning.specs.State.{ComponentStatus, uninitialised, initialising, initialised, unstarted, ready, own_statement, initial_statement, entry_routine, Call, current, callers, Item, init_end, Gates, State, Place, has_entry}
+use Rattle.cp_meaning.specs.State.{ComponentStatus, uninitialised, initialising, initialised, unstarted, ready, own_statement, initial_statement, entry_routine, Call, current, callers, Item, init_end, Discipline, State, Place, has_entry}
 use Rattle.cp_refine.proofs.gates.Admitting.{MayGoIn}
 use Rattle.cp_refine.proofs.gates.Gates.{OwnNumbers, OthersOutside}
 use Rattle.cp_refine.proofs.HoldsInReached.{HoldsInReached, IsProcess, reached_stands}
@@ -62,7 +62,7 @@ started_phase kind.Class initialising phase.Initialising never h other = refl
 started_phase kind.Class initialised phase.Initialised never h other = refl
 started_phase _ u f never h other = absurd h
 
-module _ (t : Tree) (r : Tables) (l : Layouts) (c : Gates) (s : State) (m : Machine) (ok : IsAccepted t) (stands : Stands (ground_of t r) t l) (typed : IsTyped r) (simulates : Simulates t r l c s m) where
+module _ (t : Tree) (r : Tables) (l : Layouts) (c : Discipline) (s : State) (m : Machine) (ok : IsAccepted t) (stands : Stands (ground_of t r) t l) (typed : IsTyped r) (simulates : Simulates t r l c s m) where
   abbrev p : Program
   p = t.program
 

@@ -1,6 +1,6 @@
 -- In each state that the machine reaches it stands for one that the program reaches, so that the laws of the language hold of it.
-use Rattle.cp_refine.proofs.Words.{◌≡◌, ◌∙◌, ℕ, ◌<◌, List, subst, sym, IsRead, Tree, plain, laid, Tables, IsAccepted, well_formed, Gates, State, IsWellFormed}
-use Rattle.cp_refine.proofs.Words.{Machine, slots, System, Layouts, AreTablesOf, layouts_of, CanGo, CanEnter, GoInStep, Simulates, named, gates_of, AllKnown}
+use Rattle.cp_refine.proofs.Words.{◌≡◌, ◌∙◌, ℕ, ◌<◌, List, subst, sym, IsRead, Tree, plain, laid, Tables, IsAccepted, well_formed, Discipline, State, IsWellFormed}
+use Rattle.cp_refine.proofs.Words.{Machine, slots, System, Layouts, AreTablesOf, layouts_of, CanGo, CanEnter, GoInStep, Simulates, named, discipline_of, AllKnown}
 use Rattle.cp_meaning.proofs.OwnershipLemmas.{exclusive, ownership}
 use Rattle.cp_refine.specs.Running.{Happening, IsMet, met_first, met_by_step, met_by_admission, StepsAsMeant, RunsAsMeant}
 use Rattle.cp_refine.proofs.steps.Beginning.{waiting_same}
@@ -39,7 +39,7 @@ module _ {S T : Type 0} (a : System S) (b : System T) (R : S → T → Type 0) (
 
 -- ---- a program that was read and is accepted
 
-module _ (t : Tree) (r : Tables) (g : Gates) (read : IsRead t.program) (ok : IsAccepted t) (same : plain r ≡ laid t) where
+module _ (t : Tree) (r : Tables) (g : Discipline) (read : IsRead t.program) (ok : IsAccepted t) (same : plain r ≡ laid t) where
   abbrev l : Layouts
   l = layouts_of t
 
@@ -49,15 +49,15 @@ module _ (t : Tree) (r : Tables) (g : Gates) (read : IsRead t.program) (ok : IsA
   asked : AllKnown t r l g
   asked = known t r g read ok same
 
-  go : GoInStep (named t g) (slots r (gates_of g)) (Simulates t r l g)
+  go : GoInStep (named t g) (slots r (discipline_of g)) (Simulates t r l g)
   go = goes_in_step t r g read ok same
 
   well : IsWellFormed t.program
   well = well_formed t ok
 
-  steps_so : (s : State) (m : Machine) (p : ℕ) → Simulates t r l g s m → CanGo (slots r (gates_of g)) m p → StepsAsMeant t r g s m p
+  steps_so : (s : State) (m : Machine) (p : ℕ) → Simulates t r l g s m → CanGo (slots r (discipline_of g)) m p → StepsAsMeant t r g s m p
   steps_so s m p sim may =
-      let goes : CanGo (named t g) s p = goes_there (named t g) (slots r (gates_of g)) (Simulates t r l g) go s m p sim may in
+      let goes : CanGo (named t g) s p = goes_there (named t g) (slots r (discipline_of g)) (Simulates t r l g) go s m p sim may in
       let own = ownership t.program well g in
       let lawful = reached_lawful t.program well g s sim.reached in
       let none = still t r l g ok tables.stands tables.sound asked s m p sim goes in
@@ -70,9 +70,9 @@ module _ (t : Tree) (r : Tables) (g : Gates) (read : IsRead t.program) (ok : IsA
         others = own.others_kept s p lawful none less was;
       }
 
-  pub running_law : (hs : List Happening) (m : Machine) → IsMet (slots r (gates_of g)) hs m → RunsAsMeant t r g hs m
+  pub running_law : (hs : List Happening) (m : Machine) → IsMet (slots r (discipline_of g)) hs m → RunsAsMeant t r g hs m
   running_law hs m met =
-      let x = related (named t g) (slots r (gates_of g)) (Simulates t r l g) go hs m met in
+      let x = related (named t g) (slots r (discipline_of g)) (Simulates t r l g) go hs m met in
       record {
         state = x.0;
         met = x.1;

@@ -1,6 +1,6 @@
 -- What is known of the states that a tree reaches which was read and breaks no rule.
 use Rattle.cp_refine.proofs.Words.{◌≡◌, ℕ, ◌<◌, true, length, Tree, plain, laid, Tables, IsRead, IsAccepted, process_at, delayed, entry_routine, current}
-use Rattle.cp_refine.proofs.Words.{Gates, State, has_entry, IsReached, openings_of, layouts_of}
+use Rattle.cp_refine.proofs.Words.{Discipline, State, has_entry, IsReached, openings_of, layouts_of}
 use Rattle.cp_refine.specs.AllKnown.{StatesKnown}
 use Rattle.cp_refine.specs.StatesKnown.{IsContinuing}
 use Rattle.cp_refine.proofs.expressions.DesignatedTypes.{NamesTyped}
@@ -11,7 +11,7 @@ use Rattle.cp_refine.proofs.reached.NextInReached.{delayed_called, continues_in_
 use Rattle.cp_refine.proofs.trees.ProgramOfTree.{program_known}
 use Rattle.cp_refine.proofs.starts.StartsKnown.{starts_known}
 
-module _ (t : Tree) (read : IsRead t.program) (ok : IsAccepted t) (g : Gates) (s : State) (before : IsReached t.program g s) where
+module _ (t : Tree) (read : IsRead t.program) (ok : IsAccepted t) (g : Discipline) (s : State) (before : IsReached t.program g s) where
   pub continuing_in_entry : (q : ℕ) → IsContinuing s q → (current (process_at s.processes q).calls).kind ≡ entry_routine
   continuing_in_entry q x = (continues_in_entry t ok (layouts_of t) (traits t) (routines_known t read ok) g s before q x.token x.name x.arguments x.items x.there x.ready_now x.next x.standard).0
 
@@ -26,7 +26,7 @@ module _ (t : Tree) (r : Tables) (read : IsRead t.program) (ok : IsAccepted t) (
   many : length r.routines ≡ length (openings_of t.program)
   many = counted t read ok r same
 
-  pub states_known : (g : Gates) → StatesKnown t r (layouts_of t) g
+  pub states_known : (g : Discipline) → StatesKnown t r (layouts_of t) g
   states_known g s m sim =
       record {
         next = next_known t r read ok (traits t) (routines_known t read ok) (entries_known t read ok) many names_typed g s m sim;

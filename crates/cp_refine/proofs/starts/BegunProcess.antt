@@ -77,6 +77,6 @@ module _ (g : Ground) (p : Program) (l : Layouts) (s : State) (m : Machine) (rep
             (rep.monitors i (let a = count g p l s m rep mem d qs can e xs bs given same_status in omega (arith, a, h)));
         queues = queues_stand g p l s m rep r there new_process new_thread (λ i f. (let w = was in cc)) (λ i f. cc) state_begun machine_begun (λ v x i a c f h. queue_kept g p l s m rep mem d qs can e xs bs given same_status v x i a c f h);
         pending = rep.pending;
-        gates = rep.gates;
+        discipline = rep.discipline;
         output = rep.output;
       }

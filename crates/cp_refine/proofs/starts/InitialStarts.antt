@@ -5,7 +5,7 @@ use Rattle.cp_refine.proofs.Words.{routine_at, system_at, Bound, bound_in_compon
 use Rattle.cp_refine.proofs.Words.{step_at, Parameter, system_of, View, at_designator, view_of, step_of, settled, Layouts}
 use Rattle.cp_refine.proofs.Words.{initial_meaning, Ground, SameKind, PhaseIs, frames_of}
 use Rattle.cp_refine.proofs.Words.{Represents, length-append, length-replicate, Machine, Thread, no_thread, thread_at, phase_at, with_phase, with_bindings, with_thread}
-use Rattle.cp_refine.proofs.Words.{◌>>=◌, init_twice, Environment, ComponentStatus, uninitialised, initialising, initialised, Item, start_item, Process, State}
+use Rattle.cp_refine.proofs.Words.{init_twice, Environment, ComponentStatus, uninitialised, initialising, initialised, Item, start_item, Process, State}
 use Rattle.cp_tree.specs.declared.declaration.SystemKind.TheVariants as system_kind
 use Rattle.cp_slots.specs.declared.tables.ComponentKind.TheVariants as kind
 use Rattle.cp_store.specs.declared.error.ErrorName.TheVariants as error
@@ -163,7 +163,7 @@ module _ (g : Ground) (p : Program) (l : Layouts) (s : State) (m : Machine) (q a
                   rep_in.queues.queued x r i a (record { program = v.program; calls = v.calls; components = s.components }) refl f h (sym (handed.queue_kept g p l state_in machine_in rep_in mem d (parameters_of d) can_in e as' bs given_in initialising v x i a c f h) ∙ w);
             };
             pending = rep_in.pending;
-            gates = rep_in.gates;
+            discipline = rep_in.discipline;
             output = rep_in.output;
           }
 

@@ -1,5 +1,5 @@
 -- A class or monitor goes on to another phase: its initial statement begins or has ended.
-use Rattle.std.proofs.Common.{◌≡◌, ◌≢◌, ◌∙◌, ℕ, ◌+◌, ◌<◌, ◌⊎◌, inl, inr, List, sym, refl, subst, arith, length, length-set}
+use Rattle.std.proofs.Common.{◌≡◌, ◌≢◌, ◌∙◌, ℕ, ◌<◌, ◌⊎◌, inl, inr, List, sym, refl, subst, arith, length, length-set}
 use Rattle.cp_refine.proofs.Words.{Program, component_at, Phase, View, value_at, Layouts}
 use Rattle.cp_refine.proofs.Words.{Ground, Machine, phase_at, with_phase, PhaseIs, HasBegun, Represents}
 use Rattle.cp_machine.specs.declared.state.Phase.TheVariants as phase
@@ -72,6 +72,6 @@ module _ (g : Ground) (p : Program) (l : Layouts) (s : State) (m : Machine) (rep
           queued = λ x q i cell v c e h d. rep.queues.queued x q i cell (record { program = v.program; calls = v.calls; components = s.components }) refl e h (sym (kept v x i c e) ∙ d);
         };
         pending = rep.pending;
-        gates = rep.gates;
+        discipline = rep.discipline;
         output = rep.output;
       }

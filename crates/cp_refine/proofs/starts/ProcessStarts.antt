@@ -1,9 +1,9 @@
 -- The whole step that starts a process: the component's place first, then the arguments, and last whether it was started before.
-use Rattle.std.proofs.Common.{◌≡◌, ◌≢◌, ◌∙◌, ℕ, zero, suc, ◌<◌, ◌==◌, ◌⊎◌, if◌then◌else◌, List, [], ◌∷◌, ◌++◌, Option, Some, None, ap, sym, refl, subst, arith, length, length-set}
+use Rattle.std.proofs.Common.{◌≡◌, ◌∙◌, ℕ, zero, suc, ◌<◌, ◌==◌, if◌then◌else◌, List, [], ◌∷◌, ◌++◌, Option, Some, None, ap, sym, refl, subst, arith, length, length-set}
 use Rattle.cp_refine.proofs.Words.{ℤ, slice_index, slice_set, SystemKind, Program, Start, Argument, Bound}
 use Rattle.cp_refine.proofs.Words.{Address, bound_in_component, bindings_after, Memory, Entry, rest_of, step_at, Parameter, system_of, View}
 use Rattle.cp_refine.proofs.Words.{Doing, starts, after, process_of, at_designator, view_of, step_of, settled, Layouts, Ground}
-use Rattle.cp_refine.proofs.Words.{SameKind, StatusIs, Represents, ◌>>=◌, init_twice, Environment, Item, start_item}
+use Rattle.cp_refine.proofs.Words.{SameKind, StatusIs, Represents, init_twice, Environment, Item, start_item}
 use Rattle.cp_refine.proofs.Words.{unstarted, Status, Process, State, with_items, with_move, started_as}
 use Rattle.cp_tree.specs.declared.declaration.SystemKind.TheVariants as system_kind
 use Rattle.cp_slots.specs.declared.tables.ComponentKind.TheVariants as kind

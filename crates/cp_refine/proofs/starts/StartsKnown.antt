@@ -3,7 +3,7 @@
 use Rattle.cp_refine.proofs.Words.{◌≡◌, ◌∙◌, ℕ, ◌<◌, ◌≤◌, List, [], ◌∷◌, ◌++◌, length, Option, Some, ap, sym, refl, subst, IsRead, Designator, designator, init, Program}
 use Rattle.cp_refine.proofs.Words.{Start, Statement, Tree, plain, laid, Argument, ComponentPlace, ActionFits, CallFits, Tables, component_at, item_at, routine_at}
 use Rattle.cp_refine.proofs.Words.{system_at, Frame, Entry, Rest, Successor, Return, InitEnd, Machine, thread_at, IsAccepted, well_formed, RoutineMeaning, target_value}
-use Rattle.cp_refine.proofs.Words.{designator_calls, expressions_calls, Name, View, Target, component_there, is_ready, Scope, local_variable, find, Gates, Item}
+use Rattle.cp_refine.proofs.Words.{designator_calls, expressions_calls, Name, View, Target, component_there, is_ready, Scope, local_variable, find, Discipline, Item}
 use Rattle.cp_refine.proofs.Words.{start_item, return, init_end, end, ready, State, current, view_of, program_system, system_of, Ty, a_component, designator_form}
 use Rattle.cp_refine.proofs.Words.{tokens_of, Here, here, Layouts, SystemIs, Ground, layouts_of, placed_law, ItemStands, ground_of, Simulates, Prepared, StackIs}
 use Rattle.cp_refine.proofs.Words.{frames_of, Traits, scope_of, body_of, RoutinesKnown, ItemsFit, ActionNames, Hands, IsOf, Names, StartNames, meaning_at}
@@ -108,7 +108,7 @@ module _ (t : Tree) (r : Tables) (read : IsRead t.program) (ok : IsAccepted t) (
 
   -- ---- a process that goes on with a start
 
-  module _ (gates : Gates) (s : State) (m : Machine) (sim : Simulates t r l gates s m) (q : ℕ) (less : q < length s.processes) (was : (named.process_at s.processes q).status ≡ ready) where
+  module _ (discipline : Discipline) (s : State) (m : Machine) (sim : Simulates t r l discipline s m) (q : ℕ) (less : q < length s.processes) (was : (named.process_at s.processes q).status ≡ ready) where
     abbrev v : View
     v = view_of p s q
 
@@ -119,10 +119,10 @@ module _ (t : Tree) (r : Tables) (read : IsRead t.program) (ok : IsAccepted t) (
     this = here p l frame.routine
 
     holds : HoldsInReached p s
-    holds = reached_stands t ok gates s sim.reached
+    holds = reached_stands t ok discipline s sim.reached
 
     ready_to : ReadyInReached g p s m
-    ready_to = ready_in_reached t r l gates s m ok prepared.stands prepared.sound.typed sim
+    ready_to = ready_in_reached t r l discipline s m ok prepared.stands prepared.sound.typed sim
 
     goes_now : Going g p l s m q
     goes_now = going g p l s m q sim.represents less (ap is_ready was)
@@ -142,7 +142,7 @@ module _ (t : Tree) (r : Tables) (read : IsRead t.program) (ok : IsAccepted t) (
 
       stands : StandsSo this.scope x
       stands =
-          let e : Executed t ok l f routines gates s sim.reached q (named.process_at s.processes q).items = executed t ok l f routines gates s sim.reached q less was in
+          let e : Executed t ok l f routines discipline s sim.reached q (named.process_at s.processes q).items = executed t ok l f routines discipline s sim.reached q less was in
           let fit = subst (λ (is : List Item). ItemsFit l (e.number ∷ e.numbers) is) k.items e.remains in
           subst (λ (c : Scope). StandsSo c x) (sym e.scope ∙ scope_here) (stands_so e.number x fit.0)
 
@@ -210,10 +210,10 @@ module _ (t : Tree) (r : Tables) (read : IsRead t.program) (ok : IsAccepted t) (
             subst (λ (us : List Entry). Handed (frames_of frame us) (component_at r d).system) (sym k.stack)
             (subst (λ fs. Handed fs (component_at r d).system) (sym (top_frame frame es).1) (subst (λ n. Handed frames n) (sym component_is.1) handed))
 
-  pub starts_known : (gates : Gates) (s : State) (m : Machine) → Simulates t r l gates s m → (q d : ℕ) (x : Start) → IsStarting p s q x d →
+  pub starts_known : (discipline : Discipline) (s : State) (m : Machine) → Simulates t r l discipline s m → (q d : ℕ) (x : Start) → IsStarting p s q x d →
       AreHandedSo r l (frames_of (thread_at m.threads q).frame (thread_at m.threads q).stack) (view_of p s q) (component_at r d).base (system_at r (component_at r d).system).own (system_of p (component_at r d).system).parameters x.arguments
-  starts_known gates s m sim q d x h =
-      let now = goes_now gates s m sim q h.there h.ready_now in
+  starts_known discipline s m sim q d x h =
+      let now = goes_now discipline s m sim q h.there h.ready_now in
       let w = takes_start g p l s m q now x h.items h.next in
       subst (λ n. AreHandedSo r l (frames_of (thread_at m.threads q).frame (thread_at m.threads q).stack) (view_of p s q) (component_at r n).base (system_at r (component_at r n).system).own (system_of p (component_at r n).system).parameters x.arguments) h.component
-      (handed_now gates s m sim q h.there h.ready_now x w.at w.mid w.es w.xs w.ys w.taken h.target h.found)
+      (handed_now discipline s m sim q h.there h.ready_now x w.at w.mid w.es w.xs w.ys w.taken h.target h.found)

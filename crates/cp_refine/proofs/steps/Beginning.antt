@@ -1,7 +1,7 @@
 -- The opening states are related, and what is read of related states is the same.
 use Rattle.std.proofs.Common.{◌≡◌, ◌∙◌, ℕ, ◌+◌, ◌<◌, List, [], Option, Some, None, ap, sym, refl, subst, arith, length}
-use Rattle.cp_refine.proofs.Words.{slice_index_or, SystemKind, Tree, Program, ComponentKind, Tables, component_at, Machine, slots, System, Parameter, Name, first_gates}
-use Rattle.cp_refine.proofs.Words.{Gates, State, opening, first_components, parameter_variables, at_first, Ty, Layouts, look, Ground, CanGo, LooksAlike, ground_of}
+use Rattle.cp_refine.proofs.Words.{slice_index_or, SystemKind, Tree, Program, ComponentKind, Tables, component_at, Machine, slots, System, Parameter, Name, book_discipline}
+use Rattle.cp_refine.proofs.Words.{Discipline, State, opening, first_components, parameter_variables, at_first, Ty, Layouts, look, Ground, CanGo, LooksAlike, ground_of}
 use Rattle.cp_refine.proofs.Words.{Simulates, Prepared, PendingIs, monitors_of, monitors_from}
 use Rattle.cp_tree.specs.declared.declaration.SystemKind.TheVariants as system_kind
 use Rattle.cp_slots.specs.declared.tables.ComponentKind.TheVariants as kind
@@ -17,7 +17,7 @@ use Rattle.cp_meaning.specs.State as named
 use Rattle.cp_meaning.specs.Systems.{SystemMeaning, declared, own_meaning, or_own, system_of, program_system}
 use Rattle.cp_resolved.specs.Resolved as resolved
 use Rattle.cp_refine.specs.Named as own
-use Rattle.cp_refine.specs.Named.{gates_of, monitor_number}
+use Rattle.cp_refine.specs.Named.{discipline_of, monitor_number}
 use Rattle.cp_refine.proofs.gates.MonitorNumbers.{is_a_monitor, one_number}
 use Rattle.cp_refine.proofs.steps.Observed.{is_ready_alike, waits_alike, pending_alike, output_alike, holder_alike, waiting_alike, in_line_alike}
 use Rattle.cp_refine.proofs.steps.OpeningState.{processes_are, opens}
@@ -28,12 +28,12 @@ use Rattle.cp_resolved.proofs.names.Entries.{past_there as past}
 own_parameters : (p : Program) → (system_of p (program_system p)).parameters ≡ []
 own_parameters p = ap (λ (o : Option SystemMeaning). (or_own (own_meaning (declared p) p) o).parameters) (past (declared p).systems)
 
-monitor_tells : (r : Tables) (p : Program) (n : ℕ) (a : SystemKind) (c : ComponentKind) → resolved.KindIs r p n a c → a ≡ system_kind.Monitor → (j : ℕ) × (c ≡ kind.Monitor j) × (slice_index_or (monitors_of (opening p first_gates)) j (length r.components) ≡ n)
+monitor_tells : (r : Tables) (p : Program) (n : ℕ) (a : SystemKind) (c : ComponentKind) → resolved.KindIs r p n a c → a ≡ system_kind.Monitor → (j : ℕ) × (c ≡ kind.Monitor j) × (slice_index_or (monitors_of (opening p book_discipline)) j (length r.components) ≡ n)
 monitor_tells r p n system_kind.Monitor (kind.Monitor j) h e = (j, refl, h)
 monitor_tells r p n system_kind.Monitor c h e = absurd h
 monitor_tells r p n x c h e = absurd (cc)
 
-module _ (t : Tree) (r : Tables) (l : Layouts) (g : Gates) (prepared : Prepared t r l) where
+module _ (t : Tree) (r : Tables) (l : Layouts) (g : Discipline) (prepared : Prepared t r l) where
   abbrev p : Program
   p = t.program
 
@@ -41,7 +41,7 @@ module _ (t : Tree) (r : Tables) (l : Layouts) (g : Gates) (prepared : Prepared 
   on_names = own.named t g
 
   abbrev on_slots : System Machine
-  on_slots = slots r (gates_of g)
+  on_slots = slots r (discipline_of g)
 
   -- ---- the opening states
 
@@ -50,13 +50,13 @@ module _ (t : Tree) (r : Tables) (l : Layouts) (g : Gates) (prepared : Prepared 
       let w : look x (parameter_variables []) ≡ Some u = subst (λ (qs : List Parameter). look x (parameter_variables qs) ≡ Some u) (own_parameters p) (prepared.program.systems.closed (program_system p) x u e) in
       cc
 
-  pub opening_simulates : Simulates t r l g (opening p g) (machine.opening r (gates_of g))
+  pub opening_simulates : Simulates t r l g (opening p g) (machine.opening r (discipline_of g))
   opening_simulates =
       record {
         reached = at_first;
-        fits = restatused r (machine.still r (gates_of g)) 0 status.Ready (still_fits r (gates_of g) prepared.sound);
-        lines = opening_lines r (gates_of g);
-        reach = opening_reaches r (gates_of g) prepared.sound prepared.sound.typed prepared.sound.program;
+        fits = restatused r (machine.still r (discipline_of g)) 0 status.Ready (still_fits r (discipline_of g) prepared.sound);
+        lines = opening_lines r (discipline_of g);
+        reach = opening_reaches r (discipline_of g) prepared.sound prepared.sound.typed prepared.sound.program;
         represents = opens (ground_of t r) t l g
             (record {
               stands = prepared.stands;

@@ -1,6 +1,6 @@
 -- The meaning of a program and the slot machine of its tables go in step.
 use Rattle.std.proofs.Common.{◌≡◌, ◌∙◌, ℕ, ◌<◌, true, false, Option, Some, None, ap, sym, refl, arith, length}
-use Rattle.cp_refine.proofs.Words.{Tree, Program, Tables, IsAccepted, slots, System, line_of, Gates, State, is_member, Layouts, Stands, CanGo, CanEnter, GoInStep}
+use Rattle.cp_refine.proofs.Words.{Tree, Program, Tables, IsAccepted, slots, System, line_of, Discipline, State, is_member, Layouts, Stands, CanGo, CanEnter, GoInStep}
 use Rattle.cp_refine.proofs.Words.{ground_of, Simulates, Prepared, AllKnown, IsSound, step_of, line_at, by_step, by_admission, admitted, admitted_to}
 use Rattle.cp_machine.specs.declared.event.Event.TheVariants.{Local}
 use Rattle.cp_machine.specs.Machine.{Machine, is_ready, in_line}
@@ -14,7 +14,7 @@ use Rattle.cp_machine.proofs.LocalReady.{local_ready}
 use Rattle.cp_machine.proofs.frames.ReachingKept.{step_reaches, admitted_reaches}
 use Rattle.cp_machine.proofs.lines.StepLines.{step_lines}
 use Rattle.cp_refine.specs.Named as own
-use Rattle.cp_refine.specs.Named.{gates_of, is_some, in_line_of}
+use Rattle.cp_refine.specs.Named.{discipline_of, is_some, in_line_of}
 use Rattle.cp_refine.proofs.gates.Admitting.{admits}
 use Rattle.cp_refine.proofs.steps.Beginning.{opening_simulates, process_count, first_goes, same_count, looks_alike}
 use Rattle.cp_refine.proofs.control.Control.{StepIs}
@@ -31,7 +31,7 @@ some_pending : (o : Option ℕ) → is_some o ≡ true → (n : ℕ) × (o ≡ S
 some_pending (Some n) e = (n, refl)
 some_pending None e = absurd (cc)
 
-module _ (t : Tree) (r : Tables) (l : Layouts) (g : Gates) (ok : IsAccepted t) (stands : Stands (ground_of t r) t l) (sound : IsSound r) (asked : AllKnown t r l g) where
+module _ (t : Tree) (r : Tables) (l : Layouts) (g : Discipline) (ok : IsAccepted t) (stands : Stands (ground_of t r) t l) (sound : IsSound r) (asked : AllKnown t r l g) where
   abbrev p : Program
   p = t.program
 
@@ -39,7 +39,7 @@ module _ (t : Tree) (r : Tables) (l : Layouts) (g : Gates) (ok : IsAccepted t) (
   on_names = own.named t g
 
   abbrev on_slots : System Machine
-  on_slots = slots r (gates_of g)
+  on_slots = slots r (discipline_of g)
 
   pub prepared : Prepared t r l
   prepared = record { stands = stands; sound = sound; program = asked.program }

@@ -23,6 +23,7 @@ walking r m pid =
       leaves = λ monitor n k bad. absurd (cc);
       delays = λ monitor cell n k bad. absurd (cc);
       continues = λ monitor cell n k bad. absurd (cc);
+      signals = λ component monitor is cell n k bad. absurd (cc);
       ends = λ bad. absurd (cc);
       shows = λ rest v. show_either (Stays m) m pid rest v (λ bad. refl) (λ bad. absurd (cc));
     }

@@ -2,7 +2,7 @@
 use Rattle.cp_refine.proofs.Words.{◌≡◌, ◌∙◌, ℕ, zero, suc, ◌+◌, ◌<◌, ◌≤◌, List, [], ◌∷◌, Some, None, ap, sym, refl, subst, arith, length, length-set, map, replicate}
 use Rattle.cp_refine.proofs.Words.{slice_index_or, slice_set, SystemKind, Program, Tree, ComponentKind, IsItself, IsTyped, Permanent, Machine, Monitor, Thread, no_thread}
 use Rattle.cp_refine.proofs.Words.{thread_at, no_monitor, phase_at, unstarted_thread, Name, Ty, Value, queue_value, part_at, system_of, program_system, View, content_of}
-use Rattle.cp_refine.proofs.Words.{value_held, environment_of, value_at, after, begun, first_inside, least_of, Layouts, look, encode, HasType, Ground, gates_of}
+use Rattle.cp_refine.proofs.Words.{value_held, environment_of, value_at, after, begun, first_inside, least_of, Layouts, look, encode, HasType, Ground, discipline_of}
 use Rattle.std.proofs.lemmas.List.{get_or-map, length-map}
 use Rattle.cp_tree.specs.declared.declaration.SystemKind.TheVariants as system_kind
 use Rattle.cp_slots.specs.declared.tables.ComponentKind.TheVariants as kind
@@ -13,7 +13,7 @@ use Rattle.cp_machine.specs.declared.state.Phase.TheVariants as phase
 use Rattle.cp_machine.specs.Opening as slots
 use Rattle.cp_meaning.specs.Components.{Listed, listed, listed_variables, components_of}
 use Rattle.cp_meaning.specs.State as named
-use Rattle.cp_meaning.specs.State.{Holder, in_component, Place, Environment, uninitialised, Component, no_component, unstarted, delayed, Process, no_process, Gates, first_gates, State}
+use Rattle.cp_meaning.specs.State.{Holder, in_component, Place, Environment, uninitialised, Component, no_component, unstarted, delayed, Process, no_process, Discipline, book_discipline, State}
 use Rattle.cp_meaning.specs.Steps.{parameter_variables, first_environment, first_component, process_first, processes_from, own_begun, first_components, opening}
 use Rattle.cp_resolved.specs.Resolved.{StandsAt, Stands, first_permanent}
 use Rattle.cp_refine.specs.Represents.{LiesAt, StatusIs, ProcessIs, PhaseIs, HasBegun, ComponentIs, MonitorIs, QueuesAre, all_permanents, Runs, Represents}
@@ -37,7 +37,7 @@ more_components p = map (first_component p) (listed_variables (listed p (program
 abbrev more_processes : Program → List Process
 more_processes p = processes_from 1 (more_components p)
 
-pub processes_are : (p : Program) (c : Gates) → (opening p c).processes ≡ begun 0 (system_of p (program_system p)) ∷ more_processes p
+pub processes_are : (p : Program) (c : Discipline) → (opening p c).processes ≡ begun 0 (system_of p (program_system p)) ∷ more_processes p
 processes_are p c =
     let own : Component = first_component p (let w : Listed = record { path = []; system = program_system p } in w) in
     ap (λ (k : SystemKind). own_begun p (own ∷ more_components p) (process_first k 0 (more_processes p))) (own_kind p)
@@ -95,7 +95,7 @@ pub record CanOpen (g : Ground) (t : Tree) (l : Layouts) : Type 0 where
   -- a name of which a layout says nothing has no content
   pub others : (k : ℕ) (x : Name) → k ≤ program_system t.program → look x (l.systems k).variables ≡ None → look x (l.systems k).parts ≡ None → content_of x (first_environment (system_of t.program k)) ≡ None
 
-module _ (g : Ground) (t : Tree) (l : Layouts) (c : Gates) (can : CanOpen g t l) where
+module _ (g : Ground) (t : Tree) (l : Layouts) (c : Discipline) (can : CanOpen g t l) where
   abbrev p : Program
   p = t.program
 
@@ -104,16 +104,16 @@ module _ (g : Ground) (t : Tree) (l : Layouts) (c : Gates) (can : CanOpen g t l)
 
   -- the opening state, with its processes as they are seen here
   abbrev state : State
-  state = record { processes = own_process ∷ more_processes p; components = first_components p; output = []; gates = c; pending = None }
+  state = record { processes = own_process ∷ more_processes p; components = first_components p; output = []; discipline = c; pending = None }
 
   abbrev machine : Machine
-  machine = slots.opening g.tables (gates_of c)
+  machine = slots.opening g.tables (discipline_of c)
 
   abbrev threads : List Thread
   threads = map (unstarted_thread g.tables) g.tables.processes
 
   count : length g.tables.processes ≡ length (own_process ∷ more_processes p)
-  count = can.stands.process_count ∙ ap length (processes_are p first_gates)
+  count = can.stands.process_count ∙ ap length (processes_are p book_discipline)
 
   thread_first : (q : ℕ) → q < length g.tables.processes → thread_at threads q ≡ unstarted_thread g.tables (process_at g.tables q)
   thread_first q h = get_or-map (unstarted_thread g.tables) g.tables.processes q tables.no_process no_thread h
@@ -123,7 +123,7 @@ module _ (g : Ground) (t : Tree) (l : Layouts) (c : Gates) (can : CanOpen g t l)
   own_thread = record (thread_at threads 0) { status = status.Ready }
 
   own_component : (process_at g.tables 0).component ≡ 0
-  own_component = (can.stands.processes 0 (let e = count in omega (arith, e))).component ∙ ap (λ (xs : List Process). (named.process_at xs 0).component) (processes_are p first_gates)
+  own_component = (can.stands.processes 0 (let e = count in omega (arith, e))).component ∙ ap (λ (xs : List Process). (named.process_at xs 0).component) (processes_are p book_discipline)
 
   some_component : 0 < length g.tables.components
   some_component = let e : length g.tables.components ≡ suc (length (more_components p)) = can.stands.count in omega (arith, e)
@@ -162,7 +162,7 @@ module _ (g : Ground) (t : Tree) (l : Layouts) (c : Gates) (can : CanOpen g t l)
       let thread : thread_at (slice_set threads 0 own_thread) (suc q) ≡ unstarted_thread g.tables (process_at g.tables (suc q)) = set_there threads 0 (suc q) own_thread no_thread (λ e. cc) ∙ thread_first (suc q) there in
       subst (λ (w : Thread). ProcessIs g p l (suc q) (named.process_at (more_processes p) q) w) (sym thread)
       (record {
-        component = sym ((can.stands.processes (suc q) there).component ∙ ap (λ (xs : List Process). (named.process_at xs (suc q)).component) (processes_are p first_gates));
+        component = sym ((can.stands.processes (suc q) there).component ∙ ap (λ (xs : List Process). (named.process_at xs (suc q)).component) (processes_are p book_discipline));
         status = subst (λ u. StatusIs g p l (suc q) (named.process_at (more_processes p) q) (unstarted_thread g.tables (process_at g.tables (suc q))) u status.Unstarted) (sym still.status) (still.calls, still.items, refl);
       })
 
@@ -253,9 +253,9 @@ module _ (g : Ground) (t : Tree) (l : Layouts) (c : Gates) (can : CanOpen g t l)
         monitors = λ n h. monitor_opens n (component_at g.tables n).kind;
         queues = queues_open;
         pending = tt;
-        gates = refl;
+        discipline = refl;
         output = refl;
       }
 
-  pub opens : Represents g p l (opening p c) (slots.opening g.tables (gates_of c))
-  opens = subst (λ (xs : List Process). Represents g p l (record { processes = xs; components = first_components p; output = []; gates = c; pending = None }) machine) (sym (processes_are p c)) opens_seen
+  pub opens : Represents g p l (opening p c) (slots.opening g.tables (discipline_of c))
+  opens = subst (λ (xs : List Process). Represents g p l (record { processes = xs; components = first_components p; output = []; discipline = c; pending = None }) machine) (sym (processes_are p c)) opens_seen

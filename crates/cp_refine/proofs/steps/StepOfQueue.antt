@@ -1,10 +1,10 @@
 -- The steps of `delay` and `continue`: they go on slots as on names.
-use Rattle.std.proofs.Common.{◌≡◌, ◌∙◌, ℕ, ◌+◌, ◌<◌, true, List, [], ◌∷◌, ◌++◌, Option, Some, None, ap, sym, refl, subst, length, eq-eqb}
+use Rattle.std.proofs.Common.{◌≡◌, ◌∙◌, ℕ, ◌+◌, ◌<◌, true, List, [], ◌∷◌, ◌++◌, Option, Some, None, ap, sym, refl, subst, length}
 use Rattle.cp_refine.proofs.Words.{Result, Ok, Err, slice_index, SystemKind, ComponentKind, Tables, component_at, Entry, MachineFits, Machine, thread_at, Reaches}
 use Rattle.cp_refine.proofs.Words.{step_at, Address, Permanent, Name, name_of, target_value, expression_calls, expressions_calls, designator_calls, Outcome, Target}
 use Rattle.cp_refine.proofs.Words.{this_component, value_at, Meaning, standard_meaning, delay_procedure, continue_procedure, find, view_of, step_of, system_of, Ty}
 use Rattle.cp_refine.proofs.Words.{queue_type, Value, queue_value, waiting_in, Layouts, Here, here, as_place, expression_form, Ground, InvokedBy, QueueItem, result_cell}
-use Rattle.cp_refine.proofs.Words.{ResultGoes, memory_at, TargetAgrees, SameKind, ground_of, plain_address, Prepared, PlaceAt, frames_of, is_delayed_in, QueueKnown}
+use Rattle.cp_refine.proofs.Words.{ResultGoes, memory_at, TargetAgrees, SameKind, ground_of, plain_address, Prepared, PlaceAt, frames_of, QueueKnown}
 use Rattle.cp_tree.specs.declared.declaration.SystemKind.TheVariants as system_kind
 use Rattle.cp_tree.specs.Syntax.{Tree, Program, Expression, Expressions, more_expressions, Designator, invoke}
 use Rattle.cp_slots.specs.declared.tables.ComponentKind.TheVariants as kind
@@ -17,12 +17,14 @@ use Rattle.cp_refine.proofs.expressions.ComponentsNow.{executed_there, executed_
 use Rattle.cp_refine.proofs.queues.Continuing.{MayContinue}
 use Rattle.cp_refine.proofs.queues.ContinueSteps.{Ends, own_continue, continue_step}
 use Rattle.cp_refine.proofs.control.Control.{Taken, StepIs, scope_is}
+use Rattle.cp_meaning.specs.Kernel.{waits_inside}
 use Rattle.cp_refine.proofs.queues.Delayed.{MayDelay}
 use Rattle.cp_refine.proofs.queues.Delaying.{QueueNamed, place_with, own_delay, delay_step}
 use Rattle.cp_refine.proofs.steps.Executed.{executes, few_cells, variables_of_components}
 use Rattle.cp_refine.proofs.steps.Going.{Going}
 use Rattle.cp_refine.proofs.HoldsInReached.{HoldsInReached}
 use Rattle.cp_refine.proofs.calls.Kept.{kept_left, kept_right}
+use Rattle.cp_refine.proofs.queues.GoingOn.{inside_so}
 use Rattle.cp_refine.proofs.queues.QueueNames.{queue_named}
 use Rattle.cp_refine.proofs.reached.ReadyInReached.{ReadyInReached}
 use Rattle.cp_refine.proofs.calls.Returning.{MayLeave}
@@ -74,10 +76,12 @@ module _ (t : Tree) (r : Tables) (l : Layouts) (prepared : Prepared t r l) (s : 
   there : n < length r.components
   there = subst (λ c. c < length r.components) (sym this_is) (executed_there t r l prepared s known m ready fits reach q going)
 
+  is_monitor_here : (named.component_at s.components n).kind ≡ system_kind.Monitor
+  is_monitor_here =
+      kind_is t r l prepared s known m ready n there ∙ (ap (λ c. (system_of p (component_at r c).system).kind) this_is ∙ (ap (λ a. (system_of p a).kind) (executed_system t r l prepared s known m ready fits reach q going) ∙ rules.monitor))
+
   monitor : (j : ℕ) × ((component_at r n).kind ≡ kind.Monitor j)
-  monitor =
-      monitor_number (named.component_at s.components n).kind (component_at r n).kind (ready.kinds n there)
-      (kind_is t r l prepared s known m ready n there ∙ (ap (λ c. (system_of p (component_at r c).system).kind) this_is ∙ (ap (λ a. (system_of p a).kind) (executed_system t r l prepared s known m ready fits reach q going) ∙ rules.monitor)))
+  monitor = monitor_number (named.component_at s.components n).kind (component_at r n).kind (ready.kinds n there) is_monitor_here
 
   queue_is : (spot : code.Place) → expression_form this e ≡ Some (record { ty = queue_type; form = as_place spot }) → QueueNamed g p l s m q es e spot
   queue_is spot formed =
@@ -98,27 +102,28 @@ module _ (t : Tree) (r : Tables) (l : Layouts) (prepared : Prepared t r l) (s : 
     record { whole = h.whole; first = Permanent ((component_at r n).base + (l.systems (component_at r n).system).slots pl.name); offset = h.offset; begins = record { there = h.begins.there; known = h.begins.known; address = refl }; chosen = h.chosen; address = refl },
   )
 
-  -- who is in a queue of the component is delayed in it
-  is_delayed : (pl : Place) (a : Address) (i : ℕ) → pl.holder ≡ in_component n → PlaceAt r l (frames_of (thread_at m.threads q).frame es) pl queue_type a → waiting_in (value_at (view_of p s q) pl) ≡ Some i → is_delayed_in n (named.process_at s.processes i).status ≡ true
-  is_delayed pl a i own h w =
-      let same : pl ≡ record { holder = in_component n; name = pl.name; choices = pl.choices } = ap (place_with pl) own in
-      let stands = without_frames pl a (subst (λ (x : Place). PlaceAt r l (frames_of (thread_at m.threads q).frame es) x queue_type a) same h) in
-      let value = queue_from (value_at (view_of p s q) (record { holder = in_component n; name = pl.name; choices = pl.choices })) i (subst (λ (x : Place). waiting_in (value_at (view_of p s q) x) ≡ Some i) same w) in
-      let found = going.rep.queues.queued (record { holder = in_component n; name = pl.name; choices = pl.choices }) i n stands.0 (view_of p s q) refl refl stands.1 value in
-      ap (is_delayed_in n) found.1 ∙ eq-eqb n n refl
+  module _ (delayed_inside : (i : ℕ) → i < length s.processes → (named.process_at s.processes i).status ≡ delayed n → has_entry n (named.process_at s.processes i).calls ≡ true) where
+    -- who is in a queue of the component is delayed in it, in an entry of it
+    is_waiting : (pl : Place) (a : Address) (i : ℕ) → pl.holder ≡ in_component n → PlaceAt r l (frames_of (thread_at m.threads q).frame es) pl queue_type a → waiting_in (value_at (view_of p s q) pl) ≡ Some i → waits_inside s n i ≡ true
+    is_waiting pl a i own h w =
+        let same : pl ≡ record { holder = in_component n; name = pl.name; choices = pl.choices } = ap (place_with pl) own in
+        let stands = without_frames pl a (subst (λ (x : Place). PlaceAt r l (frames_of (thread_at m.threads q).frame es) x queue_type a) same h) in
+        let value = queue_from (value_at (view_of p s q) (record { holder = in_component n; name = pl.name; choices = pl.choices })) i (subst (λ (x : Place). waiting_in (value_at (view_of p s q) x) ≡ Some i) same w) in
+        let found = going.rep.queues.queued (record { holder = in_component n; name = pl.name; choices = pl.choices }) i n stands.0 (view_of p s q) refl refl stands.1 value in
+        inside_so n (named.component_at s.components n).kind (has_entry n (named.process_at s.processes i).calls) (named.process_at s.processes i).status is_monitor_here (delayed_inside i found.0 found.1) found.1
 
-  by_target : (o : Outcome Target) → ((x : Target) → o ≡ Ok x → x.place.holder ≡ in_component n) → (b : Result Address slots.ErrorName) → TargetAgrees r l (frames_of (thread_at m.threads q).frame es) o queue_type b → (x : Target) → o ≡ Ok x → (i : ℕ) → waiting_in (value_at (view_of p s q) x.place) ≡ Some i → is_delayed_in n (named.process_at s.processes i).status ≡ true
-  by_target (Ok u) own (Ok a) h x f i w =
-      let same : x ≡ u = cc in
-      is_delayed u.place a i (own u refl) h.1 (subst (λ (z : Target). waiting_in (value_at (view_of p s q) z.place) ≡ Some i) same w)
-  by_target (Ok u) own (Err b) h x f i w = absurd h
-  by_target (Err b) own c h x f i w = absurd (cc)
+    by_target : (o : Outcome Target) → ((x : Target) → o ≡ Ok x → x.place.holder ≡ in_component n) → (b : Result Address slots.ErrorName) → TargetAgrees r l (frames_of (thread_at m.threads q).frame es) o queue_type b → (x : Target) → o ≡ Ok x → (i : ℕ) → waiting_in (value_at (view_of p s q) x.place) ≡ Some i → waits_inside s n i ≡ true
+    by_target (Ok u) own (Ok a) h x f i w =
+        let same : x ≡ u = cc in
+        is_waiting u.place a i (own u refl) h.1 (subst (λ (z : Target). waiting_in (value_at (view_of p s q) z.place) ≡ Some i) same w)
+    by_target (Ok u) own (Err b) h x f i w = absurd h
+    by_target (Err b) own c h x f i w = absurd (cc)
 
-  pub continue_follows : find (name_of d) this.scope ≡ Some (standard_meaning continue_procedure) → IsQueueNamed (more_expressions e more) (WaitsThere s (view_of p s q))
-  continue_follows standard =
-      let own : QueueItem g this at token e mid code.continue_at = subst (λ (w : Option Meaning). InvokedBy g this at token w d (more_expressions e more) mid) standard k.own in
-      let queue = queue_is own.place own.formed in
-      (queue.designator, queue.is, by_target (target_value (view_of p s q) queue.designator) queue.own (plain_address (memory_at m q) (thread_at m.threads q).frame own.place) queue.agrees)
+    pub continue_follows : find (name_of d) this.scope ≡ Some (standard_meaning continue_procedure) → IsQueueNamed (more_expressions e more) (WaitsThere s (view_of p s q))
+    continue_follows standard =
+        let own : QueueItem g this at token e mid code.continue_at = subst (λ (w : Option Meaning). InvokedBy g this at token w d (more_expressions e more) mid) standard k.own in
+        let queue = queue_is own.place own.formed in
+        (queue.designator, queue.is, by_target (target_value (view_of p s q) queue.designator) queue.own (plain_address (memory_at m q) (thread_at m.threads q).frame own.place) queue.agrees)
 
   -- ---- `delay`
 
@@ -164,6 +169,7 @@ module _ (t : Tree) (r : Tables) (l : Layouts) (prepared : Prepared t r l) (s : 
           few = few_cells t r l prepared m q fits going.many;
           routines = prepared.stands.routines;
           simple = prepared.program.results;
+          monitor = is_monitor_here;
           called = delayed_inside;
         }
 

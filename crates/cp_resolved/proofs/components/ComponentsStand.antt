@@ -9,7 +9,7 @@ use Rattle.cp_meaning.specs.Components.{Listed, components_of, listed_variables,
 use Rattle.cp_meaning.specs.Kernel.{begun}
 use Rattle.cp_meaning.specs.Readings.{monitor_first, monitors_from, monitors_of}
 use Rattle.cp_meaning.specs.State as named
-use Rattle.cp_meaning.specs.State.{first_gates}
+use Rattle.cp_meaning.specs.State.{book_discipline}
 use Rattle.cp_meaning.specs.Steps.{first_component, unstarted_process, process_first, processes_from, own_begun, first_components, opening}
 use Rattle.cp_resolved.specs.Resolved.{KindIs}
 use Rattle.cp_resolved.proofs.components.ComponentOrder.{image_at, initial_at, step, steps, steps_append}
@@ -202,7 +202,7 @@ module _ (p : Program) where
             let b : r.monitors ≡ all.monitors = h.monitors in
             omega (arith, a, b, lt)
 
-        pub monitor_count_stands : r.monitors < 255 → r.monitors ≡ length (monitors_of (opening p first_gates))
+        pub monitor_count_stands : r.monitors < 255 → r.monitors ≡ length (monitors_of (opening p book_discipline))
         monitor_count_stands lt = few_monitors lt ∙ sym (monitors_count 0 (components_of p))
 
         -- ---- each component
@@ -270,9 +270,9 @@ module _ (p : Program) where
                 let total : r.monitors ≡ monitor_count (components_of p) = few_monitors rare in
                 let split : monitor_count (components_of p) ≡ monitor_count a.before + (monitor_made (kind_at x.system) + monitor_count a.after) = ap monitor_count a.is ∙ count_append a.before (x ∷ a.after) in
                 let mine : c.monitors ≡ monitor_count a.before = omega (arith, ms, total, split, rare) in
-                let got : slice_get (monitors_of (opening p first_gates)) (monitor_count a.before) ≡ Some (0 + length a.before) = ap (λ ys. slice_get (monitors_from 0 (map (first_component p) ys)) (monitor_count a.before)) a.is ∙ monitor_place 0 a.before x a.after (sym e) in
+                let got : slice_get (monitors_of (opening p book_discipline)) (monitor_count a.before) ≡ Some (0 + length a.before) = ap (λ ys. slice_get (monitors_from 0 (map (first_component p) ys)) (monitor_count a.before)) a.is ∙ monitor_place 0 a.before x a.after (sym e) in
                 let l = a.place in
-                ap (λ j. slice_index_or (monitors_of (opening p first_gates)) j (length r.components)) mine ∙ entry_at (monitors_of (opening p first_gates)) (monitor_count a.before) (length r.components) (0 + length a.before) got ∙ (let z : 0 + length a.before ≡ n = omega (arith, l) in z)
+                ap (λ j. slice_index_or (monitors_of (opening p book_discipline)) j (length r.components)) mine ∙ entry_at (monitors_of (opening p book_discipline)) (monitor_count a.before) (length r.components) (0 + length a.before) got ∙ (let z : 0 + length a.before ≡ n = omega (arith, l) in z)
 
         -- ---- processes
 
@@ -292,7 +292,7 @@ module _ (p : Program) where
         begun_same m [] rs e = e
         begun_same m (q ∷ qs) rs e = e
 
-        opening_processes : kind_at (program_system p) ≡ system_kind.Process → AreProcesses r.processes (opening p first_gates).processes
+        opening_processes : kind_at (program_system p) ≡ system_kind.Process → AreProcesses r.processes (opening p book_discipline).processes
         opening_processes e =
             let xs : List Listed = listed_variables (listed p (program_system p)) [] (system_of p (program_system p)).variables in
             let rest : List named.Process = processes_from 1 (map (first_component p) xs) in
@@ -301,8 +301,8 @@ module _ (p : Program) where
             let b : AreProcesses r.processes (unstarted_process 0 ∷ rest) = rw h.processes (subst (AreProcesses all.processes) first a) in
             subst (λ ps. AreProcesses r.processes (own_begun p (first_components p) ps)) (sym first) (begun_same (system_of p (program_system p)) r.processes rest b)
 
-        pub process_count_stands : kind_at (program_system p) ≡ system_kind.Process → length r.processes ≡ length (opening p first_gates).processes
-        process_count_stands e = processes_even r.processes (opening p first_gates).processes (opening_processes e)
+        pub process_count_stands : kind_at (program_system p) ≡ system_kind.Process → length r.processes ≡ length (opening p book_discipline).processes
+        process_count_stands e = processes_even r.processes (opening p book_discipline).processes (opening_processes e)
 
-        pub process_stands : kind_at (program_system p) ≡ system_kind.Process → (q : ℕ) → q < length r.processes → (tables.process_at r q).component ≡ (named.process_at (opening p first_gates).processes q).component
-        process_stands e q lt = process_same r.processes (opening p first_gates).processes q lt (opening_processes e)
+        pub process_stands : kind_at (program_system p) ≡ system_kind.Process → (q : ℕ) → q < length r.processes → (tables.process_at r q).component ≡ (named.process_at (opening p book_discipline).processes q).component
+        process_stands e q lt = process_same r.processes (opening p book_discipline).processes q lt (opening_processes e)

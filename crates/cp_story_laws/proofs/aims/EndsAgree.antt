@@ -13,7 +13,7 @@ use Rattle.cp_slots.specs.declared.tables.ComponentKind.TheVariants as kind
 use Rattle.cp_slots.specs.Code as code
 use Rattle.cp_slots.specs.Tables.{Tables, component_at, item_at}
 use Rattle.cp_store.specs.declared.memory.Frame.{Frame}
-use Rattle.cp_machine.specs.declared.gates.Gates as slot_gates
+use Rattle.cp_machine.specs.declared.discipline.Discipline as slot_gates
 use Rattle.cp_machine.specs.declared.process.Entry.{Entry}
 use Rattle.cp_machine.specs.declared.process.Entry.TheVariants.{Rest, Successor, Return, InitEnd}
 use Rattle.cp_machine.specs.Machine.{Machine, thread_at}
@@ -29,7 +29,7 @@ use Rattle.cp_resolved.specs.TreeLayouts.{layouts_of}
 use Rattle.cp_refine.specs.InStep.{CanGo}
 use Rattle.cp_refine.specs.Kinds.{SameKind}
 use Rattle.cp_refine.specs.Law.{ground_of}
-use Rattle.cp_refine.specs.Named.{named, named_gates}
+use Rattle.cp_refine.specs.Named.{named, named_discipline}
 use Rattle.cp_refine.specs.Remaining.{ItemIs}
 use Rattle.cp_refine.specs.Represents.{CallsHold, CallIs, StackIs, frames_of, monitor_left, own_memory}
 use Rattle.cp_refine.proofs.HoldsInReached.{reached_stands}
@@ -94,7 +94,7 @@ module _ (r : Tables) (c : Call) where
   leaves_one j initial_statement b d k e = absurd (cc)
   leaves_one j local_routine b d k e = absurd (cc)
 
-module _ (t : Tree) (r : Tables) (g : slot_gates.Gates) (read : IsRead t.program) (ok : IsAccepted t) (same : plain r ≡ laid t) (s : State) (m : Machine) (p : ℕ) (sim : together.Related t r g read ok same s m) (can : CanGo (named t (named_gates g)) s p) where
+module _ (t : Tree) (r : Tables) (g : slot_gates.Discipline) (read : IsRead t.program) (ok : IsAccepted t) (same : plain r ≡ laid t) (s : State) (m : Machine) (p : ℕ) (sim : together.Related t r g read ok same s m) (can : CanGo (named t (named_discipline g)) s p) where
   abbrev ground : Ground
   ground = ground_of t r
 
@@ -126,7 +126,7 @@ module _ (t : Tree) (r : Tables) (g : slot_gates.Gates) (read : IsRead t.program
 
     kinds : SameKind (named.component_at s.components c.component).kind (component_at r c.component).kind
     kinds =
-        kinds_agree t r (layouts_of t) (together.prepared t r g read ok same).stands s (reached_stands t ok (named_gates g) s sim.reached).kind c.component there
+        kinds_agree t r (layouts_of t) (together.prepared t r g read ok same).stands s (reached_stands t ok (named_discipline g) s sim.reached).kind c.component there
 
     ends_by_call : ends_now t s p ≡ (is_entry_kind c.kind && is_monitor (named.component_at s.components c.component).kind)
     ends_by_call =

@@ -8,7 +8,7 @@ use Rattle.cp_slots.specs.Tables.{Tables, component_at}
 use Rattle.cp_store.specs.declared.memory.Address.TheVariants.{Permanent}
 use Rattle.cp_machine.specs.Machine.{Machine}
 use Rattle.cp_meaning.specs.Components.{components_of}
-use Rattle.cp_meaning.specs.State.{Gates, in_component, Place, State}
+use Rattle.cp_meaning.specs.State.{Discipline, in_component, Place, State}
 use Rattle.cp_meaning.specs.Steps.{view_of}
 use Rattle.cp_meaning.specs.Types.{queue_type}
 use Rattle.cp_legend.specs.Names.{Legend}
@@ -44,7 +44,7 @@ SameQueue t r o u = ⊥
 abbrev made : ℕ → List ℕ → NamedQueue
 made k x = record { monitor = k; name = x }
 
-pub told_same : (t : Tree) (r : Tables) (g : Gates) → IsAccepted t → Prepared t r (layouts_of t) → (l : Legend) → map tabled l.components ≡ r.components → map called_in_legend l.components ≡ map (called_in_language t.program) (components_of t.program) → Each HasOwnNumber l.components → PlacesAreNamed t l →
+pub told_same : (t : Tree) (r : Tables) (g : Discipline) → IsAccepted t → Prepared t r (layouts_of t) → (l : Legend) → map tabled l.components ≡ r.components → map called_in_legend l.components ≡ map (called_in_language t.program) (components_of t.program) → Each HasOwnNumber l.components → PlacesAreNamed t l →
     (s : State) (m : Machine) → Simulates t r (layouts_of t) g s m → (p : ℕ) (o : Option Place) (u : Option ℕ) → SameQueue t r o u → queue_told l u ≡ queue_named t g (view_of t.program s p) o
 told_same t r g ok prepared l tables paths own places s m sim p None None k = refl
 told_same t r g ok prepared l tables paths own places s m sim p (Some x) (Some cell) k =

@@ -11,7 +11,7 @@ use Rattle.cp_store.specs.declared.memory.Address.TheVariants.{Permanent}
 use Rattle.cp_machine.specs.Machine.{Machine}
 use Rattle.cp_meaning.specs.Components.{components_of}
 use Rattle.cp_meaning.specs.State as named_state
-use Rattle.cp_meaning.specs.State.{Gates, Holder, in_component, Place, State}
+use Rattle.cp_meaning.specs.State.{Discipline, Holder, in_component, Place, State}
 use Rattle.cp_meaning.specs.Steps.{view_of}
 use Rattle.cp_meaning.specs.Systems.{program_system}
 use Rattle.cp_meaning.specs.Types.{Ty, queue_type}
@@ -34,7 +34,7 @@ use Rattle.cp_story_laws.proofs.Entered.{number_is}
 use Rattle.cp_story_laws.proofs.Paths.{name_at, owner_component, same_component}
 use Rattle.cp_story_laws.proofs.StandingsAgree as stand
 
-module _ (t : Tree) (r : Tables) (g : Gates) (ok : IsAccepted t) (prepared : Prepared t r (layouts_of t)) (l : Legend) (tables : map tabled l.components ≡ r.components) (paths : map called_in_legend l.components ≡ map (called_in_language t.program) (components_of t.program)) (s : State) (m : Machine) (sim : Simulates t r (layouts_of t) g s m)
+module _ (t : Tree) (r : Tables) (g : Discipline) (ok : IsAccepted t) (prepared : Prepared t r (layouts_of t)) (l : Legend) (tables : map tabled l.components ≡ r.components) (paths : map called_in_legend l.components ≡ map (called_in_language t.program) (components_of t.program)) (s : State) (m : Machine) (sim : Simulates t r (layouts_of t) g s m)
     -- a queue of component n
     (n cell : ℕ) (x : Place) (holder : x.holder ≡ in_component n) (place : PlaceAt r (layouts_of t) [] x queue_type (Permanent cell)) where
   inside : InComponent r (layouts_of t) n x.name place.whole place.first

@@ -16,7 +16,7 @@ use Rattle.cp_store.specs.declared.error.ErrorName.{ErrorName}
 use Rattle.cp_store.specs.declared.memory.Address.{Address}
 use Rattle.cp_store.specs.declared.memory.Address.TheVariants.{Permanent}
 use Rattle.cp_store.specs.declared.memory.Frame.{Frame}
-use Rattle.cp_machine.specs.declared.gates.Gates as slot_gates
+use Rattle.cp_machine.specs.declared.discipline.Discipline as slot_gates
 use Rattle.cp_machine.specs.declared.process.Entry.{Entry}
 use Rattle.cp_machine.specs.declared.process.Entry.TheVariants.{Rest, Successor, Return, InitEnd}
 use Rattle.cp_machine.specs.Machine.{Machine, thread_at}
@@ -28,7 +28,7 @@ use Rattle.cp_meaning.specs.Outcome.{Outcome}
 use Rattle.cp_meaning.specs.Places.{Target, View, this_component}
 use Rattle.cp_meaning.specs.Scopes.{Meaning, Scope, standard_meaning, Standard, delay_procedure, continue_procedure, display_procedure, find}
 use Rattle.cp_meaning.specs.State as names
-use Rattle.cp_meaning.specs.State.{Gates, Holder, in_component, Item, statement_item, Place, State}
+use Rattle.cp_meaning.specs.State.{Discipline, Holder, in_component, Item, statement_item, Place, State}
 use Rattle.cp_meaning.specs.Steps.{view_of}
 use Rattle.cp_meaning.specs.Systems.{system_of}
 use Rattle.cp_meaning.specs.Types.{queue_type}
@@ -42,7 +42,7 @@ use Rattle.cp_refine.specs.InStep.{CanGo}
 use Rattle.cp_refine.specs.ItemsKnown.{InvokeKnown, ItemKnown, QueueKnown}
 use Rattle.cp_refine.specs.Kinds.{SameKind}
 use Rattle.cp_refine.specs.Law.{ground_of}
-use Rattle.cp_refine.specs.Named.{named, named_gates}
+use Rattle.cp_refine.specs.Named.{named, named_discipline}
 use Rattle.cp_refine.specs.PlainValues.{plain_address}
 use Rattle.cp_refine.specs.Prepared.{Prepared}
 use Rattle.cp_refine.specs.Represents.{BeginsAt, InComponent, PlaceAt, StackIs, frames_of, further}
@@ -86,15 +86,15 @@ monitor_number system_kind.Process (kind.Process j) h e = absurd (cc)
 monitor_number system_kind.Class kind.Class h e = absurd (cc)
 monitor_number a c h e = absurd h
 
-module _ (t : Tree) (r : Tables) (g : slot_gates.Gates) (read : IsRead t.program) (ok : IsAccepted t) (same : plain r ≡ laid t) (s : State) (m : Machine) (p : ℕ) (sim : together.Related t r g read ok same s m) (can : CanGo (named t (named_gates g)) s p) where
+module _ (t : Tree) (r : Tables) (g : slot_gates.Discipline) (read : IsRead t.program) (ok : IsAccepted t) (same : plain r ≡ laid t) (s : State) (m : Machine) (p : ℕ) (sim : together.Related t r g read ok same s m) (can : CanGo (named t (named_discipline g)) s p) where
   abbrev ground : Ground
   ground = ground_of t r
 
   abbrev layouts : Layouts
   layouts = layouts_of t
 
-  abbrev gates : Gates
-  gates = named_gates g
+  abbrev discipline : Discipline
+  discipline = named_discipline g
 
   abbrev view : View
   view = view_of t.program s p
@@ -115,14 +115,14 @@ module _ (t : Tree) (r : Tables) (g : slot_gates.Gates) (read : IsRead t.program
   prepared : Prepared t r layouts
   prepared = together.prepared t r g read ok same
 
-  all_known : AllKnown t r layouts gates
-  all_known = known t r gates read ok same
+  all_known : AllKnown t r layouts discipline
+  all_known = known t r discipline read ok same
 
   holds : HoldsInReached t.program s
-  holds = reached_stands t ok gates s sim.reached
+  holds = reached_stands t ok discipline s sim.reached
 
   ready : ReadyInReached ground t.program s m
-  ready = ready_in_reached t r layouts gates s m ok prepared.stands prepared.sound.typed sim
+  ready = ready_in_reached t r layouts discipline s m ok prepared.stands prepared.sound.typed sim
 
   -- a cell on slots, and a queue on names
   abbrev Meets : Option ℕ → Option Place → Type 0

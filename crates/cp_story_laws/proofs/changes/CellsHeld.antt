@@ -7,7 +7,7 @@ use Rattle.cp_layout.specs.Laid.{plain, laid}
 use Rattle.cp_lawful.specs.Accepted.{IsAccepted}
 use Rattle.cp_slots.specs.Tables.{Tables, component_at}
 use Rattle.cp_symbols.specs.Kinds.{most}
-use Rattle.cp_machine.specs.declared.gates.Gates as slot_gates
+use Rattle.cp_machine.specs.declared.discipline.Discipline as slot_gates
 use Rattle.cp_machine.specs.Machine.{Machine}
 use Rattle.cp_meaning.specs.Names.{Name}
 use Rattle.cp_meaning.specs.Places.{content_of, value_held}
@@ -19,7 +19,7 @@ use Rattle.cp_meaning.proofs.ComponentTree.{SameTree}
 use Rattle.cp_resolved.specs.Layouts.{look}
 use Rattle.cp_resolved.specs.TreeLayouts.{layouts_of}
 use Rattle.cp_resolved.proofs.counts.FewComponents.{accepted_few}
-use Rattle.cp_refine.specs.Named.{named_gates}
+use Rattle.cp_refine.specs.Named.{named_discipline}
 use Rattle.cp_refine.specs.Represents.{LiesAt}
 use Rattle.cp_refine.proofs.HoldsInReached.{HoldsInReached, reached_stands}
 use Rattle.cp_store.specs.declared.memory.Address.TheVariants.{Permanent}
@@ -41,7 +41,7 @@ module _ (t : Tree) (r : Tables) where
     pub values : CellsHold cs cells
     pub tree : SameTree (first_components t.program) cs
 
-module _ (t : Tree) (r : Tables) (g : slot_gates.Gates) (read : IsRead t.program) (ok : IsAccepted t) (same : plain r ≡ laid t) (s : State) (m : Machine) (sim : Related t r g read ok same s m) where
+module _ (t : Tree) (r : Tables) (g : slot_gates.Discipline) (read : IsRead t.program) (ok : IsAccepted t) (same : plain r ≡ laid t) (s : State) (m : Machine) (sim : Related t r g read ok same s m) where
   pub cells_hold : CellsHold t r s.components m.permanents
   cells_hold =
       record {
@@ -51,5 +51,5 @@ module _ (t : Tree) (r : Tables) (g : slot_gates.Gates) (read : IsRead t.program
 
   pub held : Held t r s.components m.permanents
   held =
-      let reached : HoldsInReached t.program s = reached_stands t ok (named_gates g) s sim.reached in
+      let reached : HoldsInReached t.program s = reached_stands t ok (named_discipline g) s sim.reached in
       record { values = cells_hold; tree = record { path = reached.path; kind = reached.kind; system = reached.system; find = reached.found; size = reached.count } }

@@ -33,14 +33,14 @@ use Rattle.cp_legend_laws.specs.ValuesTold.{value_told}
 use Rattle.cp_legend_laws.proofs.MonitorsAround.{IsReached, all_reached, types_visible}
 use Rattle.cp_legend_laws.proofs.NamedPaths.{reached}
 use Rattle.cp_resolved.proofs.agreeing.AgreeingWritten.{each_right}
-use Rattle.cp_machine.specs.declared.gates.Gates as slot_gates
+use Rattle.cp_machine.specs.declared.discipline.Discipline as slot_gates
 use Rattle.cp_machine.specs.Machine.{Machine}
 use Rattle.cp_meaning.specs.Components.{Listed, Path, components_of}
 use Rattle.cp_meaning.specs.Declarations.{Variable}
 use Rattle.cp_meaning.specs.Names.{Name}
 use Rattle.cp_meaning.specs.Places.{component_with}
 use Rattle.cp_meaning.specs.State as meaning
-use Rattle.cp_meaning.specs.State.{Component, Gates, State}
+use Rattle.cp_meaning.specs.State.{Component, Discipline, State}
 use Rattle.cp_meaning.specs.Steps.{first_component, first_components}
 use Rattle.cp_meaning.specs.Systems.{program_system, system_of}
 use Rattle.cp_meaning.specs.Types.{Ty, array_over, record_with, has_components}
@@ -63,7 +63,7 @@ use Rattle.cp_resolved.proofs.frames.Cells as cells
 use Rattle.cp_resolved.proofs.names.Entries.{entry_at, there}
 use Rattle.cp_resolved.proofs.systems.SystemKnown.{found_among}
 use Rattle.cp_refine.specs.Law.{ground_of}
-use Rattle.cp_refine.specs.Named.{named_gates}
+use Rattle.cp_refine.specs.Named.{named_discipline}
 use Rattle.cp_refine.specs.Prepared.{Prepared}
 use Rattle.cp_refine.specs.Represents.{LiesAt}
 use Rattle.cp_refine.proofs.expressions.Parts.{encode_length}
@@ -130,7 +130,7 @@ told_not true false = refl
 told_not false true = refl
 told_not false false = refl
 
-module _ (t : Tree) (r : Tables) (g : Gates) (l : Legend) (read : IsRead t.program) (ok : IsAccepted t) (prepared : Prepared t r (layouts_of t)) (tables : map tabled l.components ≡ r.components)
+module _ (t : Tree) (r : Tables) (g : Discipline) (l : Legend) (read : IsRead t.program) (ok : IsAccepted t) (prepared : Prepared t r (layouts_of t)) (tables : map tabled l.components ≡ r.components)
     (paths : map called_in_legend l.components ≡ map (called_in_language t.program) (components_of t.program)) (permanents : PermanentsAre t l) (told : ValuesAreTold t l) (monitors : MonitorsAreTold t g l) where
   abbrev p : Program
   p = t.program
@@ -331,17 +331,17 @@ module _ (t : Tree) (r : Tables) (g : Gates) (l : Legend) (read : IsRead t.progr
       ∙ ap (λ (n : ℕ). flat_map (λ i. changes.changes_inside p g bs ns i (monitor_with ns i)) (range_with_len 0 n)) count
 
 -- between any two states of runs
-module _ (t : Tree) (r : Tables) (g : slot_gates.Gates) (l : Legend) (read : IsRead t.program) (ok : IsAccepted t) (same : plain r ≡ laid t) (tables : map tabled l.components ≡ r.components)
-    (paths : map called_in_legend l.components ≡ map (called_in_language t.program) (components_of t.program)) (permanents : PermanentsAre t l) (told : ValuesAreTold t l) (monitors : MonitorsAreTold t (named_gates g) l) where
+module _ (t : Tree) (r : Tables) (g : slot_gates.Discipline) (l : Legend) (read : IsRead t.program) (ok : IsAccepted t) (same : plain r ≡ laid t) (tables : map tabled l.components ≡ r.components)
+    (paths : map called_in_legend l.components ≡ map (called_in_language t.program) (components_of t.program)) (permanents : PermanentsAre t l) (told : ValuesAreTold t l) (monitors : MonitorsAreTold t (named_discipline g) l) where
   abbrev Related : State → Machine → Type 0
   Related = together.Related t r g read ok same
 
-  pub held_same : (bs ns : List Component) (before now : List ℤ) → Held t r bs before → Held t r ns now → story.changes_in l before now ≡ changes_told t.program (named_gates g) bs ns
-  held_same = changes_same t r (named_gates g) l read ok (together.prepared t r g read ok same) tables paths permanents told monitors
+  pub held_same : (bs ns : List Component) (before now : List ℤ) → Held t r bs before → Held t r ns now → story.changes_in l before now ≡ changes_told t.program (named_discipline g) bs ns
+  held_same = changes_same t r (named_discipline g) l read ok (together.prepared t r g read ok same) tables paths permanents told monitors
 
-  pub related_same : (s u : State) (m n : Machine) → Related s m → Related u n → story.changes_in l m.permanents n.permanents ≡ changes_told t.program (named_gates g) s.components u.components
+  pub related_same : (s u : State) (m n : Machine) → Related s m → Related u n → story.changes_in l m.permanents n.permanents ≡ changes_told t.program (named_discipline g) s.components u.components
   related_same s u m n h i = held_same s.components u.components m.permanents n.permanents (held_by t r g read ok same s m h) (held_by t r g read ok same u n i)
 
 -- of a legend beside the tables of a tree
-pub legend_monitors : (t : Tree) (y : code_symbols.Symbols) (r : Tables) (l : code_legend.Legend) (g : slot_gates.Gates) → IsRead t.program → IsAccepted t → AreSymbolsOf y (whole t) → plain r ≡ laid t → IsLegendOf l (source_seen y) r.components → MonitorsAreTold t (named_gates g) (legend_seen l)
-legend_monitors t y r l g read ok symbols same seen = monitors_told t y r l (named_gates g) (layouts_of t) read ok symbols same seen (together.prepared t r g read ok same).stands
+pub legend_monitors : (t : Tree) (y : code_symbols.Symbols) (r : Tables) (l : code_legend.Legend) (g : slot_gates.Discipline) → IsRead t.program → IsAccepted t → AreSymbolsOf y (whole t) → plain r ≡ laid t → IsLegendOf l (source_seen y) r.components → MonitorsAreTold t (named_discipline g) (legend_seen l)
+legend_monitors t y r l g read ok symbols same seen = monitors_told t y r l (named_discipline g) (layouts_of t) read ok symbols same seen (together.prepared t r g read ok same).stands

@@ -17,7 +17,7 @@ use Rattle.cp_slots.specs.Tables.{Tables, component_at, no_component}
 use Rattle.cp_meaning.specs.Components.{Listed, Path, PathStep, around, components_of}
 use Rattle.cp_meaning.specs.Places.{component_with}
 use Rattle.cp_meaning.specs.State as named
-use Rattle.cp_meaning.specs.State.{Component, Gates}
+use Rattle.cp_meaning.specs.State.{Component, Discipline}
 use Rattle.cp_meaning.specs.Steps.{first_component, first_components}
 use Rattle.cp_meaning.proofs.ComponentTree.{SameTree, found}
 use Rattle.cp_meaning.proofs.LocalLaw.{within}
@@ -89,7 +89,7 @@ told_of_each all told [] n h = tt
 told_of_each all told (q ∷ qs) n h =
     (subst (λ i. IsTold all told i q) (let z : n + 0 ≡ n = omega arith in z) (h 0 q refl), told_of_each all told qs (suc n) (λ i u e. subst (λ j. IsTold all told j u) (let z : n + suc i ≡ suc n + i = omega arith in z) (h (suc i) u e)))
 
-module _ (t : Tree) (g : Gates) where
+module _ (t : Tree) (g : Discipline) where
   abbrev cs : List Component
   cs = first_components t.program
 
@@ -135,8 +135,8 @@ module _ (t : Tree) (g : Gates) where
     numbers_told = told_of_each r.components number_told (components_of t.program) 0 (λ i q e. subst (λ (j : ℕ). IsTold r.components number_told j q) (let z : i ≡ 0 + i = omega arith in z) (step i q e))
 
 -- each component of the legend with that number
-abbrev pub MonitorsAreTold : Tree → Gates → Legend → Type 0
+abbrev pub MonitorsAreTold : Tree → Discipline → Legend → Type 0
 MonitorsAreTold t g l = map (λ (c : Named). c.monitor) l.components ≡ map (λ (q : Listed). number_told t g q.path) (components_of t.program)
 
-pub monitors_told : (t : Tree) (y : code_symbols.Symbols) (r : Tables) (l : code_legend.Legend) (g : Gates) (k : Layouts) → IsRead t.program → IsAccepted t → AreSymbolsOf y (whole t) → plain r ≡ laid t → IsLegendOf l (source_seen y) r.components → Stands (ground_of t r) t k → MonitorsAreTold t g (legend_seen l)
+pub monitors_told : (t : Tree) (y : code_symbols.Symbols) (r : Tables) (l : code_legend.Legend) (g : Discipline) (k : Layouts) → IsRead t.program → IsAccepted t → AreSymbolsOf y (whole t) → plain r ≡ laid t → IsLegendOf l (source_seen y) r.components → Stands (ground_of t r) t k → MonitorsAreTold t g (legend_seen l)
 monitors_told t y r l g k read ok symbols same seen stands = legend_told t y r l read ok symbols same seen (number_told t g) (top t g r k read ok stands) (numbers_told t g r k read ok stands)

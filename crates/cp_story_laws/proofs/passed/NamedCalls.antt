@@ -20,8 +20,8 @@ use Rattle.cp_store.specs.declared.memory.Address.TheVariants as address
 use Rattle.cp_store.specs.declared.memory.Frame.{Frame}
 use Rattle.cp_store.specs.Sets as sets
 use Rattle.cp_store.specs.Values.{is_true, ranged}
-use Rattle.cp_machine.specs.declared.gates.Gates.{Gates}
-use Rattle.cp_machine.specs.declared.gates.Gates.TheVariants.{First, Any}
+use Rattle.cp_machine.specs.declared.discipline.Discipline.{Discipline}
+use Rattle.cp_machine.specs.declared.discipline.Gates.TheVariants.{First, Any}
 use Rattle.cp_machine.specs.declared.process.Entry.{Entry}
 use Rattle.cp_machine.specs.declared.process.Entry.TheVariants.{Rest, Successor, Return, InitEnd}
 use Rattle.cp_machine.specs.declared.process.Status.{Status}
@@ -117,12 +117,12 @@ module _ (os : List Opening) where
   one_named m monitor (q ∷ []) h = status_named m q Ready h
   one_named m monitor (p ∷ q ∷ line) h = h
 
-  let_in_by_named : (gates : Gates) (m : Machine) (monitor : ℕ) (line : List ℕ) → AreNamed m → AreNamed (let_in_by gates m monitor line)
+  let_in_by_named : (discipline : Discipline) (m : Machine) (monitor : ℕ) (line : List ℕ) → AreNamed m → AreNamed (let_in_by discipline m monitor line)
   let_in_by_named First m monitor line h = first_named m monitor line h
   let_in_by_named Any m monitor line h = one_named m monitor line h
 
   let_in_named : (m : Machine) (monitor : ℕ) → AreNamed m → AreNamed (let_in m monitor)
-  let_in_named m monitor h = let_in_by_named m.gates m monitor (monitor_at m monitor).line h
+  let_in_named m monitor h = let_in_by_named m.discipline m monitor (monitor_at m monitor).line h
 
   entered_named : (holder : Option ℕ) (m : Machine) (pid monitor : ℕ) → AreNamed m → AreNamed (entered_by holder m pid monitor)
   entered_named None m pid monitor h = h
@@ -149,8 +149,8 @@ module _ (os : List Opening) where
 
   -- ---- the opening
 
-  still_named : (r : Tables) (gates : Gates) → AreNamed (still r gates)
-  still_named r gates q = go (cases_lt q (length r.processes))
+  still_named : (r : Tables) (discipline : Discipline) → AreNamed (still r discipline)
+  still_named r discipline q = go (cases_lt q (length r.processes))
     where
       go : (q < length r.processes) ⊎ (length r.processes ≤ q) → IsNamed (thread_at (map (unstarted_thread r) r.processes) q)
       go (inl less) =
@@ -158,8 +158,8 @@ module _ (os : List Opening) where
           subst IsNamed (sym (get_or-map (unstarted_thread r) r.processes q no_process no_thread less)) (rest_named (unstarted_thread r one).frame (routine_at r one.routine).body [] tt)
       go (inr past) = let long = length-map r.processes (unstarted_thread r) in subst IsNamed (sym (get_or_past (map (unstarted_thread r) r.processes) q no_thread (omega (arith, past, long)))) tt
 
-  pub opening_named : (r : Tables) (gates : Gates) → AreNamed (opening r gates)
-  opening_named r gates = status_named (still r gates) 0 Ready (still_named r gates)
+  pub opening_named : (r : Tables) (discipline : Discipline) → AreNamed (opening r discipline)
+  opening_named r discipline = status_named (still r discipline) 0 Ready (still_named r discipline)
 
   -- ---- a step
 

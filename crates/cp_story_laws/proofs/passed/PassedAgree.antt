@@ -25,7 +25,7 @@ use Rattle.cp_legend_laws.specs.Routines.{AreParameters, IsParameter, at_place, 
 use Rattle.cp_legend_laws.specs.Routines as routines
 use Rattle.cp_legend_laws.specs.Statements.{IsTold, PlacesAreNamed, RoutinesAreTold, ValuesAreTold, routine_text}
 use Rattle.cp_legend_laws.specs.ValuesTold.{value_told}
-use Rattle.cp_machine.specs.declared.gates.Gates as slot_gates
+use Rattle.cp_machine.specs.declared.discipline.Discipline as slot_gates
 use Rattle.cp_machine.specs.Machine.{Machine, Thread, thread_at}
 use Rattle.cp_machine.specs.Memory.{memory_at}
 use Rattle.cp_meaning.specs.Components.{components_of}
@@ -103,7 +103,7 @@ top_call r l m (c ∷ cs) f fs h = (h.0, h.1)
 
 -- ---- the innermost call
 
-module _ (t : Tree) (r : Tables) (g : slot_gates.Gates) (l : Legend) (read_so : IsRead t.program) (ok : IsAccepted t) (same : plain r ≡ laid t) (tables : map tabled l.components ≡ r.components) (paths : map called_in_legend l.components ≡ map (called_in_language t.program) (components_of t.program))
+module _ (t : Tree) (r : Tables) (g : slot_gates.Discipline) (l : Legend) (read_so : IsRead t.program) (ok : IsAccepted t) (same : plain r ≡ laid t) (tables : map tabled l.components ≡ r.components) (paths : map called_in_legend l.components ≡ map (called_in_language t.program) (components_of t.program))
     (names : map (λ (n : RoutineNames). n.name) l.routines ≡ map routine_text (openings_of t.program)) (places : PlacesAreNamed t l) (locals : RoutinesAreTold t l) (values : ValuesAreTold t l)
     (s : State) (m : Machine) (sim : together.Related t r g read_so ok same s m) (p : ℕ) (there : p < length m.threads) (runs : Runs (ground_of t r) t.program (layouts_of t) (meaning.process_at s.processes p) (thread_at m.threads p))
     (has : HasName (slice_get (openings_of t.program) (thread_at m.threads p).frame.routine)) where

@@ -12,7 +12,7 @@ use Rattle.cp_legend_laws.specs.Paths.{called_in_language}
 use Rattle.cp_legend_laws.specs.Statements.{PlacesAreNamed, RoutinesAreTold, ValuesAreTold, routine_text}
 use Rattle.cp_machine.specs.declared.event.Event.TheVariants as step
 use Rattle.cp_machine.specs.declared.event.Kernel.TheVariants.{Enter}
-use Rattle.cp_machine.specs.declared.gates.Gates as slot_gates
+use Rattle.cp_machine.specs.declared.discipline.Discipline as slot_gates
 use Rattle.cp_machine.specs.declared.process.Status as slot_status
 use Rattle.cp_machine.specs.declared.process.Status.TheVariants as status
 use Rattle.cp_machine.specs.Machine.{Machine, no_thread, thread_at}
@@ -20,7 +20,7 @@ use Rattle.cp_meaning.specs.Components.{components_of}
 use Rattle.cp_meaning.specs.Expressions.{meaning_here}
 use Rattle.cp_meaning.specs.Scopes.{Meaning, continue_procedure, standard_meaning}
 use Rattle.cp_meaning.specs.State as meaning
-use Rattle.cp_meaning.specs.State.{Call, CallKind, Gates, Item, State, Status, at_gate, current, delayed, ended, entry_routine, initial_statement, is_entry_kind, local_routine, own_statement, ready, return, statement_item, unstarted}
+use Rattle.cp_meaning.specs.State.{Call, CallKind, Discipline, Item, State, Status, at_gate, current, delayed, ended, entry_routine, initial_statement, is_entry_kind, local_routine, own_statement, ready, return, statement_item, unstarted}
 use Rattle.cp_meaning.specs.Steps.{line_at, step_of, view_of}
 use Rattle.cp_run.specs.Slots.{slots}
 use Rattle.cp_run.specs.System.{System}
@@ -29,7 +29,7 @@ use Rattle.cp_resolved.specs.Openings.{openings_of}
 use Rattle.cp_resolved.specs.TreeLayouts.{layouts_of}
 use Rattle.cp_refine.specs.InStep.{CanGo, GoInStep}
 use Rattle.cp_refine.specs.Law.{ground_of}
-use Rattle.cp_refine.specs.Named.{named, named_gates}
+use Rattle.cp_refine.specs.Named.{named, named_discipline}
 use Rattle.cp_refine.specs.Represents.{Runs, StatusIs}
 use Rattle.cp_refine.proofs.HoldsInReached.{reached_stands}
 use Rattle.cp_refine.proofs.Meaning.{known}
@@ -61,10 +61,10 @@ continues_as : (m : Option Meaning) → is_continue m ≡ true → m ≡ Some (s
 continues_as (Some (standard_meaning continue_procedure)) e = refl
 continues_as _ e = absurd (cc)
 
-module _ (t : Tree) (r : Tables) (g : slot_gates.Gates) (l : Legend) (read : IsRead t.program) (ok : IsAccepted t) (same : plain r ≡ laid t) (tables : map tabled l.components ≡ r.components) (paths : map called_in_legend l.components ≡ map (called_in_language t.program) (components_of t.program))
+module _ (t : Tree) (r : Tables) (g : slot_gates.Discipline) (l : Legend) (read : IsRead t.program) (ok : IsAccepted t) (same : plain r ≡ laid t) (tables : map tabled l.components ≡ r.components) (paths : map called_in_legend l.components ≡ map (called_in_language t.program) (components_of t.program))
     (names : map (λ (n : RoutineNames). n.name) l.routines ≡ map routine_text (openings_of t.program)) (places : PlacesAreNamed t l) (locals : RoutinesAreTold t l) (values : ValuesAreTold t l) where
-  abbrev h : Gates
-  h = named_gates g
+  abbrev h : Discipline
+  h = named_discipline g
 
   abbrev on_states : System State
   on_states = named t h

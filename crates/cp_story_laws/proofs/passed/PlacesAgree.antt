@@ -24,7 +24,7 @@ use Rattle.cp_legend_laws.specs.Paths.{called_in_language}
 use Rattle.cp_legend_laws.specs.PlacesTold.{part_text}
 use Rattle.cp_legend_laws.specs.Routines.{AreLocals, IsLocal, local_name, own_variables}
 use Rattle.cp_legend_laws.specs.Statements.{LocalIsNamed, PlacesAreNamed, RoutinesAreTold, routine_text}
-use Rattle.cp_machine.specs.declared.gates.Gates as slot_gates
+use Rattle.cp_machine.specs.declared.discipline.Discipline as slot_gates
 use Rattle.cp_machine.specs.Fits.{ThreadFits}
 use Rattle.cp_machine.specs.Machine.{Machine, Thread, thread_at}
 use Rattle.cp_machine.specs.Memory.{memory_at}
@@ -46,7 +46,7 @@ use Rattle.cp_resolved.specs.TreeLayouts.{layouts_of}
 use Rattle.cp_resolved.proofs.frames.Cells.{cells_same}
 use Rattle.cp_resolved.proofs.frames.FrameCells.{look_each}
 use Rattle.cp_refine.specs.Law.{ground_of}
-use Rattle.cp_refine.specs.Named.{named_gates}
+use Rattle.cp_refine.specs.Named.{named_discipline}
 use Rattle.cp_refine.specs.Prepared.{Prepared}
 use Rattle.cp_refine.specs.Represents.{BeginsAt, CallIs, CallsHold, InComponent, InFrame, LiesAt, PlaceAt, Runs, frame_above, further, own_memory}
 use Rattle.cp_refine.proofs.HoldsInReached.{reached_stands}
@@ -141,7 +141,7 @@ module _ (t : Tree) (ts : Compounds) (constants : List (List ℕ)) (n : ℕ) (ow
 -- ---- places
 
 -- what is known of the legend
-module _ (t : Tree) (r : Tables) (g : slot_gates.Gates) (l : Legend) (read : IsRead t.program) (ok : IsAccepted t) (same : plain r ≡ laid t) (tables : map tabled l.components ≡ r.components) (paths : map called_in_legend l.components ≡ map (called_in_language t.program) (components_of t.program))
+module _ (t : Tree) (r : Tables) (g : slot_gates.Discipline) (l : Legend) (read : IsRead t.program) (ok : IsAccepted t) (same : plain r ≡ laid t) (tables : map tabled l.components ≡ r.components) (paths : map called_in_legend l.components ≡ map (called_in_language t.program) (components_of t.program))
     (names : map (λ (n : RoutineNames). n.name) l.routines ≡ map routine_text (openings_of t.program)) (places : PlacesAreNamed t l) (locals : RoutinesAreTold t l) where
   prepared : Prepared t r (layouts_of t)
   prepared = together.prepared t r g read ok same
@@ -299,7 +299,7 @@ module _ (t : Tree) (r : Tables) (g : slot_gates.Gates) (l : Legend) (read : IsR
           owner_component t r lay prepared.stands prepared.sound.typed l.components tables paths n own_cell inside.there (omega arith) (omega (arith, a, b, some))
 
       system_now : (meaning.component_at s.components n).system ≡ kept_system
-      system_now = (reached_stands t ok (named_gates g) s sim.reached).system n ∙ sym ((prepared.stands.components n inside.there).system)
+      system_now = (reached_stands t ok (named_discipline g) s sim.reached).system n ∙ sym ((prepared.stands.components n inside.there).system)
 
       pub permanent_told : name_at l thread.stack (Some (Permanent own_cell)) (cells_of u) ≡ text_held v (in_component n) x cs
       permanent_told =

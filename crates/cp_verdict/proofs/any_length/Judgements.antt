@@ -1,7 +1,7 @@
 -- What is known of an expectation, by what the code finds.
 use Rattle.std.proofs.Common.{◌≡◌, inl, inr, ◌∙◌, ℕ, suc, Bool, true, false, not, ◌&&◌, List, [], ◌∷◌, map, length, cond, refl, sym, ap, subst, arith, vec_len}
 use Rattle.std.specs.Prelude.{find, Option, None, Some, option_map, nat_le, is_none, is_some}
-use Rattle.cp_verdict.proofs.any_length.Vocabulary.{list_all, Vec, Global, length-map, Tables, Gates, Shown, StepLimit, slots, without_output, Spellings, End, Over}
+use Rattle.cp_verdict.proofs.any_length.Vocabulary.{list_all, Vec, Global, length-map, Tables, Discipline, Shown, StepLimit, slots, without_output, Spellings, End, Over}
 use Rattle.cp_verdict.proofs.any_length.Vocabulary.{MOST_VALUES, Waiting, EndPattern, EndsExpectation, Never, Sometimes, Only, EndsJudgement, KnownEnds, KnownEnd}
 use Rattle.cp_verdict.proofs.any_length.Vocabulary.{Witness}
 use Rattle.std.specs.declared.string.String.{String}
@@ -73,9 +73,9 @@ pair_none {A} f t (x ∷ xs) e = split (t (f x)) e (λ h. pair_none f t xs h)
     split true e on = absurd (cc)
     split false e on = on e
 
-module _ (r : Tables) (gates : Gates) (steps most : ℕ) (k : KnownEnds) (h : IsKnown r gates steps most k) where
+module _ (r : Tables) (discipline : Discipline) (steps most : ℕ) (k : KnownEnds) (h : IsKnown r discipline steps most k) where
   abbrev b : Behaviour
-  b = on_slots r gates steps
+  b = on_slots r discipline steps
 
   -- ---- all is known
 
@@ -88,10 +88,10 @@ module _ (r : Tables) (gates : Gates) (steps most : ℕ) (k : KnownEnds) (h : Is
   all_values : is_whole k ≡ true → AreFirstOnes (suc MOST_VALUES) b.shows (map value_pair k.values.items)
   all_values whole = subst (λ looked. AreFirstOnes (suc MOST_VALUES) (Looked looked b.shows) (map value_pair k.values.items)) (looked_none whole) h.values
 
-  pub states_all : is_whole k ≡ true → AreFirsts (LeadsToState (slots r gates) without_output steps) h.states
-  states_all whole = subst (λ looked. AreFirsts (Looked looked (LeadsToState (slots r gates) without_output steps)) h.states) (looked_none whole) h.all_states
+  pub states_all : is_whole k ≡ true → AreFirsts (LeadsToState (slots r discipline) without_output steps) h.states
+  states_all whole = subst (λ looked. AreFirsts (Looked looked (LeadsToState (slots r discipline) without_output steps)) h.states) (looked_none whole) h.all_states
 
-  pub no_cut : is_whole k ≡ true → HasNoCut r gates steps
+  pub no_cut : is_whole k ≡ true → HasNoCut r discipline steps
   no_cut whole word so =
       let has = (all_ends whole).all (Over StepLimit) word so in
       let at = place_of (map end_pair k.ends.items) (Over StepLimit, has.0) has.1 in
@@ -140,7 +140,7 @@ module _ (r : Tables) (gates : Gates) (steps most : ℕ) (k : KnownEnds) (h : Is
   waits_first : (process : Option ℕ) (f : Finding) → find (λ g. is_about r.names (topic.Waiting process) g) (map waiting_for_ever (those_waiting k.waits)) ≡ Some f → IsFirstOf r.names b (Never (topic.Waiting process)) f
   waits_first process f e = by k.waits h.waits e
     where
-      by : (o : Option (Vec Waiting Global)) → KnowsWaits r gates steps o → find (λ g. is_about r.names (topic.Waiting process) g) (map waiting_for_ever (those_waiting o)) ≡ Some f → IsFirstOf r.names b (Never (topic.Waiting process)) f
+      by : (o : Option (Vec Waiting Global)) → KnowsWaits r discipline steps o → find (λ g. is_about r.names (topic.Waiting process) g) (map waiting_for_ever (those_waiting o)) ≡ Some f → IsFirstOf r.names b (Never (topic.Waiting process)) f
       by None know e = absurd (cc)
       by (Some list) know e =
           let found = found_at (λ g. is_about r.names (topic.Waiting process) g) (map waiting_for_ever list.items) f e in
@@ -155,7 +155,7 @@ module _ (r : Tables) (gates : Gates) (steps most : ℕ) (k : KnownEnds) (h : Is
   waits_none : (process : Option ℕ) → is_some k.waits ≡ true → is_whole k ≡ true → find (λ g. is_about r.names (topic.Waiting process) g) (map waiting_for_ever (those_waiting k.waits)) ≡ None → (q : ℕ) → b.waits q → is_meant process q ≡ true → ⊥
   waits_none process known whole e q waits is = by k.waits h.waits known e
     where
-      by : (o : Option (Vec Waiting Global)) → KnowsWaits r gates steps o → is_some o ≡ true → find (λ g. is_about r.names (topic.Waiting process) g) (map waiting_for_ever (those_waiting o)) ≡ None → ⊥
+      by : (o : Option (Vec Waiting Global)) → KnowsWaits r discipline steps o → is_some o ≡ true → find (λ g. is_about r.names (topic.Waiting process) g) (map waiting_for_ever (those_waiting o)) ≡ None → ⊥
       by None know some e = absurd (cc)
       by (Some list) know some e =
           let has = (know q).1 (no_cut whole) waits in

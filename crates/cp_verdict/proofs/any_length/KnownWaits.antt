@@ -1,6 +1,6 @@
 -- Who is told to wait for ever is exactly who may.
 use Rattle.std.proofs.Common.{◌≡◌, ◌⊎◌, inl, inr, ◌<◌, ◌^◌, ℕ, List, map, subst}
-use Rattle.cp_verdict.proofs.any_length.Vocabulary.{Contains, None, Option, Some, Global, Vec, Tables, Machine, Gates, slots, StepLimit, Over, Waiting, on_slots}
+use Rattle.cp_verdict.proofs.any_length.Vocabulary.{Contains, None, Option, Some, Global, Vec, Tables, Machine, Discipline, slots, StepLimit, Over, Waiting, on_slots}
 use Rattle.cp_run.specs.System.{System}
 use Rattle.cp_endless.specs.Silent.{in_call_on_slots, silent_slots, waits_on_slots, without_output}
 use Rattle.cp_endless.specs.Standstill.{MayStandStill}
@@ -17,10 +17,10 @@ use Rattle.cp_waits.specs.declared.waiting.Waits.TheVariants.{Known}
 use Rattle.cp_waits.proofs.Uncut.{may_stand, stands_after}
 use Rattle.cp_verdict.specs.endless.Knowledge.{AreWaiting, HasNoCut, KnowsWaits}
 
-module _ (r : Tables) (gates : Gates) (steps most : ℕ) (f : SlotFindings) (whole : IsWhole (slots r gates) without_output steps most f) (lines : List Waiting)
-    (h : AreWaits (silent_slots r gates) in_call_on_slots waits_on_slots steps lines) where
+module _ (r : Tables) (discipline : Discipline) (steps most : ℕ) (f : SlotFindings) (whole : IsWhole (slots r discipline) without_output steps most f) (lines : List Waiting)
+    (h : AreWaits (silent_slots r discipline) in_call_on_slots waits_on_slots steps lines) where
   abbrev sys : System Machine
-  sys = silent_slots r gates
+  sys = silent_slots r discipline
 
   abbrev How : ℕ → Type 0
   How q = MayWaitForEver sys waits_on_slots q steps ⊎ (((word : List ℕ) × MayStandStill sys waits_on_slots q steps word) ⊎ MayLinger sys in_call_on_slots waits_on_slots q steps)
@@ -30,32 +30,32 @@ module _ (r : Tables) (gates : Gates) (steps most : ℕ) (f : SlotFindings) (who
   how q (inl (inr x)) = inr (inl (x.0, may_stand sys steps waits_on_slots q x.0 x.1))
   how q (inr l) = inr (inr l)
 
-  that : HasNoCut r gates steps → (q : ℕ) → How q → MayWait sys waits_on_slots q steps ⊎ MayLinger sys in_call_on_slots waits_on_slots q steps
+  that : HasNoCut r discipline steps → (q : ℕ) → How q → MayWait sys waits_on_slots q steps ⊎ MayLinger sys in_call_on_slots waits_on_slots q steps
   that no_cut q (inl w) = inl (inl w)
   that no_cut q (inr (inl x)) =
       inl (inr (
         x.0,
-        stands_after (slots r gates) without_output same_key steps key_same key_self f.ends whole.ends (λ word c. no_cut word (whole.ends.first (Over StepLimit) word c).is) waits_on_slots q x.0 x.1,
+        stands_after (slots r discipline) without_output same_key steps key_same key_self f.ends whole.ends (λ word c. no_cut word (whole.ends.first (Over StepLimit) word c).is) waits_on_slots q x.0 x.1,
       ))
   that no_cut q (inr (inr l)) = inr l
 
-  are_waiting : AreWaiting r gates steps lines
+  are_waiting : AreWaiting r discipline steps lines
   are_waiting q = (there, back)
     where
-      there : Contains (map (λ w. w.process) lines) q → (on_slots r gates steps).waits q
+      there : Contains (map (λ w. w.process) lines) q → (on_slots r discipline steps).waits q
       there c =
           let x = contains_unmap (λ (w : Waiting). w.process) lines q c in
           let less = subst (λ n. n < sys.processes) x.2 (h.shown x.0 x.1).0 in
           (less, how q ((h.exactly q less).0 x))
 
-      back : HasNoCut r gates steps → (on_slots r gates steps).waits q → Contains (map (λ w. w.process) lines) q
+      back : HasNoCut r discipline steps → (on_slots r discipline steps).waits q → Contains (map (λ w. w.process) lines) q
       back no_cut w =
           let x = (h.exactly q w.0).1 (that no_cut q w.1) in
           subst (Contains (map (λ w. w.process) lines)) x.2 (contains_map (λ (w : Waiting). w.process) lines x.0 x.1)
 
 -- who waits is known where a search found all states
-pub known_waits : (r : Tables) (gates : Gates) (steps most : ℕ) (found : Found) (list : Vec Waiting Global) (waits : Waits) → waits ≡ Known list → found.stopped ≡ None → TellOfAll r gates steps found waits →
-    most < 2 ^ 32 → IsAnswer r gates steps most found → KnowsWaits r gates steps (Some list)
-known_waits r gates steps most found list waits is whole tell less answer =
-    let all = subst (λ (o : Option ℕ). IsAnswerBy r gates steps most answer.findings o) whole answer.answer in
-    are_waiting r gates steps most answer.findings all list.items (subst (TellWaits (silent_slots r gates) in_call_on_slots waits_on_slots steps) is (tell most answer less whole).slots)
+pub known_waits : (r : Tables) (discipline : Discipline) (steps most : ℕ) (found : Found) (list : Vec Waiting Global) (waits : Waits) → waits ≡ Known list → found.stopped ≡ None → TellOfAll r discipline steps found waits →
+    most < 2 ^ 32 → IsAnswer r discipline steps most found → KnowsWaits r discipline steps (Some list)
+known_waits r discipline steps most found list waits is whole tell less answer =
+    let all = subst (λ (o : Option ℕ). IsAnswerBy r discipline steps most answer.findings o) whole answer.answer in
+    are_waiting r discipline steps most answer.findings all list.items (subst (TellWaits (silent_slots r discipline) in_call_on_slots waits_on_slots steps) is (tell most answer less whole).slots)

@@ -1,6 +1,6 @@
 -- What a search found is what is known of the schedules.
 use Rattle.std.proofs.Common.{◌≡◌, ◌∙◌, ◌+◌, ◌<◌, ◌≤◌, ℕ, zero, suc, Bool, true, false, List, [], ◌∷◌, ◌++◌, length, map, take, get_or, cond, refl, sym, ap, subst, arith}
-use Rattle.cp_verdict.proofs.any_length.Vocabulary.{Option, None, Some, slice_get, Tables, Machine, Gates, Shown, slots, without_output, End, MOST_VALUES, on_slots}
+use Rattle.cp_verdict.proofs.any_length.Vocabulary.{Option, None, Some, slice_get, Tables, Machine, Discipline, Shown, slots, without_output, End, MOST_VALUES, on_slots}
 use Rattle.cp_verdict.proofs.any_length.Vocabulary.{KnownEnds}
 use Rattle.std.proofs.lemmas.List.{append-nil, length-map, map-append, take_all, take_more}
 use Rattle.std.proofs.lemmas.List.Elements.{filter-append}
@@ -102,44 +102,44 @@ those_all : {A : Type 0} (xs : List (A × List ℕ)) → those_looked_at None xs
 those_all [] = refl
 those_all (x ∷ xs) = ap (λ l. x ∷ l) (those_all xs)
 
-module _ (r : Tables) (gates : Gates) (steps most : ℕ) (found : Found) (k : KnownEnds) where
-  module _ (f : SlotFindings) (ends : map end_pair k.ends.items ≡ those_looked_at k.looked f.ends) (values : map value_pair k.values.items ≡ those_looked_at k.looked f.values) (texts : HasTexts r.names k.values.items) (waits : KnowsWaits r gates steps k.waits) where
-    whole : k.looked ≡ None → IsWhole (slots r gates) without_output steps most f → IsKnown r gates steps most k
+module _ (r : Tables) (discipline : Discipline) (steps most : ℕ) (found : Found) (k : KnownEnds) where
+  module _ (f : SlotFindings) (ends : map end_pair k.ends.items ≡ those_looked_at k.looked f.ends) (values : map value_pair k.values.items ≡ those_looked_at k.looked f.values) (texts : HasTexts r.names k.values.items) (waits : KnowsWaits r discipline steps k.waits) where
+    whole : k.looked ≡ None → IsWhole (slots r discipline) without_output steps most f → IsKnown r discipline steps most k
     whole is w =
         let ends_are : map end_pair k.ends.items ≡ f.ends = ends ∙ ap (λ l. those_looked_at l f.ends) is ∙ those_all f.ends in
         let values_are : map value_pair k.values.items ≡ f.values = values ∙ ap (λ l. those_looked_at l f.values) is ∙ those_all f.values in
         record {
           states = f.states;
-          all_states = subst (λ l. AreFirsts (Looked l (LeadsToState (slots r gates) without_output steps)) f.states) (sym is) w.states;
-          ends = subst (λ l. AreFirsts (Looked l (on_slots r gates steps).ends) (map end_pair k.ends.items)) (sym is) (subst (AreFirsts (on_slots r gates steps).ends) (sym ends_are) w.ends);
-          values = subst (λ l. AreFirstOnes (suc MOST_VALUES) (Looked l (on_slots r gates steps).shows) (map value_pair k.values.items)) (sym is) (subst (AreFirstOnes (suc MOST_VALUES) (on_slots r gates steps).shows) (sym values_are) w.values);
+          all_states = subst (λ l. AreFirsts (Looked l (LeadsToState (slots r discipline) without_output steps)) f.states) (sym is) w.states;
+          ends = subst (λ l. AreFirsts (Looked l (on_slots r discipline steps).ends) (map end_pair k.ends.items)) (sym is) (subst (AreFirsts (on_slots r discipline steps).ends) (sym ends_are) w.ends);
+          values = subst (λ l. AreFirstOnes (suc MOST_VALUES) (Looked l (on_slots r discipline steps).shows) (map value_pair k.values.items)) (sym is) (subst (AreFirstOnes (suc MOST_VALUES) (on_slots r discipline steps).shows) (sym values_are) w.values);
           texts = texts;
           waits = waits;
-          more = subst (λ l. HasMore r gates steps most l) (sym is) tt;
+          more = subst (λ l. HasMore r discipline steps most l) (sym is) tt;
         }
 
-    short : (d : ℕ) → k.looked ≡ Some d → IsCutShort (slots r gates) without_output steps most d f → IsKnown r gates steps most k
+    short : (d : ℕ) → k.looked ≡ Some d → IsCutShort (slots r discipline) without_output steps most d f → IsKnown r discipline steps most k
     short d is w =
         let ends_are : map end_pair k.ends.items ≡ those_within d f.ends = ends ∙ ap (λ l. those_looked_at l f.ends) is in
         let values_are : map value_pair k.values.items ≡ those_within d f.values = values ∙ ap (λ l. those_looked_at l f.values) is in
         record {
           states = those_within d f.states;
-          all_states = subst (λ l. AreFirsts (Looked l (LeadsToState (slots r gates) without_output steps)) (those_within d f.states)) (sym is) w.states;
-          ends = subst (λ l. AreFirsts (Looked l (on_slots r gates steps).ends) (map end_pair k.ends.items)) (sym is) (subst (AreFirsts (Within d (on_slots r gates steps).ends)) (sym ends_are) w.ends);
-          values = subst (λ l. AreFirstOnes (suc MOST_VALUES) (Looked l (on_slots r gates steps).shows) (map value_pair k.values.items)) (sym is) (subst (AreFirstOnes (suc MOST_VALUES) (Within d (on_slots r gates steps).shows)) (sym values_are) w.values);
+          all_states = subst (λ l. AreFirsts (Looked l (LeadsToState (slots r discipline) without_output steps)) (those_within d f.states)) (sym is) w.states;
+          ends = subst (λ l. AreFirsts (Looked l (on_slots r discipline steps).ends) (map end_pair k.ends.items)) (sym is) (subst (AreFirsts (Within d (on_slots r discipline steps).ends)) (sym ends_are) w.ends);
+          values = subst (λ l. AreFirstOnes (suc MOST_VALUES) (Looked l (on_slots r discipline steps).shows) (map value_pair k.values.items)) (sym is) (subst (AreFirstOnes (suc MOST_VALUES) (Within d (on_slots r discipline steps).shows)) (sym values_are) w.values);
           texts = texts;
           waits = waits;
-          more = subst (λ l. HasMore r gates steps most l) (sym is) w.many;
+          more = subst (λ l. HasMore r discipline steps most l) (sym is) w.many;
         }
 
-    by : (stopped : Option ℕ) → IsAnswerBy r gates steps most f stopped → IsLookedAt f.states stopped k.looked → IsKnown r gates steps most k
+    by : (stopped : Option ℕ) → IsAnswerBy r discipline steps most f stopped → IsLookedAt f.states stopped k.looked → IsKnown r discipline steps most k
     by None answer looked = whole looked answer
     by (Some at) answer looked = short (length answer.0.1) (looked answer.0 answer.1) answer.2
 
   pub learned : ((s : Tables) (f : SlotFindings) → Holds s found f → IsLookedAt f.states found.stopped k.looked) →
       ((s : Tables) (f : SlotFindings) → Holds s found f → map end_pair k.ends.items ≡ those_looked_at k.looked f.ends) →
       ((s : Tables) (f : SlotFindings) → Holds s found f → map value_pair k.values.items ≡ those_looked_at k.looked f.values) → HasTexts r.names k.values.items →
-      IsAnswer r gates steps most found → KnowsWaits r gates steps k.waits → IsKnown r gates steps most k
+      IsAnswer r discipline steps most found → KnowsWaits r discipline steps k.waits → IsKnown r discipline steps most k
   learned looked ends values texts a waits = by a.findings (ends r a.findings a.holds) (values r a.findings a.holds) texts waits found.stopped a.answer (looked r a.findings a.holds)
 
 pub stopped_at : (r : Tables) (found : Found) (f : SlotFindings) → Holds r found f → (at : ℕ) (stopped : Option ℕ) (origin : Origin) (word : List ℕ) → stopped ≡ Some at → origin ≡ origin_at found.states.known.entries at →

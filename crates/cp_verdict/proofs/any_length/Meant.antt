@@ -2,12 +2,12 @@
 use Rattle.std.proofs.Common.{◌≡◌, ◌⊎◌, inl, inr, ◌∙◌, ◌+◌, ◌<◌, ℕ, Bool, true, false, not, ◌&&◌, ◌||◌, List, [], ◌∷◌, map, refl, sym, ap, subst}
 use Rattle.cp_verdict.proofs.any_length.Vocabulary.{Tree, IsRead, plain, laid, Tables, IsAccepted, Machine, Shown, slots, Spellings, EndsSo, ShowsSo, End, Over, Alone}
 use Rattle.cp_verdict.proofs.any_length.Vocabulary.{Spins, IsKnown, end_pair, is_whole, EndPattern, EndsExpectation, Never, Sometimes, Only, KnownEnds}
-use Rattle.cp_meaning.specs.State.{Gates, State}
+use Rattle.cp_meaning.specs.State.{Discipline, State}
 use Rattle.cp_run.specs.declared.outcome.OutcomeKind.{OutcomeKind}
 use Rattle.cp_run.specs.declared.outcome.OutcomeKind.TheVariants.{Finished, AllWaiting, RunError, ChoiceLimit, StepLimit, OutputLimit}
 use Rattle.cp_run.specs.Run.{opened}
 use Rattle.cp_run.specs.System.{System}
-use Rattle.cp_refine.specs.Named.{gates_of}
+use Rattle.cp_refine.specs.Named.{discipline_of}
 use Rattle.cp_refine.proofs.Meaning.{goes_in_step}
 use Rattle.cp_endless.specs.Meaning.{MeansTheSame}
 use Rattle.cp_endless.specs.Reachable.{EndsAfter, node_after}
@@ -133,12 +133,12 @@ limit_cut OutputLimit h e = absurd (cc)
 
 -- ---- from slots to names, and back
 
-module _ (t : Tree) (r : Tables) (g : Gates) (read : IsRead t.program) (ok : IsAccepted t) (same : plain r ≡ laid t) (steps : ℕ) where
+module _ (t : Tree) (r : Tables) (g : Discipline) (read : IsRead t.program) (ok : IsAccepted t) (same : plain r ≡ laid t) (steps : ℕ) where
   abbrev a : System State
   a = silent_named t g
 
   abbrev b : System Machine
-  b = silent_slots r (gates_of g)
+  b = silent_slots r (discipline_of g)
 
   means : (limit : ℕ) → MeansTheSame t r g limit
   means limit = endless_meaning t r g read ok same limit
@@ -151,15 +151,15 @@ module _ (t : Tree) (r : Tables) (g : Gates) (read : IsRead t.program) (ok : IsA
   end_there (Alone q) word so = (each_limit word ((repeating b).alone steps word q so), alone_named t r g read ok same steps word q (alone_for_ever b steps word q so))
   end_there (Spins q) word so = (each_limit word ((repeating b).spins steps word q so), spins_named t r g read ok same steps word q (spins_for_ever b steps word q so))
 
-  shown_there : (v : Shown) (word : List ℕ) → ShowsSo (slots r (gates_of g)) without_output steps v word → ShowsOnNames t g steps v word
+  shown_there : (v : Shown) (word : List ℕ) → ShowsSo (slots r (discipline_of g)) without_output steps v word → ShowsOnNames t g steps v word
   shown_there v word (inl x) = inl ((means steps).values.back word v x)
   shown_there v word (inr x) =
-      inr (each_limit word (again_ends (slots r (gates_of g)) without_output steps word v x), (means (steps + steps)).values.back word v (again_shown (slots r (gates_of g)) without_output steps word v x))
+      inr (each_limit word (again_ends (slots r (discipline_of g)) without_output steps word v x), (means (steps + steps)).values.back word v (again_shown (slots r (discipline_of g)) without_output steps word v x))
 
   count : a.processes ≡ b.processes
   count = (goes_in_step t r g read ok same).processes
 
-  waits_there : (q : ℕ) → (on_slots r (gates_of g) steps).waits q → (on_names t g steps).waits q
+  waits_there : (q : ℕ) → (on_slots r (discipline_of g) steps).waits q → (on_names t g steps).waits q
   waits_there q (less, how) = (subst (λ n. q < n) (sym count) less, by how)
     where
       by : MayWaitForEver b waits_on_slots q steps ⊎ (((word : List ℕ) × MayStandStill b waits_on_slots q steps word) ⊎ MayLinger b in_call_on_slots waits_on_slots q steps) →
@@ -168,7 +168,7 @@ module _ (t : Tree) (r : Tables) (g : Gates) (read : IsRead t.program) (ok : IsA
       by (inr (inl x)) = inr (inl (x.0, (means steps).waits.still_back x.0 q x.1))
       by (inr (inr l)) = inr (inr ((means steps).lingers.back q l))
 
-  waits_back : (q : ℕ) → (on_names t g steps).waits q → (on_slots r (gates_of g) steps).waits q
+  waits_back : (q : ℕ) → (on_names t g steps).waits q → (on_slots r (discipline_of g) steps).waits q
   waits_back q (less, how) = (subst (λ n. q < n) count less, by how)
     where
       by : MayWaitForEver a waits_on_names q steps ⊎ (((word : List ℕ) × MayStandStill a waits_on_names q steps word) ⊎ MayLinger a in_call_on_names waits_on_names q steps) →
@@ -178,21 +178,21 @@ module _ (t : Tree) (r : Tables) (g : Gates) (read : IsRead t.program) (ok : IsA
       by (inr (inr l)) = inr (inr ((means steps).lingers.there q l))
 
   -- what is so on slots
-  pub there : (f : Finding) → IsSo (on_slots r (gates_of g) steps) f → IsSo (on_names t g steps) f
+  pub there : (f : Finding) → IsSo (on_slots r (discipline_of g) steps) f → IsSo (on_names t g steps) f
   there (Ends end word) so = end_there end word so
   there (Shows v word) so = shown_there v word so
   there (Waits q) so = waits_there q so
 
-  module _ (most : ℕ) (k : KnownEnds) (h : IsKnown r (gates_of g) steps most k) (whole : is_whole k ≡ true) where
+  module _ (most : ℕ) (k : KnownEnds) (h : IsKnown r (discipline_of g) steps most k) (whole : is_whole k ≡ true) where
     uncut : (word : List ℕ) → EndsSo b steps (Over StepLimit) word → ⊥
-    uncut word so = no_cut r (gates_of g) steps most k h whole word so
+    uncut word so = no_cut r (discipline_of g) steps most k h whole word so
 
     -- a word that ends at each limit does so since it goes on for ever
     abbrev GoesOn : List ℕ → Type 0
     GoesOn word = (end : End) × (kind_of end ≡ StepLimit) × EndsSo b steps end word
 
     goes_on : (word : List ℕ) → EndsAtEachLimit a steps word → GoesOn word
-    goes_on word each = over_so (slots r (gates_of g)) without_output same_key steps key_same key_self word StepLimit
+    goes_on word each = over_so (slots r (discipline_of g)) without_output same_key steps key_same key_self word StepLimit
         ((means steps).ends.after_there word StepLimit (subst (λ n. EndsAfter a n word StepLimit) (no_steps_more steps) (each 0)))
 
     abbrev Alike : End → List ℕ → Type 0
@@ -213,14 +213,14 @@ module _ (t : Tree) (r : Tables) (g : Gates) (read : IsRead t.program) (ok : IsA
     end_back (Alone q) word none so = alone_back q word so.1 (goes_on word so.0)
     end_back (Spins q) word none so = spins_back q word so.1 (goes_on word so.0)
 
-    shown_back : (v : Shown) (word : List ℕ) → ShowsOnNames t g steps v word → ShowsSo (slots r (gates_of g)) without_output steps v word
+    shown_back : (v : Shown) (word : List ℕ) → ShowsOnNames t g steps v word → ShowsSo (slots r (discipline_of g)) without_output steps v word
     shown_back v word (inl x) = inl ((means steps).values.there word v x)
     shown_back v word (inr x) =
-        shows_early (slots r (gates_of g)) without_output same_key steps key_same key_self h.states (map end_pair k.ends.items) (states_all r (gates_of g) steps most k h whole) (all_ends r (gates_of g) steps most k h whole)
-        (λ w c. uncut w ((all_ends r (gates_of g) steps most k h whole).first (Over StepLimit) w c).is) steps v word ((means (steps + steps)).values.there word v x.1)
+        shows_early (slots r (discipline_of g)) without_output same_key steps key_same key_self h.states (map end_pair k.ends.items) (states_all r (discipline_of g) steps most k h whole) (all_ends r (discipline_of g) steps most k h whole)
+        (λ w c. uncut w ((all_ends r (discipline_of g) steps most k h whole).first (Over StepLimit) w c).is) steps v word ((means (steps + steps)).values.there word v x.1)
 
     -- what settles an expectation on names does so on slots
-    pub back : (names : Spellings) (e : EndsExpectation) (f : Finding) → IsSo (on_names t g steps) f → settles names e f ≡ true → (h : Finding) × IsSo (on_slots r (gates_of g) steps) h × (settles names e h ≡ true)
+    pub back : (names : Spellings) (e : EndsExpectation) (f : Finding) → IsSo (on_names t g steps) f → settles names e f ≡ true → (h : Finding) × IsSo (on_slots r (discipline_of g) steps) h × (settles names e h ≡ true)
     back names e (Ends end word) so is =
         let x = end_back end word (settling_uncut names e end word is) so in
         (Ends x.0 word, x.1, sym (settling_alike names e end x.0 word x.2) ∙ is)

@@ -4,10 +4,10 @@ use Rattle.std.specs.Prelude.{Contains, IfOk, None, Option, Result, Some, find, 
 use Rattle.std.specs.List.{list_any}
 use Rattle.std.proofs.lemmas.Bool.{leb-true, ltb-true}
 use Rattle.std.proofs.lemmas.Result.{IfOk-weaker}
-use Rattle.cp_verdict.proofs.any_length.Vocabulary.{Tree, IsRead, plain, laid, Tables, IsAccepted, Gates, Shown, slots, silent_slots, without_output, Spellings, EndsSo}
+use Rattle.cp_verdict.proofs.any_length.Vocabulary.{Tree, IsRead, plain, laid, Tables, IsAccepted, Discipline, Shown, slots, silent_slots, without_output, Spellings, EndsSo}
 use Rattle.cp_verdict.proofs.any_length.Vocabulary.{ShowsSo, End, Over, Alone, Spins, MOST_VALUES, IsJudgedBy, judgement_of, EndsExpectation, Never, Sometimes, Only}
 use Rattle.cp_verdict.proofs.any_length.Vocabulary.{EndsJudgement, KnownEnds, KnownEnd, KnownValue, Witness, EndsVerdict}
-use Rattle.cp_machine.specs.declared.gates.Gates.TheVariants.{First, Any}
+use Rattle.cp_machine.specs.declared.discipline.Gates.TheVariants.{First, Any}
 use Rattle.cp_meaning.specs.State.{first_gates}
 use Rattle.cp_ends.specs.Answer.{ends_tests}
 use Rattle.cp_ends.specs.Named.{ShowsOnNames}
@@ -241,16 +241,16 @@ both_not true y h = absurd (cc)
 both_not false true h = absurd (cc)
 both_not false false h = (refl, refl)
 
-first_line : (gates : Gates) → is_any gates ≡ false → gates ≡ First
+first_line : (discipline : Discipline) → is_any discipline ≡ false → discipline ≡ First
 first_line First h = refl
 first_line Any h = absurd (cc)
 
-pub of_first : (gates : Gates) (es : List EndsExpectation) → can_be_at_once gates es ≡ true → gates ≡ First
-of_first gates es can = first_line gates (both_not (is_any gates) (ask_waits es) can).0
+pub of_first : (discipline : Discipline) (es : List EndsExpectation) → can_be_at_once discipline es ≡ true → discipline ≡ First
+of_first discipline es can = first_line discipline (both_not (is_any discipline) (ask_waits es) can).0
 
-pub marked_at_once : {E : Type 0} (r : Tables) (gates : Gates) (steps : ℕ) (es : List EndsExpectation) (k : KnownEnds) (v : EndsVerdict) → can_be_at_once gates es ≡ true → IsKnownAtOnce r steps k → AreJudged (IsJudgedBy r.names k) es v →
+pub marked_at_once : {E : Type 0} (r : Tables) (discipline : Discipline) (steps : ℕ) (es : List EndsExpectation) (k : KnownEnds) (v : EndsVerdict) → can_be_at_once discipline es ≡ true → IsKnownAtOnce r steps k → AreJudged (IsJudgedBy r.names k) es v →
     (told : Result MarkedEnds E) → IfOk told (λ m. m.mark ≡ mark_of v k.looked) → IfOk told (λ m. IsMarkAtOnce r steps es m.mark)
-marked_at_once r gates steps es k v can h j told is =
+marked_at_once r discipline steps es k v can h j told is =
     IfOk-weaker told (λ m. m.mark ≡ mark_of v k.looked) (λ m. IsMarkAtOnce r steps es m.mark)
     (λ m same_mark.
     record {
@@ -259,30 +259,30 @@ marked_at_once r gates steps es k v can h j told is =
       verdict = v;
       is = same_mark;
       judged = j;
-      meaning = λ t read ok same. subst (IsTrueMark r.names (at_any_limit t) es) (sym same_mark) (true_mark t r read ok same steps k h es (both_not (is_any gates) (ask_waits es) can).1 v j);
+      meaning = λ t read ok same. subst (IsTrueMark r.names (at_any_limit t) es) (sym same_mark) (true_mark t r read ok same steps k h es (both_not (is_any discipline) (ask_waits es) can).1 v j);
     })
     is
 
 -- ---- in turn
 
-module _ {E : Type 0} (r : Tables) (gates : Gates) (steps : ℕ) (es : List EndsExpectation) (before : EndsMark) (told : Result MarkedEnds E) where
+module _ {E : Type 0} (r : Tables) (discipline : Discipline) (steps : ℕ) (es : List EndsExpectation) (before : EndsMark) (told : Result MarkedEnds E) where
   pub one : (again : EndsMark) → IfOk told (λ m. m.mark ≡ before) → IfOk told (λ m. (m.mark ≡ before) ⊎ (m.mark ≡ again))
   one again h = IfOk-weaker told (λ m. m.mark ≡ before) (λ m. (m.mark ≡ before) ⊎ (m.mark ≡ again)) (λ m is. inl is) h
 
   pub other : (again : EndsMark) → IfOk told (λ m. m.mark ≡ again) → IfOk told (λ m. (m.mark ≡ before) ⊎ (m.mark ≡ again))
   other again h = IfOk-weaker told (λ m. m.mark ≡ again) (λ m. (m.mark ≡ before) ⊎ (m.mark ≡ again)) (λ m is. inr is) h
 
-  pub settles_more : (again : EndsMark) → can_be_at_once gates es ≡ true → IsMarkAtOnce r steps es again → IfOk told (λ m. (m.mark ≡ before) ⊎ (m.mark ≡ again)) → IfOk told (λ m. IsAgain r gates steps es before m.mark)
-  settles_more again can x h = IfOk-weaker told (λ m. (m.mark ≡ before) ⊎ (m.mark ≡ again)) (λ m. IsAgain r gates steps es before m.mark) (λ m y. by_one m.mark y) h
+  pub settles_more : (again : EndsMark) → can_be_at_once discipline es ≡ true → IsMarkAtOnce r steps es again → IfOk told (λ m. (m.mark ≡ before) ⊎ (m.mark ≡ again)) → IfOk told (λ m. IsAgain r discipline steps es before m.mark)
+  settles_more again can x h = IfOk-weaker told (λ m. (m.mark ≡ before) ⊎ (m.mark ≡ again)) (λ m. IsAgain r discipline steps es before m.mark) (λ m y. by_one m.mark y) h
     where
-      by_one : (m : EndsMark) → (m ≡ before) ⊎ (m ≡ again) → IsAgain r gates steps es before m
+      by_one : (m : EndsMark) → (m ≡ before) ⊎ (m ≡ again) → IsAgain r discipline steps es before m
       by_one m (inl is) = inl is
-      by_one m (inr is) = inr (of_first gates es can, subst (IsMarkAtOnce r steps es) (sym is) x)
+      by_one m (inr is) = inr (of_first discipline es can, subst (IsMarkAtOnce r steps es) (sym is) x)
 
-  module _ (most : ℕ) (is : IsMarkOf r gates steps most es before) (meant : IsMeantMark r gates steps es before) (many : before ≡ TooMany) where
-    by_turns : (m : EndsMark) → IsAgain r gates steps es before m → IsMarkInTurn r gates steps most es m
-    by_turns m (inl e) = inl (subst (IsMarkOf r gates steps most es) (sym e) is, subst (IsMeantMark r gates steps es) (sym e) meant)
-    by_turns m (inr x) = inr (subst (IsMarkOf r gates steps most es) many is, x.0, x.1)
+  module _ (most : ℕ) (is : IsMarkOf r discipline steps most es before) (meant : IsMeantMark r discipline steps es before) (many : before ≡ TooMany) where
+    by_turns : (m : EndsMark) → IsAgain r discipline steps es before m → IsMarkInTurn r discipline steps most es m
+    by_turns m (inl e) = inl (subst (IsMarkOf r discipline steps most es) (sym e) is, subst (IsMeantMark r discipline steps es) (sym e) meant)
+    by_turns m (inr x) = inr (subst (IsMarkOf r discipline steps most es) many is, x.0, x.1)
 
-    pub in_turn : IfOk told (λ m. IsAgain r gates steps es before m.mark) → IfOk told (λ m. IsMarkInTurn r gates steps most es m.mark)
-    in_turn h = IfOk-weaker told (λ m. IsAgain r gates steps es before m.mark) (λ m. IsMarkInTurn r gates steps most es m.mark) (λ m x. by_turns m.mark x) h
+    pub in_turn : IfOk told (λ m. IsAgain r discipline steps es before m.mark) → IfOk told (λ m. IsMarkInTurn r discipline steps most es m.mark)
+    in_turn h = IfOk-weaker told (λ m. IsAgain r discipline steps es before m.mark) (λ m. IsMarkInTurn r discipline steps most es m.mark) (λ m x. by_turns m.mark x) h

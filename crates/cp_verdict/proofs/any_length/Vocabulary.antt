@@ -17,8 +17,8 @@ pub use Rattle.cp_lawful.specs.Accepted.{IsAccepted}
 pub use Rattle.cp_layout.specs.Laid.{plain}
 unfoldable pub use Rattle.cp_layout.specs.Laid.{laid}
 pub use Rattle.cp_machine.specs.System.{Machine}
-pub use Rattle.cp_machine.specs.declared.gates.Gates.{Gates}
-pub use Rattle.cp_machine.specs.declared.gates.Gates.TheVariants.{First}
+pub use Rattle.cp_machine.specs.declared.discipline.Discipline.{Discipline}
+pub use Rattle.cp_machine.specs.declared.discipline.Gates.TheVariants.{First}
 pub use Rattle.cp_machine.specs.declared.shown.Shown.{Shown}
 pub use Rattle.cp_run.specs.Slots.{slots}
 pub use Rattle.cp_run.specs.declared.outcome.OutcomeKind.TheVariants.{StepLimit}

@@ -3,8 +3,8 @@ use Rattle.std.specs.Prelude.{◌≡◌, ◌⊎◌, ◌&&◌, ◌||◌, ℕ, Lis
 use Rattle.std.specs.List.{list_any}
 use Rattle.cp_tree.specs.Syntax.{Tree}
 use Rattle.cp_slots.specs.Tables.{Tables}
-use Rattle.cp_machine.specs.declared.gates.Gates.{Gates}
-use Rattle.cp_machine.specs.declared.gates.Gates.TheVariants.{First}
+use Rattle.cp_machine.specs.declared.discipline.Discipline.{Discipline}
+use Rattle.cp_machine.specs.declared.discipline.Gates.TheVariants.{First}
 use Rattle.cp_machine.specs.declared.shown.Shown.{Shown}
 use Rattle.cp_meaning.specs.State.{first_gates}
 use Rattle.cp_refine.specs.Named.{named}
@@ -67,8 +67,8 @@ pub record IsKnownAtOnce (r : Tables) (steps : ℕ) (k : KnownEnds) : Type 0 whe
 -- ---- marks
 
 -- who waits can't be asked then, nor who else may go into a monitor
-abbrev pub can_be_at_once : Gates → List EndsExpectation → Bool
-can_be_at_once gates es = not (is_any gates) && not (ask_waits es)
+abbrev pub can_be_at_once : Discipline → List EndsExpectation → Bool
+can_be_at_once discipline es = not (is_any discipline) && not (ask_waits es)
 
 -- The mark is that of a verdict by what is known, and it is true of the program's own names, whatever the limit of steps.
 pub record IsMarkAtOnce (r : Tables) (steps : ℕ) (es : List EndsExpectation) (m : EndsMark) : Type 0 where
@@ -80,10 +80,10 @@ pub record IsMarkAtOnce (r : Tables) (steps : ℕ) (es : List EndsExpectation) (
   pub meaning : OfItsPrograms r (λ t. IsTrueMark r.names (at_any_limit t) es m)
 
 -- the mark stands, or there are too many states and kernel calls at once settle more
-abbrev pub IsAgain : Tables → Gates → ℕ → List EndsExpectation → (before after : EndsMark) → Type 0
-IsAgain r gates steps es before after = (after ≡ before) ⊎ ((gates ≡ First) × IsMarkAtOnce r steps es after)
+abbrev pub IsAgain : Tables → Discipline → ℕ → List EndsExpectation → (before after : EndsMark) → Type 0
+IsAgain r discipline steps es before after = (after ≡ before) ⊎ ((discipline ≡ First) × IsMarkAtOnce r steps es after)
 
 -- It is the mark by all states; or there are too many of them, and it is the mark by kernel calls at once.
-abbrev pub IsMarkInTurn : Tables → Gates → (steps most : ℕ) → List EndsExpectation → EndsMark → Type 0
-IsMarkInTurn r gates steps most es m =
-    (IsMarkOf r gates steps most es m × IsMeantMark r gates steps es m) ⊎ (IsMarkOf r gates steps most es TooMany × (gates ≡ First) × IsMarkAtOnce r steps es m)
+abbrev pub IsMarkInTurn : Tables → Discipline → (steps most : ℕ) → List EndsExpectation → EndsMark → Type 0
+IsMarkInTurn r discipline steps most es m =
+    (IsMarkOf r discipline steps most es m × IsMeantMark r discipline steps es m) ⊎ (IsMarkOf r discipline steps most es TooMany × (discipline ≡ First) × IsMarkAtOnce r steps es m)

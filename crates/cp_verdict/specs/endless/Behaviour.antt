@@ -2,9 +2,9 @@
 use Rattle.std.specs.Prelude.{◌⊎◌, ◌<◌, ℕ, List, [], Bool}
 use Rattle.cp_tree.specs.Syntax.{Tree}
 use Rattle.cp_slots.specs.Tables.{Tables}
-use Rattle.cp_machine.specs.declared.gates.Gates as slot_gates
+use Rattle.cp_machine.specs.declared.discipline.Discipline as slot_gates
 use Rattle.cp_machine.specs.declared.shown.Shown.{Shown}
-use Rattle.cp_meaning.specs.State.{Gates}
+use Rattle.cp_meaning.specs.State.{Discipline}
 use Rattle.cp_run.specs.Slots.{slots}
 use Rattle.cp_run.specs.System.{System}
 use Rattle.cp_endless.specs.Silent.{without_output, silent_slots, silent_named, waits_on_slots, waits_on_names, in_call_on_slots, in_call_on_names}
@@ -26,16 +26,16 @@ pub record Behaviour : Type 1 where
   pub waits : ℕ → Type 0
 
 -- of the slot machine
-abbrev pub on_slots : Tables → slot_gates.Gates → ℕ → Behaviour
-on_slots r gates steps =
+abbrev pub on_slots : Tables → slot_gates.Discipline → ℕ → Behaviour
+on_slots r discipline steps =
     record {
-      ends = EndsSo (silent_slots r gates) steps;
-      shows = ShowsSo (slots r gates) without_output steps;
-      waits = MayWait (silent_slots r gates) in_call_on_slots waits_on_slots steps;
+      ends = EndsSo (silent_slots r discipline) steps;
+      shows = ShowsSo (slots r discipline) without_output steps;
+      waits = MayWait (silent_slots r discipline) in_call_on_slots waits_on_slots steps;
     }
 
 -- of the program on its own names
-abbrev pub on_names : Tree → Gates → ℕ → Behaviour
+abbrev pub on_names : Tree → Discipline → ℕ → Behaviour
 on_names t g steps =
     record {
       ends = EndsOnNames t g steps;

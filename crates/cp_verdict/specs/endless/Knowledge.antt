@@ -5,7 +5,7 @@ use Rattle.std.specs.declared.vec.Vec.{Vec}
 use Rattle.std.specs.declared.alloc.Global.{Global}
 use Rattle.cp_slots.specs.Tables.{Tables}
 use Rattle.cp_machine.specs.System.{Machine}
-use Rattle.cp_machine.specs.declared.gates.Gates.{Gates}
+use Rattle.cp_machine.specs.declared.discipline.Discipline.{Discipline}
 use Rattle.cp_machine.specs.declared.shown.Shown.{Shown}
 use Rattle.cp_run.specs.Slots.{slots}
 use Rattle.cp_run.specs.declared.outcome.OutcomeKind.TheVariants.{StepLimit}
@@ -106,32 +106,32 @@ IsLookedAt states None looked = looked ≡ None
 IsLookedAt states (Some at) looked = (x : Machine × List ℕ) → slice_get states at ≡ Some x → looked ≡ Some (length x.1)
 
 -- no stretch is cut
-abbrev pub HasNoCut : Tables → Gates → ℕ → Type 0
-HasNoCut r gates steps = (word : List ℕ) → EndsSo (silent_slots r gates) steps (Over StepLimit) word → ⊥
+abbrev pub HasNoCut : Tables → Discipline → ℕ → Type 0
+HasNoCut r discipline steps = (word : List ℕ) → EndsSo (silent_slots r discipline) steps (Over StepLimit) word → ⊥
 
 -- The list has only processes that may wait for ever; and all, where no stretch is cut.
-abbrev pub AreWaiting : Tables → Gates → ℕ → List Waiting → Type 0
-AreWaiting r gates steps list =
-    (q : ℕ) → (Contains (map (λ w. w.process) list) q → (on_slots r gates steps).waits q) × (HasNoCut r gates steps → (on_slots r gates steps).waits q → Contains (map (λ w. w.process) list) q)
+abbrev pub AreWaiting : Tables → Discipline → ℕ → List Waiting → Type 0
+AreWaiting r discipline steps list =
+    (q : ℕ) → (Contains (map (λ w. w.process) list) q → (on_slots r discipline steps).waits q) × (HasNoCut r discipline steps → (on_slots r discipline steps).waits q → Contains (map (λ w. w.process) list) q)
 
-abbrev pub KnowsWaits : Tables → Gates → ℕ → Option (Vec Waiting Global) → Type 0
-KnowsWaits r gates steps None = Unit {0}
-KnowsWaits r gates steps (Some list) = AreWaiting r gates steps list.items
+abbrev pub KnowsWaits : Tables → Discipline → ℕ → Option (Vec Waiting Global) → Type 0
+KnowsWaits r discipline steps None = Unit {0}
+KnowsWaits r discipline steps (Some list) = AreWaiting r discipline steps list.items
 
-abbrev pub HasMore : Tables → Gates → (steps most : ℕ) → Option ℕ → Type 0
-HasMore r gates steps most None = Unit {0}
-HasMore r gates steps most (Some d) = HasTooMany (slots r gates) without_output steps most d
+abbrev pub HasMore : Tables → Discipline → (steps most : ℕ) → Option ℕ → Type 0
+HasMore r discipline steps most None = Unit {0}
+HasMore r discipline steps most (Some d) = HasTooMany (slots r discipline) without_output steps most d
 
 -- the values are printed so
 abbrev pub HasTexts : Spellings → List KnownValue → Type 0
 HasTexts names values = map (λ v. string_bytes v.text) values ≡ map (λ v. value_text names v.value) values
 
 -- Of the schedules that were looked at each end and each value is known, with its first word. Only where there are too many states were not all looked at.
-pub record IsKnown (r : Tables) (gates : Gates) (steps most : ℕ) (k : KnownEnds) : Type 0 where
+pub record IsKnown (r : Tables) (discipline : Discipline) (steps most : ℕ) (k : KnownEnds) : Type 0 where
   pub states : List (Machine × List ℕ)
-  pub all_states : AreFirsts (Looked k.looked (LeadsToState (slots r gates) without_output steps)) states
-  pub ends : AreFirsts (Looked k.looked (on_slots r gates steps).ends) (map end_pair k.ends.items)
-  pub values : AreFirstOnes (suc MOST_VALUES) (Looked k.looked (on_slots r gates steps).shows) (map value_pair k.values.items)
+  pub all_states : AreFirsts (Looked k.looked (LeadsToState (slots r discipline) without_output steps)) states
+  pub ends : AreFirsts (Looked k.looked (on_slots r discipline steps).ends) (map end_pair k.ends.items)
+  pub values : AreFirstOnes (suc MOST_VALUES) (Looked k.looked (on_slots r discipline steps).shows) (map value_pair k.values.items)
   pub texts : HasTexts r.names k.values.items
-  pub waits : KnowsWaits r gates steps k.waits
-  pub more : HasMore r gates steps most k.looked
+  pub waits : KnowsWaits r discipline steps k.waits
+  pub more : HasMore r discipline steps most k.looked

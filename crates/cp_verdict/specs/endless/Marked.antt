@@ -3,9 +3,10 @@ use Rattle.std.specs.Prelude.{◌≡◌, ◌⊎◌, ◌&&◌, ℕ, List, Bool, t
 use Rattle.std.specs.List.{list_any}
 use Rattle.std.specs.Borrow.{Bor}
 use Rattle.cp_slots.specs.Tables.{Tables}
-use Rattle.cp_machine.specs.declared.gates.Gates.{Gates}
-use Rattle.cp_machine.specs.declared.gates.Gates.TheVariants.{First, Any}
-use Rattle.cp_refine.specs.Named.{named_gates}
+use Rattle.cp_machine.specs.declared.discipline.Discipline.{Discipline}
+use Rattle.cp_machine.specs.declared.discipline.Gates.{Gates}
+use Rattle.cp_machine.specs.declared.discipline.Gates.TheVariants.{First, Any}
+use Rattle.cp_refine.specs.Named.{named_discipline}
 use Rattle.cp_walk.specs.Text.{Spellings}
 use Rattle.cp_ends.specs.Whole.{OfItsPrograms}
 use Rattle.cp_verdict.specs.endless.Behaviour.{Behaviour, on_slots, on_names}
@@ -67,13 +68,16 @@ abbrev pub ask_waits : List EndsExpectation → Bool
 ask_waits es = list_any asks_waits es
 
 -- anybody in line may go into a monitor that becomes free
-abbrev pub is_any : Gates → Bool
-is_any First = false
-is_any Any = true
+abbrev pub are_any : Gates → Bool
+are_any First = false
+are_any Any = true
+
+abbrev pub is_any : Discipline → Bool
+is_any discipline = are_any discipline.gates
 
 -- who waits can't be asked then
-abbrev pub can_be_asked : Gates → List EndsExpectation → Bool
-can_be_asked gates es = not (ask_waits es && is_any gates)
+abbrev pub can_be_asked : Discipline → List EndsExpectation → Bool
+can_be_asked discipline es = not (ask_waits es && is_any discipline)
 
 -- ---- marks
 
@@ -87,12 +91,12 @@ mark_of (verdict.Fails e against) looked = mark.Fails
 mark_of (verdict.Open e) looked = open_mark looked
 
 -- The mark is that of a verdict by what is known, which is all that words of any length lead to, or all that words of so many numbers do.
-pub record IsMarkOf (r : Tables) (gates : Gates) (steps most : ℕ) (es : List EndsExpectation) (m : EndsMark) : Type 0 where
+pub record IsMarkOf (r : Tables) (discipline : Discipline) (steps most : ℕ) (es : List EndsExpectation) (m : EndsMark) : Type 0 where
   pub known : KnownEnds
-  pub is_known : IsKnown r gates steps most known
+  pub is_known : IsKnown r discipline steps most known
   pub verdict : EndsVerdict
   pub is : m ≡ mark_of verdict known.looked
-  pub marked : IsMarked r.names (on_slots r gates steps) known es verdict
+  pub marked : IsMarked r.names (on_slots r discipline steps) known es verdict
 
 -- each holds, or one does not
 abbrev pub IsTrueMark : Spellings → Behaviour → List EndsExpectation → EndsMark → Type 0
@@ -101,5 +105,5 @@ IsTrueMark names b es mark.Fails = (e : EndsExpectation) × Contains es e × (Is
 IsTrueMark names b es m = Unit {0}
 
 -- of whatever program was read, is accepted, and has these tables: it is true of its meaning
-abbrev pub IsMeantMark : Tables → Gates → ℕ → List EndsExpectation → EndsMark → Type 0
-IsMeantMark r gates steps es m = OfItsPrograms r (λ t. IsTrueMark r.names (on_names t (named_gates gates) steps) es m)
+abbrev pub IsMeantMark : Tables → Discipline → ℕ → List EndsExpectation → EndsMark → Type 0
+IsMeantMark r discipline steps es m = OfItsPrograms r (λ t. IsTrueMark r.names (on_names t (named_discipline discipline) steps) es m)

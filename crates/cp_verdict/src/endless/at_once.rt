@@ -11,7 +11,7 @@ use crate::endless::marking::{MarkSubject, ask_waits, is_any, mark_list, tell};
 use crate::endless::saying::MarkedEnds;
 use crate::endless::verdict::{EndsMark, verdict_on};
 use cp_at_once::search_at_once_with;
-use cp_machine::Gates;
+use cp_machine::Discipline;
 use cp_progress::ObserveProgress;
 use std::alloc::{AllocError, Global};
 
@@ -23,8 +23,8 @@ pub fn mark_in_turn<O: ObserveProgress>(
     list: &[EndsExpectation],
     observer: &mut O,
 ) -> Result<MarkedEnds, AllocError>
-    ensures mark { 1 ≤ subject.entry.most → can_be_asked subject.entry.limits.gates list.now ≡ true → IfOk result (λ m. spec.IsMarkInTurn subject.entry.program.now subject.entry.limits.gates subject.entry.limits.steps subject.entry.most list.now m.mark) }
-    ensures refused { can_be_asked subject.entry.limits.gates list.now ≡ false → IfOk result (λ m. m.mark ≡ Misread) }
+    ensures mark { 1 ≤ subject.entry.most → can_be_asked subject.entry.limits.discipline list.now ≡ true → IfOk result (λ m. spec.IsMarkInTurn subject.entry.program.now subject.entry.limits.discipline subject.entry.limits.steps subject.entry.most list.now m.mark) }
+    ensures refused { can_be_asked subject.entry.limits.discipline list.now ≡ false → IfOk result (λ m. m.mark ≡ Misread) }
 {
     let marked = mark_list(alloc, subject, list, observer)?;
     match marked.mark {
@@ -41,9 +41,9 @@ fn mark_again<O: ObserveProgress>(
     marked: MarkedEnds,
     observer: &mut O,
 ) -> Result<MarkedEnds, AllocError>
-    ensures { IfOk result (λ m. spec.IsAgain subject.entry.program.now subject.entry.limits.gates subject.entry.limits.steps list.now marked.mark m.mark) }
+    ensures { IfOk result (λ m. spec.IsAgain subject.entry.program.now subject.entry.limits.discipline subject.entry.limits.steps list.now marked.mark m.mark) }
 {
-    if can_be_at_once(subject.limits.gates, list) {
+    if can_be_at_once(subject.limits.discipline, list) {
         let again = mark_at_once(alloc, subject, list, observer)?;
         tell_again(alloc, subject, marked, again)
     } else {
@@ -73,10 +73,10 @@ fn tell_again(
 }
 
 // Whether kernel calls at once can settle it: not who waits, and not where anybody in line may go into a monitor.
-fn can_be_at_once(gates: Gates, list: &[EndsExpectation]) -> bool
-    ensures { result ≡ spec.can_be_at_once gates list.now }
+fn can_be_at_once(discipline: Discipline, list: &[EndsExpectation]) -> bool
+    ensures { result ≡ spec.can_be_at_once discipline list.now }
 {
-    !is_any(gates) && !ask_waits(list)
+    !is_any(discipline) && !ask_waits(list)
 }
 
 /// What schedules of any length say of some expectations, where kernel calls are made at once. An observer is told how far the search has come.
@@ -86,10 +86,10 @@ pub fn mark_at_once<O: ObserveProgress>(
     list: &[EndsExpectation],
     observer: &mut O,
 ) -> Result<MarkedEnds, AllocError>
-    ensures mark { spec.can_be_at_once subject.entry.limits.gates list.now ≡ true → IfOk result (λ m. spec.IsMarkAtOnce subject.entry.program.now subject.entry.limits.steps list.now m.mark) }
-    ensures refused { spec.can_be_at_once subject.entry.limits.gates list.now ≡ false → IfOk result (λ m. m.mark ≡ Misread) }
+    ensures mark { spec.can_be_at_once subject.entry.limits.discipline list.now ≡ true → IfOk result (λ m. spec.IsMarkAtOnce subject.entry.program.now subject.entry.limits.steps list.now m.mark) }
+    ensures refused { spec.can_be_at_once subject.entry.limits.discipline list.now ≡ false → IfOk result (λ m. m.mark ≡ Misread) }
 {
-    if !can_be_at_once(subject.limits.gates, list) {
+    if !can_be_at_once(subject.limits.discipline, list) {
         return MarkedEnds::misread(alloc, "waiting can't be asked with --at-once\n");
     }
     let MarkSubject {

@@ -4,7 +4,7 @@ ghost use Rattle.std.specs.Prelude.{◌≡◌, ℕ, not, find, option_map, nat_e
 ghost use Rattle.std.specs.List.{list_all};
 ghost use Rattle.std.specs.String.{string_bytes};
 ghost use lib.Pointwise.{pointwise};
-ghost use Rattle.cp_machine.specs.declared.gates.Gates.{Gates};
+ghost use Rattle.cp_machine.specs.declared.discipline.Discipline.{Discipline};
 ghost use Rattle.cp_slots.specs.Tables.{Tables};
 ghost use Rattle.cp_walk.specs.Text.{Spellings};
 ghost use Rattle.cp_verdict.specs.endless.Behaviour.{on_slots};
@@ -159,7 +159,7 @@ fn judgement_from<'a>(
 
 /// What is known of an expectation.
 pub fn judge<'a>(known: &'a KnownEnds, expectation: &EndsExpectation) -> EndsJudgement<'a>
-    ensures slots { (r : Tables) (gates : Gates) (steps most : ℕ) → known_spec.IsKnown r gates steps most known.entry.now → spec.IsJudged r.names (on_slots r gates steps) known.entry.now expectation.now result }
+    ensures slots { (r : Tables) (discipline : Discipline) (steps most : ℕ) → known_spec.IsKnown r discipline steps most known.entry.now → spec.IsJudged r.names (on_slots r discipline steps) known.entry.now expectation.now result }
     ensures known { (names : Spellings) → known_spec.HasTexts names known.entry.now.values.items → spec.IsJudgedBy names known.entry.now expectation.now result }
 {
     let found = first_settling(known, expectation);

@@ -2,7 +2,7 @@
 
 ghost use Rattle.std.specs.Prelude.{◌≡◌, ◌∷◌, ◌++◌, [], ℕ, List, IfOk, map, string_bytes};
 ghost use Rattle.cp_slots.specs.Tables.{Tables};
-ghost use Rattle.cp_machine.specs.declared.gates.Gates.{Gates};
+ghost use Rattle.cp_machine.specs.declared.discipline.Discipline.{Discipline};
 ghost use Rattle.cp_walk.specs.Text.{Spellings};
 ghost use Rattle.cp_ends.specs.Holds.{Holds, IsWordOf, SlotFindings};
 ghost use Rattle.cp_ends.specs.Whole.{IsAnswer};
@@ -24,7 +24,7 @@ pub fn knowledge_of(
     found: &Found,
     waits: Option<Vec<Waiting>>,
 ) -> Result<KnownEnds, AllocError>
-    ensures known { IfOk result (λ k. (gates : Gates) (steps most : ℕ) → IsAnswer program.now gates steps most found.now → spec.KnowsWaits program.now gates steps waits → spec.IsKnown program.now gates steps most k) }
+    ensures known { IfOk result (λ k. (discipline : Discipline) (steps most : ℕ) → IsAnswer program.now discipline steps most found.now → spec.KnowsWaits program.now discipline steps waits → spec.IsKnown program.now discipline steps most k) }
     ensures waits { IfOk result (λ k. k.waits ≡ waits) }
 {
     let looked = numbers_looked_at(alloc, found)?;

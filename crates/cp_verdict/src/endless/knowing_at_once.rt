@@ -5,7 +5,7 @@ ghost use Rattle.cp_endless.specs.Silent.{silent_slots, without_output};
 ghost use Rattle.cp_ends.specs.Ends.{EndsSo, ShowsSo};
 ghost use Rattle.cp_run.specs.Slots.{slots};
 ghost use Rattle.cp_slots.specs.Tables.{Tables};
-ghost use Rattle.cp_machine.specs.declared.gates.Gates.TheVariants.{First};
+ghost use Rattle.cp_machine.specs.declared.discipline.Gates.TheVariants.{First};
 ghost use Rattle.cp_machine.specs.System.{Machine};
 ghost use Rattle.cp_at_once.specs.Holds.{AreStates, HasWord};
 ghost use Rattle.cp_at_once.specs.Whole.{IsAnswer};

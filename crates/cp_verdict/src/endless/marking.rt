@@ -2,7 +2,7 @@
 
 ghost use Rattle.std.specs.Prelude.{◌≡◌, ◌≤◌, ◌<◌, ◌^◌, ℕ, Bool, IfOk, false, true};
 ghost use Rattle.cp_slots.specs.Tables.{Tables};
-ghost use Rattle.cp_machine.specs.declared.gates.Gates as slot_gates;
+ghost use Rattle.cp_machine.specs.declared.discipline.Discipline as slot_gates;
 ghost use Rattle.cp_ends.specs.Whole.{IsAnswer};
 ghost use Rattle.cp_ends.specs.declared.found.Found.{Found};
 ghost use Rattle.cp_waits.specs.Named.{TellAsked};
@@ -16,7 +16,7 @@ use crate::endless::known::KnownEnds;
 use crate::endless::saying::{MarkedEnds, note_on, open_words, sayings_of};
 use crate::endless::verdict::{EndsVerdict, mark_of, verdict_on};
 use cp_legend::Legend;
-use cp_machine::Gates;
+use cp_machine::Discipline;
 use cp_progress::ObserveProgress;
 use cp_run::Limits;
 use cp_slots::Resolved;
@@ -39,12 +39,12 @@ pub fn mark_list<O: ObserveProgress>(
     list: &[EndsExpectation],
     observer: &mut O,
 ) -> Result<MarkedEnds, AllocError>
-    ensures mark { 1 ≤ subject.entry.most → spec.can_be_asked subject.entry.limits.gates list.now ≡ true → IfOk result (λ m. spec.IsMarkOf subject.entry.program.now subject.entry.limits.gates subject.entry.limits.steps subject.entry.most list.now m.mark) }
-    ensures refused { spec.can_be_asked subject.entry.limits.gates list.now ≡ false → IfOk result (λ m. m.mark ≡ Misread) }
-    ensures meaning { 1 ≤ subject.entry.most → spec.can_be_asked subject.entry.limits.gates list.now ≡ true → IfOk result (λ m. spec.IsMeantMark subject.entry.program.now subject.entry.limits.gates subject.entry.limits.steps list.now m.mark) }
+    ensures mark { 1 ≤ subject.entry.most → spec.can_be_asked subject.entry.limits.discipline list.now ≡ true → IfOk result (λ m. spec.IsMarkOf subject.entry.program.now subject.entry.limits.discipline subject.entry.limits.steps subject.entry.most list.now m.mark) }
+    ensures refused { spec.can_be_asked subject.entry.limits.discipline list.now ≡ false → IfOk result (λ m. m.mark ≡ Misread) }
+    ensures meaning { 1 ≤ subject.entry.most → spec.can_be_asked subject.entry.limits.discipline list.now ≡ true → IfOk result (λ m. spec.IsMeantMark subject.entry.program.now subject.entry.limits.discipline subject.entry.limits.steps list.now m.mark) }
 {
     let asks = ask_waits(list);
-    if asks && is_any(subject.limits.gates) {
+    if asks && is_any(subject.limits.discipline) {
         return MarkedEnds::misread(alloc, "waiting can't be asked with --gates any\n");
     }
     let known = knowledge(alloc, subject, asks, observer)?;
@@ -53,10 +53,10 @@ pub fn mark_list<O: ObserveProgress>(
 }
 
 /// Whether anybody in line may go into a monitor that becomes free.
-pub fn is_any(gates: Gates) -> bool
-    ensures { result ≡ spec.is_any gates }
+pub fn is_any(discipline: Discipline) -> bool
+    ensures { result ≡ spec.is_any discipline }
 {
-    matches!(gates, Gates::Any)
+    matches!(discipline.gates, Gates::Any)
 }
 
 fn is_of_waiting(topic: &Topic) -> bool
@@ -89,7 +89,7 @@ fn knowledge<O: ObserveProgress>(
     asks: bool,
     observer: &mut O,
 ) -> Result<KnownEnds, AllocError>
-    ensures { 1 ≤ subject.entry.most → IfOk result (λ k. IsKnown subject.entry.program.now subject.entry.limits.gates subject.entry.limits.steps subject.entry.most k) }
+    ensures { 1 ≤ subject.entry.most → IfOk result (λ k. IsKnown subject.entry.program.now subject.entry.limits.discipline subject.entry.limits.steps subject.entry.most k) }
 {
     let MarkSubject {
         program,
@@ -103,7 +103,7 @@ fn knowledge<O: ObserveProgress>(
 
 // Who may wait for ever, where that was asked and is settled.
 fn lines_of(waits: Option<Waits>) -> Option<Vec<Waiting>>
-    ensures { (r : Tables) (gates : slot_gates.Gates) (steps most : ℕ) (asks : Bool) (found : Found) → most < 2 ^ 32 → IsAnswer r gates steps most found → TellAsked r gates steps asks found waits → KnowsWaits r gates steps result }
+    ensures { (r : Tables) (discipline : slot_gates.Discipline) (steps most : ℕ) (asks : Bool) (found : Found) → most < 2 ^ 32 → IsAnswer r discipline steps most found → TellAsked r discipline steps asks found waits → KnowsWaits r discipline steps result }
 {
     let Some(told) = waits else {
         return None;

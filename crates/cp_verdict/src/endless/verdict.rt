@@ -1,7 +1,7 @@
 //! What is known of some expectations together.
 
 ghost use Rattle.std.specs.Prelude.{◌≡◌, ℕ};
-ghost use Rattle.cp_machine.specs.declared.gates.Gates.{Gates};
+ghost use Rattle.cp_machine.specs.declared.discipline.Discipline.{Discipline};
 ghost use Rattle.cp_slots.specs.Tables.{Tables};
 ghost use Rattle.cp_verdict.specs.endless.Behaviour.{on_slots};
 ghost use Rattle.cp_walk.specs.Text.{Spellings};
@@ -67,7 +67,7 @@ fn join<'a>(
 
 /// What is known of some expectations together.
 pub fn verdict_on<'a>(known: &'a KnownEnds, list: &'a [EndsExpectation]) -> EndsVerdict<'a>
-    ensures slots { (r : Tables) (gates : Gates) (steps most : ℕ) → IsKnown r gates steps most known.entry.now → spec.IsMarked r.names (on_slots r gates steps) known.entry.now list.entry.now result }
+    ensures slots { (r : Tables) (discipline : Discipline) (steps most : ℕ) → IsKnown r discipline steps most known.entry.now → spec.IsMarked r.names (on_slots r discipline steps) known.entry.now list.entry.now result }
     ensures known { (names : Spellings) → HasTexts names known.entry.now.values.items → spec.AreJudged (IsJudgedBy names known.entry.now) list.entry.now result }
 {
     let mut verdict = EndsVerdict::Holds;

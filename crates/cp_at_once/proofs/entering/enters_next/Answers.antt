@@ -26,13 +26,13 @@ loop-preserved c =
     let is = ap (λ (i : Item). spec.inner_list i.action) (sym c.item.ensures.value) ∙ sym c.inner_list.ensures ∙ c.in-Some.is in
     record {
       within = inside_there r c.loop.at c.in-Some.inner c.item.ensures.sound c.loop.invariant.within is;
-      stands = λ gates after leg. stands_inside r gates c.args.state.now.bindings.items c.index-process.result.now.frame c.args.pid c.loop.at after (c.loop.invariant.stands gates after leg) c.in-Some.inner is;
+      stands = λ discipline after leg. stands_inside r discipline c.args.state.now.bindings.items c.index-process.result.now.frame c.args.pid c.loop.at after (c.loop.invariant.stands discipline after leg) c.in-Some.inner is;
     }
 
 pub returns-in_default-inner_list : goal.returns-in_default-inner_list
-returns-in_default-inner_list c = λ gates yes leg.
+returns-in_default-inner_list c = λ discipline yes leg.
     (let r = c.args.program.now in
     let frame = c.index-process.result.now.frame in
     let bindings = c.args.state.now.bindings.items in
     let call = subst (λ (i : Item). spec.IsMonitorCall r bindings frame i.action) c.item.ensures.value (subst (λ b. spec.IsMonitorCall r b frame c.item.result.now.action) c.deref-in_default-inner_list.ensures.value (c.is_monitor_call.ensures yes)) in
-    stands_quietly r gates bindings frame c.args.pid c.loop.at leg.after (c.loop.invariant.stands gates leg.after leg.leg) call)
+    stands_quietly r discipline bindings frame c.args.pid c.loop.at leg.after (c.loop.invariant.stands discipline leg.after leg.leg) call)

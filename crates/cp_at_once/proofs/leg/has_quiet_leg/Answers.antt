@@ -11,7 +11,7 @@ returns-clause-leg g c = λ yes.
     record {
       free = c.requires.free;
       after = without_output n;
-      leg = subst (λ s. EndsQuietly c.args.program.now c.args.limits.gates s c.args.pid n) c.take_moved.ensures.same (c.take_leg-event.ensures.leg (sym c.is_quiet.ensures ∙ quiet));
+      leg = subst (λ s. EndsQuietly c.args.program.now c.args.limits.discipline s c.args.pid n) c.take_moved.ensures.same (c.take_leg-event.ensures.leg (sym c.is_quiet.ensures ∙ quiet));
       phases = sym c.as_slice-after.ensures.value ∙ phases_same c.as_slice-after.result.now c.as_slice-before.result.now c.eq.result c.eq.ensures yes ∙ c.as_slice-before.ensures.value;
     })
 

@@ -1,7 +1,7 @@
 use Rattle.std.proofs.Common.{rules, ◌≡◌, ◌∙◌, ◌<◌, ℕ, List, Option, false, true, is_some, get_or, length, sym, arith}
 use Rattle.cp_machine.specs.Bodies.{has_moved}
 use Rattle.cp_machine.specs.System.{machine_of, is_ready}
-use Rattle.cp_machine.specs.declared.gates.Gates.{Gates}
+use Rattle.cp_machine.specs.declared.discipline.Discipline.{Discipline}
 use Rattle.cp_machine.specs.declared.state.State.{State}
 use Rattle.cp_slots.specs.Tables.{Tables}
 use Rattle.cp_machine.proofs.CallerLemmas.{pending_is}
@@ -13,27 +13,27 @@ use Rattle.cp_at_once.proofs.Legs.{kept_everybody}
 use Rattle.cp_at_once.proofs.leg.process_at_once.Goals as goal
 
 -- who is listed is ready, where nobody is to be let in
-ready_here : (r : Tables) (gates : Gates) (s : State) (pending : Option ℕ) (all : List ℕ) (i : ℕ) → pending ≡ (machine_of s).pending → is_some pending ≡ false → all ≡ those_below (slots r gates).processes (may (slots r gates) (machine_of s)) → i < length all → is_ready (machine_of s) (get_or all i 0) ≡ true
-ready_here r gates s pending all i is none listed lt =
+ready_here : (r : Tables) (discipline : Discipline) (s : State) (pending : Option ℕ) (all : List ℕ) (i : ℕ) → pending ≡ (machine_of s).pending → is_some pending ≡ false → all ≡ those_below (slots r discipline).processes (may (slots r discipline) (machine_of s)) → i < length all → is_ready (machine_of s) (get_or all i 0) ≡ true
+ready_here r discipline s pending all i is none listed lt =
     let m = machine_of s in
-    may_be_ready (slots r gates) m (get_or all i 0) (pending_is m pending false is none) (may_those (slots r gates) m all listed i lt)
+    may_be_ready (slots r discipline) m (get_or all i 0) (pending_is m pending false is none) (may_those (slots r discipline) m all listed i lt)
 
 pub enters_next-requires-clause-ready : goal.enters_next-requires-clause-ready
 enters_next-requires-clause-ready g c =
     let all = c.as_slice-pid-items.result.now in
-    let on = ready_here c.args.program.now c.args.limits.gates c.args.state.now c.pending.result all c.loop-pid.pid-index c.pending.ensures (sym c.if-is_some.ensures) (c.as_slice-pid-items.ensures.value ∙ c.candidates-numbers.ensures) (omega arith) in
+    let on = ready_here c.args.program.now c.args.limits.discipline c.args.state.now c.pending.result all c.loop-pid.pid-index c.pending.ensures (sym c.if-is_some.ensures) (c.as_slice-pid-items.ensures.value ∙ c.candidates-numbers.ensures) (omega arith) in
     search (rules, on)
 
 pub has_quiet_leg-requires-clause-ready : goal.has_quiet_leg-requires-clause-ready
 has_quiet_leg-requires-clause-ready g c =
     let all = c.as_slice-pid-items.result.now in
-    let on = ready_here c.args.program.now c.args.limits.gates c.args.state.now c.pending.result all c.loop-pid.pid-index c.pending.ensures (sym c.if-is_some.ensures) (c.as_slice-pid-items.ensures.value ∙ c.candidates-numbers.ensures) (omega arith) in
+    let on = ready_here c.args.program.now c.args.limits.discipline c.args.state.now c.pending.result all c.loop-pid.pid-index c.pending.ensures (sym c.if-is_some.ensures) (c.as_slice-pid-items.ensures.value ∙ c.candidates-numbers.ensures) (omega arith) in
     search (rules, on)
 
 pub returns-then-has_quiet_leg-clause-may : goal.returns-then-has_quiet_leg-clause-may
 returns-then-has_quiet_leg-clause-may g c =
     let s = machine_of c.args.state.now in
-    let sys = slots c.args.program.now c.args.limits.gates in
+    let sys = slots c.args.program.now c.args.limits.discipline in
     let i = c.loop-pid.pid-index in
     let all = c.as_slice-pid-items.result.now in
     let listed : all ≡ those_below sys.processes (may sys s) = c.as_slice-pid-items.ensures.value ∙ c.candidates-numbers.ensures in

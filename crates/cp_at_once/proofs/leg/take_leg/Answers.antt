@@ -27,7 +27,7 @@ loop-preserved g c =
             free = ap (λ s. is_pending (machine_of s)) w.state-is ∙ pending_is n w.pending.result false w.pending.ensures (sym w.if-is_some.ensures);
             quiet = ap (λ s. output_of (machine_of s)) w.state-is ∙ local_output r m n p [] quiet w.in-Local.ensures.after;
             kept = λ moved before k this. subst (λ s. KeepBodies moved before (machine_of s)) (sym w.state-is) (kept_by r moved before old n p Local (c.loop.invariant.kept moved before k this) this (ap (λ x. step_at r x p) (sym same) ∙ w.in-Local.ensures.after));
-            leg = λ gates k h. c.loop.invariant.leg gates k (ends_later r gates p old n k c.loop.invariant.quiet (ap (λ x. step_at r x p) (sym same) ∙ w.in-Local.ensures.after) (subst (λ s. EndsQuietly r gates (machine_of s) p k) w.state-is h));
+            leg = λ discipline k h. c.loop.invariant.leg discipline k (ends_later r discipline p old n k c.loop.invariant.quiet (ap (λ x. step_at r x p) (sym same) ∙ w.in-Local.ensures.after) (subst (λ s. EndsQuietly r discipline (machine_of s) p k) w.state-is h));
           })
       | else-not-local_step w ↦
           (let yes : c.local_step.result ≡ true = search in
@@ -38,7 +38,7 @@ loop-preserved g c =
             free = ap (λ s. is_pending (machine_of s)) w.state-is ∙ c.local_step.ensures.still;
             quiet = ap (λ s. output_of (machine_of s)) w.state-is ∙ local_output r old m p [] c.loop.invariant.quiet taken;
             kept = λ moved before k this. subst (λ s. KeepBodies moved before (machine_of s)) (sym w.state-is) (kept_by r moved before old m p Local (c.loop.invariant.kept moved before k this) this taken);
-            leg = λ gates k h. c.loop.invariant.leg gates k (ends_later r gates p old m k c.loop.invariant.quiet taken (subst (λ s. EndsQuietly r gates (machine_of s) p k) w.state-is h));
+            leg = λ discipline k h. c.loop.invariant.leg discipline k (ends_later r discipline p old m k c.loop.invariant.quiet taken (subst (λ s. EndsQuietly r discipline (machine_of s) p k) w.state-is h));
           })
     ]
 
@@ -46,14 +46,14 @@ pub returns-in_default : goal.returns-in_default
 returns-in_default g c =
     let r = c.args.program.now in
     let p = c.args.pid in
-    let gates = c.args.limits.gates in
+    let discipline = c.args.limits.discipline in
     let n = machine_of c.step-event.new.state in
     let none : c.local_step.result ≡ false = search in
     let same = c.local_step.ensures.same none in
     record {
       own = c.step-event.ensures.own;
       kept = λ moved before k this. kept_by r moved before (machine_of c.loop.state) n p c.step-event.result (c.loop.invariant.kept moved before k this) this (ap (λ x. step_at r x p) (sym same) ∙ c.step-event.ensures.after);
-      leg = λ quiet. c.loop.invariant.leg gates n (subst (λ k. EndsQuietly r gates k p n) same (ends_here r gates p (machine_of c.local_step.new.state) n c.step-event.result c.step-event.ensures.after quiet));
+      leg = λ quiet. c.loop.invariant.leg discipline n (subst (λ k. EndsQuietly r discipline k p n) same (ends_here r discipline p (machine_of c.local_step.new.state) n c.step-event.result c.step-event.ensures.after quiet));
     }
 
 pub returns-then-is_some-clause-kept : goal.returns-then-is_some-clause-kept

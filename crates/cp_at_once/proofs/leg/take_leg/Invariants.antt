@@ -1,4 +1,4 @@
-use Rattle.cp_at_once.proofs.Words.{◌≡◌, ℕ, Bool, [], true, false, KeepBodies, Gates, EndsQuietly}
+use Rattle.cp_at_once.proofs.Words.{◌≡◌, ℕ, Bool, [], true, false, KeepBodies, Discipline, EndsQuietly}
 use Rattle.cp_machine.specs.System.{Machine, machine_of, is_ready, is_pending, output_of, IsStateOf}
 use Rattle.cp_at_once.proofs.leg.take_leg.Given as goal
 
@@ -10,5 +10,5 @@ invariant-loop g l =
       free : is_pending (machine_of l.state) ≡ false;
       quiet : output_of (machine_of l.state) ≡ [];
       kept : (moved : ℕ → Bool) (before : Machine) → KeepBodies moved before (machine_of l.initial.state) → moved l.pid ≡ true → KeepBodies moved before (machine_of l.state);
-      leg : (gates : Gates) (n : Machine) → EndsQuietly l.program gates (machine_of l.state) l.pid n → EndsQuietly l.program gates (machine_of l.initial.state) l.pid n;
+      leg : (discipline : Discipline) (n : Machine) → EndsQuietly l.program discipline (machine_of l.state) l.pid n → EndsQuietly l.program discipline (machine_of l.initial.state) l.pid n;
     }

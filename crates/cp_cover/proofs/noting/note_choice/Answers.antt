@@ -7,7 +7,7 @@ use Rattle.cp_cover.proofs.noting.note_choice.Goals as goal
 
 pub returns-clause-marks : goal.returns-clause-marks
 returns-clause-marks g c =
-    let sys = slots c.args.program.now c.args.limits.gates in
+    let sys = slots c.args.program.now c.args.limits.discipline in
     let m = machine_of c.args.state.now in
     let before = c.args.marks.now.known.keys in
     let after = c.observe_choice.new.observer.known.keys in

@@ -7,5 +7,5 @@ invariant-loop-depth g l =
     record {
       own : IsStateOf l.job.program.now l.state;
       next : IsStateOf l.job.program.now l.next;
-      known : IsKnown l.job.program.now (slots l.job.program.now l.job.limits.gates) l.job.limits.steps l.job.most l.depth l.visit.marks.known.keys l.visit.next.known.keys;
+      known : IsKnown l.job.program.now (slots l.job.program.now l.job.limits.discipline) l.job.limits.steps l.job.most l.depth l.visit.marks.known.keys l.visit.next.known.keys;
     }

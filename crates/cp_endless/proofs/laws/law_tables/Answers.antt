@@ -4,4 +4,4 @@ use Rattle.cp_endless.proofs.slots.Output.{slots_forget}
 use Rattle.cp_endless.proofs.laws.law_tables.Goals as goal
 
 pub returns : goal.returns
-returns c = λ r gates states. tables_known (slots r gates) without_output ShowsLess (slots_forget r gates) (Contains states)
+returns c = λ r discipline states. tables_known (slots r discipline) without_output ShowsLess (slots_forget r discipline) (Contains states)

@@ -4,4 +4,4 @@ use Rattle.cp_endless.proofs.slots.Output.{slots_forget}
 use Rattle.cp_endless.proofs.laws.law_witness.Goals as goal
 
 pub returns : goal.returns
-returns c = λ r gates. witnesses (slots r gates) without_output ShowsLess (slots_forget r gates)
+returns c = λ r discipline. witnesses (slots r discipline) without_output ShowsLess (slots_forget r discipline)

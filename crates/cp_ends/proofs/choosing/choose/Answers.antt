@@ -15,27 +15,27 @@ Told = (List Shown × Bool) × (List Machine × List (Moment Machine))
 pub arrive-requires-clause-quiet : goal.arrive-requires-clause-quiet
 arrive-requires-clause-quiet g c =
     let r = c.args.program.now in
-    let gates = c.args.limits.gates in
-    let sys = slots r gates in
-    let quiet = silent_slots r gates in
+    let discipline = c.args.limits.discipline in
+    let sys = slots r discipline in
+    let quiet = silent_slots r discipline in
     let steps = c.args.limits.steps in
     let s = machine_of c.args.state.now in
     let p = c.args.process in
     let before : Told = ((c.args.told.now.values.items, c.args.told.now.is_called), (s ∷ [], [])) in
-    let now = c.in_ok-turn.ensures.seen before (refl, refl, c.requires.quiet, c.see_due.ensures r gates c.requires.own (c.begin-told.ensures gates)) in
+    let now = c.in_ok-turn.ensures.seen before (refl, refl, c.requires.quiet, c.see_due.ensures r discipline c.requires.own (c.begin-told.ensures discipline)) in
     now.2
 
 pub returns-clause-goal : goal.returns-clause-goal
 returns-clause-goal g c =
     let r = c.args.program.now in
-    let gates = c.args.limits.gates in
-    let sys = slots r gates in
-    let quiet = silent_slots r gates in
+    let discipline = c.args.limits.discipline in
+    let sys = slots r discipline in
+    let quiet = silent_slots r discipline in
     let steps = c.args.limits.steps in
     let s = machine_of c.args.state.now in
     let p = c.args.process in
     let before : Told = ((c.args.told.now.values.items, c.args.told.now.is_called), (s ∷ [], [])) in
-    let now = c.in_ok-turn.ensures.seen before (refl, refl, c.requires.quiet, c.see_due.ensures r gates c.requires.own (c.begin-told.ensures gates)) in
+    let now = c.in_ok-turn.ensures.seen before (refl, refl, c.requires.quiet, c.see_due.ensures r discipline c.requires.own (c.begin-told.ensures discipline)) in
     let told = now.0 ∙ ap (λ (y : Told). y.0.0) (sees_choice quiet (teller sys) steps s p before) in
     ok_to c.arrive.result _ _ c.arrive.ensures.comes (λ h cut.
     comes_to sys quiet same_key steps (next_arrival sys without_output same_key steps s p) (fold_chosen quiet (teller sys) steps s p) (walked_chosen quiet steps s p) (machine_of c.observe_choice.new.state) c.in_ok-turn.turn c.in_ok-turn.ensures.walked (choice_comes sys without_output same_key steps s p)
@@ -44,14 +44,14 @@ returns-clause-goal g c =
 pub returns-clause-shown : goal.returns-clause-shown
 returns-clause-shown g c =
     let r = c.args.program.now in
-    let gates = c.args.limits.gates in
-    let sys = slots r gates in
-    let quiet = silent_slots r gates in
+    let discipline = c.args.limits.discipline in
+    let sys = slots r discipline in
+    let quiet = silent_slots r discipline in
     let steps = c.args.limits.steps in
     let s = machine_of c.args.state.now in
     let p = c.args.process in
     let before : Told = ((c.args.told.now.values.items, c.args.told.now.is_called), (s ∷ [], [])) in
-    let now = c.in_ok-turn.ensures.seen before (refl, refl, c.requires.quiet, c.see_due.ensures r gates c.requires.own (c.begin-told.ensures gates)) in
+    let now = c.in_ok-turn.ensures.seen before (refl, refl, c.requires.quiet, c.see_due.ensures r discipline c.requires.own (c.begin-told.ensures discipline)) in
     let told = now.0 ∙ ap (λ (y : Told). y.0.0) (sees_choice quiet (teller sys) steps s p before) in
     ok_to c.arrive.result _ _ c.arrive.ensures.comes (λ h cut.
     shows sys quiet same_key steps (next_arrival sys without_output same_key steps s p) (fold_chosen quiet (teller sys) steps s p) (walked_chosen quiet steps s p) (machine_of c.observe_choice.new.state) c.in_ok-turn.turn c.in_ok-turn.ensures.walked (choice_comes sys without_output same_key steps s p)
@@ -60,17 +60,17 @@ returns-clause-shown g c =
 pub returns-clause-leg : goal.returns-clause-leg
 returns-clause-leg g c =
     let r = c.args.program.now in
-    let gates = c.args.limits.gates in
-    let sys = slots r gates in
-    let quiet = silent_slots r gates in
+    let discipline = c.args.limits.discipline in
+    let sys = slots r discipline in
+    let quiet = silent_slots r discipline in
     let steps = c.args.limits.steps in
     let s = machine_of c.args.state.now in
     let p = c.args.process in
     let before : Told = ((c.args.told.now.values.items, c.args.told.now.is_called), (s ∷ [], [])) in
-    let now = c.in_ok-turn.ensures.seen before (refl, refl, c.requires.quiet, c.see_due.ensures r gates c.requires.own (c.begin-told.ensures gates)) in
+    let now = c.in_ok-turn.ensures.seen before (refl, refl, c.requires.quiet, c.see_due.ensures r discipline c.requires.own (c.begin-told.ensures discipline)) in
     let observer = c.observe_choice.new.observer in
-    let seen = subst (λ (y : Told). g.P.Sight.sees observer.seen r gates y.1.0 y.1.1) (sees_choice quiet (teller sys) steps s p before) now.3 in
+    let seen = subst (λ (y : Told). g.P.Sight.sees observer.seen r discipline y.1.0 y.1.1) (sees_choice quiet (teller sys) steps s p before) now.3 in
     let out = choice_sets_out quiet steps s p in
     ok_to c.arrive.result _ _ c.arrive.ensures.leg (λ h comes.
-    subst (λ (leg : Leg Machine). ComesTo quiet (λ w. g.P.Sight.sees w r gates) steps leg (s ∷ []) c.arrive.new.told.seen (with_round c.arrive.new.told.again h) (machine_of c.arrive.new.state)) (sym out.2)
-    (comes out.0 out.1 (s ∷ []) (sym out.3 ∙ c.in_ok-turn.ensures.walked) (subst (λ (leg : Leg Machine). g.P.Sight.sees observer.seen r gates (s ∷ []) (leg.moments steps)) out.2 seen)))
+    subst (λ (leg : Leg Machine). ComesTo quiet (λ w. g.P.Sight.sees w r discipline) steps leg (s ∷ []) c.arrive.new.told.seen (with_round c.arrive.new.told.again h) (machine_of c.arrive.new.state)) (sym out.2)
+    (comes out.0 out.1 (s ∷ []) (sym out.3 ∙ c.in_ok-turn.ensures.walked) (subst (λ (leg : Leg Machine). g.P.Sight.sees observer.seen r discipline (s ∷ []) (leg.moments steps)) out.2 seen)))

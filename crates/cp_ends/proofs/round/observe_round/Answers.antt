@@ -10,7 +10,7 @@ use Rattle.cp_ends.proofs.round.observe_round.Goals.{else-going-pid-via-then-goi
 
 pub loop-init : goal.loop-init
 loop-init g c =
-    let quiet = silent_slots c.args.program.now c.args.limits.gates in
+    let quiet = silent_slots c.args.program.now c.args.limits.discipline in
     let s = machine_of c.args.state.now in
     record {
       own = c.requires.own;
@@ -18,7 +18,7 @@ loop-init g c =
       free = c.requires.free;
       quiet = c.requires.quiet;
       spot = spot_before quiet s c.args.pid;
-      seen = λ x h. subst (g.O.Observe.holds c.args.observer.now c.args.program.now c.args.limits.gates s) (sym (fold_none quiet (g.O.Observe.fold c.args.program.now c.args.limits.gates) s c.args.pid x)) h;
+      seen = λ x h. subst (g.O.Observe.holds c.args.observer.now c.args.program.now c.args.limits.discipline s) (sym (fold_none quiet (g.O.Observe.fold c.args.program.now c.args.limits.discipline) s c.args.pid x)) h;
       none = none_yet quiet same_key s c.args.pid;
       first = c.in_ok-take_from.ensures;
     }
@@ -26,9 +26,9 @@ loop-init g c =
 pub returns-in_default : goal.returns-in_default
 returns-in_default g c =
     let r = c.args.program.now in
-    let gates = c.args.limits.gates in
-    let quiet = silent_slots r gates in
-    let fold = g.O.Observe.fold r gates in
+    let discipline = c.args.limits.discipline in
+    let quiet = silent_slots r discipline in
+    let fold = g.O.Observe.fold r discipline in
     let s = machine_of c.args.state.now in
     let p = c.args.pid in
     let n = c.loop.counter in
@@ -42,15 +42,15 @@ returns-in_default g c =
       quiet = ap (λ y. y.output) x.state;
       round = λ e. absurd (cc);
       none = λ e. never_back quiet same_key s p n c.args.limits.steps lt i.none (spot_none quiet s p n t u c.loop.going c.in_ok-turn.turn i.spot x.state x.turn (stops c.in_ok-turn.turn c.in_default.not-Goes));
-      seen = (n + 1, λ y h. subst (g.O.Observe.holds c.take_step.new.observer r gates u) (fold_next quiet fold n s p t u c.loop.going y i.spot x.state) (x.seen (fold_stretch quiet fold n s p y) (i.seen y h)));
+      seen = (n + 1, λ y h. subst (g.O.Observe.holds c.take_step.new.observer r discipline u) (fold_next quiet fold n s p t u c.loop.going y i.spot x.state) (x.seen (fold_stretch quiet fold n s p y) (i.seen y h)));
     }
 
 pub returns-then-branch : goal.returns-then-branch
 returns-then-branch g c =
     let r = c.args.program.now in
-    let gates = c.args.limits.gates in
-    let quiet = silent_slots r gates in
-    let fold = g.O.Observe.fold r gates in
+    let discipline = c.args.limits.discipline in
+    let quiet = silent_slots r discipline in
+    let fold = g.O.Observe.fold r discipline in
     let s = machine_of c.args.state.now in
     let p = c.args.pid in
     let n = c.loop.counter in
@@ -64,7 +64,7 @@ returns-then-branch g c =
     let spot = spot_next quiet n s p t u c.loop.going q i.spot x.state (sym c.in-Goes.is ∙ x.turn) in
     let same : same_key u s ≡ true = sym (c.in_ok-is_at.ensures s i.first) ∙ c.if-branch.true in
     let back : ((q == p) && same_key u s) ≡ true = ap (λ b. b && same_key u s) (eq-eqb q p c.if-going-pid.true) ∙ same in
-    let seen : (y : g.O.Observe.Seen) → g.O.Observe.holds c.args.observer.now r gates s y → g.O.Observe.holds c.take_step.new.observer r gates u (fold_stretch quiet fold (n + 1) s p y) = λ y h. subst (g.O.Observe.holds c.take_step.new.observer r gates u) (fold_next quiet fold n s p t u c.loop.going y i.spot x.state) (x.seen (fold_stretch quiet fold n s p y) (i.seen y h)) in
+    let seen : (y : g.O.Observe.Seen) → g.O.Observe.holds c.args.observer.now r discipline s y → g.O.Observe.holds c.take_step.new.observer r discipline u (fold_stretch quiet fold (n + 1) s p y) = λ y h. subst (g.O.Observe.holds c.take_step.new.observer r discipline u) (fold_next quiet fold n s p t u c.loop.going y i.spot x.state) (x.seen (fold_stretch quiet fold n s p y) (i.seen y h)) in
     record {
       own = x.own;
       quiet = ap (λ y. y.output) x.state;
@@ -74,7 +74,7 @@ returns-then-branch g c =
         is_back quiet same_key s p n c.args.limits.steps u q lt i.none spot back,
         ap (λ k. spot_after quiet k s p) (sym plus) ∙ spot ∙ next_place u q p c.if-going-pid.true,
         same,
-        λ y h. subst (λ k. g.O.Observe.holds c.take_step.new.observer r gates u (fold_stretch quiet fold k s p y)) plus (seen y h),
+        λ y h. subst (λ k. g.O.Observe.holds c.take_step.new.observer r discipline u (fold_stretch quiet fold k s p y)) plus (seen y h),
       );
       none = λ e. absurd (cc);
       seen = (n + 1, seen);
@@ -83,9 +83,9 @@ returns-then-branch g c =
 pub loop-preserved : goal.loop-preserved
 loop-preserved g c =
     let r = c.args.program.now in
-    let gates = c.args.limits.gates in
-    let quiet = silent_slots r gates in
-    let fold = g.O.Observe.fold r gates in
+    let discipline = c.args.limits.discipline in
+    let quiet = silent_slots r discipline in
+    let fold = g.O.Observe.fold r discipline in
     let s = machine_of c.args.state.now in
     let p = c.args.pid in
     let n = c.loop.counter in
@@ -106,14 +106,14 @@ loop-preserved g c =
       free = if_goes c.in_ok-turn.turn q (λ v. is_pending u ≡ false) c.in-Goes.is x.free;
       quiet = ap (λ y. y.output) x.state;
       spot = spot;
-      seen = λ y h. subst (g.O.Observe.holds c.take_step.new.observer r gates u) (fold_next quiet fold n s p t u c.loop.going y i.spot x.state) (x.seen (fold_stretch quiet fold n s p y) (i.seen y h));
+      seen = λ y h. subst (g.O.Observe.holds c.take_step.new.observer r discipline u) (fold_next quiet fold n s p t u c.loop.going y i.spot x.state) (x.seen (fold_stretch quiet fold n s p y) (i.seen y h));
       none = not_back quiet same_key s p n u q i.none spot apart;
       first = i.first;
     }
 
 pub returns : goal.returns
 returns g c =
-    let quiet = silent_slots c.args.program.now c.args.limits.gates in
+    let quiet = silent_slots c.args.program.now c.args.limits.discipline in
     let s = machine_of c.args.state.now in
     let n = c.loop.counter in
     let i = c.loop.invariant in

@@ -2,7 +2,7 @@ use Rattle.cp_key.proofs.Words.{◌∙◌, ◌++◌, List, ap, arith, length, ma
 use Rattle.cp_key.proofs.Words.{number_key, HaveThreadRoom}
 use Rattle.std.proofs.lemmas.List.{append_assoc, with_items_is}
 use Rattle.cp_machine.specs.Fits.{HaveCells, HaveReferences, HaveStacks}
-use Rattle.cp_key.specs.Key.{key_of, rest_key, gates_key, monitor_key, option_key, phase_key, shown_key, threads_key}
+use Rattle.cp_key.specs.Key.{key_of, rest_key, discipline_key, monitor_key, option_key, phase_key, shown_key, threads_key}
 use Rattle.cp_key.proofs.Keys.{integers_tell, numbers_tell}
 use Rattle.cp_key.proofs.Machines.{after_bindings, after_monitors, after_output, after_permanents, after_phases, of_parts}
 use Rattle.cp_key.proofs.reading.thaw_state.Goals as goal
@@ -23,8 +23,8 @@ returns-clause-same c = λ m more e room.
     let d = c.thaw_numbers.ensures.list m.phases (after_phases m ++ more) (b.1 ∙ append_assoc (list_key phase_key m.phases) (after_phases m) more) room.phases in
     let t = c.thaw_processes-bodies.ensures.same m.threads (rest_key m ++ more) (d.1 ∙ append_assoc (threads_key m.threads) (rest_key m) more) (subst Room (sym c.deref_mut.ensures.value) room.threads) in
     let g = c.thaw_guards.ensures m.monitors (after_monitors m ++ more) (t.1 ∙ append_assoc (list_key monitor_key m.monitors) (after_monitors m) more) (room.monitors ∙ sym (ap length c.deref_mut-2.ensures.value)) room.short in
-    let p = c.thaw-state.ensures m.pending (gates_key m.gates ++ more) (g.1 ∙ append_assoc (option_key byte_key m.pending) (gates_key m.gates) more) in
-    let q = c.thaw-state-2.ensures m.gates more p.1 in
+    let p = c.thaw-state.ensures m.pending (discipline_key m.discipline ++ more) (g.1 ∙ append_assoc (option_key byte_key m.pending) (discipline_key m.discipline) more) in
+    let q = c.thaw-state-2.ensures m.discipline more p.1 in
     let threads = ap (map thread_of) (with_items_is c.args.state.now.processes c.thaw_processes-bodies.new.processes (omega arith)) ∙ t.0 in
     let monitors = ap (map monitor_of) (with_items_is c.args.state.now.guards c.thaw_guards.new.guards (omega arith)) ∙ g.0 in
     (of_parts m _ _ _ _ _ _ _ _ a.0 b.0 d.0 threads monitors p.0 q.0 o.0, record { permanents = a.2; bindings = b.2; bodies = t.2 }))

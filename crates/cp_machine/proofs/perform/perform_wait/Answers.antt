@@ -73,3 +73,11 @@ returns-in-Continue-clause-after c =
 
 pub returns-in-Continue-clause-reserved : goal.returns-in-Continue-clause-reserved
 returns-in-Continue-clause-reserved c = c.continue_with.ensures.reserved _ c.requires.taken.1.own.reserved
+
+pub continue_with-requires-clause-component : goal.continue_with-requires-clause-component
+continue_with-requires-clause-component c =
+    let s = c.args.state.now in
+    let t = c.requires.taken.1 in
+    let own = thread_at (machine_of s).threads c.args.pid in
+    let frame = frame_reaches c.args.program.now own.references own.frame own.stack (t.own.reach.frames c.args.pid (within s c.args.pid t.within)) in
+    frame.component.0

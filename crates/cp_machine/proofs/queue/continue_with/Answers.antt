@@ -8,37 +8,6 @@ use Rattle.cp_machine.proofs.CallOutcomes.{continue_fails, continue_goes, guards
 use Rattle.cp_machine.proofs.Outcomes.{replaced_within}
 use Rattle.cp_machine.proofs.queue.continue_with.Goals as goal
 
-pub continue_from-requires-clause-fits : goal.continue_from-requires-clause-fits
-continue_from-requires-clause-fits c =
-    let r = c.args.program.now in
-    let m = machine_of c.args.state.now in
-    let t = thread_at m.threads c.args.pid in
-    let after : Thread = record t { stack = from_end (under m c.args.pid) } in
-    let same : thread_at (machine_of c.unwind.new.state).threads c.args.pid ≡ after = ap (λ n. thread_at n.threads c.args.pid) c.unwind.ensures.after ∙ get_or-set_same m.threads c.args.pid after no_thread (within c.args.state.now c.args.pid c.requires.pid) in
-    subst (ThreadFits r) (sym same) (record { stack = end_fits r t.frame (under m c.args.pid) c.requires.below; cells = c.requires.fits.cells; references = c.requires.fits.references })
-
-pub returns-in-Permanent-clause-reserved : goal.returns-in-Permanent-clause-reserved
-returns-in-Permanent-clause-reserved c = λ r h. c.continue_from.ensures.reserved r (c.unwind.ensures.reserved r h)
-
-pub continue_from-requires-clause-reaches : goal.continue_from-requires-clause-reaches
-continue_from-requires-clause-reaches c =
-    let r = c.args.program.now in
-    let m = machine_of c.args.state.now in
-    let t = thread_at m.threads c.args.pid in
-    let after : Thread = record t { stack = from_end (under m c.args.pid) } in
-    let same : thread_at (machine_of c.unwind.new.state).threads c.args.pid ≡ after = ap (λ n. thread_at n.threads c.args.pid) c.unwind.ensures.after ∙ get_or-set_same m.threads c.args.pid after no_thread (within c.args.state.now c.args.pid c.requires.pid) in
-    subst (ThreadReaches r) (sym same) (end_reaches r t.references t.frame (under m c.args.pid) c.requires.reaches)
-
-pub continue_from-requires-clause-cell : goal.continue_from-requires-clause-cell
-continue_from-requires-clause-cell c =
-    let m = machine_of c.args.state.now in
-    let has : HasCells m c.args.pid (Permanent c.in-Permanent.cell) 1 = subst (λ a. HasCells m c.args.pid a 1) c.in-Permanent.is (c.in_ok-cell.ensures.cells 1 c.requires.reach) in
-    let there : c.in-Permanent.cell < length m.permanents = omega (arith, has) in
-    subst (λ (n : Machine). c.in-Permanent.cell < length n.permanents) (sym c.unwind.ensures.after) there
-
-pub continue_from-requires-clause-lines : goal.continue_from-requires-clause-lines
-continue_from-requires-clause-lines c = subst AreFirstKnown (sym c.unwind.ensures.after) (thread_known (machine_of c.args.state.now) c.args.pid _ c.requires.lines)
-
 pub address_of-requires-clause-pid : goal.address_of-requires-clause-pid
 address_of-requires-clause-pid c = c.requires.pid
 
@@ -54,15 +23,6 @@ returns-in_err-cell-clause-after c =
 pub returns-in_err-cell-clause-reserved : goal.returns-in_err-cell-clause-reserved
 returns-in_err-cell-clause-reserved c = λ r h. h
 
-pub unwind-requires : goal.unwind-requires
-unwind-requires c = record { pid = c.requires.pid }
-
-pub continue_from-requires-clause-pid : goal.continue_from-requires-clause-pid
-continue_from-requires-clause-pid c = replaced_within c.args.state.now c.unwind.new.state c.args.pid _ c.unwind.ensures.after c.requires.pid
-
-pub continue_from-requires-clause-guards : goal.continue_from-requires-clause-guards
-continue_from-requires-clause-guards c = guards_as c.args.state.now c.unwind.new.state (ap (λ k. k.monitors) c.unwind.ensures.after) ∙ c.requires.guards
-
 pub replace-requires-clause-pid : goal.replace-requires-clause-pid
 replace-requires-clause-pid c = c.requires.pid
 
@@ -72,16 +32,6 @@ replace-requires-clause-busy c = c.requires.busy
 pub replace-requires-clause-room : goal.replace-requires-clause-room
 replace-requires-clause-room c = tt
 
-pub returns-in-Permanent-clause-after : goal.returns-in-Permanent-clause-after
-returns-in-Permanent-clause-after c =
-    let m = machine_of c.args.state.now in
-    let r = c.args.program.now in
-    let t = thread_at m.threads c.args.pid in
-    let es = from_end (under m c.args.pid) in
-    let after : Thread = record t { stack = es } in
-    let same : thread_at (machine_of c.unwind.new.state).threads c.args.pid ≡ after = ap (λ n. thread_at n.threads c.args.pid) c.unwind.ensures.after ∙ get_or-set_same m.threads c.args.pid after no_thread (within c.args.state.now c.args.pid c.requires.pid) in
-    continue_goes c.args.program.now m c.args.pid c.args.item.now.line c.args.place.now c.args.item.now.next (under m c.args.pid) _ _ (sym c.address_of.ensures.value ∙ c.in_ok-cell.was {u = tt}) c.in-Permanent.is ∙ ap (λ k. continued_from r k c.args.pid c.in-Permanent.cell es) (sym c.unwind.ensures.after) ∙ ap (λ k. continued_from r (machine_of c.unwind.new.state) c.args.pid c.in-Permanent.cell k.stack) (sym same) ∙ c.continue_from.ensures.after
-
 pub returns-in-Local-clause-after : goal.returns-in-Local-clause-after
 returns-in-Local-clause-after c =
     let m = machine_of c.args.state.now in
@@ -89,3 +39,14 @@ returns-in-Local-clause-after c =
 
 pub returns-in-Local-clause-reserved : goal.returns-in-Local-clause-reserved
 returns-in-Local-clause-reserved c = c.replace.ensures.reserved
+
+pub continue_at-requires-clause-cell : goal.continue_at-requires-clause-cell
+continue_at-requires-clause-cell c =
+    let m = machine_of c.args.state.now in
+    let has : HasCells m c.args.pid (Permanent c.in-Permanent.cell) 1 = subst (λ a. HasCells m c.args.pid a 1) c.in-Permanent.is (c.in_ok-cell.ensures.cells 1 c.requires.reach) in
+    omega (arith, has)
+
+pub returns-in-Permanent-clause-after : goal.returns-in-Permanent-clause-after
+returns-in-Permanent-clause-after c =
+    let m = machine_of c.args.state.now in
+    continue_goes c.args.program.now m c.args.pid c.args.item.now.line c.args.place.now c.args.item.now.next (under m c.args.pid) _ _ (sym c.address_of.ensures.value ∙ c.in_ok-cell.was {u = tt}) c.in-Permanent.is ∙ c.continue_at.ensures.after

@@ -8,5 +8,5 @@ invariant-loop-depth g l =
       next : IsStateOf l.program l.next;
       row : IsRowOf l.frontier.store l.row.numbers (machine_of l.state);
       next_row : IsRowOf l.frontier.store l.next_row.numbers (machine_of l.next);
-      reached : Reached l.program l.limits.gates l.limits.choices l.limits.steps l.most l.depth l.frontier.store l.frontier.ended.entries l.frontier.layer.entries;
+      reached : Reached l.program l.limits.discipline l.limits.choices l.limits.steps l.most l.depth l.frontier.store l.frontier.ended.entries l.frontier.layer.entries;
     }

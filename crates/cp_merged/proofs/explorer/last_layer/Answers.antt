@@ -6,13 +6,13 @@ pub end_layer-requires-clause-layer : goal.end_layer-requires-clause-layer
 end_layer-requires-clause-layer c =
     let l = c.args.limits in
     let r = c.args.program.now in
-    subst (λ es. AreLeads r c.take_layer-layer.new.self.store es (front_at (slots r l.gates) same_outcome same_key l.steps l.choices).layer) (sym c.take_layer-layer.ensures.layer) (subst (λ s. AreLeads r s c.args.frontier.now.layer.entries (front_at (slots r l.gates) same_outcome same_key l.steps l.choices).layer) (sym c.take_layer-layer.ensures.store) c.requires.reached.holds.layer)
+    subst (λ es. AreLeads r c.take_layer-layer.new.self.store es (front_at (slots r l.discipline) same_outcome same_key l.steps l.choices).layer) (sym c.take_layer-layer.ensures.layer) (subst (λ s. AreLeads r s c.args.frontier.now.layer.entries (front_at (slots r l.discipline) same_outcome same_key l.steps l.choices).layer) (sym c.take_layer-layer.ensures.store) c.requires.reached.holds.layer)
 
 pub end_layer-requires-clause-ended : goal.end_layer-requires-clause-ended
 end_layer-requires-clause-ended c =
     let l = c.args.limits in
     let r = c.args.program.now in
-    subst (λ es. AreEnds es (front_at (slots r l.gates) same_outcome same_key l.steps l.choices).ended) (sym c.take_layer-layer.ensures.ended) c.requires.reached.holds.ended
+    subst (λ es. AreEnds es (front_at (slots r l.discipline) same_outcome same_key l.steps l.choices).ended) (sym c.take_layer-layer.ensures.ended) c.requires.reached.holds.ended
 
 pub returns-then-len-gt-MOST_OUTCOMES-clause-fault : goal.returns-then-len-gt-MOST_OUTCOMES-clause-fault
 returns-then-len-gt-MOST_OUTCOMES-clause-fault c =
@@ -20,7 +20,7 @@ returns-then-len-gt-MOST_OUTCOMES-clause-fault c =
     let old = c.args.frontier.now in
     let new = c.end_layer.new.frontier in
     let many : 50000 < length new.ended.entries = omega arith in
-    last_fault c.args.program.now l.gates l.choices l.steps c.args.most l.choices old.store old.ended.entries new.ended.entries old.layer.entries refl c.requires.reached many c.in-Ok.ensures
+    last_fault c.args.program.now l.discipline l.choices l.steps c.args.most l.choices old.store old.ended.entries new.ended.entries old.layer.entries refl c.requires.reached many c.in-Ok.ensures
 
 pub returns-clause-within : goal.returns-clause-within
 returns-clause-within c =
@@ -28,4 +28,4 @@ returns-clause-within c =
     let old = c.args.frontier.now in
     let new = c.end_layer.new.frontier in
     let few : length new.ended.entries ≤ 50000 = omega arith in
-    all_fits c.args.program.now l.gates l.choices l.steps c.args.most l.choices old.store old.ended.entries new.ended.entries old.layer.entries refl c.requires.reached few c.in-Ok.ensures
+    all_fits c.args.program.now l.discipline l.choices l.steps c.args.most l.choices old.store old.ended.entries new.ended.entries old.layer.entries refl c.requires.reached few c.in-Ok.ensures

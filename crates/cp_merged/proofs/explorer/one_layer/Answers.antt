@@ -10,19 +10,19 @@ returns-then-len-gt-MOST_OUTCOMES-clause-fault g c =
     let many : 50000 < length front.ended.entries = omega arith in
     let due = c.requires.due in
     let le : c.args.depth ≤ l.choices = omega (arith, due) in
-    outcomes_fault c.args.program.now l.gates l.choices l.steps c.args.most c.args.depth front.store front.ended.entries front.layer.entries le many c.requires.reached
+    outcomes_fault c.args.program.now l.discipline l.choices l.steps c.args.most c.args.depth front.store front.ended.entries front.layer.entries le many c.requires.reached
 
 pub next_layer-requires-clause-layer : goal.next_layer-requires-clause-layer
 next_layer-requires-clause-layer g c =
     let l = c.args.limits in
-    subst (λ es. AreLeads c.args.program.now c.take_layer-layer.new.self.store es (front_at (slots c.args.program.now l.gates) same_outcome same_key l.steps c.args.depth).layer) (sym c.take_layer-layer.ensures.layer) (subst (λ s. AreLeads c.args.program.now s c.args.frontier.now.layer.entries (front_at (slots c.args.program.now l.gates) same_outcome same_key l.steps c.args.depth).layer) (sym c.take_layer-layer.ensures.store) c.requires.reached.holds.layer)
+    subst (λ es. AreLeads c.args.program.now c.take_layer-layer.new.self.store es (front_at (slots c.args.program.now l.discipline) same_outcome same_key l.steps c.args.depth).layer) (sym c.take_layer-layer.ensures.layer) (subst (λ s. AreLeads c.args.program.now s c.args.frontier.now.layer.entries (front_at (slots c.args.program.now l.discipline) same_outcome same_key l.steps c.args.depth).layer) (sym c.take_layer-layer.ensures.store) c.requires.reached.holds.layer)
 
 pub next_layer-requires-clause-front : goal.next_layer-requires-clause-front
 next_layer-requires-clause-front g c =
     let l = c.args.limits in
     let old = c.args.frontier.now in
     let new = c.take_layer-layer.new.self in
-    holds_taken c.args.program.now l.gates l.choices l.steps c.args.most c.args.depth old.store new.store old.ended.entries new.ended.entries old.layer.entries new.layer.entries c.take_layer-layer.ensures.ended c.take_layer-layer.ensures.empty c.requires.reached.holds
+    holds_taken c.args.program.now l.discipline l.choices l.steps c.args.most c.args.depth old.store new.store old.ended.entries new.ended.entries old.layer.entries new.layer.entries c.take_layer-layer.ensures.ended c.take_layer-layer.ensures.empty c.requires.reached.holds
 
 pub next_layer-requires-clause-row : goal.next_layer-requires-clause-row
 next_layer-requires-clause-row g c = subst (λ s. IsRowOf s c.args.row.now.numbers (machine_of c.args.state.now)) (sym c.take_layer-layer.ensures.store) c.requires.row
@@ -37,10 +37,10 @@ returns-clause-reached g c =
     let old = c.args.frontier.now in
     let new = c.next_layer.new.frontier in
     let few : length old.ended.entries ≤ 50000 = omega arith in
-    ok_both c.next_layer.result (length new.layer.entries ≤ c.args.most) (Holds r new.store new.ended.entries new.layer.entries (front_at (slots r l.gates) same_outcome same_key l.steps (c.args.depth + 1)))
-    (Reached r l.gates l.choices l.steps c.args.most (c.args.depth + 1) new.store new.ended.entries new.layer.entries)
+    ok_both c.next_layer.result (length new.layer.entries ≤ c.args.most) (Holds r new.store new.ended.entries new.layer.entries (front_at (slots r l.discipline) same_outcome same_key l.steps (c.args.depth + 1)))
+    (Reached r l.discipline l.choices l.steps c.args.most (c.args.depth + 1) new.store new.ended.entries new.layer.entries)
     c.next_layer.ensures.few c.next_layer.ensures.front
-    (reached_next r l.gates l.choices l.steps c.args.most c.args.depth old.store new.store old.ended.entries new.ended.entries old.layer.entries new.layer.entries c.requires.due few c.requires.reached)
+    (reached_next r l.discipline l.choices l.steps c.args.most c.args.depth old.store new.store old.ended.entries new.ended.entries old.layer.entries new.layer.entries c.requires.due few c.requires.reached)
 
 pub returns-clause-fault : goal.returns-clause-fault
 returns-clause-fault g c =
@@ -48,5 +48,5 @@ returns-clause-fault g c =
     let r = c.args.program.now in
     let old = c.args.frontier.now in
     let few : length old.ended.entries ≤ 50000 = omega arith in
-    err_on c.next_layer.result (λ e. IsStates e (HasTooManyStates (slots r l.gates) l.steps c.args.most (c.args.depth + 1))) (λ e. IsDueFault (slots r l.gates) l.choices l.steps c.args.most e) c.next_layer.ensures.many
-    (layer_fault r l.gates l.choices l.steps c.args.most c.args.depth old.store old.ended.entries old.layer.entries c.requires.due few c.requires.reached)
+    err_on c.next_layer.result (λ e. IsStates e (HasTooManyStates (slots r l.discipline) l.steps c.args.most (c.args.depth + 1))) (λ e. IsDueFault (slots r l.discipline) l.choices l.steps c.args.most e) c.next_layer.ensures.many
+    (layer_fault r l.discipline l.choices l.steps c.args.most c.args.depth old.store old.ended.entries old.layer.entries c.requires.due few c.requires.reached)

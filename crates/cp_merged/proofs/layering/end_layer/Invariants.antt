@@ -7,5 +7,5 @@ abbrev pub invariant-loop-key : goal.invariant-loop-key
 invariant-loop-key l =
     record {
       room : MOST_SHOWN ≤ vec_capacity l.state.output;
-      ending : Ending l.program l.fn.limits.gates l.fn.limits.steps l.fn.limits.choices l.frontier.store l.frontier.ended.entries l.key-iterator;
+      ending : Ending l.program l.fn.limits.discipline l.fn.limits.steps l.fn.limits.choices l.frontier.store l.frontier.ended.entries l.key-iterator;
     }

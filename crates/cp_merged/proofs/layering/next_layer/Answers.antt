@@ -19,7 +19,7 @@ loop-key-init g c =
       row = c.requires.row;
       next_row = c.requires.next_row;
       few = omega (arith, none);
-      making = making_start r l.gates l.steps c.args.depth front.store front.ended.entries front.layer.entries c.into_iter-key-iterator.result c.requires.own.sound.few (omega (arith, due, most)) (subst (λ es. AreLeads r front.store es (front_at (slots r l.gates) same_outcome same_key l.steps c.args.depth).layer) (sym all) c.requires.layer) c.requires.front;
+      making = making_start r l.discipline l.steps c.args.depth front.store front.ended.entries front.layer.entries c.into_iter-key-iterator.result c.requires.own.sound.few (omega (arith, due, most)) (subst (λ es. AreLeads r front.store es (front_at (slots r l.discipline) same_outcome same_key l.steps c.args.depth).layer) (sym all) c.requires.layer) c.requires.front;
     }
 
 pub take-requires-clause-row : goal.take-requires-clause-row
@@ -31,8 +31,8 @@ take-requires-clause-row g c =
     let es = c.next.new.self in
     let e : StateRow × code.Prefixes = (c.in-Some.key.now, c.in-Some.prefixes.now) in
     let at : c.loop-key.key-iterator ≡ (c.in-Some.key.now, c.in-Some.prefixes.now) ∷ c.next.new.self = first_of (search (rules, c.in-Some.ensures.steps), cc (c.in-Some.ensures.steps, c.in-Some.key-is, c.in-Some.prefixes-is), grind (arith, c.in-Some.ensures.steps, c.in-Some.key-is, c.in-Some.prefixes-is), assumption c.in-Some.ensures.steps) in
-    let m = subst (Making r l.gates l.steps d old.store old.ended.entries old.layer.entries) at c.loop-key.invariant.making in
-    let n = making_next r l.gates l.steps d old.store old.ended.entries old.layer.entries es e m in
+    let m = subst (Making r l.discipline l.steps d old.store old.ended.entries old.layer.entries) at c.loop-key.invariant.making in
+    let n = making_next r l.discipline l.steps d old.store old.ended.entries old.layer.entries es e m in
     (r, n.lead.state, c.loop-key.invariant.own, n.own, n.row)
 
 pub take_choices-requires-clause-own : goal.take_choices-requires-clause-own
@@ -44,8 +44,8 @@ take_choices-requires-clause-own g c =
     let es = c.next.new.self in
     let e : StateRow × code.Prefixes = (c.in-Some.key.now, c.in-Some.prefixes.now) in
     let at : c.loop-key.key-iterator ≡ (c.in-Some.key.now, c.in-Some.prefixes.now) ∷ c.next.new.self = first_of (search (rules, c.in-Some.ensures.steps), cc (c.in-Some.ensures.steps, c.in-Some.key-is, c.in-Some.prefixes-is), grind (arith, c.in-Some.ensures.steps, c.in-Some.key-is, c.in-Some.prefixes-is), assumption c.in-Some.ensures.steps) in
-    let m = subst (Making r l.gates l.steps d old.store old.ended.entries old.layer.entries) at c.loop-key.invariant.making in
-    let n = making_next r l.gates l.steps d old.store old.ended.entries old.layer.entries es e m in
+    let m = subst (Making r l.discipline l.steps d old.store old.ended.entries old.layer.entries) at c.loop-key.invariant.making in
+    let n = making_next r l.discipline l.steps d old.store old.ended.entries old.layer.entries es e m in
     c.take.ensures.own r n.lead.state c.loop-key.invariant.own n.own n.row
 
 pub take_choices-requires-clause-known : goal.take_choices-requires-clause-known
@@ -57,8 +57,8 @@ take_choices-requires-clause-known g c =
     let es = c.next.new.self in
     let e : StateRow × code.Prefixes = (c.in-Some.key.now, c.in-Some.prefixes.now) in
     let at : c.loop-key.key-iterator ≡ (c.in-Some.key.now, c.in-Some.prefixes.now) ∷ c.next.new.self = first_of (search (rules, c.in-Some.ensures.steps), cc (c.in-Some.ensures.steps, c.in-Some.key-is, c.in-Some.prefixes-is), grind (arith, c.in-Some.ensures.steps, c.in-Some.key-is, c.in-Some.prefixes-is), assumption c.in-Some.ensures.steps) in
-    let m = subst (Making r l.gates l.steps d old.store old.ended.entries old.layer.entries) at c.loop-key.invariant.making in
-    let n = making_next r l.gates l.steps d old.store old.ended.entries old.layer.entries es e m in
+    let m = subst (Making r l.discipline l.steps d old.store old.ended.entries old.layer.entries) at c.loop-key.invariant.making in
+    let n = making_next r l.discipline l.steps d old.store old.ended.entries old.layer.entries es e m in
     subst (IsRowOf old.store c.in-Some.key.now.numbers) (sym (c.take.ensures.same r n.lead.state c.loop-key.invariant.own n.own n.row)) n.row
 
 pub returns-in_default-clause-own : goal.returns-in_default-clause-own
@@ -70,8 +70,8 @@ returns-in_default-clause-own g c =
     let es = c.next.new.self in
     let e : StateRow × code.Prefixes = (c.in-Some.key.now, c.in-Some.prefixes.now) in
     let at : c.loop-key.key-iterator ≡ (c.in-Some.key.now, c.in-Some.prefixes.now) ∷ c.next.new.self = first_of (search (rules, c.in-Some.ensures.steps), cc (c.in-Some.ensures.steps, c.in-Some.key-is, c.in-Some.prefixes-is), grind (arith, c.in-Some.ensures.steps, c.in-Some.key-is, c.in-Some.prefixes-is), assumption c.in-Some.ensures.steps) in
-    let m = subst (Making r l.gates l.steps d old.store old.ended.entries old.layer.entries) at c.loop-key.invariant.making in
-    let n = making_next r l.gates l.steps d old.store old.ended.entries old.layer.entries es e m in
+    let m = subst (Making r l.discipline l.steps d old.store old.ended.entries old.layer.entries) at c.loop-key.invariant.making in
+    let n = making_next r l.discipline l.steps d old.store old.ended.entries old.layer.entries es e m in
     c.take.ensures.own r n.lead.state c.loop-key.invariant.own n.own n.row
 
 pub returns-then-len-most-clause-own : goal.returns-then-len-most-clause-own
@@ -83,8 +83,8 @@ returns-then-len-most-clause-own g c =
     let es = c.next.new.self in
     let e : StateRow × code.Prefixes = (c.in-Some.key.now, c.in-Some.prefixes.now) in
     let at : c.loop-key.key-iterator ≡ (c.in-Some.key.now, c.in-Some.prefixes.now) ∷ c.next.new.self = first_of (search (rules, c.in-Some.ensures.steps), cc (c.in-Some.ensures.steps, c.in-Some.key-is, c.in-Some.prefixes-is), grind (arith, c.in-Some.ensures.steps, c.in-Some.key-is, c.in-Some.prefixes-is), assumption c.in-Some.ensures.steps) in
-    let m = subst (Making r l.gates l.steps d old.store old.ended.entries old.layer.entries) at c.loop-key.invariant.making in
-    let n = making_next r l.gates l.steps d old.store old.ended.entries old.layer.entries es e m in
+    let m = subst (Making r l.discipline l.steps d old.store old.ended.entries old.layer.entries) at c.loop-key.invariant.making in
+    let n = making_next r l.discipline l.steps d old.store old.ended.entries old.layer.entries es e m in
     c.take.ensures.own r n.lead.state c.loop-key.invariant.own n.own n.row
 
 pub take_choices-requires-clause-row : goal.take_choices-requires-clause-row
@@ -99,10 +99,10 @@ take_choices-requires-clause-room g c =
     let es = c.next.new.self in
     let e : StateRow × code.Prefixes = (c.in-Some.key.now, c.in-Some.prefixes.now) in
     let at : c.loop-key.key-iterator ≡ (c.in-Some.key.now, c.in-Some.prefixes.now) ∷ c.next.new.self = first_of (search (rules, c.in-Some.ensures.steps), cc (c.in-Some.ensures.steps, c.in-Some.key-is, c.in-Some.prefixes-is), grind (arith, c.in-Some.ensures.steps, c.in-Some.key-is, c.in-Some.prefixes-is), assumption c.in-Some.ensures.steps) in
-    let m = subst (Making r l.gates l.steps d old.store old.ended.entries old.layer.entries) at c.loop-key.invariant.making in
+    let m = subst (Making r l.discipline l.steps d old.store old.ended.entries old.layer.entries) at c.loop-key.invariant.making in
     let due = c.requires.due in
     let most = l.few_choices in
-    making_room r l.gates l.steps d old.store old.ended.entries old.layer.entries es e (omega (arith, due, most)) m
+    making_room r l.discipline l.steps d old.store old.ended.entries old.layer.entries es e (omega (arith, due, most)) m
 
 pub take_choices-requires-clause-small : goal.take_choices-requires-clause-small
 take_choices-requires-clause-small g c =
@@ -113,8 +113,8 @@ take_choices-requires-clause-small g c =
     let es = c.next.new.self in
     let e : StateRow × code.Prefixes = (c.in-Some.key.now, c.in-Some.prefixes.now) in
     let at : c.loop-key.key-iterator ≡ (c.in-Some.key.now, c.in-Some.prefixes.now) ∷ c.next.new.self = first_of (search (rules, c.in-Some.ensures.steps), cc (c.in-Some.ensures.steps, c.in-Some.key-is, c.in-Some.prefixes-is), grind (arith, c.in-Some.ensures.steps, c.in-Some.key-is, c.in-Some.prefixes-is), assumption c.in-Some.ensures.steps) in
-    let m = subst (Making r l.gates l.steps d old.store old.ended.entries old.layer.entries) at c.loop-key.invariant.making in
-    making_small r l.gates l.steps d old.store old.ended.entries old.layer.entries es e m
+    let m = subst (Making r l.discipline l.steps d old.store old.ended.entries old.layer.entries) at c.loop-key.invariant.making in
+    making_small r l.discipline l.steps d old.store old.ended.entries old.layer.entries es e m
 
 pub returns-then-len-most-clause-many : goal.returns-then-len-most-clause-many
 returns-then-len-most-clause-many g c =
@@ -125,13 +125,13 @@ returns-then-len-most-clause-many g c =
     let es = c.next.new.self in
     let e : StateRow × code.Prefixes = (c.in-Some.key.now, c.in-Some.prefixes.now) in
     let at : c.loop-key.key-iterator ≡ (c.in-Some.key.now, c.in-Some.prefixes.now) ∷ c.next.new.self = first_of (search (rules, c.in-Some.ensures.steps), cc (c.in-Some.ensures.steps, c.in-Some.key-is, c.in-Some.prefixes-is), grind (arith, c.in-Some.ensures.steps, c.in-Some.key-is, c.in-Some.prefixes-is), assumption c.in-Some.ensures.steps) in
-    let m = subst (Making r l.gates l.steps d old.store old.ended.entries old.layer.entries) at c.loop-key.invariant.making in
-    let n = making_next r l.gates l.steps d old.store old.ended.entries old.layer.entries es e m in
+    let m = subst (Making r l.discipline l.steps d old.store old.ended.entries old.layer.entries) at c.loop-key.invariant.making in
+    let n = making_next r l.discipline l.steps d old.store old.ended.entries old.layer.entries es e m in
     let new = c.take_choices.new.frontier in
     let same : machine_of c.take.new.state ≡ n.lead.state = c.take.ensures.same r n.lead.state c.loop-key.invariant.own n.own n.row in
-    let made = making_more r l.gates l.steps d old.store new.store old.ended.entries new.ended.entries old.layer.entries new.layer.entries es e m (machine_of c.take.new.state) c.requires.own.sound.few c.in-Ok.ensures.kept same (λ f h. c.in-Ok.ensures.front f h) in
+    let made = making_more r l.discipline l.steps d old.store new.store old.ended.entries new.ended.entries old.layer.entries new.layer.entries es e m (machine_of c.take.new.state) c.requires.own.sound.few c.in-Ok.ensures.kept same (λ f h. c.in-Ok.ensures.front f h) in
     let many : c.args.most < length new.layer.entries = omega arith in
-    making_many r l.gates l.steps d c.args.most new.store new.ended.entries new.layer.entries es many made
+    making_many r l.discipline l.steps d c.args.most new.store new.ended.entries new.layer.entries es many made
 
 pub loop-key-preserved : goal.loop-key-preserved
 loop-key-preserved g c =
@@ -142,11 +142,11 @@ loop-key-preserved g c =
     let es = c.next.new.self in
     let e : StateRow × code.Prefixes = (c.in-Some.key.now, c.in-Some.prefixes.now) in
     let at : c.loop-key.key-iterator ≡ (c.in-Some.key.now, c.in-Some.prefixes.now) ∷ c.next.new.self = first_of (search (rules, c.in-Some.ensures.steps), cc (c.in-Some.ensures.steps, c.in-Some.key-is, c.in-Some.prefixes-is), grind (arith, c.in-Some.ensures.steps, c.in-Some.key-is, c.in-Some.prefixes-is), assumption c.in-Some.ensures.steps) in
-    let m = subst (Making r l.gates l.steps d old.store old.ended.entries old.layer.entries) at c.loop-key.invariant.making in
-    let n = making_next r l.gates l.steps d old.store old.ended.entries old.layer.entries es e m in
+    let m = subst (Making r l.discipline l.steps d old.store old.ended.entries old.layer.entries) at c.loop-key.invariant.making in
+    let n = making_next r l.discipline l.steps d old.store old.ended.entries old.layer.entries es e m in
     let new = c.take_choices.new.frontier in
     let same : machine_of c.take.new.state ≡ n.lead.state = c.take.ensures.same r n.lead.state c.loop-key.invariant.own n.own n.row in
-    let made = making_more r l.gates l.steps d old.store new.store old.ended.entries new.ended.entries old.layer.entries new.layer.entries es e m (machine_of c.take.new.state) c.requires.own.sound.few c.in-Ok.ensures.kept same (λ f h. c.in-Ok.ensures.front f h) in
+    let made = making_more r l.discipline l.steps d old.store new.store old.ended.entries new.ended.entries old.layer.entries new.layer.entries es e m (machine_of c.take.new.state) c.requires.own.sound.few c.in-Ok.ensures.kept same (λ f h. c.in-Ok.ensures.front f h) in
     let is = subst (IsRowOf old.store c.in-Some.key.now.numbers) (sym same) n.row in
     record {
       own = c.take.ensures.own r n.lead.state c.loop-key.invariant.own n.own n.row;
@@ -162,4 +162,4 @@ returns-clause-front g c =
     let r = c.args.program.now in
     let l = c.args.limits in
     let front = c.loop-key.frontier in
-    making_done r l.gates l.steps c.args.depth front.store front.ended.entries front.layer.entries (subst (Making r l.gates l.steps c.args.depth front.store front.ended.entries front.layer.entries) c.in-None.ensures.steps.0 c.loop-key.invariant.making)
+    making_done r l.discipline l.steps c.args.depth front.store front.ended.entries front.layer.entries (subst (Making r l.discipline l.steps c.args.depth front.store front.ended.entries front.layer.entries) c.in-None.ensures.steps.0 c.loop-key.invariant.making)

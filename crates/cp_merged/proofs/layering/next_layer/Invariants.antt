@@ -10,5 +10,5 @@ invariant-loop-key g l =
       row : IsRowOf l.frontier.store l.row.numbers (machine_of l.state);
       next_row : IsRowOf l.frontier.store l.next_row.numbers (machine_of l.next);
       few : length l.frontier.layer.entries ≤ l.most;
-      making : Making l.program l.limits.gates l.limits.steps l.depth l.frontier.store l.frontier.ended.entries l.frontier.layer.entries l.key-iterator;
+      making : Making l.program l.limits.discipline l.limits.steps l.depth l.frontier.store l.frontier.ended.entries l.frontier.layer.entries l.key-iterator;
     }

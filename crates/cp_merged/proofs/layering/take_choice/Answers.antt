@@ -19,7 +19,7 @@ pub add-added-requires-clause-bound : goal.add-added-requires-clause-bound
 add-added-requires-clause-bound g c =
     let m = machine_of c.args.state.now in
     let n = machine_of c.choose-halt.new.state in
-    let bounds = choice_bounds c.args.program.now c.args.limits.gates c.args.limits.steps c.args.state.now c.args.process c.choose-halt.result n c.requires.own c.requires.may c.choose-halt.ensures.node in
+    let bounds = choice_bounds c.args.program.now c.args.limits.discipline c.args.limits.steps c.args.state.now c.args.process c.choose-halt.result n c.requires.own c.requires.may c.choose-halt.ensures.node in
     subst (λ before. KeepBindings before n) c.requires.copied (λ (nothing : NothingStarts m n). bounds.bound nothing.0 nothing.1)
 
 pub take_moved-requires-clause-kept : goal.take_moved-requires-clause-kept
@@ -58,8 +58,8 @@ returns-in-Ended-clause-front g c =
     let word = c.args.prefixes.now.first.items in
     let count = c.args.prefixes.now.count in
     let long : c.push.new.self.items ≡ word ++ c.args.process ∷ [] = c.push.ensures.items in
-    choice_holds c.add-added.result r l.gates l.steps old.store new.store old.ended.entries new.ended.entries old.layer.entries new.layer.entries m word c.push.new.self.items count c.args.process node c.requires.may c.choose-halt.ensures.node long
-    (ok_to c.add-added.result _ (λ _. (f : layers.Front Machine) → Holds r old.store old.ended.entries old.layer.entries f → Holds r new.store new.ended.entries new.layer.entries (layers.arrived (slots r l.gates) same_outcome same_key c.push.new.self.items count node f)) c.add-added.ensures.front (λ a on f h. on r l.gates f c.choose-halt.ensures.own h))
+    choice_holds c.add-added.result r l.discipline l.steps old.store new.store old.ended.entries new.ended.entries old.layer.entries new.layer.entries m word c.push.new.self.items count c.args.process node c.requires.may c.choose-halt.ensures.node long
+    (ok_to c.add-added.result _ (λ _. (f : layers.Front Machine) → Holds r old.store old.ended.entries old.layer.entries f → Holds r new.store new.ended.entries new.layer.entries (layers.arrived (slots r l.discipline) same_outcome same_key c.push.new.self.items count node f)) c.add-added.ensures.front (λ a on f h. on r l.discipline f c.choose-halt.ensures.own h))
 
 pub returns-in-Choice-clause-front : goal.returns-in-Choice-clause-front
 returns-in-Choice-clause-front g c =
@@ -72,8 +72,8 @@ returns-in-Choice-clause-front g c =
     let word = c.args.prefixes.now.first.items in
     let count = c.args.prefixes.now.count in
     let long : c.push.new.self.items ≡ word ++ c.args.process ∷ [] = c.push.ensures.items in
-    choice_holds c.add-added.result r l.gates l.steps old.store new.store old.ended.entries new.ended.entries old.layer.entries new.layer.entries m word c.push.new.self.items count c.args.process node c.requires.may c.choose-halt.ensures.node long
-    (ok_to c.add-added.result _ (λ _. (f : layers.Front Machine) → Holds r old.store old.ended.entries old.layer.entries f → Holds r new.store new.ended.entries new.layer.entries (layers.arrived (slots r l.gates) same_outcome same_key c.push.new.self.items count node f)) c.add-added.ensures.front (λ a on f h. on r l.gates f c.choose-halt.ensures.own h))
+    choice_holds c.add-added.result r l.discipline l.steps old.store new.store old.ended.entries new.ended.entries old.layer.entries new.layer.entries m word c.push.new.self.items count c.args.process node c.requires.may c.choose-halt.ensures.node long
+    (ok_to c.add-added.result _ (λ _. (f : layers.Front Machine) → Holds r old.store old.ended.entries old.layer.entries f → Holds r new.store new.ended.entries new.layer.entries (layers.arrived (slots r l.discipline) same_outcome same_key c.push.new.self.items count node f)) c.add-added.ensures.front (λ a on f h. on r l.discipline f c.choose-halt.ensures.own h))
 
 pub returns-in-Ended-clause-same : goal.returns-in-Ended-clause-same
 returns-in-Ended-clause-same g c =

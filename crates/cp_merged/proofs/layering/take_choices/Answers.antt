@@ -20,7 +20,7 @@ take_choice-requires-clause-copied g c = c.take.ensures.same c.args.program.now 
 pub take_choice-requires-clause-may : goal.take_choice-requires-clause-may
 take_choice-requires-clause-may g c =
     let s = machine_of c.args.state.now in
-    let sys = slots c.args.program.now c.args.limits.gates in
+    let sys = slots c.args.program.now c.args.limits.discipline in
     let i = c.loop-process.process-index in
     let all = c.as_slice-process-items.result.now in
     let listed : all ≡ those_below sys.processes (may sys s) = c.as_slice-process-items.ensures.value ∙ c.candidates-numbers.ensures in
@@ -31,7 +31,7 @@ take_choice-requires-clause-may g c =
 pub take_choice-requires-clause-small : goal.take_choice-requires-clause-small
 take_choice-requires-clause-small g c =
     let s = machine_of c.args.state.now in
-    let sys = slots c.args.program.now c.args.limits.gates in
+    let sys = slots c.args.program.now c.args.limits.discipline in
     let x : layers.Lead Machine = record { state = s; first = c.args.prefixes.now.first.items; count = c.args.prefixes.now.count } in
     let i = c.loop-process.process-index in
     let numbers = c.as_slice-process-items.result.now in
@@ -67,7 +67,7 @@ pub loop-process-preserved : goal.loop-process-preserved
 loop-process-preserved g c =
     let s = machine_of c.args.state.now in
     let r = c.args.program.now in
-    let sys = slots r c.args.limits.gates in
+    let sys = slots r c.args.limits.discipline in
     let steps = c.args.limits.steps in
     let word = c.args.prefixes.now.first.items in
     let count = c.args.prefixes.now.count in
@@ -95,7 +95,7 @@ pub returns-clause-front : goal.returns-clause-front
 returns-clause-front g c = λ f h.
     (let s = machine_of c.args.state.now in
     let r = c.args.program.now in
-    let sys = slots r c.args.limits.gates in
+    let sys = slots r c.args.limits.discipline in
     let steps = c.args.limits.steps in
     let x : layers.Lead Machine = record { state = s; first = c.args.prefixes.now.first.items; count = c.args.prefixes.now.count } in
     let i = c.loop-process.process-index in

@@ -11,5 +11,5 @@ invariant-loop-process g l =
       row : IsRowOf l.frontier.store l.row.numbers (machine_of l.next);
       known : IsRowOf l.frontier.store l.known.numbers (machine_of l.state);
       kept : KeepParts l.initial.frontier.store l.frontier.store;
-      front : (f : layers.Front Machine) → Holds l.program l.initial.frontier.store l.initial.frontier.ended.entries l.initial.frontier.layer.entries f → Holds l.program l.frontier.store l.frontier.ended.entries l.frontier.layer.entries (after_list (slots l.program l.limits.gates) same_outcome same_key l.limits.steps (record { state = machine_of l.state; first = l.prefixes.first.items; count = l.prefixes.count }) (take l.process-index l.process-items) f);
+      front : (f : layers.Front Machine) → Holds l.program l.initial.frontier.store l.initial.frontier.ended.entries l.initial.frontier.layer.entries f → Holds l.program l.frontier.store l.frontier.ended.entries l.frontier.layer.entries (after_list (slots l.program l.limits.discipline) same_outcome same_key l.limits.steps (record { state = machine_of l.state; first = l.prefixes.first.items; count = l.prefixes.count }) (take l.process-index l.process-items) f);
     }

@@ -10,11 +10,11 @@ returns-in_ok-end_line-in-Whole g c =
     let s = c.args.subject in
     let written = c.in_ok-write_findings-in-Whole in
     let line = c.in_ok-end_line-in-Whole in
-    tells_whole s c.args.form (string_bytes written.field-0) line.field-0 c.in-Whole.tallies (subst (IsFoundOf (slots s.program.now s.limits.gates) s.limits.choices s.limits.steps) c.in-Whole.is c.in_ok-tallies.ensures.found) (subst (IsMeantFinding s.program.now s.limits.gates s.limits.choices s.limits.steps) c.in-Whole.is c.in_ok-tallies.ensures.meaning) written.ensures.text written.ensures.json line.ensures.text line.ensures.json
+    tells_whole s c.args.form (string_bytes written.field-0) line.field-0 c.in-Whole.tallies (subst (IsFoundOf (slots s.program.now s.limits.discipline) s.limits.choices s.limits.steps) c.in-Whole.is c.in_ok-tallies.ensures.found) (subst (IsMeantFinding s.program.now s.limits.discipline s.limits.choices s.limits.steps) c.in-Whole.is c.in_ok-tallies.ensures.meaning) written.ensures.text written.ensures.json line.ensures.text line.ensures.json
 
 pub returns-in_ok-end_line-in-TooMany : goal.returns-in_ok-end_line-in-TooMany
 returns-in_ok-end_line-in-TooMany g c =
     let s = c.args.subject in
     let written = c.in_ok-excess_written-in-TooMany in
     let line = c.in_ok-end_line-in-TooMany in
-    tells_excess s c.args.form (string_bytes written.field-0) line.field-0 c.in-TooMany.excess c.in-TooMany.known (subst (IsFoundOf (slots s.program.now s.limits.gates) s.limits.choices s.limits.steps) c.in-TooMany.is c.in_ok-tallies.ensures.found) (subst (IsMeantFinding s.program.now s.limits.gates s.limits.choices s.limits.steps) c.in-TooMany.is c.in_ok-tallies.ensures.meaning) written.ensures.text written.ensures.json line.ensures.text line.ensures.json
+    tells_excess s c.args.form (string_bytes written.field-0) line.field-0 c.in-TooMany.excess c.in-TooMany.known (subst (IsFoundOf (slots s.program.now s.limits.discipline) s.limits.choices s.limits.steps) c.in-TooMany.is c.in_ok-tallies.ensures.found) (subst (IsMeantFinding s.program.now s.limits.discipline s.limits.choices s.limits.steps) c.in-TooMany.is c.in_ok-tallies.ensures.meaning) written.ensures.text written.ensures.json line.ensures.text line.ensures.json

@@ -24,6 +24,6 @@ returns-in-Some-2 g c =
     let at = subst (λ (ts : List code.Tally). with_number (in_order (map tally_of ts)) c.args.number ≡ slice_get (map tally_of ts) place) c.as_slice.ensures.value c.in-Some.ensures.is in
     let within : place < length ts = subst (λ (ts : List code.Tally). place < length ts) c.as_slice.ensures.value c.in-Some.ensures.within in
     let chosen = has_number ts c.args.number place t at within (c.index-as_slice-place.is ∙ ap (λ (ts : List code.Tally). get_or ts place t) c.as_slice-2.ensures.value) in
-    let schedule = subst (λ o. IfSome o (λ s. IsScheduleOf (slots job.program.now job.limits.gates) job.limits.choices job.limits.steps s.now.word.items t.outcome)) c.in-Some-2.is c.in_ok-simple.ensures in
+    let schedule = subst (λ o. IfSome o (λ s. IsScheduleOf (slots job.program.now job.limits.discipline) job.limits.choices job.limits.steps s.now.word.items t.outcome)) c.in-Some-2.is c.in_ok-simple.ensures in
     let word = c.word_of.ensures ∙ c.as_slice-in-Some-2.ensures.value in
-    subst (λ o. IsSchedule job (length (in_order (map tally_of ts))) o (first.Word c.word_of.result)) (sym chosen) (subst (λ w. IsScheduleOf (slots job.program.now job.limits.gates) job.limits.choices job.limits.steps w t.outcome) (sym word) schedule)
+    subst (λ o. IsSchedule job (length (in_order (map tally_of ts))) o (first.Word c.word_of.result)) (sym chosen) (subst (λ w. IsScheduleOf (slots job.program.now job.limits.discipline) job.limits.choices job.limits.steps w t.outcome) (sym word) schedule)

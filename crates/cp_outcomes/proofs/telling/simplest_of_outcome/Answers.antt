@@ -15,7 +15,7 @@ returns-in-Whole g c =
     let job = c.args.job in
     let number = c.args.number in
     let ts = c.in-Whole.tallies in
-    let found = subst (IsFoundOf (slots job.program.now job.limits.gates) job.limits.choices job.limits.steps) c.in-Whole.is c.in_ok-finding.ensures in
+    let found = subst (IsFoundOf (slots job.program.now job.limits.discipline) job.limits.choices job.limits.steps) c.in-Whole.is c.in_ok-finding.ensures in
     IfOk-weaker c.simplest_among.result (IsSchedule job (length (in_order (map tally_of ts))) (with_number (in_order (map tally_of ts)) number)) (IsChosen job number (IsSchedule job)) (λ chosen so. chosen_among job number (IsSchedule job) chosen (Whole ts) found so) c.simplest_among.ensures
 
 pub returns : goal.returns

@@ -14,9 +14,9 @@ use Rattle.cp_run.proofs.observing.observe_stretch.Goals.{else-loop-test, then-l
 pub loop-preserved : goal.loop-preserved
 loop-preserved g c =
     let r = c.args.program.now in
-    let gates = c.args.limits.gates in
-    let sys = slots_by g.O.Observe.IS_SILENT r gates in
-    let fold = g.O.Observe.fold r gates in
+    let discipline = c.args.limits.discipline in
+    let sys = slots_by g.O.Observe.IS_SILENT r discipline in
+    let fold = g.O.Observe.fold r discipline in
     let lt : c.loop.counter < c.args.limits.steps = omega arith in
     let left = c.args.limits.steps - c.loop.counter in
     let p = c.in-Goes.process in
@@ -35,7 +35,7 @@ loop-preserved g c =
       seen = λ x h.
           (let so_far = c.loop.invariant.seen x h in
           let y = so_far.0 in
-          let expects = subst (λ m. g.O.Observe.expects c.expect_step.new.observer r gates m p y) (sym same) (expected.expects c.if-branch.false y so_far.1) in
+          let expects = subst (λ m. g.O.Observe.expects c.expect_step.new.observer r discipline m p y) (sym same) (expected.expects c.if-branch.false y so_far.1) in
           let z = fold.on_step (machine_of c.expect_step.new.state) p (sys.event (machine_of c.expect_step.new.state) p) t y in
           (z, made.seen y expects, fold_further sys fold c.args.limits.steps c.loop.counter s t p (sys.event s p) c.in_ok-next.next (fold_turn (fold_stretch sys fold c.args.limits.steps (machine_of c.args.state.now)) c.args.turn x) y z lt state refl turn (so_far.2 ∙ ap (λ u. fold_turn (fold_stretch sys fold left s) u y) c.in-Goes.is) (ap (λ m. fold.on_step m p (sys.event m p) t y) same)));
       steps = let none = expected.none c.if-branch.false in let more = made.steps in let so_far = c.loop.invariant.steps in omega (arith, none, more, so_far);
@@ -44,9 +44,9 @@ loop-preserved g c =
 pub loop-preserved-then-branch : goal.loop-preserved-then-branch
 loop-preserved-then-branch g c =
     let r = c.args.program.now in
-    let gates = c.args.limits.gates in
-    let sys = slots_by g.O.Observe.IS_SILENT r gates in
-    let fold = g.O.Observe.fold r gates in
+    let discipline = c.args.limits.discipline in
+    let sys = slots_by g.O.Observe.IS_SILENT r discipline in
+    let fold = g.O.Observe.fold r discipline in
     let lt : c.loop.counter < c.args.limits.steps = omega arith in
     let left = c.args.limits.steps - c.loop.counter in
     let p = c.in-Goes.process in
@@ -70,7 +70,7 @@ loop-preserved-then-branch g c =
 
 pub returns-clause-walked : goal.returns-clause-walked
 returns-clause-walked g c =
-    let sys = slots_by g.O.Observe.IS_SILENT c.args.program.now c.args.limits.gates in
+    let sys = slots_by g.O.Observe.IS_SILENT c.args.program.now c.args.limits.discipline in
     let left = c.args.limits.steps - c.loop.counter in
     c.loop.invariant.walked
     ∙ walked_up sys left (machine_of c.loop.state) c.loop.next (elim c.loop-test.branch [
@@ -81,9 +81,9 @@ returns-clause-walked g c =
 pub returns-clause-seen : goal.returns-clause-seen
 returns-clause-seen g c = λ x h.
     (let r = c.args.program.now in
-    let gates = c.args.limits.gates in
-    let sys = slots_by g.O.Observe.IS_SILENT r gates in
-    let fold = g.O.Observe.fold r gates in
+    let discipline = c.args.limits.discipline in
+    let sys = slots_by g.O.Observe.IS_SILENT r discipline in
+    let fold = g.O.Observe.fold r discipline in
     let left = c.args.limits.steps - c.loop.counter in
     let s = machine_of c.loop.state in
     let so_far = c.loop.invariant.seen x h in
@@ -91,4 +91,4 @@ returns-clause-seen g c = λ x h.
       | else-loop-test w ↦ let over = w.loop-test.false in goes_always c.loop.next (left ≡ 0) (omega (arith, over))
       | then-loop-test+in_default w ↦ goes_none c.loop.next (left ≡ 0) w.in_default.not-Goes
     ]) in
-    subst (g.O.Observe.holds c.loop.observer r gates s) (sym (so_far.2 ∙ done)) so_far.1)
+    subst (g.O.Observe.holds c.loop.observer r discipline s) (sym (so_far.2 ∙ done)) so_far.1)

@@ -18,8 +18,8 @@ pub returns : goal.returns
 returns g c =
     let b = g.O.Observe.IS_SILENT in
     let r = c.args.program.now in
-    let gates = c.args.limits.gates in
-    let fold = g.O.Observe.fold r gates in
+    let discipline = c.args.limits.discipline in
+    let fold = g.O.Observe.fold r discipline in
     let s = machine_of c.args.state.now in
     let p = c.args.process in
     let o = c.see_step.new.self in
@@ -29,9 +29,9 @@ returns g c =
     let step = c.step-event.ensures.after in
     let left_so = c.leave.ensures.state ∙ ap (λ b. left_by b n) c.is_silent.ensures in
     record {
-      state = made_by b r gates s n t p event step left_so;
-      turn = follows_by b r gates s n t p event step left_so c.turn_of.result c.turn_of.ensures.turn;
-      seen = λ x h. subst (λ e. g.O.Observe.holds o r gates t (fold.on_step s p e t x)) (told_by b r gates s n t p event step left_so) (subst (λ m. g.O.Observe.holds o r gates m (fold.on_step s p event m x)) (sym left_so) (c.in_ok-see_step.ensures s x step h));
+      state = made_by b r discipline s n t p event step left_so;
+      turn = follows_by b r discipline s n t p event step left_so c.turn_of.result c.turn_of.ensures.turn;
+      seen = λ x h. subst (λ e. g.O.Observe.holds o r discipline t (fold.on_step s p e t x)) (told_by b r discipline s n t p event step left_so) (subst (λ m. g.O.Observe.holds o r discipline m (fold.on_step s p event m x)) (sym left_so) (c.in_ok-see_step.ensures s x step h));
       own = c.leave.ensures.own;
       ready = c.turn_of.ensures.ready;
       free = c.turn_of.ensures.free;

@@ -9,7 +9,7 @@ use Rattle.cp_run.proofs.runs.run_counted.Goals as goal
 
 pub returns-in-Ended-clause-answer : goal.returns-in-Ended-clause-answer
 returns-in-Ended-clause-answer g c =
-    let sys = slots c.args.program.now c.args.limits.gates in
+    let sys = slots c.args.program.now c.args.limits.discipline in
     let m = machine_of c.loop-place.state in
     let n = c.loop-place.place in
     let k = c.args.limits.choices - n in
@@ -18,7 +18,7 @@ returns-in-Ended-clause-answer g c =
 
 pub returns-then-place-limits-clause-answer : goal.returns-then-place-limits-clause-answer
 returns-then-place-limits-clause-answer g c =
-    let sys = slots c.args.program.now c.args.limits.gates in
+    let sys = slots c.args.program.now c.args.limits.discipline in
     let m = machine_of c.loop-place.state in
     let n = c.loop-place.place in
     let k = c.args.limits.choices - n in
@@ -27,7 +27,7 @@ returns-then-place-limits-clause-answer g c =
 
 pub returns-then-not-may-clause-answer : goal.returns-then-not-may-clause-answer
 returns-then-not-may-clause-answer g c =
-    let sys = slots c.args.program.now c.args.limits.gates in
+    let sys = slots c.args.program.now c.args.limits.discipline in
     let m = machine_of c.loop-place.state in
     let n = c.loop-place.place in
     let k = c.args.limits.choices - n in
@@ -42,7 +42,7 @@ choose-halt-requires-clause-may g c = sym c.may.ensures ∙ c.if-not-may.false
 
 pub loop-place-preserved : goal.loop-place-preserved
 loop-place-preserved g c =
-    let sys = slots c.args.program.now c.args.limits.gates in
+    let sys = slots c.args.program.now c.args.limits.discipline in
     let m = machine_of c.loop-place.state in
     let n = c.loop-place.place in
     let k = c.args.limits.choices - n in
@@ -63,7 +63,7 @@ loop-place-preserved g c =
 
 pub returns-clause-answer : goal.returns-clause-answer
 returns-clause-answer g c =
-    let sys = slots c.args.program.now c.args.limits.gates in
+    let sys = slots c.args.program.now c.args.limits.discipline in
     let word = c.args.word.now in
     let node = node_of c.loop-place.halt (machine_of c.loop-place.state) in
     let at : c.loop-place.place ≡ length word = omega arith in

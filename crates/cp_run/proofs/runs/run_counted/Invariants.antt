@@ -6,6 +6,6 @@ invariant-loop-place g l =
     record {
       own : IsStateOf l.program l.state;
       within : l.place ≤ l.limits.choices;
-      same : run (slots l.program l.limits.gates) l.limits.choices l.limits.steps l.word ≡ further l.place (run_from (slots l.program l.limits.gates) l.limits.steps (l.limits.choices - l.place) (drop l.place l.word) (node_of l.halt (machine_of l.state)));
+      same : run (slots l.program l.limits.discipline) l.limits.choices l.limits.steps l.word ≡ further l.place (run_from (slots l.program l.limits.discipline) l.limits.steps (l.limits.choices - l.place) (drop l.place l.word) (node_of l.halt (machine_of l.state)));
       ticks : l.ticks ≤ l.fn.ticks + (l.place + 1) * l.limits.steps;
     }

@@ -6,7 +6,7 @@ use Rattle.cp_run.proofs.traces.trace.Goals as goal
 
 pub returns : goal.returns
 returns g c =
-    let sys = slots c.args.program.now c.args.limits.gates in
+    let sys = slots c.args.program.now c.args.limits.discipline in
     let lines = c.in_ok-end.ensures.seen [] c.new.ensures.items ∙ is_traced sys c.args.limits.choices c.args.limits.steps c.args.word.now in
     record {
       lines = lines;

@@ -13,7 +13,7 @@ returns-in-Some g c =
     let es = c.args.reading.now.expectations.items in
     let doubtful = option_map (λ w. w.now) c.args.reading.now.doubtful in
     let limits = c.limits.result in
-    let is_known = subst (λ found. IfSome found (IsKnownOf (slots x.program.now limits.gates) limits.choices limits.steps)) c.in-Some.is c.in_ok-found.ensures in
+    let is_known = subst (λ found. IfSome found (IsKnownOf (slots x.program.now limits.discipline) limits.choices limits.steps)) c.in-Some.is c.in_ok-found.ensures in
     IfOk-weaker c.known_text.result _ (λ t. IsExcessTold (setting_of x) es doubtful (string_bytes t)) (λ t is. known_told x limits es doubtful c.args.excess c.in-Some.known (string_bytes t) c.limits.ensures is_known is) c.known_text.ensures
 
 pub returns-in-None : goal.returns-in-None

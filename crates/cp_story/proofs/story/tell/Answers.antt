@@ -18,8 +18,8 @@ pub returns : goal.returns
 returns g c =
     let l = legend_seen c.args.legend.now in
     let r = c.args.program.now in
-    let gates = c.args.limits.gates in
-    let sys = slots r gates in
+    let discipline = c.args.limits.discipline in
+    let sys = slots r discipline in
     let choices = c.args.limits.choices in
     let steps = c.args.limits.steps in
     let word = c.args.word.now in
@@ -31,7 +31,7 @@ returns g c =
     let ran = c.in_ok-end.ensures in
     let begun = c.in_ok-observer.observer in
     let items = c.new-events.result.items in
-    let whole = run_told r gates choices steps word l begun items (machine_of c.in_ok-state.state) (telling_of teller.observer teller.events.items, lines_of teller.events.items) c.new-events.ensures.items c.in_ok-state.ensures.opening c.in_ok-observer.ensures (ran.seen (telling_of begun items, lines_of items) refl) in
+    let whole = run_told r discipline choices steps word l begun items (machine_of c.in_ok-state.state) (telling_of teller.observer teller.events.items, lines_of teller.events.items) c.new-events.ensures.items c.in_ok-state.ensures.opening c.in_ok-observer.ensures (ran.seen (telling_of begun items, lines_of items) refl) in
     record {
       lines = whole.lines;
       told = ap (λ (t : Telling). t.events) whole.told;

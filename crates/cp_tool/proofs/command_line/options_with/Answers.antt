@@ -71,8 +71,8 @@ returns-in_err-parse_number-5 c = finds_none (HasOptions (rows_of (found_of c.ar
 pub returns-in_err-gates_for : goal.returns-in_err-gates_for
 returns-in_err-gates_for c = finds_none (HasOptions (rows_of (found_of c.args.matches.now))) c.from_residual-in_err-gates_for.result c.from_residual-in_err-gates_for.ensures (λ o has.
     let text = c.get_str-7.ensures ∙ first_value-rows (found_of c.args.matches.now) (codes "gates") in
-    let given = subst (λ (t : Option Text). IsGatedFor (asks_first (rows_of (found_of c.args.matches.now))) t o.gates) (sym text) has.gates in
-    c.in_err-gates_for.ensures o.gates (subst (λ (b : Bool). IsGatedFor b (option_map (λ s. s.now) c.get_str-7.result) o.gates) (sym (ap₂ (λ a b. a || b) c.requires.kind.waits c.requires.kind.at_once)) given))
+    let given = subst (λ (t : Option Text). IsGatedFor (asks_first (rows_of (found_of c.args.matches.now))) t o.discipline) (sym text) has.gates in
+    c.in_err-gates_for.ensures o.discipline (subst (λ (b : Bool). IsGatedFor b (option_map (λ s. s.now) c.get_str-7.result) o.discipline) (sym (ap₂ (λ a b. a || b) c.requires.kind.waits c.requires.kind.at_once)) given))
 
 pub returns : goal.returns
 returns c =

@@ -10,11 +10,11 @@ returns-in_ok-merged_report-in-Ok g c = merged_by c.args.options.now c.limits-li
 pub returns-in_ok-to_string-in-Err-TooManyStates : goal.returns-in_ok-to_string-in-Err-TooManyStates
 returns-in_ok-to_string-in-Err-TooManyStates g c =
     let l = c.limits-limits.result in
-    let due = subst (IsDueFault (slots c.args.program.now l.gates) l.choices l.steps c.args.options.now.states) c.in-Err-TooManyStates.field-0-is c.in-Err-TooManyStates.ensures.fault in
+    let due = subst (IsDueFault (slots c.args.program.now l.discipline) l.choices l.steps c.args.options.now.states) c.in-Err-TooManyStates.field-0-is c.in-Err-TooManyStates.ensures.fault in
     merged_by c.args.options.now l c.args.program.now _ _ c.limits-limits.ensures (inr (inl (refl, due, c.new.ensures ∙ c.in_ok-to_string-in-Err-TooManyStates.ensures.ok)))
 
 pub returns-in_ok-to_string-in-Err-TooManyOutcomes : goal.returns-in_ok-to_string-in-Err-TooManyOutcomes
 returns-in_ok-to_string-in-Err-TooManyOutcomes g c =
     let l = c.limits-limits.result in
-    let due = subst (IsDueFault (slots c.args.program.now l.gates) l.choices l.steps c.args.options.now.states) c.in-Err-TooManyOutcomes.field-0-is c.in-Err-TooManyOutcomes.ensures.fault in
+    let due = subst (IsDueFault (slots c.args.program.now l.discipline) l.choices l.steps c.args.options.now.states) c.in-Err-TooManyOutcomes.field-0-is c.in-Err-TooManyOutcomes.ensures.fault in
     merged_by c.args.options.now l c.args.program.now _ _ c.limits-limits.ensures (inr (inr (refl, due, c.new-in-Err-TooManyOutcomes.ensures ∙ c.in_ok-to_string-in-Err-TooManyOutcomes.ensures.ok)))

@@ -10,5 +10,5 @@ returns-clause-mark g c = c.in_ok-marked.ensures _ (ap (map tally_of) c.as_slice
 pub returns-clause-meaning : goal.returns-clause-meaning
 returns-clause-meaning g c =
     let job = c.args.job in
-    on_names (λ lines. IsMarked job.program.now.names c.args.expectations.now lines c.in_ok-marked.marked) job.program.now job.limits.gates job.limits.choices job.limits.steps
+    on_names (λ lines. IsMarked job.program.now.names c.args.expectations.now lines c.in_ok-marked.marked) job.program.now job.limits.discipline job.limits.choices job.limits.steps
     (c.in_ok-marked.ensures _ (ap (map tally_of) c.as_slice.ensures.value ∙ c.in_ok-tallies.ensures))

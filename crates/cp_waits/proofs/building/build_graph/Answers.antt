@@ -11,14 +11,14 @@ pub visit_all-requires-clause-begun : goal.visit_all-requires-clause-begun
 visit_all-requires-clause-begun g c =
     let job = c.args.job.now in
     let r = job.program.now in
-    let gates = job.limits.gates in
+    let discipline = job.limits.discipline in
     let steps = job.limits.steps in
-    let quiet = silent_slots r gates in
+    let quiet = silent_slots r discipline in
     let told = c.open.new.self.told in
     let last = machine_of c.open.new.state in
     let count = c.new-2.ensures.processes ∙ c.processes.ensures.value in
-    let comes : Comes r gates steps (first_leg quiet steps) [] told.seen c.halt-halt.result last = subst (λ h. Comes r gates steps (first_leg quiet steps) [] told.seen h last) (sym c.halt-halt.ensures) c.in_ok-arrived.ensures.leg in
-    let still = c.in_ok-note_standstill.ensures.still r gates steps (first_leg quiet steps) [] told.seen last c.processes.ensures.sound.few count (first_of_stretch quiet steps) comes in
+    let comes : Comes r discipline steps (first_leg quiet steps) [] told.seen c.halt-halt.result last = subst (λ h. Comes r discipline steps (first_leg quiet steps) [] told.seen h last) (sym c.halt-halt.ensures) c.in_ok-arrived.ensures.leg in
+    let still = c.in_ok-note_standstill.ensures.still r discipline steps (first_leg quiet steps) [] told.seen last c.processes.ensures.sound.few count (first_of_stretch quiet steps) comes in
     record {
       ends = c.in_ok-arrived.ensures.begun;
       graph = λ states more. graph_begun quiet in_call_on_slots waits_on_slots steps states c.new-2.result _ c.new-2.ensures.standstills c.new-2.ensures.edges c.new-2.ensures.ends count still c.note_standstill.ensures.processes c.note_standstill.ensures.ends c.note_standstill.ensures.edges;
@@ -28,4 +28,4 @@ pub returns : goal.returns
 returns g c =
     let job = c.args.job.now in
     let stopped = c.in_ok-stopped.stopped in
-    graph_noted job.program.now job.limits.gates job.limits.steps job.most c.visit_all.new.visit.graph c.visit_all.new.visit.ends.found stopped stopped c.in_ok-stopped.ensures.searched
+    graph_noted job.program.now job.limits.discipline job.limits.steps job.most c.visit_all.new.visit.graph c.visit_all.new.visit.ends.found stopped stopped c.in_ok-stopped.ensures.searched

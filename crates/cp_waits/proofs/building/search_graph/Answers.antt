@@ -9,14 +9,14 @@ use Rattle.cp_waits.proofs.building.search_graph.Goals.{then-most-eq0, else-most
 pub returns : goal.returns
 returns g c =
     let r = c.args.program.now in
-    let gates = c.args.limits.gates in
+    let discipline = c.args.limits.discipline in
     let steps = c.args.limits.steps in
     let most = c.if-most-eq0.states in
     record {
-      answer = λ some. ok_to c.build_graph.result _ _ c.build_graph.ensures (λ x h. subst (λ n. IsAnswer r gates steps n x.found) (elim c.if-most-eq0.branch [
+      answer = λ some. ok_to c.build_graph.result _ _ c.build_graph.ensures (λ x h. subst (λ n. IsAnswer r discipline steps n x.found) (elim c.if-most-eq0.branch [
         | then-most-eq0 w ↦ absurd (omega (arith, some, w.if-most-eq0))
         | else-most-eq0 w ↦ w.states-is
-      ]) (says r gates steps most x.found (search_of r gates steps most x.graph x.found x.found.stopped h)));
-      kept = ok_to c.build_graph.result _ _ c.build_graph.ensures (λ x h. let a = says r gates steps most x.found (search_of r gates steps most x.graph x.found x.found.stopped h) in (a.findings, a.holds));
-      graph = ok_to c.build_graph.result _ _ c.build_graph.ensures (λ x h whole. has_graph r gates steps most x.graph x.found x.found.stopped h whole);
+      ]) (says r discipline steps most x.found (search_of r discipline steps most x.graph x.found x.found.stopped h)));
+      kept = ok_to c.build_graph.result _ _ c.build_graph.ensures (λ x h. let a = says r discipline steps most x.found (search_of r discipline steps most x.graph x.found x.found.stopped h) in (a.findings, a.holds));
+      graph = ok_to c.build_graph.result _ _ c.build_graph.ensures (λ x h whole. has_graph r discipline steps most x.graph x.found x.found.stopped h whole);
     }

@@ -12,38 +12,38 @@ loop-place-init g c =
     record {
       own = c.open-halt.ensures.own;
       within = omega arith;
-      due = due_opened c.args.program.now c.args.limits.gates c.args.limits.steps c.open-halt.result c.open-halt.new.state c.open-halt.ensures.own c.open-halt.ensures.node;
-      same = let e : c.args.limits.choices - 0 ≡ c.args.limits.choices = omega arith in nothing_replayed (slots c.args.program.now c.args.limits.gates) c.args.limits.choices c.args.limits.steps c.args.word.now (node_of c.open-halt.result (machine_of c.open-halt.new.state)) c.open-halt.ensures.node ∙ ap (λ k. map (behind []) (rows_from (slots c.args.program.now c.args.limits.gates) c.args.limits.steps k c.args.word.now (node_of c.open-halt.result (machine_of c.open-halt.new.state)))) (sym e);
+      due = due_opened c.args.program.now c.args.limits.discipline c.args.limits.steps c.open-halt.result c.open-halt.new.state c.open-halt.ensures.own c.open-halt.ensures.node;
+      same = let e : c.args.limits.choices - 0 ≡ c.args.limits.choices = omega arith in nothing_replayed (slots c.args.program.now c.args.limits.discipline) c.args.limits.choices c.args.limits.steps c.args.word.now (node_of c.open-halt.result (machine_of c.open-halt.new.state)) c.open-halt.ensures.node ∙ ap (λ k. map (behind []) (rows_from (slots c.args.program.now c.args.limits.discipline) c.args.limits.steps k c.args.word.now (node_of c.open-halt.result (machine_of c.open-halt.new.state)))) (sym e);
     }
 
 pub returns-then-is_over-clause-rows : goal.returns-then-is_over-clause-rows
 returns-then-is_over-clause-rows g c =
     let n = c.loop-place.place in
-    let sys = slots c.args.program.now c.args.limits.gates in
+    let sys = slots c.args.program.now c.args.limits.discipline in
     ap (map line_of) c.new-rows.ensures.items ∙ sym (c.loop-place.invariant.same ∙ ap (map (behind (take n c.args.word.now))) (none_over sys c.args.limits.steps (c.args.limits.choices - n) (get_or c.args.word.now n 0) (drop n c.args.word.now) (drop (n + 1) c.args.word.now) c.loop-place.halt (machine_of c.loop-place.state) (drop_next c.args.word.now n (omega arith)) (sym c.is_over.ensures ∙ c.if-is_over.true)))
 
 pub returns-then-not-may-clause-rows : goal.returns-then-not-may-clause-rows
 returns-then-not-may-clause-rows g c =
     let n = c.loop-place.place in
-    let sys = slots c.args.program.now c.args.limits.gates in
+    let sys = slots c.args.program.now c.args.limits.discipline in
     ap (map line_of) c.new-rows.ensures.items ∙ sym (c.loop-place.invariant.same ∙ ap (map (behind (take n c.args.word.now))) (refused_rows sys c.args.limits.steps (c.args.limits.choices - n) (get_or c.args.word.now n 0) (drop n c.args.word.now) (drop (n + 1) c.args.word.now) c.loop-place.halt (machine_of c.loop-place.state) (drop_next c.args.word.now n (omega arith)) (sym c.is_over.ensures ∙ c.if-is_over.false) (sym c.may.ensures ∙ c.if-not-may.true)))
 
 pub loop-place-preserved : goal.loop-place-preserved
 loop-place-preserved g c =
     let n = c.loop-place.place in
-    let sys = slots c.args.program.now c.args.limits.gates in
+    let sys = slots c.args.program.now c.args.limits.discipline in
     let going = sym c.is_over.ensures ∙ c.if-is_over.false in
     let more = some_left (c.args.limits.choices - n) c.loop-place.halt going in
     record {
       own = c.choose-halt.ensures.own;
       within = omega (arith, more);
-      due = due_chosen c.args.program.now c.args.limits.gates c.args.limits.steps (machine_of c.loop-place.state) (get_or c.args.word.now n 0) c.choose-halt.result c.choose-halt.new.state c.choose-halt.ensures.own c.choose-halt.ensures.node;
+      due = due_chosen c.args.program.now c.args.limits.discipline c.args.limits.steps (machine_of c.loop-place.state) (get_or c.args.word.now n 0) c.choose-halt.result c.choose-halt.new.state c.choose-halt.ensures.own c.choose-halt.ensures.node;
       same = c.loop-place.invariant.same ∙ replayed sys c.args.limits.steps c.args.limits.choices n c.args.word.now c.loop-place.halt (machine_of c.loop-place.state) (node_of c.choose-halt.result (machine_of c.choose-halt.new.state)) (omega arith) going (sym c.may.ensures ∙ c.if-not-may.false) c.choose-halt.ensures.node;
     }
 
 pub returns-clause-rows : goal.returns-clause-rows
 returns-clause-rows g c =
-    let sys = slots c.args.program.now c.args.limits.gates in
+    let sys = slots c.args.program.now c.args.limits.discipline in
     let n = c.loop-place.place in
     let all : n ≡ length c.args.word.now = omega arith in
     let node = node_of c.loop-place.halt (machine_of c.loop-place.state) in
@@ -51,7 +51,7 @@ returns-clause-rows g c =
 
 pub returns-in_err-walk_on-clause-many : goal.returns-in_err-walk_on-clause-many
 returns-in_err-walk_on-clause-many g c =
-    let sys = slots c.args.program.now c.args.limits.gates in
+    let sys = slots c.args.program.now c.args.limits.discipline in
     let n = c.loop-place.place in
     let all : n ≡ length c.args.word.now = omega arith in
     let node = node_of c.loop-place.halt (machine_of c.loop-place.state) in

@@ -6,6 +6,6 @@ invariant-loop-place g l =
     record {
       own : IsStateOf l.program l.state;
       within : l.place ≤ l.limits.choices;
-      due : IsDue (slots l.program l.limits.gates) (node_of l.halt (machine_of l.state));
-      same : rows_behind (slots l.program l.limits.gates) l.limits.choices l.limits.steps l.word ≡ map (behind (take l.place l.word)) (rows_from (slots l.program l.limits.gates) l.limits.steps (l.limits.choices - l.place) (drop l.place l.word) (node_of l.halt (machine_of l.state)));
+      due : IsDue (slots l.program l.limits.discipline) (node_of l.halt (machine_of l.state));
+      same : rows_behind (slots l.program l.limits.discipline) l.limits.choices l.limits.steps l.word ≡ map (behind (take l.place l.word)) (rows_from (slots l.program l.limits.discipline) l.limits.steps (l.limits.choices - l.place) (drop l.place l.word) (node_of l.halt (machine_of l.state)));
     }

@@ -18,7 +18,7 @@ use Rattle.cp_walk.proofs.walk.+walk_from.Goals as goal
 pub walk_from-returns-in-Ended : goal.walk_from-returns-in-Ended
 walk_from-returns-in-Ended g t c =
     let s = machine_of c.args.state.now in
-    let sys = slots c.args.program.now c.args.limits.gates in
+    let sys = slots c.args.program.now c.args.limits.discipline in
     let steps = c.args.limits.steps in
     let n = length c.args.kept.now in
     let word = c.args.word.now.items in
@@ -42,7 +42,7 @@ walk_from-returns-in-Ended g t c =
 pub walk_from-returns-in_default-split_first_mut : goal.walk_from-returns-in_default-split_first_mut
 walk_from-returns-in_default-split_first_mut g t c =
     let s = machine_of c.args.state.now in
-    let sys = slots c.args.program.now c.args.limits.gates in
+    let sys = slots c.args.program.now c.args.limits.discipline in
     let steps = c.args.limits.steps in
     let n = length c.args.kept.now in
     let word = c.args.word.now.items in
@@ -66,7 +66,7 @@ walk_from-returns-in_default-split_first_mut g t c =
 pub walk_from-unreachable-requires : goal.walk_from-unreachable-requires
 walk_from-unreachable-requires g t c =
     let s = machine_of c.args.state.now in
-    let sys = slots c.args.program.now c.args.limits.gates in
+    let sys = slots c.args.program.now c.args.limits.discipline in
     let due = subst (λ h. IsDue sys (node_of h s)) (not_ended c.args.halt c.in_default.not-Ended) c.requires.due in
     none_due sys s c.as_slice.result.now (c.as_slice.ensures.value ∙ c.candidates-numbers.ensures) c.in_default-split_last.ensures.cases due
 
@@ -86,7 +86,7 @@ walk_from-loop-process-init g t c =
 pub walk_from-walk_child-requires : goal.walk_from-walk_child-requires
 walk_from-walk_child-requires g t c =
     let s = machine_of c.args.state.now in
-    let sys = slots c.args.program.now c.args.limits.gates in
+    let sys = slots c.args.program.now c.args.limits.discipline in
     let i = c.loop-process.process-index in
     let others = c.in-Some-split_last.others.now in
     let last = c.in-Some-split_last.last.now in
@@ -98,7 +98,7 @@ walk_from-walk_child-requires g t c =
 pub walk_from-loop-process-preserved : goal.walk_from-loop-process-preserved
 walk_from-loop-process-preserved g t c =
     let s = machine_of c.args.state.now in
-    let sys = slots c.args.program.now c.args.limits.gates in
+    let sys = slots c.args.program.now c.args.limits.discipline in
     let steps = c.args.limits.steps in
     let i = c.loop-process.process-index in
     let others = c.in-Some-split_last.others.now in
@@ -127,7 +127,7 @@ walk_from-loop-process-preserved g t c =
 pub walk_from-returns-in_err-walk_child : goal.walk_from-returns-in_err-walk_child
 walk_from-returns-in_err-walk_child g t c =
     let s = machine_of c.args.state.now in
-    let sys = slots c.args.program.now c.args.limits.gates in
+    let sys = slots c.args.program.now c.args.limits.discipline in
     let steps = c.args.limits.steps in
     let i = c.loop-process.process-index in
     let others = c.in-Some-split_last.others.now in
@@ -158,7 +158,7 @@ walk_from-returns-in_err-walk_child g t c =
 pub walk_from-walk_child-requires-2 : goal.walk_from-walk_child-requires-2
 walk_from-walk_child-requires-2 g t c =
     let s = machine_of c.args.state.now in
-    let sys = slots c.args.program.now c.args.limits.gates in
+    let sys = slots c.args.program.now c.args.limits.discipline in
     let others = c.in-Some-split_last.others.now in
     let last = c.in-Some-split_last.last.now in
     let listed : others ++ last ∷ [] ≡ those_below sys.processes (may sys s) = sym c.in-Some-split_last.ensures.cases.0 ∙ c.as_slice.ensures.value ∙ c.candidates-numbers.ensures in
@@ -168,7 +168,7 @@ walk_from-walk_child-requires-2 g t c =
 pub walk_from-returns : goal.walk_from-returns
 walk_from-returns g t c =
     let s = machine_of c.args.state.now in
-    let sys = slots c.args.program.now c.args.limits.gates in
+    let sys = slots c.args.program.now c.args.limits.discipline in
     let steps = c.args.limits.steps in
     let others = c.in-Some-split_last.others.now in
     let last = c.in-Some-split_last.last.now in
@@ -202,7 +202,7 @@ walk_from-returns g t c =
 
 pub walk_child-walk_once-requires : goal.walk_child-walk_once-requires
 walk_child-walk_once-requires g t c =
-    let due : IsDue (slots c.args.program.now c.args.limits.gates) (node_of c.choose-halt.result (machine_of c.choose-halt.new.state)) = due_chosen c.args.program.now c.args.limits.gates c.args.limits.steps (machine_of c.args.state.now) c.args.process c.choose-halt.result c.choose-halt.new.state c.choose-halt.ensures.own c.choose-halt.ensures.node in
+    let due : IsDue (slots c.args.program.now c.args.limits.discipline) (node_of c.choose-halt.result (machine_of c.choose-halt.new.state)) = due_chosen c.args.program.now c.args.limits.discipline c.args.limits.steps (machine_of c.args.state.now) c.args.process c.choose-halt.result c.choose-halt.new.state c.choose-halt.ensures.own c.choose-halt.ensures.node in
     search (rules, due)
 
 -- the word without its last number
@@ -213,7 +213,7 @@ popped word p =
 
 pub walk_child-returns : goal.walk_child-returns
 walk_child-returns g t c =
-    let sys = slots c.args.program.now c.args.limits.gates in
+    let sys = slots c.args.program.now c.args.limits.discipline in
     let steps = c.args.limits.steps in
     let n = length c.args.deeper.now in
     let rows = map line_of c.args.rows.now.items in
@@ -232,7 +232,7 @@ walk_child-returns g t c =
 
 pub walk_child-returns-in_err-walk_once : goal.walk_child-returns-in_err-walk_once
 walk_child-returns-in_err-walk_once g t c =
-    let sys = slots c.args.program.now c.args.limits.gates in
+    let sys = slots c.args.program.now c.args.limits.discipline in
     let n = length c.args.deeper.now in
     let same = ap (λ x. length (walk sys c.args.limits.steps n x)) c.choose-halt.ensures.node in
     record {
@@ -251,7 +251,7 @@ pub walk_once-add_replayed-requires : goal.walk_once-add_replayed-requires
 walk_once-add_replayed-requires g t c =
     let s = machine_of c.args.state.now in
     let r = c.args.program.now in
-    let gates = c.args.limits.gates in
+    let discipline = c.args.limits.discipline in
     let steps = c.args.limits.steps in
     let choices = c.args.limits.choices in
     let rows = map line_of c.args.rows.now.items in
@@ -261,8 +261,8 @@ walk_once-add_replayed-requires g t c =
     let span = c.in-Some-find.span in
     let key = c.in-Some.key.bytes.items in
     let keyed : key ≡ left ∷ core_key s = subst (λ o. IfSome o (λ k. k.bytes.items ≡ left ∷ core_key s)) c.in-Some.is c.in-Ok.ensures.key in
-    let walked : AreWalked (slots r gates) steps choices rows nodes = subst (AreWalked (slots r gates) steps choices rows) (sym c.key_of.ensures.nodes) c.requires.walked in
-    let known = known_node r gates steps choices rows nodes s left word span key keyed walked (sym c.find.ensures ∙ c.in-Some-find.is) c.requires.deep in
+    let walked : AreWalked (slots r discipline) steps choices rows nodes = subst (AreWalked (slots r discipline) steps choices rows) (sym c.key_of.ensures.nodes) c.requires.walked in
+    let known = known_node r discipline steps choices rows nodes s left word span key keyed walked (sym c.find.ensures ∙ c.in-Some-find.is) c.requires.deep in
     let some = known.some in
     let within = known.within in
     let count = length-map c.args.rows.now.items line_of in
@@ -277,7 +277,7 @@ pub walk_once-returns-in-Some-find : goal.walk_once-returns-in-Some-find
 walk_once-returns-in-Some-find g t c =
     let s = machine_of c.args.state.now in
     let r = c.args.program.now in
-    let gates = c.args.limits.gates in
+    let discipline = c.args.limits.discipline in
     let steps = c.args.limits.steps in
     let choices = c.args.limits.choices in
     let rows = map line_of c.args.rows.now.items in
@@ -287,21 +287,21 @@ walk_once-returns-in-Some-find g t c =
     let span = c.in-Some-find.span in
     let key = c.in-Some.key.bytes.items in
     let keyed : key ≡ left ∷ core_key s = subst (λ o. IfSome o (λ k. k.bytes.items ≡ left ∷ core_key s)) c.in-Some.is c.in-Ok.ensures.key in
-    let walked : AreWalked (slots r gates) steps choices rows nodes = subst (AreWalked (slots r gates) steps choices rows) (sym c.key_of.ensures.nodes) c.requires.walked in
-    let known = known_node r gates steps choices rows nodes s left word span key keyed walked (sym c.find.ensures ∙ c.in-Some-find.is) c.requires.deep in
+    let walked : AreWalked (slots r discipline) steps choices rows nodes = subst (AreWalked (slots r discipline) steps choices rows) (sym c.key_of.ensures.nodes) c.requires.walked in
+    let known = known_node r discipline steps choices rows nodes s left word span key keyed walked (sym c.find.ensures ∙ c.in-Some-find.is) c.requires.deep in
     let due = not_ended c.args.halt c.in_default.not-Ended in
     let count = known.count in
-    let same = ap (λ h. length (walk (slots r gates) steps left (node_of h s))) due in
+    let same = ap (λ h. length (walk (slots r discipline) steps left (node_of h s))) due in
     let some = known.some in
-    let begun_by = some_beginnings (walk (slots r gates) steps left (node_of c.args.halt s)) (omega (arith, some, count, same)) in
+    let begun_by = some_beginnings (walk (slots r discipline) steps left (node_of c.args.halt s)) (omega (arith, some, count, same)) in
     record {
-      rows = ok_as c.add_replayed.result _ (λ _. map line_of c.add_replayed.new.rows.items ≡ rows ++ map (behind word) (walk (slots r gates) steps left (node_of c.args.halt s))) c.add_replayed.ensures.rows (λ a h. h ∙ ap (λ w. rows ++ map (begun w s.output) (within_span span rows)) c.as_slice.ensures.value ∙ ap (λ ls. rows ++ ls) known.same ∙ ap (λ k. rows ++ map (behind word) (walk (slots r gates) steps left (node_of k s))) (sym due));
+      rows = ok_as c.add_replayed.result _ (λ _. map line_of c.add_replayed.new.rows.items ≡ rows ++ map (behind word) (walk (slots r discipline) steps left (node_of c.args.halt s))) c.add_replayed.ensures.rows (λ a h. h ∙ ap (λ w. rows ++ map (begun w s.output) (within_span span rows)) c.as_slice.ensures.value ∙ ap (λ ls. rows ++ ls) known.same ∙ ap (λ k. rows ++ map (behind word) (walk (slots r discipline) steps left (node_of k s))) (sym due));
       word = if_ok _ c.add_replayed.result refl;
-      walked = walked_if (slots r gates) steps choices rows _ (map line_of c.add_replayed.new.rows.items) nodes c.add_replayed.result c.add_replayed.ensures.rows walked;
+      walked = walked_if (slots r discipline) steps choices rows _ (map line_of c.add_replayed.new.rows.items) nodes c.add_replayed.result c.add_replayed.ensures.rows walked;
       own = c.requires.own;
       kept = c.requires.kept;
       few = c.add_replayed.ensures.few;
-      many = err_then c.add_replayed.result _ (λ e. IsTooMany e → 50000 < length c.args.rows.now.items + length (walk (slots r gates) steps left (node_of c.args.halt s))) c.add_replayed.ensures.many (λ e h many. let more = h many in omega (arith, more, count, same));
+      many = err_then c.add_replayed.result _ (λ e. IsTooMany e → 50000 < length c.args.rows.now.items + length (walk (slots r discipline) steps left (node_of c.args.halt s))) c.add_replayed.ensures.many (λ e h many. let more = h many in omega (arith, more, count, same));
       some = if_ok _ c.add_replayed.result (omega (arith, some, count, same));
       calls = if_ok _ c.add_replayed.result (omega (arith, begun_by));
     }
@@ -310,7 +310,7 @@ pub walk_once-returns : goal.walk_once-returns
 walk_once-returns g t c =
     let s = machine_of c.args.state.now in
     let r = c.args.program.now in
-    let gates = c.args.limits.gates in
+    let discipline = c.args.limits.discipline in
     let steps = c.args.limits.steps in
     let choices = c.args.limits.choices in
     let rows = map line_of c.args.rows.now.items in
@@ -318,7 +318,7 @@ walk_once-returns g t c =
     let left = length c.args.kept.now in
     let key = c.in-Some.key.bytes.items in
     let keyed : key ≡ left ∷ core_key s = subst (λ o. IfSome o (λ k. k.bytes.items ≡ left ∷ core_key s)) c.in-Some.is c.in-Ok.ensures.key in
-    let sys = slots r gates in
+    let sys = slots r discipline in
     let new = map line_of c.walk_from-2.new.rows.items in
     let span : Span = record { first = c.len-first.result; end = c.len-end.result } in
     let due = not_ended c.args.halt c.in_default.not-Ended in
@@ -378,7 +378,7 @@ walk_once-returns-in_default-key_of g t c = record {
 
 pub walk_once-returns-in_err-walk_from : goal.walk_once-returns-in_err-walk_from
 walk_once-returns-in_err-walk_from g t c =
-    let sys = slots c.args.program.now c.args.limits.gates in
+    let sys = slots c.args.program.now c.args.limits.discipline in
     record {
       rows = not_ok c.from_residual.result _ _ c.from_residual.ensures.1;
       word = not_ok c.from_residual.result _ _ c.from_residual.ensures.1;

@@ -15,11 +15,11 @@ decreases-walk_once g l = 3 * length l.kept.now + 1
 abbrev pub invariant-walk_from-loop-process : goal.invariant-walk_from-loop-process
 invariant-walk_from-loop-process g l =
     record {
-      rows : map line_of l.rows.items ≡ map line_of l.fn.rows.items ++ map (behind l.fn.word.items) (behind_each (slots l.program l.limits.gates) l.limits.steps (length l.deeper) (machine_of l.state) (take l.process-index l.others));
+      rows : map line_of l.rows.items ≡ map line_of l.fn.rows.items ++ map (behind l.fn.word.items) (behind_each (slots l.program l.limits.discipline) l.limits.steps (length l.deeper) (machine_of l.state) (take l.process-index l.others));
       word : l.word.items ≡ l.fn.word.items;
       few : length l.rows.items ≤ 50000;
       next : IsStateOf l.program l.next;
       deeper : All (IsStateOf l.program) l.deeper;
-      walked : AreWalked (slots l.program l.limits.gates) l.limits.steps l.limits.choices (map line_of l.rows.items) l.walked.nodes.entries;
-      calls : l.calls ≤ l.fn.calls + added [] (words_in (behind_each (slots l.program l.limits.gates) l.limits.steps (length l.deeper) (machine_of l.state) (take l.process-index l.others)));
+      walked : AreWalked (slots l.program l.limits.discipline) l.limits.steps l.limits.choices (map line_of l.rows.items) l.walked.nodes.entries;
+      calls : l.calls ≤ l.fn.calls + added [] (words_in (behind_each (slots l.program l.limits.discipline) l.limits.steps (length l.deeper) (machine_of l.state) (take l.process-index l.others)));
     }

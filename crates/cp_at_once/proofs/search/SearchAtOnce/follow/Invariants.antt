@@ -10,5 +10,5 @@ invariant-loop-made g l =
       quiet : output_of (machine_of l.state) ≡ [];
       ahead : IsStateOf l.job.program.now l.self.ahead;
       numbers : length l.origin.numbers.items ≤ l.made + 1;
-      found : (states : List (Machine × List ℕ)) (word : List ℕ) (a : SlotArrival) → Holds l.job.program.now (slot_graph l.job.program.now l.job.limits.gates l.job.limits.steps) l.job.most l.initial.self.found states → IsWordOf states l.initial.origin word → ArrivesAt (slot_graph l.job.program.now l.job.limits.gates l.job.limits.steps) word a → goal_at l.initial.arrival (machine_of l.initial.state) ≡ a.goal → l.initial.self.told.values.items ≡ a.shown → Going l.job.program.now (slot_graph l.job.program.now l.job.limits.gates l.job.limits.steps) (HasLeg l.job.program.now l.job.limits.gates) l.job.most l.initial.self.found states l.self.found a (goal_at l.arrival (machine_of l.state)) l.self.told.values.items l.origin l.made;
+      found : (states : List (Machine × List ℕ)) (word : List ℕ) (a : SlotArrival) → Holds l.job.program.now (slot_graph l.job.program.now l.job.limits.discipline l.job.limits.steps) l.job.most l.initial.self.found states → IsWordOf states l.initial.origin word → ArrivesAt (slot_graph l.job.program.now l.job.limits.discipline l.job.limits.steps) word a → goal_at l.initial.arrival (machine_of l.initial.state) ≡ a.goal → l.initial.self.told.values.items ≡ a.shown → Going l.job.program.now (slot_graph l.job.program.now l.job.limits.discipline l.job.limits.steps) (HasLeg l.job.program.now l.job.limits.discipline) l.job.most l.initial.self.found states l.self.found a (goal_at l.arrival (machine_of l.state)) l.self.told.values.items l.origin l.made;
     }

@@ -7,6 +7,6 @@ pub returns : goal.returns
 returns g c =
     let job = c.args._job.now in
     let r = job.program.now in
-    let gr = slot_graph r job.limits.gates job.limits.steps in
+    let gr = slot_graph r job.limits.discipline job.limits.steps in
     let m = c.requires.0 in
-    (c.requires.1.0, through_more r gr (HasLeg r job.limits.gates) job.most c.args.self.now.found c.args._at m (those_below gr.below (gr.may m)) c.requires.1.1 (λ p may. is_among (slots r job.limits.gates) m p may))
+    (c.requires.1.0, through_more r gr (HasLeg r job.limits.discipline) job.most c.args.self.now.found c.args._at m (those_below gr.below (gr.may m)) c.requires.1.1 (λ p may. is_among (slots r job.limits.discipline) m p may))

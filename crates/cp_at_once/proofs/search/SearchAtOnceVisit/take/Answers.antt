@@ -12,8 +12,8 @@ pub returns-clause-within : goal.returns-clause-within
 returns-clause-within g c =
     let job = c.args.job.now in
     let r = job.program.now in
-    let gr = slot_graph r job.limits.gates job.limits.steps in
-    let Leg = HasLeg r job.limits.gates in
+    let gr = slot_graph r job.limits.discipline job.limits.steps in
+    let Leg = HasLeg r job.limits.discipline in
     let f = c.args.self.now.found in
     let h = c.follow.new.self.found in
     let m = machine_of c.args.state.now in
@@ -29,8 +29,8 @@ pub returns-clause-stops : goal.returns-clause-stops
 returns-clause-stops g c =
     let job = c.args.job.now in
     let r = job.program.now in
-    let gr = slot_graph r job.limits.gates job.limits.steps in
-    let Leg = HasLeg r job.limits.gates in
+    let gr = slot_graph r job.limits.discipline job.limits.steps in
+    let Leg = HasLeg r job.limits.discipline in
     let f = c.args.self.now.found in
     let h = c.follow.new.self.found in
     let m = machine_of c.args.state.now in

@@ -10,7 +10,7 @@ pub returns-clause-within : goal.returns-clause-within
 returns-clause-within g c = λ room.
     (let job = c.args.job.now in
     let r = job.program.now in
-    let sys = slots r job.limits.gates in
+    let sys = slots r job.limits.discipline in
     let m = machine_of c.args.state.now in
     let p = c.args.process in
     let next = c.arrive.new.self.known.keys in

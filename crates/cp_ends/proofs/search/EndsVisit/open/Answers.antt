@@ -12,14 +12,14 @@ unfolding searched
 returns-clause-begun g c =
     let job = c.args.job.now in
     let r = job.program.now in
-    let a : SlotArrival = (slot_graph r job.limits.gates job.limits.steps).start in
+    let a : SlotArrival = (slot_graph r job.limits.discipline job.limits.steps).start in
     ok_to c.arrive.result _ _ c.arrive.ensures.arrives (λ b on. start_found r job.most c.arrive.new.self a b c.requires.most (on nothing [] a (record { holds = c.requires.nothing; few = omega arith }) refl tt c.in_ok-halt.ensures.goal (c.as_slice-values.ensures.value ∙ c.in_ok-halt.ensures.shown ∙ ap (λ l. l ++ a.shown) c.clear.ensures.items)))
 
 pub returns-clause-leg : goal.returns-clause-leg
 returns-clause-leg g c =
     let job = c.args.job.now in
     let r = job.program.now in
-    let gates = job.limits.gates in
-    let quiet = silent_slots r gates in
+    let discipline = job.limits.discipline in
+    let quiet = silent_slots r discipline in
     let told = c.open.new.told in
-    ok_to c.arrive.result _ _ c.arrive.ensures.halt (λ b halts. subst (λ (h : Halt End). ComesTo quiet (λ w. g.P.Sight.sees w r gates) job.limits.steps (first_leg quiet job.limits.steps) [] told.seen (with_round told.again h) (machine_of c.open.new.state)) (sym halts) c.in_ok-halt.ensures.leg)
+    ok_to c.arrive.result _ _ c.arrive.ensures.halt (λ b halts. subst (λ (h : Halt End). ComesTo quiet (λ w. g.P.Sight.sees w r discipline) job.limits.steps (first_leg quiet job.limits.steps) [] told.seen (with_round told.again h) (machine_of c.open.new.state)) (sym halts) c.in_ok-halt.ensures.leg)

@@ -13,7 +13,7 @@ pub returns-clause-within : goal.returns-clause-within
 returns-clause-within g c =
     let job = c.args.job.now in
     let r = job.program.now in
-    let gr = slot_graph r job.limits.gates job.limits.steps in
+    let gr = slot_graph r job.limits.discipline job.limits.steps in
     let m = machine_of c.args.state.now in
     let p = c.args.process in
     let a : SlotArrival = gr.on m p in
@@ -23,7 +23,7 @@ pub returns-clause-stops : goal.returns-clause-stops
 returns-clause-stops g c =
     let job = c.args.job.now in
     let r = job.program.now in
-    let gr = slot_graph r job.limits.gates job.limits.steps in
+    let gr = slot_graph r job.limits.discipline job.limits.steps in
     let m = machine_of c.args.state.now in
     let p = c.args.process in
     let a : SlotArrival = gr.on m p in
@@ -33,7 +33,7 @@ pub returns-clause-number : goal.returns-clause-number
 returns-clause-number g c =
     let job = c.args.job.now in
     let r = job.program.now in
-    let gr = slot_graph r job.limits.gates job.limits.steps in
+    let gr = slot_graph r job.limits.discipline job.limits.steps in
     let m = machine_of c.args.state.now in
     let p = c.args.process in
     let a : SlotArrival = gr.on m p in
@@ -47,8 +47,8 @@ pub returns-clause-leg : goal.returns-clause-leg
 returns-clause-leg g c =
     let job = c.args.job.now in
     let r = job.program.now in
-    let gates = job.limits.gates in
-    let quiet = silent_slots r gates in
+    let discipline = job.limits.discipline in
+    let quiet = silent_slots r discipline in
     let m = machine_of c.args.state.now in
     let told = c.choose.new.told in
-    ok_to c.arrive.result _ _ c.arrive.ensures.halt (λ b halts. subst (λ (h : Halt End). ComesTo quiet (λ w. g.P.Sight.sees w r gates) job.limits.steps (choice_leg quiet job.limits.steps m c.args.process) (m ∷ []) told.seen (with_round told.again h) (machine_of c.choose.new.state)) (sym halts) c.in_ok-halt.ensures.leg)
+    ok_to c.arrive.result _ _ c.arrive.ensures.halt (λ b halts. subst (λ (h : Halt End). ComesTo quiet (λ w. g.P.Sight.sees w r discipline) job.limits.steps (choice_leg quiet job.limits.steps m c.args.process) (m ∷ []) told.seen (with_round told.again h) (machine_of c.choose.new.state)) (sym halts) c.in_ok-halt.ensures.leg)

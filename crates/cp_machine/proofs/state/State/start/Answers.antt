@@ -13,9 +13,9 @@ returns-clause-own c =
     let R : Machine → Type 0 = λ m. Reaches r (with_status m 0 Ready) in
     record {
       sound = c.in_ok-state.ensures.sound;
-      fits = subst (MachineFits r) (sym c.set_status.ensures.after) (subst P (sym c.in_ok-state.ensures.still) (restatused r _ 0 Ready (still_fits r c.args.gates c.in_ok-state.ensures.sound)));
-      lines = subst LinesFit (sym c.set_status.ensures.after) (subst Q (sym c.in_ok-state.ensures.still) (opening_lines r c.args.gates));
-      reach = subst (Reaches r) (sym c.set_status.ensures.after) (subst R (sym c.in_ok-state.ensures.still) (opening_reaches r c.args.gates c.in_ok-state.ensures.sound c.in_ok-state.ensures.sound.typed c.in_ok-state.ensures.sound.program));
+      fits = subst (MachineFits r) (sym c.set_status.ensures.after) (subst P (sym c.in_ok-state.ensures.still) (restatused r _ 0 Ready (still_fits r c.args.discipline c.in_ok-state.ensures.sound)));
+      lines = subst LinesFit (sym c.set_status.ensures.after) (subst Q (sym c.in_ok-state.ensures.still) (opening_lines r c.args.discipline));
+      reach = subst (Reaches r) (sym c.set_status.ensures.after) (subst R (sym c.in_ok-state.ensures.still) (opening_reaches r c.args.discipline c.in_ok-state.ensures.sound c.in_ok-state.ensures.sound.typed c.in_ok-state.ensures.sound.program));
       reserved = c.set_status.ensures.reserved r c.in_ok-state.ensures.reserved;
     }
 

@@ -15,7 +15,7 @@ returns-clause-row c =
       permanents = record { within = c.in_ok-permanents.ensures.number.0; is = c.in_ok-permanents.ensures.number.1 ∙ c.deref-2.ensures.value };
       bindings = record { within = c.in_ok-bindings.ensures.number.0; is = c.in_ok-bindings.ensures.number.1 ∙ c.deref-3.ensures.value };
       phases = record { within = c.in_ok-phases.ensures.number.0; is = c.in_ok-phases.ensures.number.1 ∙ c.deref-4.ensures.value };
-      admission = subst (λ gs. IsAmong none_gated (map admitted_by c.number_of-5.new.self.all.items) c.in_ok-admission.admission (gated_by gs c.args.state.now.pending c.args.state.now.gates)) c.deref-5.ensures.value c.in_ok-admission.ensures.number;
+      admission = subst (λ gs. IsAmong none_gated (map admitted_by c.number_of-5.new.self.all.items) c.in_ok-admission.admission (gated_by gs c.args.state.now.pending c.args.state.now.discipline)) c.deref-5.ensures.value c.in_ok-admission.ensures.number;
       threads = λ pid lt. absurd (omega (arith, lt));
       zeros = λ k le. after_five c.in_ok-output.output c.in_ok-permanents.permanents c.in_ok-bindings.bindings c.in_ok-phases.phases c.in_ok-admission.admission 16 k (omega (arith, le));
     }

@@ -19,7 +19,7 @@ returns-clause-found c =
       permanents = record { within = c.in_ok-permanents.ensures.found.0; is = c.in_ok-permanents.ensures.found.1 ∙ c.deref-2.ensures.value };
       bindings = record { within = c.in_ok-bindings.ensures.found.0; is = c.in_ok-bindings.ensures.found.1 ∙ c.deref-3.ensures.value };
       phases = record { within = c.in_ok-phases.ensures.found.0; is = c.in_ok-phases.ensures.found.1 ∙ c.deref-4.ensures.value };
-      admission = subst (λ gs. IsAmong none_gated (map admitted_by c.args.self.now.admissions.all.items) c.in_ok-admission.admission (gated_by gs c.args.state.now.pending c.args.state.now.gates)) c.deref-5.ensures.value c.in_ok-admission.ensures.found;
+      admission = subst (λ gs. IsAmong none_gated (map admitted_by c.args.self.now.admissions.all.items) c.in_ok-admission.admission (gated_by gs c.args.state.now.pending c.args.state.now.discipline)) c.deref-5.ensures.value c.in_ok-admission.ensures.found;
       threads = λ pid lt. absurd (omega (arith, lt));
       zeros = λ k le. after_five c.in_ok-output.output c.in_ok-permanents.permanents c.in_ok-bindings.bindings c.in_ok-phases.phases c.in_ok-admission.admission 16 k (omega (arith, le));
     }
@@ -37,4 +37,4 @@ pub returns-in_err-phases-clause-absent : goal.returns-in_err-phases-clause-abse
 returns-in_err-phases-clause-absent c = let lacks : Lacks c.args.self.now (machine_of c.args.state.now) = λ row is. c.in_err-phases.ensures.absent (number_at row 3) is.phases.within (is.phases.is ∙ sym c.deref-4.ensures.value) in none_so _ lacks
 
 pub returns-in_err-admission-clause-absent : goal.returns-in_err-admission-clause-absent
-returns-in_err-admission-clause-absent c = let lacks : Lacks c.args.self.now (machine_of c.args.state.now) = λ row is. c.in_err-admission.ensures.absent (number_at row 4) (subst (λ gs. IsAmong none_gated (map admitted_by c.args.self.now.admissions.all.items) (number_at row 4) (gated_by gs c.args.state.now.pending c.args.state.now.gates)) (sym c.deref-5.ensures.value) is.admission) in none_so _ lacks
+returns-in_err-admission-clause-absent c = let lacks : Lacks c.args.self.now (machine_of c.args.state.now) = λ row is. c.in_err-admission.ensures.absent (number_at row 4) (subst (λ gs. IsAmong none_gated (map admitted_by c.args.self.now.admissions.all.items) (number_at row 4) (gated_by gs c.args.state.now.pending c.args.state.now.discipline)) (sym c.deref-5.ensures.value) is.admission) in none_so _ lacks

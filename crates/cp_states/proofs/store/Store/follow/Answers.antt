@@ -12,7 +12,7 @@ follow_processes-requires-clause-known c =
     let m1 : Machine = record n { output = m.output } in
     let m2 : Machine = record m1 { permanents = m.permanents } in
     let m3 : Machine = record m2 { phases = m.phases } in
-    let m4 : Machine = record m3 { monitors = m.monitors; pending = m.pending; gates = m.gates } in
+    let m4 : Machine = record m3 { monitors = m.monitors; pending = m.pending; discipline = m.discipline } in
     let m5 : Machine = record m4 { threads = m.threads } in
     let r1 = c.in_ok-follow_output.ensures.row n c.requires.known refl in
     let r2 = c.in_ok-follow_permanents.ensures.row m1 r1 refl in
@@ -33,7 +33,7 @@ returns-clause-row c =
     let m1 : Machine = record n { output = m.output } in
     let m2 : Machine = record m1 { permanents = m.permanents } in
     let m3 : Machine = record m2 { phases = m.phases } in
-    let m4 : Machine = record m3 { monitors = m.monitors; pending = m.pending; gates = m.gates } in
+    let m4 : Machine = record m3 { monitors = m.monitors; pending = m.pending; discipline = m.discipline } in
     let m5 : Machine = record m4 { threads = m.threads } in
     let r1 = c.in_ok-follow_output.ensures.row n c.requires.known refl in
     let r2 = c.in_ok-follow_permanents.ensures.row m1 r1 refl in

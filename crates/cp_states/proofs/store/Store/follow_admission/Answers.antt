@@ -12,7 +12,7 @@ use Rattle.cp_states.proofs.store.Store.follow_admission.Goals as goal
 pub returns-then-has_same_monitors-clause-row : goal.returns-then-has_same_monitors-clause-row
 returns-then-has_same_monitors-clause-row c = λ m is e.
     (let same = c.has_same_monitors.ensures c.if-has_same_monitors.true in
-    subst (λ g. IsRowOf c.args.self.now c.args.row.now.numbers (record m { monitors = g.monitors; pending = g.pending; gates = g.gates })) (e ∙ sym same) is)
+    subst (λ g. IsRowOf c.args.self.now c.args.row.now.numbers (record m { monitors = g.monitors; pending = g.pending; discipline = g.discipline })) (e ∙ sym same) is)
 
 pub returns-then-has_same_monitors-clause-kept : goal.returns-then-has_same_monitors-clause-kept
 returns-then-has_same_monitors-clause-kept c = parts_same c.args.self.now
@@ -25,7 +25,7 @@ returns-clause-row c = λ m is e.
     let n = c.in_ok-row.field-0 in
     let row = c.args.row.now.numbers in
     let long = is.long in
-    let has = subst (λ gs. IsAmong none_gated (map admitted_by t.admissions.all.items) n (gated_by gs c.args.state.now.pending c.args.state.now.gates)) c.as_slice-guards.ensures.value c.in_ok-row.ensures.number in
+    let has = subst (λ gs. IsAmong none_gated (map admitted_by t.admissions.all.items) n (gated_by gs c.args.state.now.pending c.args.state.now.discipline)) c.as_slice-guards.ensures.value c.in_ok-row.ensures.number in
     admission_row t row (slice_set row 4 n) m n (gated (machine_of c.args.state.now)) refl (omega (arith, long)) has (row_on s t row m kept is))
 
 pub returns-clause-kept : goal.returns-clause-kept

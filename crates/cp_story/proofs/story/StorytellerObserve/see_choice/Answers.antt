@@ -13,5 +13,5 @@ pub returns : goal.returns
 returns c = λ x seen.
     (let now = c.args.self.now in
     let r = c.args.program.now in
-    let gates = c.args.limits.gates in
-    ap (λ (d : Decision). (choice_taken (telling_of now.observer now.events.items) d, lines_of now.events.items)) c.choice_of.ensures ∙ ap (λ (y : Telling × List TraceLine). (beside (teller r gates) (tracer (slots r gates))).on_choice (machine_of c.args.state.now) c.args.number y) seen)
+    let discipline = c.args.limits.discipline in
+    ap (λ (d : Decision). (choice_taken (telling_of now.observer now.events.items) d, lines_of now.events.items)) c.choice_of.ensures ∙ ap (λ (y : Telling × List TraceLine). (beside (teller r discipline) (tracer (slots r discipline))).on_choice (machine_of c.args.state.now) c.args.number y) seen)

@@ -3,7 +3,7 @@ use Rattle.cp_verdict.proofs.any_length.Judgements.{judged}
 use Rattle.cp_verdict.proofs.endless.judging.judge.Goals as goal
 
 pub returns-clause-slots : goal.returns-clause-slots
-returns-clause-slots c = λ r gates steps most h. judged r gates steps most c.args.known.now h c.args.expectation.now c.judgement_from.result c.first_settling-found.result c.is_settled.result (c.first_settling-found.ensures r.names h.texts) c.is_settled.ensures c.judgement_from.ensures
+returns-clause-slots c = λ r discipline steps most h. judged r discipline steps most c.args.known.now h c.args.expectation.now c.judgement_from.result c.first_settling-found.result c.is_settled.result (c.first_settling-found.ensures r.names h.texts) c.is_settled.ensures c.judgement_from.ensures
 
 pub returns-clause-known : goal.returns-clause-known
 returns-clause-known c = λ names h. (

@@ -6,10 +6,10 @@ use Rattle.cp_verdict.proofs.endless.marking.knowledge.Goals as goal
 pub returns : goal.returns
 returns g c = λ some.
     let r = c.args.subject.program.now in
-    let gates = c.args.subject.limits.gates in
+    let discipline = c.args.subject.limits.discipline in
     let steps = c.args.subject.limits.steps in
     let most = c.args.subject.most in
     let few : most < 2 ^ 32 = search rules in
     let x = c.in_ok-found.field-0 in
     let answer = c.in_ok-found.ensures.answer some in
-    ok_to c.knowledge_of.result _ (λ k. IsKnown r gates steps most k) c.knowledge_of.ensures.known (λ k known. known gates steps most answer (c.lines_of.ensures r gates steps most c.args.asks x.found few answer c.in_ok-found.ensures.waits))
+    ok_to c.knowledge_of.result _ (λ k. IsKnown r discipline steps most k) c.knowledge_of.ensures.known (λ k known. known discipline steps most answer (c.lines_of.ensures r discipline steps most c.args.asks x.found few answer c.in_ok-found.ensures.waits))

@@ -4,6 +4,6 @@ use Rattle.cp_verdict.proofs.any_length.KnownWaits.{known_waits}
 use Rattle.cp_verdict.proofs.endless.marking.lines_of.Goals as goal
 
 pub returns-in-Known : goal.returns-in-Known
-returns-in-Known c = λ r gates steps most asks found few answer told.
-    (let asked = subst (TellAsked r gates steps asks found) c.in-Some.is told in
-    known_waits r gates steps most found c.in-Known.list c.in-Some.told c.in-Known.is asked.1 asked.2 few answer)
+returns-in-Known c = λ r discipline steps most asks found few answer told.
+    (let asked = subst (TellAsked r discipline steps asks found) c.in-Some.is told in
+    known_waits r discipline steps most found c.in-Known.list c.in-Some.told c.in-Known.is asked.1 asked.2 few answer)

@@ -5,19 +5,19 @@ use Rattle.cp_verdict.proofs.endless.marking.mark_list.Goals as goal
 pub returns-clause-mark : goal.returns-clause-mark
 returns-clause-mark g c = λ some can.
     let r = c.args.subject.program.now in
-    let gates = c.args.subject.limits.gates in
+    let discipline = c.args.subject.limits.discipline in
     let steps = c.args.subject.limits.steps in
     let most = c.args.subject.most in
     let k = c.in_ok-known.known in
-    let is_known : IsKnown r gates steps most k = c.in_ok-known.ensures some in
-    marked_so r gates steps most c.args.list.now k is_known c.verdict_on-verdict.result (c.verdict_on-verdict.ensures.slots r gates steps most is_known) c.tell.result c.tell.ensures
+    let is_known : IsKnown r discipline steps most k = c.in_ok-known.ensures some in
+    marked_so r discipline steps most c.args.list.now k is_known c.verdict_on-verdict.result (c.verdict_on-verdict.ensures.slots r discipline steps most is_known) c.tell.result c.tell.ensures
 
 pub returns-clause-meaning : goal.returns-clause-meaning
 returns-clause-meaning g c = λ some can.
     let r = c.args.subject.program.now in
-    let gates = c.args.subject.limits.gates in
+    let discipline = c.args.subject.limits.discipline in
     let steps = c.args.subject.limits.steps in
     let most = c.args.subject.most in
     let k = c.in_ok-known.known in
-    let is_known : IsKnown r gates steps most k = c.in_ok-known.ensures some in
-    meant_so r gates steps most c.args.list.now k is_known c.verdict_on-verdict.result (c.verdict_on-verdict.ensures.slots r gates steps most is_known) c.tell.result c.tell.ensures
+    let is_known : IsKnown r discipline steps most k = c.in_ok-known.ensures some in
+    meant_so r discipline steps most c.args.list.now k is_known c.verdict_on-verdict.result (c.verdict_on-verdict.ensures.slots r discipline steps most is_known) c.tell.result c.tell.ensures

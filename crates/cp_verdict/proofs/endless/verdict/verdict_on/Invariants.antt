@@ -1,10 +1,10 @@
-use Rattle.cp_verdict.proofs.any_length.Vocabulary.{ℕ, take, Gates, Tables, Spellings, on_slots, IsJudgedBy, HasTexts, IsKnown}
+use Rattle.cp_verdict.proofs.any_length.Vocabulary.{ℕ, take, Discipline, Tables, Spellings, on_slots, IsJudgedBy, HasTexts, IsKnown}
 use Rattle.cp_verdict.specs.endless.Marked as spec
 use Rattle.cp_verdict.proofs.endless.verdict.verdict_on.Given as goal
 
 abbrev pub invariant-loop-expectation : goal.invariant-loop-expectation
 invariant-loop-expectation l =
     record {
-      slots : (r : Tables) (gates : Gates) (steps most : ℕ) → IsKnown r gates steps most l.known → spec.IsMarked r.names (on_slots r gates steps) l.known (take l.expectation-index l.list) l.verdict;
+      slots : (r : Tables) (discipline : Discipline) (steps most : ℕ) → IsKnown r discipline steps most l.known → spec.IsMarked r.names (on_slots r discipline steps) l.known (take l.expectation-index l.list) l.verdict;
       known : (names : Spellings) → HasTexts names l.known.values.items → spec.AreJudged (IsJudgedBy names l.known) (take l.expectation-index l.list) l.verdict;
     }

@@ -18,27 +18,27 @@ pub returns : goal.returns
 returns g c = ok_to c.end_state-2.result _ _ c.end_state-2.ensures.ends (λ a ends.
     (let job = c.args.job.now in
     let r = job.program.now in
-    let gates = job.limits.gates in
+    let discipline = job.limits.discipline in
     let steps = job.limits.steps in
-    let quiet = silent_slots r gates in
-    let gr = slot_graph r gates steps in
+    let quiet = silent_slots r discipline in
+    let gr = slot_graph r discipline steps in
     let n = c.args.at in
     let m = c.requires.0 in
     let within = c.requires.1 in
     let from = within.ends.from in
     let now = c.args.self.now.graph in
     let new = c.end_state-2.new.self in
-    let f = findings_at r gates steps job.most n in
+    let f = findings_at r discipline steps job.most n in
     let done = those_below (processes_of r) (gr.may m) in
     let gone = all_gone r gr job.most c.args.self.now.ends.found n m within.ends in
     record {
       ends = c.in_ok-end_state.ensures;
       graph = λ states more.
-          (let after : Grows (findings_at r gates steps job.most (suc n)).states states = subst (λ (i : ℕ). Grows (findings_at r gates steps job.most i).states states) (add-one n) more in
+          (let after : Grows (findings_at r discipline steps job.most (suc n)).states states = subst (λ (i : ℕ). Grows (findings_at r discipline steps job.most i).states states) (add-one n) more in
           let before = subst (λ (k : SlotFindings). Grows k.states states) (sym gone) after in
           let first = grows_joined f.states _ states (list_grows gr from done f) before in
           let is = grown_at f.states states n from first within.ends.is ∙ ap (λ (k : Machine). Some (k, from.1)) (sym within.ends.here) in
-          let silent = subst (λ (g : ℕ → _). AddsChoicesOnSlots r gates steps states n m (those_below (processes_of r) g) within.old now) (quiet_may r gates m) (within.adds states before) in
-          let next : IsSlotGraphTo r gates steps states (suc n) new = graph_next quiet in_call_on_slots waits_on_slots steps states n (m, from.1) within.old now new (within.before states first) is silent c.end_state-2.ensures.processes c.end_state-2.ensures.edges c.end_state-2.ensures.standstills ends in
-          subst (λ (i : ℕ). IsSlotGraphTo r gates steps states i new) (sym (add-one n)) next);
+          let silent = subst (λ (g : ℕ → _). AddsChoicesOnSlots r discipline steps states n m (those_below (processes_of r) g) within.old now) (quiet_may r discipline m) (within.adds states before) in
+          let next : IsSlotGraphTo r discipline steps states (suc n) new = graph_next quiet in_call_on_slots waits_on_slots steps states n (m, from.1) within.old now new (within.before states first) is silent c.end_state-2.ensures.processes c.end_state-2.ensures.edges c.end_state-2.ensures.standstills ends in
+          subst (λ (i : ℕ). IsSlotGraphTo r discipline steps states i new) (sym (add-one n)) next);
     }))

@@ -18,10 +18,10 @@ pub returns-clause-within : goal.returns-clause-within
 returns-clause-within g c = λ room.
     (let job = c.args.job.now in
     let r = job.program.now in
-    let gates = job.limits.gates in
+    let discipline = job.limits.discipline in
     let steps = job.limits.steps in
-    let quiet = silent_slots r gates in
-    let gr = slot_graph r gates steps in
+    let quiet = silent_slots r discipline in
+    let gr = slot_graph r discipline steps in
     let state = c.args.state.now in
     let m = machine_of state in
     let at = c.args.at in
@@ -33,8 +33,8 @@ returns-clause-within g c = λ room.
     let now = c.args.self.now.graph in
     let noted : Graph = c.note_standstill.new.self in
     let new : Graph = record noted { edges = c.push.new.self } in
-    let done = those_below p (may (slots r gates) m) in
-    let f = findings_at r gates steps job.most at in
+    let done = those_below p (may (slots r discipline) m) in
+    let f = findings_at r discipline steps job.most at in
     let from = within.ends.from in
     let has_room = sym c.has_room.ensures ∙ c.if-not-has_room.false in
     let ends = c.in_ok-arrived.ensures.within has_room in
@@ -48,17 +48,17 @@ returns-clause-within g c = λ room.
           let before = grows_joined (gone_with gr from done f).states (gone_with gr from (done ++ p ∷ []) f).states states (list_more_grows gr from done p f) more in
           let first = grows_joined f.states (gone_with gr from done f).states states (list_grows gr from done f) before in
           let is : slice_get states at ≡ Some (m, from.1) = grown_at f.states states at from first within.ends.is ∙ ap (λ (k : Machine). Some (k, from.1)) (sym within.ends.here) in
-          let allowed : may quiet m p ≡ true = sym (ap (λ f. f p) (quiet_may r gates m)) ∙ c.requires.may in
+          let allowed : may quiet m p ≡ true = sym (ap (λ f. f p) (quiet_may r discipline m)) ∙ c.requires.may in
           let adds = within.adds states before in
           let count = adds.processes ∙ (within.before states first).processes in
           let halt = with_round told.again (halt_of arrived) in
-          let comes : Comes r gates steps (choice_leg quiet steps m p) (m ∷ []) told.seen halt last = c.in_ok-arrived.ensures.leg in
+          let comes : Comes r discipline steps (choice_leg quiet steps m p) (m ∷ []) told.seen halt last = c.in_ok-arrived.ensures.leg in
           let leads : IsNumber states (chosen quiet steps m p) c.number.result =
           subst (IsNumber states (chosen quiet steps m p)) (sym c.number.ensures)
           (leads_to quiet in_call_on_slots waits_on_slots steps states (choice_leg quiet steps m p) (m ∷ []) told.seen told.again last arrived has_room comes
           (λ number e. let there = c.in_ok-arrived.ensures.number number from e within.ends.is in (there.0, grown_at (gone_with gr from (done ++ p ∷ []) f).states states number (last, there.0) more there.1))) in
-          let still = c.in_ok-note_standstill.ensures.still r gates steps (choice_leg quiet steps m p) (m ∷ []) told.seen last (few_processes r state c.requires.own state.few) count (choice_of_stretch quiet steps m p) (subst (λ h. Comes r gates steps (choice_leg quiet steps m p) (m ∷ []) told.seen h last) (sym c.halt-halt.ensures) comes) in
-          let one : AddsChoicesOnSlots r gates steps states at m (p ∷ []) now new = adds_one_choice quiet in_call_on_slots waits_on_slots steps states at (m, from.1) p c.number.result told.seen halt last now noted new is allowed leads comes still c.note_standstill.ensures.processes c.note_standstill.ensures.ends c.note_standstill.ensures.edges refl refl refl c.in_ok-push.ensures.items in
+          let still = c.in_ok-note_standstill.ensures.still r discipline steps (choice_leg quiet steps m p) (m ∷ []) told.seen last (few_processes r state c.requires.own state.few) count (choice_of_stretch quiet steps m p) (subst (λ h. Comes r discipline steps (choice_leg quiet steps m p) (m ∷ []) told.seen h last) (sym c.halt-halt.ensures) comes) in
+          let one : AddsChoicesOnSlots r discipline steps states at m (p ∷ []) now new = adds_one_choice quiet in_call_on_slots waits_on_slots steps states at (m, from.1) p c.number.result told.seen halt last now noted new is allowed leads comes still c.note_standstill.ensures.processes c.note_standstill.ensures.ends c.note_standstill.ensures.edges refl refl refl c.in_ok-push.ensures.items in
           adds_after quiet in_call_on_slots waits_on_slots steps states at m done (p ∷ []) within.old now new adds one);
     })
 

@@ -14,28 +14,28 @@ round_in Choice = None
 round_in (Ended round) = round
 
 pub returns-in_default-clause-still : goal.returns-in_default-clause-still
-returns-in_default-clause-still c = λ r gates steps leg due seen m few count of comes.
-    adds_none (silent_slots r gates) in_call_on_slots waits_on_slots steps leg c.args.origin c.args.self.now c.args.self.now refl
-    (λ q lt w. no_round (silent_slots r gates) in_call_on_slots waits_on_slots steps leg of c.args.halt due seen m (λ again e. c.in_default.not-Ended (Some again) e) comes q w)
+returns-in_default-clause-still c = λ r discipline steps leg due seen m few count of comes.
+    adds_none (silent_slots r discipline) in_call_on_slots waits_on_slots steps leg c.args.origin c.args.self.now c.args.self.now refl
+    (λ q lt w. no_round (silent_slots r discipline) in_call_on_slots waits_on_slots steps leg of c.args.halt due seen m (λ again e. c.in_default.not-Ended (Some again) e) comes q w)
 
 pub returns-in_default-round-clause-still : goal.returns-in_default-round-clause-still
-returns-in_default-round-clause-still c = λ r gates steps leg due seen m few count of comes.
-    adds_none (silent_slots r gates) in_call_on_slots waits_on_slots steps leg c.args.origin c.args.self.now c.args.self.now refl
-    (λ q lt w. no_round (silent_slots r gates) in_call_on_slots waits_on_slots steps leg of c.args.halt due seen m (λ again e. c.in_default-round.not-Some again (ap round_in (sym c.in-Ended.is ∙ e))) comes q w)
+returns-in_default-round-clause-still c = λ r discipline steps leg due seen m few count of comes.
+    adds_none (silent_slots r discipline) in_call_on_slots waits_on_slots steps leg c.args.origin c.args.self.now c.args.self.now refl
+    (λ q lt w. no_round (silent_slots r discipline) in_call_on_slots waits_on_slots steps leg of c.args.halt due seen m (λ again e. c.in_default-round.not-Some again (ap round_in (sym c.in-Ended.is ∙ e))) comes q w)
 
 pub returns-in_ok-push-clause-still : goal.returns-in_ok-push-clause-still
-returns-in_ok-push-clause-still c = λ r gates steps leg due seen m few count of comes.
-    (let quiet = silent_slots r gates in
+returns-in_ok-push-clause-still c = λ r discipline steps leg due seen m few count of comes.
+    (let quiet = silent_slots r discipline in
     let again = c.in-Some.again in
-    let round = round_seen quiet in_call_on_slots waits_on_slots steps leg again due seen m (subst (λ k. Comes r gates steps leg due seen k m) (c.in-Ended.is ∙ ap (λ (o : Option PassingSets). Ended o) c.in-Some.is) comes) in
+    let round = round_seen quiet in_call_on_slots waits_on_slots steps leg again due seen m (subst (λ k. Comes r discipline steps leg due seen k m) (c.in-Ended.is ∙ ap (λ (o : Option PassingSets). Ended o) c.in-Some.is) comes) in
     adds_one quiet in_call_on_slots waits_on_slots steps leg c.args.origin c.args.self.now _ again c.in_ok-push.ensures.items round
     (all_served c.everybody.result c.but.result again.served (length r.processes) few (λ q. c.everybody.ensures q ∙ ap (λ n. nat_lt q 16 && nat_lt q n) count) c.but.ensures (c.is_empty-is_fair.ensures.0 c.if-is_fair.true)))
 
 pub returns-else-is_fair-clause-still : goal.returns-else-is_fair-clause-still
-returns-else-is_fair-clause-still c = λ r gates steps leg due seen m few count of comes.
-    (let quiet = silent_slots r gates in
+returns-else-is_fair-clause-still c = λ r discipline steps leg due seen m few count of comes.
+    (let quiet = silent_slots r discipline in
     let again = c.in-Some.again in
-    let round : GoesRound quiet in_call_on_slots waits_on_slots steps leg again = round_seen quiet in_call_on_slots waits_on_slots steps leg again due seen m (subst (λ k. Comes r gates steps leg due seen k m) (c.in-Ended.is ∙ ap (λ (o : Option PassingSets). Ended o) c.in-Some.is) comes) in
+    let round : GoesRound quiet in_call_on_slots waits_on_slots steps leg again = round_seen quiet in_call_on_slots waits_on_slots steps leg again due seen m (subst (λ k. Comes r discipline steps leg due seen k m) (c.in-Ended.is ∙ ap (λ (o : Option PassingSets). Ended o) c.in-Some.is) comes) in
     let none : (q : ℕ) → q < quiet.processes → LetsWait quiet waits_on_slots steps leg q → ⊥ =
     λ q lt w.
     (let seen_so = seen_to_wait quiet in_call_on_slots waits_on_slots steps leg q again lt round w in

@@ -4,11 +4,11 @@ use Rattle.cp_waits.proofs.Seeing.{seen_due}
 use Rattle.cp_waits.proofs.passing.PassingSetsSight.see_due.Goals as goal
 
 pub returns : goal.returns
-returns c = λ r gates own h.
+returns c = λ r discipline own h.
     (let ps = c.args.state.now.processes.items in
     let count : length r.processes ≡ length ps = sym (threads_count r c.args.state.now own) ∙ length-map ps thread_of in
     let x = c.see.ensures in
-    seen_due (silent_slots r gates) in_call_on_slots waits_on_slots (machine_of c.args.state.now) c.args.self.now c.see.new.self h
+    seen_due (silent_slots r discipline) in_call_on_slots waits_on_slots (machine_of c.args.state.now) c.args.self.now c.see.new.self h
     (λ q lt. x.wait q (omega (arith, lt, count)))
     (λ q lt. x.wait_once q (omega (arith, lt, count)))
     (λ q lt. x.stay q (omega (arith, lt, count)))

@@ -8,7 +8,7 @@ use Rattle.cp_walk.proofs.cutting.Cutting.deepen_at.Goals as goal
 pub returns-then-len-depth-clause-advanced : goal.returns-then-len-depth-clause-advanced
 returns-then-len-depth-clause-advanced c =
     let job = c.args.self.now.job in
-    let sys = slots job.program.now job.limits.gates in
+    let sys = slots job.program.now job.limits.discipline in
     let items = c.args.self.now.words.items in
     let words = words_of items in
     let lt : c.args.at < length words = omega (arith, c.requires.member, length-map items (λ v. v.items)) in
@@ -19,7 +19,7 @@ returns-then-len-depth-clause-advanced c =
 pub returns-in-Ok-clause-advanced : goal.returns-in-Ok-clause-advanced
 returns-in-Ok-clause-advanced c =
     let job = c.args.self.now.job in
-    let sys = slots job.program.now job.limits.gates in
+    let sys = slots job.program.now job.limits.discipline in
     let items = c.args.self.now.words.items in
     let words = words_of items in
     let lt : c.args.at < length words = omega (arith, c.requires.member, length-map items (λ v. v.items)) in
@@ -30,7 +30,7 @@ returns-in-Ok-clause-advanced c =
 pub returns-in-Err-Leaf-clause-advanced : goal.returns-in-Err-Leaf-clause-advanced
 returns-in-Err-Leaf-clause-advanced c =
     let job = c.args.self.now.job in
-    let sys = slots job.program.now job.limits.gates in
+    let sys = slots job.program.now job.limits.discipline in
     let items = c.args.self.now.words.items in
     let words = words_of items in
     let lt : c.args.at < length words = omega (arith, c.requires.member, length-map items (λ v. v.items)) in
@@ -42,7 +42,7 @@ returns-in-Err-Leaf-clause-advanced c =
 pub returns-in-Err-Full-clause-advanced : goal.returns-in-Err-Full-clause-advanced
 returns-in-Err-Full-clause-advanced c =
     let job = c.args.self.now.job in
-    let sys = slots job.program.now job.limits.gates in
+    let sys = slots job.program.now job.limits.discipline in
     let items = c.args.self.now.words.items in
     let words = words_of items in
     let lt : c.args.at < length words = omega (arith, c.requires.member, length-map items (λ v. v.items)) in

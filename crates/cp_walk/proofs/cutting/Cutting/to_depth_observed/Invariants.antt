@@ -8,8 +8,8 @@ invariant-loop-at g l =
     record {
       job : l.self.job ≡ l.fn.self.job;
       within : l.at ≤ length l.self.words.items;
-      settled : Settled (slots l.fn.self.job.program.now l.fn.self.job.limits.gates) l.fn.self.job.limits.choices l.fn.self.job.limits.steps l.depth (words_of l.self.words.items) l.at;
-      splits : (n : ℕ) × (deepened (slots l.fn.self.job.program.now l.fn.self.job.limits.gates) l.fn.self.job.limits.choices l.fn.self.job.limits.steps l.depth n (words_of l.fn.self.words.items) ≡ Some (words_of l.self.words.items));
+      settled : Settled (slots l.fn.self.job.program.now l.fn.self.job.limits.discipline) l.fn.self.job.limits.choices l.fn.self.job.limits.steps l.depth (words_of l.self.words.items) l.at;
+      splits : (n : ℕ) × (deepened (slots l.fn.self.job.program.now l.fn.self.job.limits.discipline) l.fn.self.job.limits.choices l.fn.self.job.limits.steps l.depth n (words_of l.fn.self.words.items) ≡ Some (words_of l.self.words.items));
     }
 
 abbrev pub decreases-loop-at : goal.decreases-loop-at

@@ -12,7 +12,7 @@ returns-clause-rows g c =
     let words = c.args.self.now.words.items in
     let look = c.in-Some.ensures.lookup in
     let at : slice_get words c.args.task ≡ Some c.in-Some.word.now = ap (λ ws. slice_get ws c.args.task) (sym c.deref.ensures.value) ∙ get_at c.deref.result.now c.args.task c.in-Some.word.now look.3.0 ∙ ap Some (sym look.1) in
-    let same : rows_behind (slots r l.gates) l.choices l.steps c.as_slice.result.now ≡ lines_behind r l (slice_get words c.args.task) = ap (rows_behind (slots r l.gates) l.choices l.steps) c.as_slice.ensures.value ∙ ap (lines_behind r l) (sym at) in
+    let same : rows_behind (slots r l.discipline) l.choices l.steps c.as_slice.result.now ≡ lines_behind r l (slice_get words c.args.task) = ap (rows_behind (slots r l.discipline) l.choices l.steps) c.as_slice.ensures.value ∙ ap (lines_behind r l) (sym at) in
     ok_both c.member_rows.result _ _ _ c.member_rows.ensures.rows c.member_rows.ensures.few (λ v lines few. taken_whole v.items (lines_behind r l (slice_get words c.args.task)) (lines ∙ same) few)
 
 pub returns-clause-many : goal.returns-clause-many
@@ -22,5 +22,5 @@ returns-clause-many g c =
     let words = c.args.self.now.words.items in
     let look = c.in-Some.ensures.lookup in
     let at : slice_get words c.args.task ≡ Some c.in-Some.word.now = ap (λ ws. slice_get ws c.args.task) (sym c.deref.ensures.value) ∙ get_at c.deref.result.now c.args.task c.in-Some.word.now look.3.0 ∙ ap Some (sym look.1) in
-    let same : rows_behind (slots r l.gates) l.choices l.steps c.as_slice.result.now ≡ lines_behind r l (slice_get words c.args.task) = ap (rows_behind (slots r l.gates) l.choices l.steps) c.as_slice.ensures.value ∙ ap (lines_behind r l) (sym at) in
+    let same : rows_behind (slots r l.discipline) l.choices l.steps c.as_slice.result.now ≡ lines_behind r l (slice_get words c.args.task) = ap (rows_behind (slots r l.discipline) l.choices l.steps) c.as_slice.ensures.value ∙ ap (lines_behind r l) (sym at) in
     err_then c.member_rows.result _ _ c.member_rows.ensures.many (λ e h many. let more = h many in let n = ap length same in let m = length-map (lines_behind r l (slice_get words c.args.task)) row_of in omega (arith, more, n, m))
