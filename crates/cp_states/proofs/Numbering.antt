@@ -1,11 +1,9 @@
 -- The numbers of processes go into a row one by one.
-use Rattle.std.proofs.Common.{◌≡◌, ◌∙◌, ◌+◌, ◌<◌, ◌≤◌, ◌⊎◌, inl, inr, ℕ, zero, suc, List, [], ◌∷◌, ap, arith, length, map, refl, subst, sym}
-use Rattle.std.specs.Prelude.{IfNone, None, Option, Some, slice_index_or}
+use Rattle.std.proofs.Common.{◌≡◌, ◌∙◌, ◌+◌, ◌<◌, ◌≤◌, ◌⊎◌, inl, inr, ℕ, zero, suc, List, [], ◌∷◌, arith, length, map, refl, subst, sym}
+use Rattle.std.specs.Prelude.{slice_index_or}
 use Rattle.std.proofs.lemmas.Bool.{cases_eq}
 use Rattle.cp_machine.specs.declared.process.ProcessState.{ProcessState}
-use Rattle.cp_machine.specs.Bodies.{Body, body_of}
-use Rattle.cp_machine.specs.declared.process.Status.{Status}
-use Rattle.cp_machine.specs.Machine.{Machine, Thread, no_thread, thread_at, thread_of}
+use Rattle.cp_machine.specs.Machine.{Machine, no_thread, thread_at, thread_of}
 use Rattle.cp_states.specs.declared.store.Store.{Store}
 use Rattle.cp_states.specs.Kept.{IsAmong}
 use Rattle.cp_states.specs.Rows.{IsRowOf, KeepParts, number_at}
@@ -76,15 +74,3 @@ numbered_before s t first_row row ps before at b within read h known =
     subst (λ n. IsAmong no_thread (map thread_of t.threads.all.items) n (thread_of b)) (sym (h.rest (5 + at) (omega arith)))
     (subst (IsAmong no_thread (map thread_of t.threads.all.items) (number_at first_row (5 + at))) (process_at before at b within read)
     (among_on no_thread (map thread_of s.threads.all.items) (map thread_of t.threads.all.items) (number_at first_row (5 + at)) (thread_at (map thread_of before) at) h.kept.threads known))
-
--- a thread is its body and its status
-pub thread_from : (s t : Thread) → s.status ≡ t.status → body_of s ≡ body_of t → s ≡ t
-thread_from s t status body = ap (λ st. thread st (body_of s)) status ∙ ap (thread t.status) body
-  where
-    thread : Status → Body → Thread
-    thread status body = record { status = status; frame = body.frame; stack = body.stack; cells = body.cells; references = body.references }
-
--- what holds anyway holds where there is none
-pub none_so : {T P : Type 0} (o : Option T) → P → IfNone o P
-none_so None p = p
-none_so (Some x) p = tt

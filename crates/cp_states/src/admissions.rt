@@ -64,24 +64,6 @@ impl Admissions {
         )
     }
 
-    /// The number of what monitors have, if it is there.
-    pub fn number(
-        &self,
-        guards: &[Gate],
-        pending: Option<u8>,
-        discipline: Discipline,
-    ) -> Option<u32>
-        ensures found { IfSome result (λ n. IsAmong none_gated (map admitted_by self.now.all.items) n (gated_by guards.now pending discipline)) }
-        ensures absent { IfNone result ((n : ℕ) → IsAmong none_gated (map admitted_by self.now.all.items) n (gated_by guards.now pending discipline) → ⊥) }
-    {
-        self.find(
-            hash_of_guards(guards, pending, discipline),
-            guards,
-            pending,
-            discipline,
-        )
-    }
-
     /// The number of what monitors have, which is new where that is.
     #[inline(always)]
     pub fn number_of(

@@ -84,14 +84,6 @@ impl<T: Hashed + Compared> ListStore<T> {
         )
     }
 
-    /// The number of a list, if it is there.
-    pub fn number(&self, list: &[T]) -> Option<u32>
-        ensures found { IfSome result (λ n. (n < length self.now.ends.items) × (piece_at self.now.items.items self.now.ends.items n ≡ list.now)) }
-        ensures absent { IfNone result ((n : ℕ) → n < length self.now.ends.items → piece_at self.now.items.items self.now.ends.items n ≡ list.now → ⊥) }
-    {
-        self.find(hash_of(list), list)
-    }
-
     /// The number of a list, which is new where the list is.
     #[inline(always)]
     pub fn number_of(&mut self, alloc: Global, list: &[T]) -> Result<u32, AllocError>

@@ -38,7 +38,7 @@ pub struct Store {
 }
 
 impl Store {
-    ghost use Rattle.std.specs.Prelude.{◌+◌, ◌<◌, ◌≤◌, [], ℕ, List, length, map, false, vec_capacity, IfNone, IfOk, IfSome};
+    ghost use Rattle.std.specs.Prelude.{◌+◌, ◌<◌, ◌≤◌, [], ℕ, length, map, false, vec_capacity, IfOk};
     ghost use Rattle.cp_slots.specs.Tables.{Tables};
     ghost use Rattle.cp_key.specs.Room.{IsMachineOf};
     ghost use Rattle.cp_machine.specs.Bodies.{body_of, has_moved, KeepBodies};
@@ -299,70 +299,6 @@ impl Store {
                 0, 0, 0, 0, 0,
             ],
         })
-    }
-
-    // The row of a state without its processes, if the store has its parts.
-    fn first_numbers_of(&self, state: &State) -> Option<StateRow>
-        ensures found { IfSome result (λ row. IsRowOf self.now row.numbers (record (machine_of state.now) { threads = [] })) }
-        ensures absent { IfNone result ((row : List ℕ) → IsRowOf self.now row (machine_of state.now) → ⊥) }
-    {
-        let output = self.outputs.number(&state.output)?;
-        let permanents = self.permanents.number(&state.permanents)?;
-        let bindings = self.bindings.number(&state.bindings)?;
-        let phases = self.phases.number(&state.phases)?;
-        let admission = self
-            .admissions
-            .number(&state.guards, state.pending, state.discipline)?;
-        Some(StateRow {
-            numbers: [
-                output, permanents, bindings, phases, admission, 0, 0, 0, 0, 0, 0, 0, 0, 0, 0, 0,
-                0, 0, 0, 0, 0,
-            ],
-        })
-    }
-
-    // The number of a process goes into a row, if the store has the process.
-    fn number_process(&self, process: &ProcessState, at: usize, row: &mut StateRow) -> bool
-        requires at { 5 + at < 21 }
-        ensures this { result ≡ true → IsAmong no_thread (map thread_of self.now.threads.all.items) (number_at row.new.numbers (5 + at)) (thread_of process.now) }
-        ensures absent { result ≡ false → (n : ℕ) → IsAmong no_thread (map thread_of self.now.threads.all.items) n (thread_of process.now) → ⊥ }
-        ensures others { (k : ℕ) → (k ≡ 5 + at → ⊥) → number_at row.new.numbers k ≡ number_at row.old.numbers k }
-        ensures long { length row.new.numbers ≡ length row.old.numbers }
-    {
-        match self.threads.number(process) {
-            Some(number) => {
-                row.numbers[THREADS + at] = number;
-                true
-            }
-            None => false,
-        }
-    }
-
-    // The numbers of the processes go into a row, which has none of them, if the store has the processes.
-    fn number_processes(&self, state: &State, row: &mut StateRow) -> bool
-        ensures row { result ≡ true → IsRowOf self.now row.old.numbers (record (machine_of state.now) { threads = [] }) → IsRowOf self.now row.new.numbers (machine_of state.now) }
-        ensures absent { result ≡ false → (row : List ℕ) → IsRowOf self.now row (machine_of state.now) → ⊥ }
-    {
-        let processes = state.processes.as_slice();
-        for at in 0..processes.len() {
-            if !self.number_process(&processes[at], at, row) {
-                return false;
-            }
-        }
-        true
-    }
-
-    /// The row of a state, if the store has its parts.
-    pub fn row_of(&self, state: &State) -> Option<StateRow>
-        ensures found { IfSome result (λ row. IsRowOf self.now row.numbers (machine_of state.now)) }
-        ensures absent { IfNone result ((row : List ℕ) → IsRowOf self.now row (machine_of state.now) → ⊥) }
-    {
-        let mut row = self.first_numbers_of(state)?;
-        if self.number_processes(state, &mut row) {
-            Some(row)
-        } else {
-            None
-        }
     }
 
     /// The row of the state before becomes that of a state, where these processes moved since.

@@ -59,14 +59,6 @@ impl Threads {
         )
     }
 
-    /// The number of a process, if it is there.
-    pub fn number(&self, process: &ProcessState) -> Option<u32>
-        ensures found { IfSome result (λ n. IsAmong no_thread (map thread_of self.now.all.items) n (thread_of process.now)) }
-        ensures absent { IfNone result ((n : ℕ) → IsAmong no_thread (map thread_of self.now.all.items) n (thread_of process.now) → ⊥) }
-    {
-        self.find(hash_of_process(process), process)
-    }
-
     /// The number of a process, which is new where the process is.
     #[inline(always)]
     pub fn number_of(&mut self, alloc: Global, process: &ProcessState) -> Result<u32, AllocError>
