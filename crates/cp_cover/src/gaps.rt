@@ -101,7 +101,8 @@ impl Gaps {
                 self.has_gates = true;
                 if !marks.has(CoverMark::Gate { monitor, routine }) {
                     let name = legend.routine_name(routine);
-                    self.discipline.push(qualified_name(alloc, component, name)?)?;
+                    self.discipline
+                        .push(qualified_name(alloc, component, name)?)?;
                 }
             }
         }

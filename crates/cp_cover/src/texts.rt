@@ -11,7 +11,13 @@ pub fn cover_text(alloc: Global, gaps: &Gaps) -> Result<String, AllocError> {
     push_lines(&mut text, gaps)?;
     push_unused(&mut text, gaps.has_queues, &gaps.queues, "in", "queue")?;
     let discipline = &gaps.discipline;
-    push_unused(&mut text, gaps.has_gates, discipline, "at the gate of", "entry")?;
+    push_unused(
+        &mut text,
+        gaps.has_gates,
+        discipline,
+        "at the gate of",
+        "entry",
+    )?;
     Ok(text)
 }
 

@@ -4,7 +4,7 @@ use crate::placing::{outermost_call, wait_of, whole_story};
 use crate::subject::{Reach, Telling, ToldEnd};
 use cp_ends::End;
 use cp_ends::found::MOST_VALUES;
-use cp_machine::{ErrorName, Discipline};
+use cp_machine::{Discipline, ErrorName};
 use cp_prose::Prose;
 use cp_run::{MOST_STEPS, OutcomeKind};
 use cp_story::{

@@ -238,8 +238,8 @@ last_law : (m r : ℕ) (t : State) → WaitsInside t m r → Orderly t.component
 last_law m r t w now free =
     record {
       orderly = relined t.components (slice_set t.processes r x) m _ there (
-        line_more t.components (slice_set t.processes r x) m r (line_at t.components m) w.monitor (rw (length-set t.processes r x) lt) (ap (λ p. p.status) here)
-        (ap (λ p. entry_in m (frames p.calls)) here ∙ w.entry) (absent m) (there.lines m));
+          line_more t.components (slice_set t.processes r x) m r (line_at t.components m) w.monitor (rw (length-set t.processes r x) lt) (ap (λ p. p.status) here)
+          (ap (λ p. entry_in m (frames p.calls)) here ∙ w.entry) (absent m) (there.lines m));
       pending = λ n h. absurd (let bad : None ≡ Some n = sym free ∙ h in cc);
     }
   where

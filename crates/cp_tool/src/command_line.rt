@@ -152,11 +152,7 @@ fn options_with(
         at_once: kind.at_once,
         states: parse_number(matches.get_str("states"), 200_000, 1, 10_000_000)?,
         schedule: schedule?,
-        discipline: discipline_for(
-            kind,
-            matches.get_str("gates"),
-            matches.get_str("signals"),
-        )?,
+        discipline: discipline_for(kind, matches.get_str("gates"), matches.get_str("signals"))?,
         cut_is_given: is_given(matches.get_str("cut")),
     })
 }

@@ -160,7 +160,10 @@ fn has_defaults(options: &Options) -> bool {
         && options.cut == 2
         && options.states == 200_000;
     let is_plain = !options.cut_is_given && !options.rows && !options.merge && !options.ends;
-    has_numbers && is_plain && options.schedule.is_none() && options.discipline.gates == Gates::First
+    has_numbers
+        && is_plain
+        && options.schedule.is_none()
+        && options.discipline.gates == Gates::First
 }
 
 fn has_values_of_merged(options: &Options) -> bool {
@@ -186,7 +189,10 @@ fn has_values_of_all(options: &Options) -> bool {
         && options.workers == 16
         && options.cut == 0
         && options.cut_is_given;
-    has_numbers && options.rows && options.discipline.gates == Gates::Any && has_word(options, &[0, 0, 2, 15])
+    has_numbers
+        && options.rows
+        && options.discipline.gates == Gates::Any
+        && has_word(options, &[0, 0, 2, 15])
 }
 
 /// Where a growth is refused, one answer is Memory, and each other one is that of ample memory.
