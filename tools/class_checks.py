@@ -12,6 +12,7 @@ from marking.words import ALONE, FLAGS, FORMS, OWN, VALUED, Asked, Refused
 from script_checks import DEADLOCK, DISPLAYS, ORDERED, ROOT, FAULTS, AtTerminal, run, want, want_in
 
 RUNNERS = ROOT / "examples/readers-first-endless.cp"
+IF_OR_WHILE = ROOT / "examples/if-or-while.cp"
 FAIR = ROOT / "examples/readers-writers-turns-endless.cp"
 HELP = " (./class --help says more)\n"
 # It takes longer than any check waits.
@@ -136,6 +137,23 @@ def check_like_ends():
     want_in("an end that is not of the model", text, "not of the model: 0.0.1.0.0 all-waiting")
 
 
+def check_signals_of_class(room):
+    """All is marked under one rule of signals, and each column says under which, where it is not that of the book."""
+    asked = ["-e", "never shown 0", "--like", IF_OR_WHILE]
+    twice = room / "while.cp"
+    twice.write_text(IF_OR_WHILE.read_text().replace("if full then", "while full do").replace("if not full then", "while not full do"))
+    for rule, under, verdicts in (
+        ("return", "", [["holds", "holds"], ["holds", "holds"]]),
+        ("continue", ", under --signals continue", [["fails", "holds"], ["holds", "fails"]]),
+        ("wait", ", under --signals wait", [["holds", "holds"], ["holds", "holds"]]),
+    ):
+        rows = list(csv.reader(io.StringIO(run("./class", "--csv", "--signals", rule, *asked, IF_OR_WHILE, twice)[1])))
+        want(f"heads under {rule}", rows[0][1:3], [f"never shown 0{under}", f"like {IF_OR_WHILE}: outcomes{under}"])
+        want(f"marks under {rule}", [it[1:3] for it in rows[1:]], verdicts)
+    text = run("./class", "--signals", "continue", "--mutants", twice, "-e", "never shown 0")[1]
+    want_in("the head of an expectation that notices mistakes", text, "\n1  never shown 0, under --signals continue: notices ")
+
+
 def check_no_display(room):
     """A solution that displays anything is told so and gets no points; what stands around it may display."""
     top, bottom = room / "shows-top", room / "shows-bottom"
@@ -219,6 +237,7 @@ def check_class(room):
     check_quiet(room)
     check_refusal(room)
     check_like_ends()
+    check_signals_of_class(room)
     check_no_display(room)
     check_parts_of_class(room)
     check_html(room)

@@ -44,7 +44,7 @@ def model_fault(model, asked):
         return f"{asked.mutants} is refused: {cells[0].said}\n", SOURCE_REFUSED
     lines = [f"not all that is expected holds of {asked.mutants}, so no mistakes are made in it"]
     for head, it in against:
-        lines += [f"  {it.verdict}: {head}", *(f"    {line}" for line in it.said.splitlines())]
+        lines += [f"  {it.verdict}: {asked.under(head)}", *(f"    {line}" for line in it.said.splitlines())]
     return "\n".join(lines) + "\n", FAILS if "fails" in verdicts else NOT_SETTLED
 
 
@@ -77,7 +77,7 @@ def mistakes_as_text(asked, found):
     counts += [f"{len(those[kind])} {words}" for kind, words in ((TOO_MUCH, "not settled"), (UNMARKED, "not marked")) if those[kind]]
     lines = [f"{len(found)} mistake{'s' if len(found) != 1 else ''}: {', '.join(counts)}", ""]
     for number, head in enumerate(asked.expectations):
-        lines.append(f"{number + 1}  {head}: notices {sum(it.cells[number].verdict != 'holds' for it in those[NOTICED])}")
+        lines.append(f"{number + 1}  {asked.under(head)}: notices {sum(it.cells[number].verdict != 'holds' for it in those[NOTICED])}")
     what = compared(asked)
     lines += listed(f"not noticed, and other {what}", those[OTHER])
     lines += listed(f"not noticed, and the same {what}", those[SAME])
@@ -100,7 +100,7 @@ def listed(head, those):
 
 def mistakes_as_csv(asked, found):
     """Returns a row for each mistake."""
-    head = ["line", "mistake", "is", "becomes", *asked.expectations, compared(asked), "why"]
+    head = ["line", "mistake", "is", "becomes", *map(asked.under, asked.expectations), asked.under(compared(asked)), "why"]
     rows = []
     for it in found:
         likeness = {OTHER: "other", SAME: "the same", OPEN: "not settled"}.get(it.kind(), "")

@@ -59,7 +59,8 @@ def in_turn(program, work, items, what):
 
 def heads_of(asked, name=str):
     """Returns the heads of the columns, in which a model has the name that is made of that of its file."""
-    return asked.expectations + ([f"like {name(asked.like)}: {compared(asked)}"] if asked.like is not None else [])
+    heads = asked.expectations + ([f"like {name(asked.like)}: {compared(asked)}"] if asked.like is not None else [])
+    return [asked.under(it) for it in heads]
 
 
 def cells_of(solution, asked, model):

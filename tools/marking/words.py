@@ -3,7 +3,7 @@ import difflib
 import re
 
 # Options that ./show mark takes, with a value and without.
-VALUED = ("--choices", "--steps", "--gates", "--states")
+VALUED = ("--choices", "--steps", "--gates", "--signals", "--states")
 FLAGS = ("--merge", "--ends", "--at-once")
 FORMS = ("--csv", "--html")
 # Options of ./class alone, with a value.
@@ -108,6 +108,11 @@ class Asked:
             if option not in left_out:
                 kept += words
         return kept
+
+    def under(self, head):
+        """Returns a head with the rule of signals that it is marked under, where this is not that of the book."""
+        rule = self.options[self.options.index("--signals") + 1] if "--signals" in self.options else "return"
+        return head if rule == "return" else f"{head}, under --signals {rule}"
 
     def has(self, *words):
         """Answers whether these words stand side by side among the options for the program."""

@@ -3,7 +3,6 @@
 use crate::subject::{EndsSubject, Findings, Reach};
 use cp_at_once::{FoundAtOnce, search_at_once_with};
 use cp_ends::Found;
-use cp_machine::Discipline;
 use cp_progress::ObserveProgress;
 use cp_waits::{FoundWaits, find_waits};
 use std::alloc::{AllocError, Global};
@@ -18,7 +17,7 @@ pub fn findings<O: ObserveProgress>(
         return findings_at_once(alloc, subject, observer);
     }
     let plain = findings_by_states(alloc, subject, observer)?;
-    if matches!(plain.reach, Reach::Choices(_)) && subject.limits.discipline.gates == Gates::First {
+    if matches!(plain.reach, Reach::Choices(_)) && subject.limits.discipline.is_of_the_book() {
         let second = findings_at_once(alloc, subject, observer)?;
         if let Reach::StatesAtOnce(_) = second.reach {
             return Ok(second);

@@ -6,7 +6,7 @@ use crate::texts::line_of;
 use cp_ends::End;
 use cp_ends::found::MOST_VALUES;
 use cp_run::OutcomeKind;
-use cp_story::objects::{Object, monitors, numbers, processes, put_kind, waits};
+use cp_story::objects::{Object, monitors, numbers, processes, put_kind, put_signals, waits};
 use cp_story::{output_words, put_error_cause};
 use cp_waits::{How, Set, Waiting, Waits};
 use serde_json::Value;
@@ -22,6 +22,7 @@ pub fn json(telling: Telling<'_>) -> Result<String, AllocError> {
     put_ends(telling, &mut object)?;
     put_values(telling, &mut object)?;
     put_waits(telling, &mut object)?;
+    put_signals(&mut object, subject.limits.discipline.signals)?;
     object.into_line()
 }
 

@@ -3,7 +3,7 @@
 ghost use Rattle.std.specs.Prelude.{◌≡◌, ◌≤◌, length};
 
 use crate::subject::Telling;
-use cp_machine::Ticks;
+use cp_machine::{Signals, Ticks};
 use cp_run::{OutcomeKind, RunEnd};
 use cp_story::{Happening, MOST_NUMBERS, OpenCall, Story, Wait, tell};
 use std::alloc::AllocError;
@@ -63,7 +63,9 @@ pub fn outermost_call(story: &Story, process: u8) -> Option<OpenCall> {
                     }
                     depth = depth.saturating_add(1);
                 }
-                Happening::Leave(_) | Happening::Continue(..) => depth = depth.saturating_sub(1),
+                Happening::Leave(_) | Happening::Continue(_, _, Signals::Return) => {
+                    depth = depth.saturating_sub(1);
+                }
                 _ => {}
             }
         }

@@ -4,7 +4,7 @@ use crate::placing::{outermost_call, wait_of, whole_story};
 use crate::subject::{Reach, Telling, ToldEnd};
 use cp_ends::End;
 use cp_ends::found::MOST_VALUES;
-use cp_machine::{Discipline, ErrorName};
+use cp_machine::{ErrorName, Signals};
 use cp_prose::Prose;
 use cp_run::{MOST_STEPS, OutcomeKind};
 use cp_story::{
@@ -162,7 +162,12 @@ fn push_kind(telling: Telling<'_>, text: &mut Prose, end: End) {
         End::Alone(process) => {
             text.put("alone: ");
             push_process(telling, text, process);
-            text.put(" goes on for ever, and nobody else can");
+            text.put(match telling.subject.limits.discipline.signals {
+                Signals::Return => " goes on for ever, and nobody else can",
+                Signals::Continue | Signals::Wait => {
+                    " goes on for ever, by itself or in turns, without a choice"
+                }
+            });
         }
         End::Spins(process) => {
             text.put("spins: ");
@@ -354,7 +359,7 @@ fn push_complete(telling: Telling<'_>, text: &mut Prose, before: &str, count: us
 fn push_too_many(telling: Telling<'_>, text: &mut Prose, choices: usize) {
     text.put("too many states: there may be ");
     push_number(text, telling.subject.most as usize);
-    if telling.subject.limits.discipline.gates == Gates::First {
+    if telling.subject.limits.discipline.is_of_the_book() {
         text.put(", also with kernel calls at once");
     }
     text.put("\nall schedules of at most ");

@@ -1,6 +1,7 @@
 //! What stands around the lanes: patterns, ground, heads, the end and the key.
 
 use crate::draw::all_wait;
+use crate::heading::signals_words;
 use crate::labels::{BOLD, WIDTH, bold_width, plain_width, points};
 use crate::palette::{FAINT, GREEN, GREY, Hue, INK, PALE, PATTERNS, RED, SLATE, WHITE, hue_of};
 use crate::pictures::{Layout, Scene};
@@ -40,6 +41,7 @@ pub fn draw_patterns(svg: &mut Svg, scene: Scene<'_>, title: &str) {
     }
     svg.raw("schedule ");
     svg.escape(scene.schedule);
+    svg.raw(signals_words(scene.story));
     svg.raw("</title>\n<desc>");
     svg.escape(scene.end.trim());
     svg.raw("</desc>\n<defs>\n");

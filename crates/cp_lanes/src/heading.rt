@@ -6,6 +6,8 @@ use crate::pictures::Scene;
 use crate::svg::{BOLD_TYPE, Style, Svg};
 use crate::title::sentence;
 use crate::wrapping::LineRoom;
+use cp_machine::Signals;
+use cp_story::Story;
 use std::alloc::AllocError;
 
 /// The most lines of a heading, after which it is cut at a word.
@@ -36,11 +38,25 @@ pub fn heading_of(scene: Scene<'_>, width: f64) -> Result<PictureHeading, AllocE
 
 fn schedule_in_lines(scene: Scene<'_>, room: f64) -> Result<Vec<String>, AllocError> {
     let (alloc, schedule) = (scene.alloc, scene.schedule);
-    if scene.is_plain {
+    let signals = signals_words(scene.story);
+    if scene.is_plain && signals.is_empty() {
         return Ok(Vec::new(alloc));
     }
-    let words = format!(in alloc; "schedule {schedule}")?;
+    let words = if scene.is_plain {
+        String::from_str(alloc, signals.strip_prefix(", ").unwrap_or(signals))?
+    } else {
+        format!(in alloc; "schedule {schedule}{signals}")?
+    };
     LineRoom::new(alloc, room, 12.5 * WIDTH).break_at(words.as_str(), '.')
+}
+
+/// The discipline behind a comma, where it is another one than `return`.
+pub fn signals_words(story: &Story) -> &'static str {
+    match story.signals {
+        Signals::Return => "",
+        Signals::Continue => ", signals continue",
+        Signals::Wait => ", signals wait",
+    }
 }
 
 // Whether a line of the heading and one of the schedule have room side by side.

@@ -11,7 +11,7 @@ use cp_story::{Choice, Happening, StoryEvent};
 #[derive(Clone, Copy)]
 pub struct Signs {
     stays: bool,
-    discipline: bool,
+    gates: bool,
     queues: bool,
     /// A wait that nobody is left to end.
     hopeless: bool,
@@ -67,7 +67,7 @@ static KEY: [(KeySign, f64, &str); 9] = [
 pub fn signs_of(scene: Scene<'_>, layout: Layout<'_>) -> Signs {
     let mut signs = Signs {
         stays: !layout.spans.stays.is_empty(),
-        discipline: false,
+        gates: false,
         queues: false,
         hopeless: false,
         chosen: false,
@@ -78,7 +78,7 @@ pub fn signs_of(scene: Scene<'_>, layout: Layout<'_>) -> Signs {
     };
     let is_stuck = all_wait(scene.story);
     for pause in &layout.spans.pauses {
-        signs.discipline = signs.discipline || pause.at_gate;
+        signs.gates = signs.gates || pause.at_gate;
         signs.queues = signs.queues || !pause.at_gate;
         signs.hopeless = signs.hopeless || pause.lasts && is_stuck;
     }
@@ -110,7 +110,7 @@ impl Signs {
     fn has(self, sign: KeySign) -> bool {
         match sign {
             KeySign::Stay => self.stays,
-            KeySign::Gate => self.discipline,
+            KeySign::Gate => self.gates,
             KeySign::Queue => self.queues,
             KeySign::Hopeless => self.hopeless,
             KeySign::Chosen => self.chosen,

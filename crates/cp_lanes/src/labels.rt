@@ -3,6 +3,7 @@
 use crate::pictures::Scene;
 use crate::sheet::Fold;
 use cp_legend::SourceValue;
+use cp_machine::Signals;
 use cp_prose::Prose;
 use cp_story::{Happening, OpenCall, Returned, StoryEvent, push_returned, push_shown};
 use std::alloc::{AllocError, Global};
@@ -115,7 +116,10 @@ fn brief_words(scene: Scene<'_>, event: &StoryEvent) -> Result<String, AllocErro
             brief.put(if *waits { "at the gate: " } else { "" });
             put_call(scene, &mut brief, *call, arguments);
         }
-        Happening::Continue(queue, _) => put_queue(&mut brief, "continue(", queue.name.as_str()),
+        Happening::Continue(queue, _, _) => {
+            brief.put(if comes_to_gate(event) { "at the gate: " } else { "" });
+            put_queue(&mut brief, "continue(", queue.name.as_str());
+        }
         _ => put_words(scene, &mut brief, event),
     }
     put_values(scene.alloc, &mut brief, &event.returned);
@@ -160,12 +164,12 @@ fn put_words(scene: Scene<'_>, words: &mut Prose, event: &StoryEvent) {
         }
         Happening::Leave(_) => words.put("leaves"),
         Happening::Delay(queue, _) => put_queue(words, "delay(", queue.name.as_str()),
-        Happening::Continue(queue, _) => {
+        Happening::Continue(queue, _, signals) => {
             put_queue(words, "continue(", queue.name.as_str());
             if event.wakes_nobody() {
                 words.put(": nobody waits");
             }
-            put_woken(words, event.woken.as_slice());
+            put_woken(words, event.woken.as_slice(), *signals);
         }
         Happening::Start(process) => {
             words.put("starts ");
@@ -201,11 +205,22 @@ fn put_queue(words: &mut Prose, before: &str, name: &str) {
     words.put(")");
 }
 
-fn put_woken(words: &mut Prose, woken: &[u8]) {
+fn put_woken(words: &mut Prose, woken: &[u8], signals: Signals) {
+    let (before, after) = match signals {
+        Signals::Return => (" wakes ", ""),
+        Signals::Continue => (": ", " to the gate"),
+        Signals::Wait => (" wakes ", ", at the gate"),
+    };
     for process in woken {
-        words.put(" wakes ");
+        words.put(before);
         words.put_display(*process);
+        words.put(after);
     }
+}
+
+// Whether who continues a queue waits at the gate then.
+fn comes_to_gate(event: &StoryEvent) -> bool {
+    matches!(event.happening, Happening::Continue(_, _, Signals::Wait)) && !event.wakes_nobody()
 }
 
 impl PictureLabel {

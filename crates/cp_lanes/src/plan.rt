@@ -4,6 +4,7 @@ use crate::labels::{bold_width, plain_width, points};
 use crate::pictures::Scene;
 use crate::sheet::Sheet;
 use cp_legend::Legend;
+use cp_machine::Signals;
 use cp_story::{Happening, Story};
 use std::alloc::AllocError;
 
@@ -293,7 +294,9 @@ fn is_nested(story: &Story, process: u8) -> bool {
         if event.plain.process == process {
             match event.happening {
                 Happening::Enter { .. } => depth = depth.saturating_add(1),
-                Happening::Leave(_) | Happening::Continue(..) => depth = depth.saturating_sub(1),
+                Happening::Leave(_) | Happening::Continue(_, _, Signals::Return) => {
+                    depth = depth.saturating_sub(1);
+                }
                 _ => {}
             }
         }

@@ -3,6 +3,7 @@
 use crate::pictures::Scene;
 use crate::plan::TOP;
 use crate::sheet::Sheet;
+use cp_machine::Signals;
 use cp_story::{Happening, OpenCall, StoryEvent};
 use std::alloc::{AllocError, Global};
 
@@ -246,7 +247,7 @@ impl SpanBuilder {
         let process = event.plain.process;
         self.happen(process, &event.happening, y);
         for other in event.woken.as_slice() {
-            self.go_on(*other, y + 13.0, Some(row));
+            self.wake(process, *other, &event.happening, row, y);
         }
         for other in event.let_in.as_slice() {
             self.go_on(*other, y + 13.0, Some(row));
@@ -262,13 +263,15 @@ impl SpanBuilder {
                     self.stay(process, *call, y - 12.0, None);
                 }
             }
-            Happening::Leave(_) | Happening::Continue(..) => self.go_out(process, y),
+            Happening::Leave(_) | Happening::Continue(_, _, Signals::Return) => {
+                self.go_out(process, y);
+            }
             Happening::Delay(queue, call) => {
                 self.go_out(process, y);
                 self.pause(process, queue.monitor, false, *call, y);
             }
             Happening::Start(started) => self.begin(*started, y),
-            Happening::Display(_) => {}
+            Happening::Display(_) | Happening::Continue(..) => {}
             Happening::End => self.end_life(process, y),
             Happening::Admit(_) => self.go_on(process, y - 12.0, None),
         }
@@ -326,6 +329,23 @@ impl SpanBuilder {
                 bottom: y + 8.0,
                 lasts: false,
             });
+        }
+    }
+
+    // Who waited in a queue goes into the monitor that another one leaves; or it comes to the gate; or the two change places.
+    fn wake(&mut self, process: u8, other: u8, happening: &Happening, row: usize, y: f64) {
+        match happening {
+            Happening::Continue(queue, call, Signals::Wait) => {
+                self.go_out(process, y);
+                self.pause(process, queue.monitor, true, *call, y);
+                self.go_on(other, y + 13.0, Some(row));
+            }
+            Happening::Continue(queue, _, Signals::Continue) => {
+                if let Some(pause) = self.end_pause(other, y + 13.0) {
+                    self.pause(other, queue.monitor, true, pause.call, y + 5.0);
+                }
+            }
+            _ => self.go_on(other, y + 13.0, Some(row)),
         }
     }
 

@@ -9,7 +9,7 @@ use Rattle.cp_store.specs.declared.argument.Bound.{Bound}
 use Rattle.cp_store.specs.Arguments.{bound_in_component}
 use Rattle.cp_machine.specs.declared.process.Entry.{Entry}
 use Rattle.cp_machine.specs.declared.process.Entry.TheVariants.{InitEnd}
-use Rattle.cp_machine.specs.declared.process.Status.TheVariants.{Ready}
+use Rattle.cp_machine.specs.declared.process.Status.TheVariants.{AtGate, Ready}
 use Rattle.cp_machine.specs.declared.state.Phase.{Phase}
 use Rattle.cp_machine.specs.declared.state.Phase.TheVariants.{Uninitialised, Initialising, Initialised}
 use Rattle.cp_machine.specs.Calls.{frame_behind, opened, start_process, start_inside, started}
@@ -85,7 +85,7 @@ module _ (m : Machine) (pid : ℕ) where
         initialised = λ n c h. bounds_trans m n (with_phase n c Initialised) h (record { started = λ q e. e; begun = set_uninitialised n.phases c Initialised refl; bound = λ g k. refl });
         settled = λ n status is h. thread_bounds m n pid (record (thread_at n.threads pid) { status = status }) (λ e. absurd (cc)) h;
         readied = λ n p h. thread_bounds m n p (record (thread_at n.threads p) { status = Ready }) (λ e. absurd (cc)) h;
-        gated = λ n p cell monitor at h. thread_bounds m n p (record (thread_at n.threads p) { status = AtGate monitor }) (λ e. absurd (let never = delayed_started cell (thread_at n.threads p).status at in cc)) h;
+        gated = λ n p cell monitor at h. thread_bounds m n p (record (thread_at n.threads p) { status = AtGate monitor }) (λ e. absurd (cc)) h;
         wanted = λ n monitor any h. h;
       }
 

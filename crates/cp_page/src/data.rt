@@ -14,7 +14,7 @@ use crate::source::put_source;
 use crate::subject::{Length, MOST_STATES, PageSubject};
 use crate::teller::Teller;
 use cp_legend::Legend;
-use cp_machine::{Gates, State, Ticks};
+use cp_machine::{Gates, Signals, State, Ticks};
 use cp_merged::Tally;
 use cp_progress::ObserveProgress;
 use cp_run::OutcomeKind;
@@ -103,10 +103,22 @@ fn put_limits(json: &mut Json, subject: PageSubject<'_>) {
         Gates::First => "first",
         Gates::Any => "any",
     });
+    put_signals(json, subject.limits.discipline.signals);
     json.put_member("states", subject.states);
     json.put_name("word");
     json.put_processes(subject.word);
     json.put_member("round", subject.round);
+}
+
+// The discipline, where it is another one than `return`.
+fn put_signals(json: &mut Json, signals: Signals) {
+    let name = match signals {
+        Signals::Return => return,
+        Signals::Continue => "continue",
+        Signals::Wait => "wait",
+    };
+    json.put_name("signals");
+    json.put_quoted(name);
 }
 
 // The names and types of processes and monitors.

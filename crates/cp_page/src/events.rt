@@ -6,7 +6,7 @@ use crate::json::Json;
 use crate::register::Register;
 use crate::variables::path_inside;
 use cp_legend::SourceValue;
-use cp_machine::{Shown, State};
+use cp_machine::{Shown, Signals, State};
 use cp_slots::Resolved;
 use cp_story::{Happening, OpenCall, Queue, Returned, StoryEvent, push_call, push_shown};
 use std::alloc::AllocError;
@@ -66,7 +66,9 @@ impl<'a> Register<'a> {
             Happening::Admit(call) => ("a", call.monitor, self.place_call(*call, &[])?),
             Happening::Leave(call) => ("l", call.monitor, self.place_returned(&event.returned)?),
             Happening::Delay(queue, _) => ("d", queue.monitor, self.place_queue(queue)?),
-            Happening::Continue(queue, _) => ("c", queue.monitor, self.place_queue(queue)?),
+            Happening::Continue(queue, _, signals) => {
+                (letter_of(*signals), queue.monitor, self.place_queue(queue)?)
+            }
             Happening::Start(process) => ("s", *process, started),
             Happening::Display(shown) => ("o", 0, self.place_shown(*shown)?),
             Happening::End => ("x", 0, 0),
@@ -111,6 +113,15 @@ impl<'a> Register<'a> {
         let mut text = String::new(self.alloc);
         push_shown(self.legend, &mut text, shown)?;
         self.strings.place_text(text.as_str())
+    }
+}
+
+// A `continue` by who goes on after it.
+fn letter_of(signals: Signals) -> &'static str {
+    match signals {
+        Signals::Return => "c",
+        Signals::Continue => "n",
+        Signals::Wait => "w",
     }
 }
 

@@ -41,7 +41,7 @@ function saying({ kind, m, text, woken }) {
     g: () => [`${GATE} ${full} \u2014 gate`, `${GATE} ${call} \u2014 gate`, `${GATE} ${call}`],
     l: () => ["leaves" + (call && ": " + call)],
     d: () => [`${DELAY} delay(${call})`, `${DELAY} ${call}`],
-    c: () => [`${continues} continue(${call})`, `${continues} ${call}`],
+    [isContinue(kind) ? kind : "c"]: () => [`${continues} continue(${call})`, `${continues} ${call}`],
     s: () => ["starts " + D.processes[m][0], D.processes[m][0]],
     o: () => [""],
     x: () => ["ends"],
@@ -82,21 +82,27 @@ function layOut(rows, plan) {
     f.boxes.push(box);
     open[p].push(box);
   };
-  const endsWait = (p, m, to) => {
+  const waits = (p, m, kind, from) => f.waits.push({ p, m, kind, from, to: bottom + 20, isOver: false });
+  const endsWait = (p, to) => {
     const wait = f.waits.findLast(w => w.p === p);
     [wait.to, wait.isOver] = [to, true];
-    goesIn(p, m, to);
   };
   rows.forEach(({ event }, i) => {
     const { kind, p, m, woken, letIn } = event;
     const x = laneX(p) + 24;
     if (!foldAt(i)) f.labels.push([i, labelOf(event, x, y(i), lane - 34 - 5 * open[p].length)]);
     if (kind === "e") goesIn(p, m, y(i) - 11);
-    if (kind === "a") endsWait(p, m, y(i) - 11);
-    if ("lcd".includes(kind)) open[p].pop().to = y(i) + 11;
-    if ("gd".includes(kind)) f.waits.push({ p, m, kind, from: y(i) + 11, to: bottom + 20, isOver: false });
+    const comesToGate = kind === "w" && woken.length > 0;
+    if (kind === "a") {
+      endsWait(p, y(i) - 11);
+      goesIn(p, m, y(i) - 11);
+    }
+    if ("lcd".includes(kind) || comesToGate) open[p].pop().to = y(i) + 11;
+    if ("gd".includes(kind) || comesToGate) waits(p, m, kind === "d" ? "d" : "g", y(i) + 11);
     for (const q of [...woken, ...letIn]) {
-      endsWait(q, m, y(i) + H / 2 - 1);
+      endsWait(q, y(i) + H / 2 - 1);
+      if (kind === "n") waits(q, m, "g", y(i) + H / 2);
+      else goesIn(q, m, y(i) + H / 2 - 1);
       const from = q > p ? laneX(p) + lane - 14 : laneX(p) + 5;
       f.arrows.push([from, y(i), laneX(q) + (q > p ? 2 : 24), y(i) + H / 2 - 2, woken.includes(q) ? "" : "in"]);
     }
@@ -281,7 +287,7 @@ function pictureOf(s, plan, point) {
   return [
     lines.map(i => (lineOf[i] % 2 === 0 || isNow(i)) && rect(0, y(i) - H / 2, width, H, 0, isNow(i) ? "band at" : "band")),
     f.lives.map(([from, to], p) => svg("line", { x1: laneX(p) + 12, x2: laneX(p) + 12, y1: from, y2: to, class: "life" })),
-    monitorShapes(f, plan, s.end && (s.end.kind === "all-waiting" || isAlone(s.end.kind))),
+    monitorShapes(f, plan, s.end && isStuck(s.end.kind)),
     folded.map(([, shape]) => shape),
     f.pills.map(([, shape]) => shape),
     shown.map(i => svg("circle", { cx: laneX(rows[i].event.p) + 12, cy: y(i), r: rows[i].event.kind === "x" ? 3 : 4.5, class: "dot" })),

@@ -24,13 +24,15 @@ const KINDS = {
   "choice-limit": ["\u2026", "limit of choices"],
   "step-limit": ["\u2026", "limit of steps"],
   "output-limit": ["\u2026", "limit of output"],
-  "alone": ["\u221e", "goes on alone"],
+  "alone": ["\u221e", D.signals ? "goes on without a choice" : "goes on alone"],
   "spins": ["\u221e", "goes on without a call"],
   "for-ever": ["\u221e", "going on for ever"],
   "waits": ["\u21bb", "waiting for ever"],
   "beyond": ["?", "leave this page"],
 };
 const isAlone = kind => kind === "alone" || kind === "spins";
+// Where processes may take turns without a choice, who waits at the end need not wait for ever.
+const isStuck = kind => kind === "all-waiting" || kind === "spins" || (kind === "alone" && !D.signals);
 const kindText = kind => KINDS[kind].join(" ");
 const person = p => `${p} ${D.processes[p][0]}`;
 const monitor = m => D.monitors[m][0];
@@ -103,7 +105,7 @@ function endSentence({ kind, error, p, line, cause }) {
     "all-waiting": () => "All wait, and nobody is left who could wake them.",
     "run-error": () => `Run error ${error}: ${person(p)}, line ${line}${behindColon(cause)}.`,
     "choice-limit": () => `The limit of ${K} choices. What follows is not told: try more --choices.`,
-    "alone": () => `${person(p)} goes on for ever, and nobody else can.`,
+    "alone": () => `${person(p)} goes on for ever, ${D.signals ? "by itself or in turns, without a choice" : "and nobody else can"}.`,
     "spins": () => `${person(p)} goes on for ever without a call${line ? ", line " + line : ""}, and nobody else does.`,
     "step-limit": () => `${number(D.steps)} steps of ${person(p)} without an end${line ? ", line " + line : ""}: try more --steps.`,
     "output-limit": () => "1,000 values have been displayed, and no more can be.",
@@ -111,10 +113,13 @@ function endSentence({ kind, error, p, line, cause }) {
   }[kind]();
 }
 
+// The kinds of a `continue`: the caller returns from its call, goes on in it, or lets go on who waited and waits itself.
+const isContinue = kind => "cnw".includes(kind);
+
 // What an event was, in the words of `./show trace`.
 function wordsOf({ kind, m, text, woken, letIn }) {
   const says = S[text];
-  const isLost = kind === "c" && woken.length === 0;
+  const isLost = isContinue(kind) && woken.length === 0;
   const what = {
     e: () => `enters ${monitor(m)}.${says}`,
     g: () => `waits at the gate for ${monitor(m)}.${says}`,
@@ -122,11 +127,14 @@ function wordsOf({ kind, m, text, woken, letIn }) {
     l: () => `leaves ${monitor(m)}${says && ": " + says}`,
     d: () => `waits in ${monitor(m)}.${says}`,
     c: () => `continues ${monitor(m)}.${says}${isLost ? ", where nobody waits" : ""}`,
+    n: () => `continues ${monitor(m)}.${says}${isLost ? ", nobody waits" : ""}`,
+    w: () => `continues ${monitor(m)}.${says}${isLost ? ", nobody waits" : ""}`,
     s: () => `starts ${person(m)}`,
     o: () => `displays ${says}`,
     x: () => "ends",
   }[kind]();
-  return what + woken.map(q => `, wakes ${person(q)}`).join("") + letIn.map(q => `, lets ${person(q)} in`).join("");
+  const goes = { n: q => `, ${person(q)} goes to the gate`, w: q => `, wakes ${person(q)}, waits at the gate itself` }[kind] || (q => `, wakes ${person(q)}`);
+  return what + woken.map(goes).join("") + letIn.map(q => `, lets ${person(q)} in`).join("");
 }
 
 // ---- a word, played ----
@@ -180,12 +188,13 @@ function happen(s, event, choice) {
     s.holder[m] = q;
     s.gate[m] = s.gate[m].filter(other => other !== q);
   };
+  const waitAtGate = q => {
+    s.status[q] = "gate";
+    s.gate[m].push(q);
+  };
   if (kind === "e" || kind === "g") s.calls[p].push({ monitor: m, text: S[text], line: event.line });
   if (kind === "e" || kind === "a") enter(p);
-  if (kind === "g") {
-    s.status[p] = "gate";
-    s.gate[m].push(p);
-  }
+  if (kind === "g") waitAtGate(p);
   if (kind === "s") [s.status[m], s.view[m]] = ["ready", text];
   if (kind === "o") s.output.push(S[text]);
   if (kind === "x") s.status[p] = "ended";
@@ -193,6 +202,12 @@ function happen(s, event, choice) {
   // The line of a return is that of its call, and belongs to the way: ways with different calls may meet in one state.
   if (kind === "l" && s.calls[p].length) row.line = s.calls[p].at(-1).line;
   if (kind === "l" || kind === "c") s.calls[p].pop();
+  if (kind === "n") woken.forEach(waitAtGate);
+  if (kind === "w" && woken.length) {
+    s.status[p] = "gate";
+    s.gate[m].unshift(p);
+    woken.forEach(enter);
+  }
   if (kind === "l" || kind === "d" || kind === "c") {
     s.holder[m] = null;
     [...woken, ...letIn].forEach(enter);

@@ -25,16 +25,18 @@ use cp_text::{ScanCause, ScanFault, Tokens};
 use cp_tree::{ParseFault, Tree};
 use std::alloc::{AllocError, Global};
 
-/// What is said of a source that was loaded, or not: where and why it is refused, or that it is accepted.
+/// What is said of a source that was loaded, or not: where and why it is refused, or that it is accepted. Hints are those for a `continue` that ends the call of
+/// its entry procedure, or for one that does not.
 pub fn refusal(
     alloc: Global,
     source: &[u8],
     loaded: Result<&Loaded, &LoadRefusal>,
+    continue_returns: bool,
 ) -> Result<Explanation, AllocError>
     ensures { IfOk result (λ said. MatchResult loaded.entry (λ _. spec.IsAccepted said) (λ r. spec.IsToldOf source.now r.now said)) }
 {
     match loaded {
-        Ok(loaded) => Ok(Explanation::Accepted(hints(alloc, source, loaded)?)),
+        Ok(loaded) => Ok(Explanation::Accepted(hints(alloc, source, loaded, continue_returns)?)),
         Err(refusal) => explain(alloc, source, refusal),
     }
 }

@@ -19,6 +19,8 @@ pub struct Gathering<'a, 'b> {
     pub source: &'a [u8],
     pub tokens: &'a Tokens,
     pub declarations: &'b Declarations<'a>,
+    /// Whether `continue` ends the call of its entry procedure.
+    continue_returns: bool,
     hints: Hints,
 }
 
@@ -110,7 +112,7 @@ impl<'a, 'b> Gathering<'a, 'b> {
         // Whether a call may have been left before, by a `continue`.
         let mut may_have_left = false;
         for at in 0..self.tokens.count() {
-            let is_continue = name_at(self.tokens, at) == "continue";
+            let is_continue = self.continue_returns && name_at(self.tokens, at) == "continue";
             may_have_left = is_continue || may_have_left && level > 0;
             level = level_after(self.tokens, at, level);
             if level == 1 && !may_have_left && self.is_plain_delay(at) {
@@ -124,8 +126,13 @@ impl<'a, 'b> Gathering<'a, 'b> {
     }
 }
 
-/// A hint for each thing that is legal, but rarely meant.
-pub fn hints(alloc: Global, source: &[u8], loaded: &Loaded) -> Result<Hints, AllocError> {
+/// A hint for each thing that is legal, but rarely meant, where `continue` ends the call of its entry procedure, or does not.
+pub fn hints(
+    alloc: Global,
+    source: &[u8],
+    loaded: &Loaded,
+    continue_returns: bool,
+) -> Result<Hints, AllocError> {
     let tokens = &loaded.tokens;
     let declarations = Declarations::of(alloc, tokens, &loaded.checked.tree().program)?;
     let mut gathering = Gathering {
@@ -133,12 +140,17 @@ pub fn hints(alloc: Global, source: &[u8], loaded: &Loaded) -> Result<Hints, All
         source,
         tokens,
         declarations: &declarations,
+        continue_returns,
         hints: Hints {
             all: Vec::new(alloc),
             more: 0,
         },
     };
-    gathering.add_skipped()?;
+    if continue_returns {
+        gathering.add_skipped()?;
+    } else {
+        gathering.add_once_tested()?;
+    }
     gathering.add_inner_waits()?;
     gathering.add_plain_delays()?;
     gathering.add_starts()?;

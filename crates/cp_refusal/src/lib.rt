@@ -14,6 +14,7 @@ mod extent;
 mod foreign;
 mod further_up;
 mod hints;
+mod looking_again;
 mod page;
 mod place;
 mod report;

@@ -232,7 +232,7 @@ static PARTS: [PartWords; 7] = [
         about: "Says why a source is refused, in a sentence; or that it is accepted, with hints",
         usage: "cpx_show refusal [OPTIONS] < PROGRAM",
         options: &[&[JSON, WHERE], LIMITS],
-        notes: "The options of a run change nothing here.",
+        notes: "Of the options of a run, --signals alone changes something here: the hints.",
     },
     PartWords {
         name: "mark",

@@ -5,6 +5,8 @@ use Rattle.std.specs.Prelude.{ℤ, pos, negsuc, if◌then◌else◌}
 use Rattle.serde_json.specs.Written.{has_float}
 use Rattle.cp_legend.specs.Names.{Legend, monitor_count, process_count}
 use Rattle.cp_legend.specs.Values.{Value, Values, Members, integer, named, list, set, record_of, no_values, more_values, no_members, more_members}
+use Rattle.cp_machine.specs.declared.discipline.Signals.{Signals}
+use Rattle.cp_machine.specs.declared.discipline.Signals.TheVariants.{Return, Continue, Wait}
 use Rattle.cp_machine.specs.declared.process.Status.{Status}
 use Rattle.cp_machine.specs.declared.process.Status.TheVariants as status
 use Rattle.cp_machine.specs.declared.shown.Shown.{Shown}
@@ -82,7 +84,7 @@ subject_free : (l : Legend) (h : Happened) → list_any is_float_member (spec.su
 subject_free l (Enters call arguments waits) = both refl (both refl (both (no_float-array spec.value_data arguments value_free) refl))
 subject_free l (Leaves call) = refl
 subject_free l (Delays queue call) = refl
-subject_free l (Continues queue call) = refl
+subject_free l (Continues queue call by) = refl
 subject_free l (Starts process) = refl
 subject_free l (Displays value) = both (shown_free l value) refl
 subject_free l Ends = refl
@@ -102,7 +104,9 @@ returned_free : (h : Happened) (given : List Given) → list_any is_float_member
 returned_free (Enters call arguments waits) given = refl
 returned_free (Leaves call) given = both (no_float-array spec.given_data given given_free) refl
 returned_free (Delays queue call) given = refl
-returned_free (Continues queue call) given = both (no_float-array spec.given_data given given_free) refl
+returned_free (Continues queue call Return) given = both (no_float-array spec.given_data given given_free) refl
+returned_free (Continues queue call Continue) given = refl
+returned_free (Continues queue call Wait) given = refl
 returned_free (Starts process) given = refl
 returned_free (Displays value) given = refl
 returned_free Ends given = refl
@@ -193,12 +197,17 @@ first_free l s =
     (both (no_float-array (spec.event_data l) (map told_of s.events.items) (event_free l))
     (both (end_free l (answer_of s.end) (option_map halted_seen s.stop) s.cause (option_map decision_of s.last_choice)) refl)))
 
+signals_free : (s : Signals) → list_any is_float_member (spec.signals_members s) ≡ false
+signals_free Return = refl
+signals_free Continue = refl
+signals_free Wait = refl
+
 pub story_free : (l : Legend) (s : Story) (word : List ℕ) (source : List (List ℕ)) → has_float (spec.story_data l s word source) ≡ false
 story_free l s word source =
     let outcome = spec.outcome_members l (answer_of s.end) word in
-    let last = (codes "final", spec.waits_data l (map wait_of s.waits.items)) ∷ (codes "source", spec.lines_data source) ∷ [] in
+    let last = (codes "final", spec.waits_data l (map wait_of s.waits.items)) ∷ (codes "source", spec.lines_data source) ∷ spec.signals_members s.signals in
     no_float-object (spec.first_members l s ++ outcome ++ last)
     (none_of (spec.first_members l s ++ outcome) last
     (none_of (spec.first_members l s) outcome (first_free l s) (outcome_free l (answer_of s.end) word))
     (both (no_float-array (spec.wait_data l) (map wait_of s.waits.items) (wait_free l))
-    (both (no_float-array text_data source line_free) refl)))
+    (both (no_float-array text_data source line_free) (signals_free s.signals))))

@@ -1,5 +1,5 @@
 -- What a process is about to do: on which line it stands, which queue it comes to, who goes on by it, and whether its call ends there.
-use Rattle.std.specs.Prelude.{ℕ, List, ◌∷◌, Bool, true, false, Option, Some, None, Result, Ok}
+use Rattle.std.specs.Prelude.{◌&&◌, ℕ, List, ◌∷◌, Bool, true, false, Option, Some, None, Result, Ok}
 use Rattle.cp_slots.specs.declared.item.Action.{Action}
 use Rattle.cp_slots.specs.declared.item.Action.TheVariants.{Delay, Continue}
 use Rattle.cp_slots.specs.declared.item.Item.{Item}
@@ -9,6 +9,7 @@ use Rattle.cp_store.specs.declared.memory.Address.{Address}
 use Rattle.cp_store.specs.declared.memory.Address.TheVariants.{Permanent}
 use Rattle.cp_machine.specs.declared.process.Entry.{Entry}
 use Rattle.cp_machine.specs.declared.process.Entry.TheVariants.{Rest, Return}
+use Rattle.cp_machine.specs.Discipline.{lets_caller_return}
 use Rattle.cp_machine.specs.Kernel.{waits_in}
 use Rattle.cp_machine.specs.Machine.{Machine, thread_at}
 use Rattle.cp_machine.specs.Memory.{address_of}
@@ -43,14 +44,14 @@ woken_by m _ queue = None
 
 -- ---- the topmost entry of a process
 
--- an item: its line, its queue, and who is woken; the call of a monitor's entry ends by `continue`
+-- an item: its line, its queue, and who is woken; the call of a monitor's entry ends by a `continue` that returns
 abbrev pub aim_at : Machine → (pid : ℕ) → Item → Aim
 aim_at m pid item =
     record {
       line = Some item.line;
       queue = queue_of m pid item.action;
       wakes = woken_by m item.action (queue_of m pid item.action);
-      ends_call = is_continue item.action;
+      ends_call = is_continue item.action && lets_caller_return m.discipline.signals;
     }
 
 -- the end of a call, and a `for` that goes on, have no line

@@ -10,7 +10,7 @@ abbrev pub event_of : Happening → TraceEvent
 event_of (happening.Enter call arguments waits) = Kernel Enter
 event_of (happening.Leave call) = Kernel Leave
 event_of (happening.Delay queue call) = Kernel Delay
-event_of (happening.Continue queue call) = Kernel Continue
+event_of (happening.Continue queue call by) = Kernel Continue
 event_of (happening.Start process) = Kernel StartProcess
 event_of (happening.Display value) = Kernel Display
 event_of happening.End = End

@@ -6,6 +6,8 @@ use Rattle.cp_legend.specs.Names.{Legend, monitor_in, name_of_routine, path_in, 
 use Rattle.cp_legend.specs.Places as places
 use Rattle.cp_legend.specs.Values.{Value, value_seen}
 use Rattle.cp_legend.specs.Written.{value_text}
+use Rattle.cp_machine.specs.declared.discipline.Signals.{Signals}
+use Rattle.cp_machine.specs.declared.discipline.Signals.TheVariants.{Return, Continue, Wait}
 use Rattle.cp_machine.specs.declared.process.Status.{Status}
 use Rattle.cp_machine.specs.declared.process.Status.TheVariants as status
 use Rattle.cp_machine.specs.declared.shown.Shown.{Shown}
@@ -70,18 +72,37 @@ abbrev pub happening_text : Legend → Happening → List ℕ
 happening_text l (happening.Enter call arguments waits) = entering_text waits ++ call_text l call (map value_seen arguments.items)
 happening_text l (happening.Leave call) = codes "leaves " ++ monitor_text l call.monitor
 happening_text l (happening.Delay queue call) = codes "waits in " ++ queue_text l queue
-happening_text l (happening.Continue queue call) = codes "continues " ++ queue_text l queue
+happening_text l (happening.Continue queue call by) = codes "continues " ++ queue_text l queue
 happening_text l (happening.Start process) = codes "starts " ++ process_text l process
 happening_text l (happening.Display value) = codes "displays " ++ shown_text l value
 happening_text l happening.End = codes "ends"
 happening_text l (happening.Admit call) = codes "is let in to " ++ call_text l call []
 
 abbrev pub is_continue : Happening → Bool
-is_continue (happening.Continue queue call) = true
+is_continue (happening.Continue queue call by) = true
 is_continue _ = false
 
+-- who goes on after what happened
+abbrev pub signals_by : Happening → Signals
+signals_by (happening.Continue queue call by) = by
+signals_by _ = Return
+
+abbrev pub nobody_words : Signals → List ℕ
+nobody_words Return = codes ", where nobody waits"
+nobody_words _ = codes ", nobody waits"
+
+-- before and after who waited: it goes on, or is at the gate; or it goes on, and the caller is at the gate
+abbrev pub words_before : Signals → List ℕ
+words_before Continue = codes ", "
+words_before _ = codes ", wakes "
+
+abbrev pub words_after : Signals → List ℕ
+words_after Return = []
+words_after Continue = codes " goes to the gate"
+words_after Wait = codes ", waits at the gate itself"
+
 abbrev pub nobody_text : Happening → (woken : List ℕ) → List ℕ
-nobody_text h woken = if is_continue h && length woken == 0 then codes ", where nobody waits" else []
+nobody_text h woken = if is_continue h && length woken == 0 then nobody_words (signals_by h) else []
 
 abbrev pub named_text : List ℕ → List ℕ
 named_text name = if length name == 0 then [] else name ++ codes " "
@@ -90,15 +111,15 @@ named_text name = if length name == 0 then [] else name ++ codes " "
 abbrev pub returned_text : Returned → List ℕ
 returned_text r = codes ", " ++ named_text (string_bytes r.name) ++ codes "= " ++ value_text (value_seen r.value)
 
-abbrev pub woken_text : Legend → List ℕ → List ℕ
-woken_text l woken = each (between_text l (codes ", wakes ") []) woken
+abbrev pub woken_text : Legend → Signals → List ℕ → List ℕ
+woken_text l by woken = each (between_text l (words_before by) (words_after by)) woken
 
 abbrev pub let_in_text : Legend → List ℕ → List ℕ
 let_in_text l let_in = each (between_text l (codes ", lets ") (codes " in")) let_in
 
 -- What an event was, what came back from the call that ended with it, and who goes on by it.
 abbrev pub event_text : Legend → StoryEvent → List ℕ
-event_text l e = happening_text l e.happening ++ nobody_text e.happening e.woken.items ++ each returned_text e.returned.items ++ woken_text l e.woken.items ++ let_in_text l e.let_in.items
+event_text l e = happening_text l e.happening ++ nobody_text e.happening e.woken.items ++ each returned_text e.returned.items ++ woken_text l (signals_by e.happening) e.woken.items ++ let_in_text l e.let_in.items
 
 -- ---- processes that wait
 

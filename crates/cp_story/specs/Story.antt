@@ -12,6 +12,8 @@ use Rattle.cp_machine.specs.declared.event.Event.{Event}
 use Rattle.cp_machine.specs.declared.event.Event.TheVariants as step
 use Rattle.cp_machine.specs.declared.event.Kernel.TheVariants.{Enter, Leave, Delay, Continue, StartProcess, Display}
 use Rattle.cp_machine.specs.declared.discipline.Discipline.{Discipline}
+use Rattle.cp_machine.specs.declared.discipline.Signals.{Signals}
+use Rattle.cp_machine.specs.declared.discipline.Signals.TheVariants as signals
 use Rattle.cp_machine.specs.declared.process.Entry.{Entry}
 use Rattle.cp_machine.specs.declared.process.Entry.TheVariants.{Return}
 use Rattle.cp_machine.specs.declared.process.Status.{Status}
@@ -48,9 +50,9 @@ pub data Happened : Type 0 where
   -- a monitor's entry is called, with these arguments, and whether the caller waits at the gate
   Enters : OpenCall → List Value → Bool → Happened
   Leaves : OpenCall → Happened
-  -- a process waits in this queue, or continues it
+  -- a process waits in this queue, or continues it by a discipline of who goes on then
   Delays : NamedQueue → OpenCall → Happened
-  Continues : NamedQueue → OpenCall → Happened
+  Continues : NamedQueue → OpenCall → Signals → Happened
   Starts : ℕ → Happened
   Displays : Shown → Happened
   Ends : Happened
@@ -164,7 +166,7 @@ abbrev pub what_happened : TraceEvent → ℕ → Aim → Machine → Past → H
 what_happened (Kernel Enter) p aim t past = Enters (call_begun (thread_at t.threads p) aim.line) (arguments past.legend (slice_get t.threads p)) (is_gated (thread_at t.threads p).status)
 what_happened (Kernel Leave) p aim t past = Leaves (innermost_call past.calls p)
 what_happened (Kernel Delay) p aim t past = Delays (queue_told past.legend aim.queue) (innermost_call past.calls p)
-what_happened (Kernel Continue) p aim t past = Continues (queue_told past.legend aim.queue) (innermost_call past.calls p)
+what_happened (Kernel Continue) p aim t past = Continues (queue_told past.legend aim.queue) (innermost_call past.calls p) t.discipline.signals
 what_happened (Kernel StartProcess) p aim t past = Starts (last_or 0 (started_processes past.statuses t))
 what_happened (Kernel Display) p aim t past = Displays (last_or (Integer (pos 0)) t.output)
 what_happened End p aim t past = Ends
@@ -177,10 +179,15 @@ line_told Ends line = None
 line_told (IsAdmitted call) line = None
 line_told _ line = line
 
+-- who continues a queue returns from its call under `return` alone
+abbrev pub calls_continued : Signals → List (List OpenCall) → ℕ → List (List OpenCall)
+calls_continued signals.Return calls p = without_call calls p
+calls_continued _ calls p = calls
+
 abbrev pub calls_after : TraceEvent → ℕ → Aim → Machine → List (List OpenCall) → List (List OpenCall)
 calls_after (Kernel Enter) p aim t calls = with_call calls p (call_begun (thread_at t.threads p) aim.line)
 calls_after (Kernel Leave) p aim t calls = without_call calls p
-calls_after (Kernel Continue) p aim t calls = without_call calls p
+calls_after (Kernel Continue) p aim t calls = calls_continued t.discipline.signals calls p
 calls_after _ p aim t calls = calls
 
 abbrev pub told_event : List (Option ℕ) → TraceEvent → ℕ → Aim → Machine → Past → Told

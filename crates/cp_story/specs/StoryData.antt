@@ -3,6 +3,8 @@ use Rattle.std.specs.Prelude.{ℕ, ◌==◌, if◌then◌else◌, List, [], ◌�
 use Rattle.serde_json.specs.Data.{Data, null}
 use Rattle.cp_legend.specs.Names.{Legend, Named, at_each, monitor_count, monitor_in, name_of_routine, path_in, process_count, process_in, type_in}
 use Rattle.cp_legend.specs.Values.{Value, Values, Members, integer, named, list, set, record_of, no_values, more_values, no_members, more_members}
+use Rattle.cp_machine.specs.declared.discipline.Signals.{Signals}
+use Rattle.cp_machine.specs.declared.discipline.Signals.TheVariants.{Return, Continue, Wait}
 use Rattle.cp_machine.specs.declared.process.Status.{Status}
 use Rattle.cp_machine.specs.declared.process.Status.TheVariants as status
 use Rattle.cp_machine.specs.declared.shown.Shown.{Shown}
@@ -78,7 +80,7 @@ abbrev pub event_name : Happened → List ℕ
 event_name (Enters call arguments waits) = codes "enter"
 event_name (Leaves call) = codes "leave"
 event_name (Delays queue call) = codes "delay"
-event_name (Continues queue call) = codes "continue"
+event_name (Continues queue call by) = codes "continue"
 event_name (Starts process) = codes "init"
 event_name (Displays value) = codes "display"
 event_name Ends = codes "end"
@@ -92,7 +94,7 @@ abbrev pub subject_members : Legend → Happened → List Member
 subject_members l (Enters call arguments waits) = call_members l call ++ (codes "arguments", array_of (map value_data arguments)) ∷ []
 subject_members l (Leaves call) = call_members l call
 subject_members l (Delays queue call) = call_members l call ++ (codes "queue", text_data queue.name) ∷ []
-subject_members l (Continues queue call) = call_members l call ++ (codes "queue", text_data queue.name) ∷ []
+subject_members l (Continues queue call by) = call_members l call ++ (codes "queue", text_data queue.name) ∷ []
 subject_members l (Starts process) = (codes "target", text_data (path_in (process_in l.components process))) ∷ (codes "target_process", number_data process) ∷ []
 subject_members l (Displays value) = (codes "value", shown_data l value) ∷ []
 subject_members l Ends = []
@@ -108,7 +110,7 @@ given_data g = object_with ((if length g.name == 0 then [] else (codes "name", t
 -- what came back, where a call ended
 abbrev pub returned_members : Happened → List Given → List Member
 returned_members (Leaves call) given = (codes "returned", array_of (map given_data given)) ∷ []
-returned_members (Continues queue call) given = (codes "returned", array_of (map given_data given)) ∷ []
+returned_members (Continues queue call Return) given = (codes "returned", array_of (map given_data given)) ∷ []
 returned_members _ given = []
 
 -- ---- how processes, monitors and variables stand after it
@@ -197,6 +199,12 @@ first_members l s =
     ∷ (codes "end", end_data l (answer_of s.end) (option_map halted_seen s.stop) s.cause (option_map decision_of s.last_choice))
     ∷ []
 
--- and what a run that ended used and displayed; the processes that wait; and the lines of the source
+-- the discipline, where it is another one than `return`
+abbrev pub signals_members : Signals → List Member
+signals_members Return = []
+signals_members Continue = (codes "signals", text_data (codes "continue")) ∷ []
+signals_members Wait = (codes "signals", text_data (codes "wait")) ∷ []
+
+-- and what a run that ended used and displayed; the processes that wait; the lines of the source; and the discipline
 abbrev pub story_data : Legend → Story → (word : List ℕ) → (source : List (List ℕ)) → Data
-story_data l s word source = object_with (first_members l s ++ outcome_members l (answer_of s.end) word ++ (codes "final", waits_data l (map wait_of s.waits.items)) ∷ (codes "source", lines_data source) ∷ [])
+story_data l s word source = object_with (first_members l s ++ outcome_members l (answer_of s.end) word ++ (codes "final", waits_data l (map wait_of s.waits.items)) ∷ (codes "source", lines_data source) ∷ signals_members s.signals)

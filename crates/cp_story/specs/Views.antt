@@ -30,7 +30,7 @@ abbrev pub happened_of : Happening → Happened
 happened_of (happening.Enter call arguments waits) = Enters call (map value_seen arguments.items) waits
 happened_of (happening.Leave call) = Leaves call
 happened_of (happening.Delay queue call) = Delays (queue_seen queue) call
-happened_of (happening.Continue queue call) = Continues (queue_seen queue) call
+happened_of (happening.Continue queue call by) = Continues (queue_seen queue) call by
 happened_of (happening.Start process) = Starts process
 happened_of (happening.Display value) = Displays value
 happened_of happening.End = Ends

@@ -2,6 +2,7 @@
 
 ghost use Rattle.std.specs.Prelude.{◌≡◌, ◌∷◌, ◌<◌, ℕ, IfSome, IsTrue, Some, drop, length, option_copied, position};
 ghost use Rattle.cp_slots.specs.Tables.{Tables, item_at};
+ghost use Rattle.cp_machine.specs.Discipline.{lets_caller_return};
 ghost use Rattle.cp_machine.specs.Fits.{IsStateOf, IsTaken};
 ghost use Rattle.cp_machine.specs.Kernel.{waits_in};
 ghost use Rattle.cp_machine.specs.Machine.{is_delayed_at, is_ready, machine_of, thread_at, under};
@@ -10,7 +11,7 @@ ghost use Rattle.cp_machine.specs.Reach.{CanReach};
 ghost use Rattle.cp_machine.specs.Stack.{above};
 ghost use Rattle.cp_story.specs.Aimed as spec;
 
-use cp_machine::{Entry, ProcessState, State};
+use cp_machine::{Entry, ProcessState, Signals, State};
 use cp_slots::{Action, Item, Place, Resolved};
 use cp_store::{Address, address};
 
@@ -81,7 +82,7 @@ fn aim_at(program: &Resolved, state: &State, pid: u8, at: usize) -> Aim
         line: Some(item.line),
         queue,
         wakes: woken_by(state, item, queue),
-        ends_call: is_continue(item),
+        ends_call: is_continue(item) && returns_by_continue(state),
     }
 }
 
@@ -89,6 +90,13 @@ fn is_continue(item: &Item) -> bool
     ensures { result ≡ spec.is_continue item.now.action }
 {
     matches!(item.action, Action::Continue(_))
+}
+
+// Whether who continues a queue returns at once.
+fn returns_by_continue(state: &State) -> bool
+    ensures { result ≡ lets_caller_return (machine_of state.now).discipline.signals }
+{
+    matches!(state.discipline.signals, Signals::Return)
 }
 
 // The cell of the queue that an item delays in, or continues.

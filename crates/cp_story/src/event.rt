@@ -5,7 +5,7 @@ ghost use Rattle.cp_story.specs.Events.{event_of};
 
 use arrayvec::ArrayVec;
 use cp_legend::SourceValue;
-use cp_machine::{Shown, Status};
+use cp_machine::{Shown, Signals, Status};
 use cp_run::TraceLine;
 
 /// A choice that was due: who could be chosen, and who was.
@@ -47,8 +47,8 @@ pub enum Happening {
     Leave(OpenCall),
     /// With the call that it waits in.
     Delay(Queue, OpenCall),
-    /// With the call that it returns from.
-    Continue(Queue, OpenCall),
+    /// With the call that it is in, and who goes on after it: under `return` it returns from the call.
+    Continue(Queue, OpenCall, Signals),
     /// The start of a process.
     Start(u8),
     Display(Shown),
@@ -86,7 +86,7 @@ pub struct StoryEvent {
     pub happening: Happening,
     /// What the call gave back that ended with it.
     pub returned: Vec<Returned>,
-    /// Who was delayed and goes on.
+    /// Who was delayed in the queue that is continued.
     pub woken: ArrayVec<u8, 16>,
     /// Who was at the gate and goes in.
     pub let_in: ArrayVec<u8, 16>,

@@ -18,7 +18,7 @@ use crate::event::{Change, Choice, Happening, OpenCall, Returned, StoryEvent};
 use crate::story::{Story, Wait};
 use crate::words::{error_words, kind_words, output_words, push_shown};
 use cp_legend::{Legend, Member, SourceValue as Written};
-use cp_machine::{Shown, Status};
+use cp_machine::{Shown, Signals, Status};
 use cp_run::{OutcomeKind, RunEnd};
 use serde_json::{Map, Value};
 use std::alloc::{AllocError, Global};
@@ -115,7 +115,19 @@ fn story_object(
     put_outcome(alloc, legend, &mut whole, story, word)?;
     whole.put("final", waits(alloc, legend, &story.waits)?)?;
     whole.put("source", lines(alloc, source)?)?;
+    put_signals(&mut whole, story.signals)?;
     Ok(whole)
+}
+
+/// Adds the discipline, where it is another one than `return`.
+pub fn put_signals(object: &mut Object, signals: Signals) -> Result<(), AllocError>
+    ensures { OnOk result (members_in object.new ≡ with_members (members_in object.old) (spec.signals_members signals)) }
+{
+    match signals {
+        Signals::Return => Ok(()),
+        Signals::Continue => object.text("signals", "continue"),
+        Signals::Wait => object.text("signals", "wait"),
+    }
 }
 
 // What of the word was used, and what was displayed, where the run has ended.
@@ -261,7 +273,7 @@ fn put_returned(alloc: Global, object: &mut Object, event: &StoryEvent) -> Resul
     ensures { OnOk result (members_in object.new ≡ with_members (members_in object.old) (spec.returned_members (happened_of event.now.happening) (map given_of event.now.returned.items))) }
 {
     match event.happening {
-        Happening::Leave(_) | Happening::Continue(..) => {
+        Happening::Leave(_) | Happening::Continue(_, _, Signals::Return) => {
             object.put("returned", returned_values(alloc, &event.returned)?)
         }
         _ => Ok(()),
@@ -346,7 +358,7 @@ fn put_happening(
             object.put("arguments", values(object.alloc, arguments)?)
         }
         Happening::Leave(call) | Happening::Admit(call) => put_call(legend, object, *call),
-        Happening::Delay(queue, call) | Happening::Continue(queue, call) => {
+        Happening::Delay(queue, call) | Happening::Continue(queue, call, _) => {
             put_call(legend, object, *call)?;
             object.text("queue", queue.name.as_str())
         }

@@ -8,7 +8,7 @@ ghost use Rattle.cp_machine.specs.Machine.{machine_of, thread_at};
 ghost use Rattle.cp_run.specs.declared.line.TraceEvent.TheVariants as event;
 ghost use Rattle.cp_story.specs.Events.{event_of};
 ghost use Rattle.cp_story.specs.Passed as passed;
-ghost use Rattle.cp_story.specs.Story.{Enters, call_begun, calls_after, innermost_call, is_gated, last_or, last_with, line_told, no_call, nothing_told, past_after, past_before, queue_told, statuses_in, told_event, what_happened, with_call, with_calls};
+ghost use Rattle.cp_story.specs.Story.{Enters, call_begun, calls_after, calls_continued, innermost_call, is_gated, last_or, last_with, line_told, no_call, nothing_told, past_after, past_before, queue_told, statuses_in, told_event, what_happened, with_call, with_calls};
 ghost use Rattle.cp_story.specs.Views.{happened_of, past_of, queue_seen, told_of};
 ghost use Rattle.cp_story.specs.Waiting.{innermost_open};
 
@@ -22,7 +22,7 @@ use crate::statuses::{
     is_at_gate, listed, processes_let_in, started_process, status_of, statuses_of,
 };
 use cp_legend::Legend;
-use cp_machine::{Kernel, Shown, State, Status};
+use cp_machine::{Kernel, Shown, Signals, State, Status};
 use cp_run::{TraceEvent, TraceLine};
 use std::alloc::{AllocError, Global};
 use std::mem;
@@ -169,7 +169,8 @@ impl<'a> Observer<'a> {
             }
             TraceEvent::Kernel(Kernel::Continue) => {
                 let queue = self.queue(alloc, aim.queue)?;
-                Happening::Continue(queue, close_call(&mut self.calls, process))
+                let signals = state.discipline.signals;
+                Happening::Continue(queue, self.continue_call(process, signals), signals)
             }
             TraceEvent::Kernel(Kernel::StartProcess) => {
                 Happening::Start(started_process(&self.statuses, state))
@@ -178,6 +179,17 @@ impl<'a> Observer<'a> {
             TraceEvent::End => Happening::End,
             TraceEvent::Admit => Happening::Admit(self.call_of(process).unwrap_or(NO_CALL)),
         })
+    }
+
+    // The call in which a process continues a queue: it returns from it, or goes on in it.
+    fn continue_call(&mut self, process: u8, signals: Signals) -> OpenCall
+        ensures call { result ≡ innermost_call (past_of self.old).calls process }
+        ensures calls { past_of self.new ≡ with_calls (past_of self.old) (calls_continued signals (past_of self.old).calls process) }
+    {
+        match signals {
+            Signals::Return => close_call(&mut self.calls, process),
+            Signals::Continue | Signals::Wait => self.call_of(process).unwrap_or(NO_CALL),
+        }
     }
 
     fn enter(

@@ -23,7 +23,7 @@ use crate::observer::Observer;
 use crate::statuses::status_of;
 use crate::stopping::{AbruptEnd, abrupt_end};
 use cp_legend::Legend;
-use cp_machine::{Event as Step, State, Status, Ticks};
+use cp_machine::{Event as Step, Signals, State, Status, Ticks};
 use cp_run::{Limits, Observe, RunEnd, TraceEvent, TraceLine, candidates, holders, observe_run};
 use cp_slots::Resolved;
 use std::alloc::{AllocError, Global};
@@ -57,6 +57,8 @@ pub struct Story {
     pub cause: Option<Cause>,
     /// How many numbers of the word were not used, since the run had ended.
     pub left: usize,
+    /// Who goes on after a `continue`.
+    pub signals: Signals,
 }
 
 /// The events of a run, while it is made.
@@ -299,6 +301,7 @@ pub fn tell<L: Ledger>(
     ensures stop { IfOk result (λ s. option_map halted_seen s.stop ≡ how_halted (legend_seen legend.now) program.now limits.discipline limits.choices limits.steps word.now) }
     ensures cause { IfOk result (λ s. s.cause ≡ cause_of_run program.now limits.discipline limits.choices limits.steps word.now) }
     ensures left { IfOk result (λ s. s.left ≡ numbers_left word.now (run (slots program.now limits.discipline) limits.choices limits.steps word.now)) }
+    ensures signals { IfOk result (λ s. s.signals ≡ limits.discipline.signals) }
     ensures ticks { ticks.new ≤ ticks.old + (limits.choices + 1) * limits.steps }
 {
     let mut state = State::start(alloc, program, limits.discipline)?;
@@ -328,6 +331,7 @@ pub fn tell<L: Ledger>(
         stop,
         cause,
         left,
+        signals: limits.discipline.signals,
     })
 }
 

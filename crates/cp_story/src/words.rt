@@ -13,7 +13,7 @@ ghost use Rattle.cp_story.specs.Views.{decision_of, wait_of};
 use crate::event::{Choice, Happening, OpenCall, Queue, Returned, StoryEvent};
 use crate::story::{Story, Wait};
 use cp_legend::{Legend, SourceValue};
-use cp_machine::{ErrorName, Shown, Status};
+use cp_machine::{ErrorName, Shown, Signals, Status};
 use cp_run::{OutcomeKind, RunEnd};
 use std::alloc::{AllocError, Global};
 
@@ -146,9 +146,44 @@ pub fn happening_words(
     push_happening(legend, &mut text, &event.happening)?;
     push_nobody(&mut text, event)?;
     push_returned(&mut text, &event.returned)?;
-    push_processes(legend, &mut text, ", wakes ", event.woken.as_slice(), "")?;
+    let words = waking_words(&event.happening);
+    push_processes(legend, &mut text, words.before, event.woken.as_slice(), words.after)?;
     push_processes(legend, &mut text, ", lets ", event.let_in.as_slice(), " in")?;
     Ok(text)
+}
+
+/// What is said of who waits in a queue that is continued.
+#[derive(Clone, Copy)]
+struct WakingWords {
+    /// That nobody does.
+    nobody: &'static str,
+    /// Before and after who does.
+    before: &'static str,
+    after: &'static str,
+}
+
+fn waking_words(happening: &Happening) -> WakingWords
+    ensures nobody { result.nobody.now ≡ spec.nobody_words (spec.signals_by happening.now) }
+    ensures before { result.before.now ≡ spec.words_before (spec.signals_by happening.now) }
+    ensures after { result.after.now ≡ spec.words_after (spec.signals_by happening.now) }
+{
+    match happening {
+        Happening::Continue(_, _, Signals::Continue) => WakingWords {
+            nobody: ", nobody waits",
+            before: ", ",
+            after: " goes to the gate",
+        },
+        Happening::Continue(_, _, Signals::Wait) => WakingWords {
+            nobody: ", nobody waits",
+            before: ", wakes ",
+            after: ", waits at the gate itself",
+        },
+        _ => WakingWords {
+            nobody: ", where nobody waits",
+            before: ", wakes ",
+            after: "",
+        },
+    }
 }
 
 // That nobody waits in a queue that is continued.
@@ -156,7 +191,7 @@ fn push_nobody(text: &mut String, event: &StoryEvent) -> Result<(), AllocError>
     ensures { OnOk result (string_bytes text.new ≡ string_bytes text.old ++ spec.nobody_text event.now.happening event.now.woken.items) }
 {
     if event.wakes_nobody() {
-        return text.push_str(", where nobody waits");
+        return text.push_str(waking_words(&event.happening).nobody);
     }
     Ok(())
 }
@@ -185,7 +220,7 @@ fn push_happening(
             text.push_str("waits in ")?;
             push_queue(legend, text, queue)
         }
-        Happening::Continue(queue, _) => {
+        Happening::Continue(queue, _, _) => {
             text.push_str("continues ")?;
             push_queue(legend, text, queue)
         }

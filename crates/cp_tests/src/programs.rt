@@ -5,7 +5,7 @@ ghost use Rattle.std.specs.Prelude.{◌≡◌, ◌≤◌};
 use arrayvec::ArrayVec;
 use cp_check::{CheckFault, Checked, check};
 use cp_drops::{drop_checked, drop_program, drop_tree};
-use cp_machine::{Discipline, Gates, Shown, Ticks};
+use cp_machine::{Discipline, Gates, Shown, Signals, Ticks};
 use cp_resolved::resolve;
 use cp_run::{Limits, OutcomeKind, RunEnd, run};
 use cp_slots::Resolved;
@@ -36,11 +36,40 @@ pub const CONTINUED: &str =
 pub const RESUMED: &str =
     "type m = monitor; var q: queue; procedure entry hold; begin delay(q); display(1) end; procedure entry go; begin display(2); continue(q) end; procedure entry look; begin display(3) end; begin end; a = process(x: m); begin x.hold end; b = process(x: m); begin x.go end; c = process(x: m); begin x.look end; var x: m; r: a; s: b; t: c; begin init x, r(x), s(x), t(x) end.";
 
+pub const SIGNALLED: &str =
+    "type m = monitor; var q: queue; procedure entry hold; begin delay(q); display(1) end; procedure entry go; begin display(2); continue(q); display(4) end; procedure entry look; begin display(3) end; begin end; a = process(x: m); begin x.hold end; b = process(x: m); begin x.go end; c = process(x: m); begin x.look end; var x: m; r: a; s: b; t: c; begin init x, r(x), s(x), t(x) end.";
+
 pub const BUFFER: &str =
     "type buffer = monitor; var full: boolean; slot: integer; sender, receiver: queue; procedure entry put(x: integer); begin if full then delay(sender); slot := x; full := true; continue(receiver) end; procedure entry get(var x: integer); begin if not full then delay(receiver); x := slot; full := false; continue(sender) end; begin full := false end; producer = process(b: buffer); begin b.put(7) end; consumer = process(b: buffer); var v: integer; begin b.get(v); display(v) end; var b: buffer; p: producer; c: consumer; begin init b, p(b), c(b) end.";
 
 pub const INNER_DELAY: &str =
     "type inner = monitor; var q: queue; procedure entry hold; begin delay(q) end; procedure entry free; begin continue(q) end; begin end; outer = monitor(i: inner); procedure entry go; begin i.hold end; begin end; a = process(o: outer); begin o.go end; b = process(i: inner); begin i.free end; var i: inner; o: outer; p, r: a; s: b; begin init i, o(i), p(o), r(o), s(i) end.";
+
+/// The discipline of the book.
+pub const FIRST: Discipline = Discipline {
+    gates: Gates::First,
+    signals: Signals::Return,
+};
+
+pub const ANY: Discipline = Discipline {
+    gates: Gates::Any,
+    signals: Signals::Return,
+};
+
+pub const CONTINUES: Discipline = Discipline {
+    gates: Gates::First,
+    signals: Signals::Continue,
+};
+
+pub const CONTINUES_ANY: Discipline = Discipline {
+    gates: Gates::Any,
+    signals: Signals::Continue,
+};
+
+pub const WAITS: Discipline = Discipline {
+    gates: Gates::First,
+    signals: Signals::Wait,
+};
 
 /// The tree of a source; none where it is no program, or memory was refused.
 pub fn tree_of(alloc: Global, source: &str) -> Option<Tree> {

@@ -3,11 +3,11 @@
 ghost use Rattle.std.specs.Prelude.{◌≡◌};
 
 use crate::programs::{
-    BUFFER, CONTINUED, INNER_DELAY, THREE_CALLERS, TWO_DISPLAYS, WantedEnd, has_ended, limits_of,
-    numbers_of, program_of,
+    BUFFER, CONTINUED, CONTINUES, FIRST, INNER_DELAY, SIGNALLED, THREE_CALLERS, TWO_DISPLAYS, WAITS,
+    WantedEnd, has_ended, limits_of, numbers_of, program_of,
 };
 use cp_drops::drop_program;
-use cp_machine::{Gates, Kernel, Shown, Ticks};
+use cp_machine::{Discipline, Gates, Kernel, Shown, Ticks};
 use cp_run::{Limits, OutcomeKind, RunEnd, TraceEvent, TraceLine, trace};
 use cp_slots::Resolved;
 use std::alloc::Global;
@@ -73,15 +73,17 @@ const END: TraceEvent = TraceEvent::End;
 struct Traced {
     source: &'static str,
     choices: u8,
+    discipline: Discipline,
     word: &'static str,
     lines: &'static [Told],
     end: WantedEnd,
 }
 
-static TRACES: [Traced; 5] = [
+static TRACES: [Traced; 7] = [
     Traced {
         source: BUFFER,
         choices: 8,
+        discipline: FIRST,
         word: "0.0.2.2.1",
         lines: &[
             (0, START, &[None]),
@@ -101,6 +103,7 @@ static TRACES: [Traced; 5] = [
     Traced {
         source: CONTINUED,
         choices: 8,
+        discipline: FIRST,
         word: "0.0.1.2.2.1",
         lines: &[
             (0, START, &[None]),
@@ -124,6 +127,7 @@ static TRACES: [Traced; 5] = [
     Traced {
         source: INNER_DELAY,
         choices: 11,
+        discipline: FIRST,
         word: "0.0.0.1.1.1.2.1.1.3.1",
         lines: &[
             (0, START, &[None, None]),
@@ -145,10 +149,84 @@ static TRACES: [Traced; 5] = [
         ],
         end: WantedEnd::Ended(OutcomeKind::AllWaiting, &[]),
     },
+    // Who continues goes on, and who was resumed comes to the end of the line; or the other goes on, and it comes to the front.
+    Traced {
+        source: SIGNALLED,
+        choices: 11,
+        discipline: CONTINUES,
+        word: "0.0.0.1.1.2.3.2.1.1.1",
+        lines: &[
+            (0, START, &[None]),
+            (0, START, &[None]),
+            (0, START, &[None]),
+            (0, END, &[None]),
+            (1, ENTER, &[Some(1)]),
+            (1, DELAY, &[None]),
+            (2, ENTER, &[Some(2)]),
+            (3, ENTER, &[Some(2)]),
+            (2, DISPLAY, &[Some(2)]),
+            (2, CONTINUE, &[Some(2)]),
+            (2, DISPLAY, &[Some(2)]),
+            (2, LEAVE, &[Some(3)]),
+            (2, END, &[Some(3)]),
+            (3, DISPLAY, &[Some(3)]),
+            (3, LEAVE, &[Some(1)]),
+            (1, DISPLAY, &[Some(1)]),
+            (1, LEAVE, &[None]),
+            (1, END, &[None]),
+            (3, END, &[None]),
+        ],
+        end: WantedEnd::Ended(
+            OutcomeKind::Finished,
+            &[
+                Shown::Integer(2),
+                Shown::Integer(4),
+                Shown::Integer(3),
+                Shown::Integer(1),
+            ],
+        ),
+    },
+    Traced {
+        source: SIGNALLED,
+        choices: 9,
+        discipline: WAITS,
+        word: "0.0.0.1.1.2.3.1.2",
+        lines: &[
+            (0, START, &[None]),
+            (0, START, &[None]),
+            (0, START, &[None]),
+            (0, END, &[None]),
+            (1, ENTER, &[Some(1)]),
+            (1, DELAY, &[None]),
+            (2, ENTER, &[Some(2)]),
+            (3, ENTER, &[Some(2)]),
+            (2, DISPLAY, &[Some(2)]),
+            (2, CONTINUE, &[Some(1)]),
+            (1, DISPLAY, &[Some(1)]),
+            (1, LEAVE, &[Some(2)]),
+            (1, END, &[Some(2)]),
+            (2, DISPLAY, &[Some(2)]),
+            (2, LEAVE, &[Some(3)]),
+            (2, END, &[Some(3)]),
+            (3, DISPLAY, &[Some(3)]),
+            (3, LEAVE, &[None]),
+            (3, END, &[None]),
+        ],
+        end: WantedEnd::Ended(
+            OutcomeKind::Finished,
+            &[
+                Shown::Integer(2),
+                Shown::Integer(1),
+                Shown::Integer(4),
+                Shown::Integer(3),
+            ],
+        ),
+    },
     // A trace stops where its word is used up, and where a number may not be chosen.
     Traced {
         source: TWO_DISPLAYS,
         choices: 8,
+        discipline: FIRST,
         word: "none",
         lines: &[(0, START, &[])],
         end: WantedEnd::Wants(&[0, 1]),
@@ -156,6 +234,7 @@ static TRACES: [Traced; 5] = [
     Traced {
         source: TWO_DISPLAYS,
         choices: 8,
+        discipline: FIRST,
         word: "2",
         lines: &[(0, START, &[])],
         end: WantedEnd::NotReady(0),
@@ -182,7 +261,9 @@ pub fn is_first_trace(lines: &[TraceLine]) -> bool {
 /// Whether a run has the trace that is told, and ends so.
 fn is_traced(alloc: Global, traced: &Traced) -> bool {
     let word = numbers_of(traced.word);
-    let limits = limits_of(traced.choices, Gates::First);
+    let Some(limits) = Limits::new(traced.choices, 1000, traced.discipline) else {
+        return false;
+    };
     match trace_at(alloc, traced.source, limits, word.as_slice()) {
         Some((lines, end)) => {
             are_told(&lines, traced.lines) && has_ended(&end, word.len(), &traced.end)

@@ -14,9 +14,9 @@ use Rattle.cp_tool.specs.declared.options.Options.{Options}
 use Rattle.cp_tool.specs.declared.answer.Verdict.{Verdict}
 use Rattle.cp_tool.specs.declared.answer.Verdict.TheVariants.{Reported, TooManyStates, TooManyOutcomes}
 
-abbrev pub IsMergedBy : ℕ → ℕ → Gates → ℕ → Tables → Verdict → List ℕ → Type 0
-IsMergedBy choices steps gates states program verdict text =
-    let sys = slots program gates in
+abbrev pub IsMergedBy : ℕ → ℕ → Discipline → ℕ → Tables → Verdict → List ℕ → Type 0
+IsMergedBy choices steps discipline states program verdict text =
+    let sys = slots program discipline in
     ((verdict ≡ Reported) × FitsBefore sys choices steps states (choices + 1) × (text ≡ report_text program.names (table sys choices steps) false))
     ⊎ (((verdict ≡ TooManyStates) × IsDueFault sys choices steps states fault.TooManyStates × (text ≡ codes "too many states\n"))
     ⊎ ((verdict ≡ TooManyOutcomes) × IsDueFault sys choices steps states fault.TooManyOutcomes × (text ≡ codes "too many outcomes\n")))

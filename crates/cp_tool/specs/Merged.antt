@@ -22,6 +22,6 @@ IsMerged o machine names rows verdict text =
     ⊎ (((verdict ≡ TooManyStates) × IsDueFault machine o.choices o.steps o.states fault.TooManyStates × (text ≡ codes "too many states\n"))
     ⊎ ((verdict ≡ TooManyOutcomes) × IsDueFault machine o.choices o.steps o.states fault.TooManyOutcomes × (text ≡ codes "too many outcomes\n")))
 
--- the machine of the tables of a program, by the rule of admission that the options name
+-- the machine of the tables of a program, by the discipline that the options name
 abbrev pub IsMergedOf : Options → Tree → Spellings → List Line → Verdict → List ℕ → Type 0
 IsMergedOf o t names rows verdict text = (program : Tables) × IsProgramOf t program × IsMerged o (slots program o.discipline) names rows verdict text

@@ -11,7 +11,7 @@ use Rattle.cp_tool.specs.Merged.{IsMerged}
 use Rattle.cp_tool.specs.declared.options.Options.{Options}
 use Rattle.cp_tool.specs.declared.answer.Verdict.{Verdict}
 
--- the slot machine of tables, by the rule of admission that the options name, and its rows
+-- the slot machine of tables, by the discipline that the options name, and its rows
 abbrev pub machine : Options → Tables → System Machine
 machine o r = slots r o.discipline
 

@@ -35,13 +35,17 @@ signals_text Wait = codes "wait"
 abbrev pub IsSignalled : Option Text → Signals → Type 0
 IsSignalled text signals = MatchOption text (signals ≡ Return) (λ t. t ≡ signals_text signals)
 
--- Both, in a discipline that can be kept. Where that is asked for, it is the first in line that goes in; and the caller of a continue returns.
-pub record IsDisciplined (is_first returns : Bool) (gates signals : Option Text) (d : Discipline) : Type 0 where
-  pub gated : IsGated gates d.gates
-  pub signalled : IsSignalled signals d.signals
+-- It can be kept. Where that is asked for, it is the first in line that goes in, and the caller of a continue that goes out.
+pub record MayBeAsked (is_first returns : Bool) (d : Discipline) : Type 0 where
   pub kept : IsDiscipline d
   pub first : is_first ≡ true → d.gates ≡ First
   pub back : returns ≡ true → d.signals ≡ Return
+
+-- both as the texts say, in a discipline that may be asked for
+pub record IsDisciplined (is_first returns : Bool) (gates signals : Option Text) (d : Discipline) : Type 0 where
+  pub gated : IsGated gates d.gates
+  pub signalled : IsSignalled signals d.signals
+  pub asked : MayBeAsked is_first returns d
 
 -- the word of at most so many numbers that the text spells, or none where there is no text
 abbrev pub IsScheduled : ℕ → Option Text → Option (ArrayVec ℕ) → Type 0

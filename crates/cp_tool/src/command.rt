@@ -14,7 +14,7 @@ const USAGE: &str = "cpx [OPTIONS] < PROGRAM";
 const NOTES: &str =
     "Example: cpx --choices 5 < program.cp\nVersion: cpx --version\n\nStatus: 0 reported, 1 source refused, 2 options refused, 3 no memory, 4 read or write fault,\n5 too many rows, states or outcomes";
 
-/// Twelve options, each with a long name alone; `clap` adds `--help` and `-h`.
+/// Thirteen options, each with a long name alone; `clap` adds `--help` and `-h`.
 pub fn command<'a>(alloc: Global) -> Result<Command<'a>, AllocError>
     ensures { IfOk result (λ c. app_of c ≡ cpx) }
 {

@@ -1,8 +1,8 @@
 //! The options of the words.
-ghost use Rattle.std.specs.Prelude.{◌≡◌, ◌≤◌, Err, IfErr, IfOk, codes, is_some, length, map, option_map, true};
+ghost use Rattle.std.specs.Prelude.{◌≡◌, ◌≤◌, ◌||◌, Err, IfErr, IfOk, codes, is_some, length, map, option_map, false, true};
 ghost use Rattle.clap.specs.Words.{first_of, found_of, rows_of};
 ghost use Rattle.cp_tool.specs.Finds.{Finds};
-ghost use Rattle.cp_tool.specs.Options.{Gives, HasOptions, HasRefusedValue, IsScheduled, IsFaultFor, IsDisciplined, IsGated, IsKind, IsSignalled, asks_version, is_asked};
+ghost use Rattle.cp_tool.specs.Options.{Gives, HasOptions, HasRefusedValue, IsScheduled, IsFaultFor, IsDisciplined, IsGated, IsKind, IsSignalled, MayBeAsked, asks_version, is_asked};
 ghost use Rattle.cp_tool.specs.Words.{default_choices, most_choices};
 
 use crate::command::command;
@@ -202,8 +202,6 @@ fn schedule_of(
     Ok(Some(Some(word)))
 }
 
-// Where it is asked who may wait for ever, or calls are made at once, the first in line goes in. Where calls are made at once, the caller of a `continue`
-// returns.
 fn discipline_for(
     kind: CommandKind,
     gates: Option<&str>,
@@ -214,30 +212,18 @@ fn discipline_for(
     let gates = gates_of(gates)?;
     let signals = signals_of(signals)?;
     let discipline = Discipline { gates, signals };
-    let is_asked_of_first = kind.waits || kind.at_once;
-    if is_asked_of_first && gates != Gates::First {
-        return None;
-    }
-    if kind.at_once && signals != Signals::Return {
-        return None;
-    }
-    if !discipline.is_kept() {
-        return None;
-    }
-    Some(discipline)
+    if may_be_asked(kind, discipline) { Some(discipline) } else { None }
 }
 
-fn signals_of(text: Option<&str>) -> Option<Signals>
-    ensures { Finds (IsSignalled (option_map (λ s. s.now) text.entry)) result }
+// Where it is asked who may wait for ever, or calls are made at once, the first in line goes in. Where calls are made at once, the caller of a `continue`
+// returns.
+fn may_be_asked(kind: CommandKind, discipline: Discipline) -> bool
+    ensures may { result ≡ true → MayBeAsked (kind.waits || kind.at_once) kind.at_once discipline }
+    ensures may_not { result ≡ false → MayBeAsked (kind.waits || kind.at_once) kind.at_once discipline → ⊥ }
 {
-    let Some(text) = text else {
-        return Some(Signals::Return);
-    };
-    match text {
-        "return" => Some(Signals::Return),
-        "continue" => Some(Signals::Continue),
-        "wait" => Some(Signals::Wait),
-        _ => None,
+    match discipline.gates {
+        Gates::First => !kind.at_once || matches!(discipline.signals, Signals::Return),
+        Gates::Any => !kind.waits && !kind.at_once && discipline.is_kept(),
     }
 }
 
@@ -250,6 +236,20 @@ fn gates_of(text: Option<&str>) -> Option<Gates>
     match text {
         "first" => Some(Gates::First),
         "any" => Some(Gates::Any),
+        _ => None,
+    }
+}
+
+fn signals_of(text: Option<&str>) -> Option<Signals>
+    ensures { Finds (IsSignalled (option_map (λ s. s.now) text.entry)) result }
+{
+    let Some(text) = text else {
+        return Some(Signals::Return);
+    };
+    match text {
+        "return" => Some(Signals::Return),
+        "continue" => Some(Signals::Continue),
+        "wait" => Some(Signals::Wait),
         _ => None,
     }
 }

@@ -46,7 +46,7 @@ fn ends_answer<O: ObserveProgress>(
     limits: Limits,
 ) -> Result<Answer, AllocError>
     requires steps { limits.steps ≡ options.now.steps }
-    requires gates { limits.discipline ≡ options.now.discipline }
+    requires discipline { limits.discipline ≡ options.now.discipline }
     ensures { IfOk result (λ a. OfPrograms program.now (λ t. spec.AreTold options.now t program.now a.verdict a.text)) }
 {
     let found = find_waits(

@@ -1,9 +1,9 @@
-use cp_machine::Gates;
+use cp_machine::{Gates, Signals};
 use cp_tests::answers::{CallAnswer, ample_answer, are_right};
 use cp_tool::{OptionFault, Options, read_options};
 use std::alloc::Global;
 
-const ALL: [&str; 13] = [
+const ALL: [&str; 14] = [
     "cpx",
     "--choices",
     "5",
@@ -16,11 +16,12 @@ const ALL: [&str; 13] = [
     "0.0.2.15",
     "--gates",
     "any",
+    "--signals=continue",
     "--",
 ];
 
 /// Words that spell the numbers 5, 20, 1 and 0, and the empty schedule word.
-const SPELLINGS: [&str; 10] = [
+const SPELLINGS: [&str; 12] = [
     "cpx",
     "--choices=+5",
     "--steps",
@@ -31,10 +32,12 @@ const SPELLINGS: [&str; 10] = [
     "none",
     "--gates",
     "first",
+    "--signals",
+    "return",
 ];
 
 /// Words that ask for merging, with numbers that only then are in their ranges.
-const MERGED: [&str; 8] = [
+const MERGED: [&str; 9] = [
     "cpx",
     "--merge",
     "--states",
@@ -43,6 +46,7 @@ const MERGED: [&str; 8] = [
     "--schedule",
     "0.0.0.0.0.0.0.0.0.0.0.0.0.0.0.0.0.0.0.0.15",
     "--workers=1",
+    "--signals=wait",
 ];
 
 /// Words that ask for the ends of schedules of any length, with numbers that only then, or with merging, are in their ranges.
@@ -54,6 +58,11 @@ const ENDS: [&str; 5] = [
     "--steps=7",
 ];
 
+/// Words that ask who may wait for ever, where the caller of a `continue` waits; and words that ask for calls at once, where it returns.
+const WAITS: [&str; 4] = ["cpx", "--ends", "--waits", "--signals=wait"];
+
+const AT_ONCE: [&str; 4] = ["cpx", "--signals=return", "--at-once", "--ends"];
+
 const LONGEST: [&str; 3] = [
     "cpx",
     "--schedule",
@@ -61,7 +70,7 @@ const LONGEST: [&str; 3] = [
 ];
 
 /// Words that are refused.
-static REFUSED: [&[&str]; 59] = [
+static REFUSED: [&[&str]; 70] = [
     &["cpx", "--choices", "21"],
     &["cpx", "--steps", "0"],
     &["cpx", "--steps", "100001"],
@@ -124,6 +133,17 @@ static REFUSED: [&[&str]; 59] = [
     &["cpx", "--at-once"],
     &["cpx", "--ends", "--at-once", "--waits"],
     &["cpx", "--ends", "--at-once", "--gates", "any"],
+    &["cpx", "--signals", "signal"],
+    &["cpx", "--signals", "Continue"],
+    &["cpx", "--signals", ""],
+    &["cpx", "--signals"],
+    &["cpx", "--signals", "wait", "--signals", "wait"],
+    &["cpx", "--signals", "later", "--help"],
+    &["cpx", "--gates", "any", "--signals", "wait"],
+    &["cpx", "--signals=wait", "--gates=any", "--schedule=none"],
+    &["cpx", "--ends", "--at-once", "--signals", "continue"],
+    &["cpx", "--ends", "--at-once", "--signals", "wait"],
+    &["cpx", "--ends", "--at-once", "--signals=wait", "--schedule=0"],
     &[
         "cpx",
         "--merge",
@@ -164,6 +184,7 @@ fn has_defaults(options: &Options) -> bool {
         && is_plain
         && options.schedule.is_none()
         && options.discipline.gates == Gates::First
+        && options.discipline.signals == Signals::Return
 }
 
 fn has_values_of_merged(options: &Options) -> bool {
@@ -171,7 +192,8 @@ fn has_values_of_merged(options: &Options) -> bool {
         Some(word) => word.len() == 21 && word.last() == Some(&15),
         None => false,
     };
-    let is_merged = options.merge && !options.ends;
+    let is_merged =
+        options.merge && !options.ends && options.discipline.signals == Signals::Wait;
     is_merged && options.states == 10_000_000 && options.choices == 100 && is_word
 }
 
@@ -183,6 +205,16 @@ fn has_values_of_ends(options: &Options) -> bool {
     options.ends && options.choices == 100 && options.steps == 7 && is_word
 }
 
+fn has_values_of_waits(options: &Options) -> bool {
+    let is_asked = options.ends && options.waits && !options.at_once;
+    is_asked && options.discipline.signals == Signals::Wait
+}
+
+fn has_values_of_at_once(options: &Options) -> bool {
+    let is_asked = options.ends && options.at_once && !options.waits;
+    is_asked && options.discipline.signals == Signals::Return
+}
+
 fn has_values_of_all(options: &Options) -> bool {
     let has_numbers = options.choices == 5
         && options.steps == 100_000
@@ -192,6 +224,7 @@ fn has_values_of_all(options: &Options) -> bool {
     has_numbers
         && options.rows
         && options.discipline.gates == Gates::Any
+        && options.discipline.signals == Signals::Continue
         && has_word(options, &[0, 0, 2, 15])
 }
 
@@ -240,7 +273,10 @@ fn has_values_of_spellings(options: &Options) -> bool {
         && options.steps == 20
         && options.workers == 1
         && options.cut == 0;
-    has_numbers && options.discipline.gates == Gates::First && has_word(options, &[])
+    has_numbers
+        && options.discipline.gates == Gates::First
+        && options.discipline.signals == Signals::Return
+        && has_word(options, &[])
 }
 
 /// Which values options have.
@@ -254,6 +290,10 @@ enum WantedValues {
     Merged,
     /// Ends have the choices of a long trace.
     Ends,
+    /// Who may wait for ever is asked under each discipline.
+    Waits,
+    /// Calls are made at once by the book.
+    AtOnce,
     /// Numbers may have a plus and leading zeros.
     Spellings,
     /// A schedule may have twenty numbers.
@@ -266,6 +306,8 @@ fn have_values(options: &Options, values: WantedValues) -> bool {
         WantedValues::All => has_values_of_all(options),
         WantedValues::Merged => has_values_of_merged(options),
         WantedValues::Ends => has_values_of_ends(options),
+        WantedValues::Waits => has_values_of_waits(options),
+        WantedValues::AtOnce => has_values_of_at_once(options),
         WantedValues::Spellings => has_values_of_spellings(options),
         WantedValues::Longest => has_word(options, &LONGEST_NUMBERS),
     }
@@ -275,11 +317,13 @@ static LONGEST_NUMBERS: [u8; 20] = [
     15, 0, 1, 2, 3, 4, 5, 6, 7, 8, 9, 10, 11, 12, 13, 14, 15, 0, 1, 2,
 ];
 
-static ACCEPTED: [(&[&str], WantedValues); 6] = [
+static ACCEPTED: [(&[&str], WantedValues); 8] = [
     (&["cpx"], WantedValues::Defaults),
     (&ALL, WantedValues::All),
     (&MERGED, WantedValues::Merged),
     (&ENDS, WantedValues::Ends),
+    (&WAITS, WantedValues::Waits),
+    (&AT_ONCE, WantedValues::AtOnce),
     (&SPELLINGS, WantedValues::Spellings),
     (&LONGEST, WantedValues::Longest),
 ];
@@ -316,7 +360,7 @@ fn other_words_are_refused(rt: HostRuntime) {
 }
 
 /// What help says.
-static HELP_PARTS: [&str; 21] = [
+static HELP_PARTS: [&str; 23] = [
     "Usage: cpx [OPTIONS] < PROGRAM",
     "--choices <K>",
     "0 to 20, with --merge to 100 [default: 8]",
@@ -336,6 +380,8 @@ static HELP_PARTS: [&str; 21] = [
     "--schedule <WORD>",
     "--gates <WHO>",
     "[default: first]",
+    "--signals <RULE>",
+    "[default: return]",
     "cpx --choices 5 < program.cp",
     "cpx --version",
 ];

@@ -138,11 +138,14 @@ fn refused_text(
 ) -> Result<String, AllocError>
     ensures { IfOk result (λ text. IsRefusedAs asked.now.part source.now refusal.now (string_bytes text)) }
 {
+    let signals = asked.options.discipline.signals;
     match &asked.part {
         ShowPart::Refusal { json, file } => {
-            explanation_text(alloc, source, Err(refusal), *json, file)
+            explanation_text(alloc, source, Err(refusal), signals, *json, file)
         }
-        ShowPart::Mark { json, .. } => explanation_text(alloc, source, Err(refusal), *json, &None),
+        ShowPart::Mark { json, .. } => {
+            explanation_text(alloc, source, Err(refusal), signals, *json, &None)
+        }
         _ => refusal_line(alloc, refusal),
     }
 }

@@ -18,6 +18,7 @@ use crate::schedules::{ScheduleForm, one_schedule, trace_form};
 use crate::summaries::{ends_answer, outcomes_answer, page_answer};
 use cp_front::Loaded;
 use cp_legend::Legend;
+use cp_machine::Signals;
 use cp_progress::ObserveProgress;
 use cp_show_mark::{Examinee, ShowAnswer, ShowVerdict, mark_answer, mark_of};
 use cp_show_options::{Asked, ShowPart};
@@ -81,7 +82,10 @@ pub fn show_part<O: ObserveProgress>(
                 source,
             )
         }
-        ShowPart::Refusal { json, file } => show_accepted(alloc, loaded, *json, file, source),
+        ShowPart::Refusal { json, file } => {
+            let signals = options.discipline.signals;
+            show_accepted(alloc, loaded, signals, *json, file, source)
+        }
     }
 }
 
@@ -149,6 +153,7 @@ fn show_mark<O: ObserveProgress>(
 fn show_accepted(
     alloc: Global,
     loaded: &Loaded,
+    signals: Signals,
     as_json: bool,
     file: &Option<String>,
     source: &[u8],
@@ -157,6 +162,6 @@ fn show_accepted(
 {
     Ok(ShowAnswer {
         verdict: ShowVerdict::Reported,
-        text: explanation_text(alloc, source, Ok(loaded), as_json, file)?,
+        text: explanation_text(alloc, source, Ok(loaded), signals, as_json, file)?,
     })
 }

@@ -4,6 +4,7 @@ ghost use Rattle.std.specs.Prelude.{◌≡◌, false, IfOk, MatchResult, option_
 ghost use Rattle.cpx_show.specs.Refused.{TellsAccepted, TellsRefused};
 
 use cp_front::{Loaded, Refusal as LoadRefusal};
+use cp_machine::Signals;
 use cp_refusal::{
     ByteRange, ExplainedRefusal, Explanation as Said, Hint, Hints, position_of, refusal, text,
 };
@@ -11,17 +12,18 @@ use cp_story::objects::Object;
 use serde_json::Value;
 use std::alloc::{AllocError, Global};
 
-/// Why the source is refused, or that it is accepted; places begin with the name of its file, if one is given.
+/// Why the source is refused, or that it is accepted, with hints for those who go on after a `continue`; places begin with the name of its file, if one is given.
 pub fn explanation_text(
     alloc: Global,
     source: &[u8],
     loaded: Result<&Loaded, &LoadRefusal>,
+    signals: Signals,
     as_json: bool,
     file: &Option<String>,
 ) -> Result<String, AllocError>
     ensures { as_json ≡ false → IfOk result (λ t. MatchResult loaded.entry (λ _. TellsAccepted source.now (option_map string_bytes file.now) (string_bytes t)) (λ why. TellsRefused source.now (option_map string_bytes file.now) why.now (string_bytes t))) }
 {
-    let said = refusal(alloc, source, loaded)?;
+    let said = refusal(alloc, source, loaded, signals == Signals::Return)?;
     if as_json {
         json(alloc, source, &said)
     } else {

@@ -4,7 +4,7 @@ use Rattle.std.specs.Prelude.{All, None, Some, Option, is_none, nat_lt, string_b
 use Rattle.std.specs.List.{list_all, list_any}
 use Rattle.std.proofs.lemmas.List.{length-map, map-append, take_all, take_more}
 use Rattle.std.proofs.lemmas.List.Elements.{All-append, All-cons, All-get_or, All-nil}
-use Rattle.cp_verdict.proofs.any_length.Vocabulary.{Tree, Tables, Machine, First, Shown, StepLimit, silent_slots, without_output, EndsSo, ShowsSo, slots, End, Over}
+use Rattle.cp_verdict.proofs.any_length.Vocabulary.{Tree, Tables, Machine, by_the_book, Shown, StepLimit, silent_slots, without_output, EndsSo, ShowsSo, slots, End, Over}
 use Rattle.cp_verdict.proofs.any_length.Vocabulary.{Alone, Spins, MOST_VALUES, HasWord, IsWordOf, is_cut, HasTexts, end_pair, is_whole, value_pair, KnownEnds, KnownEnd}
 use Rattle.cp_verdict.proofs.any_length.Vocabulary.{KnownValue}
 use Rattle.cp_run.specs.declared.outcome.OutcomeKind.{OutcomeKind}
@@ -122,7 +122,7 @@ more_known t known known' alone alone' spins spins' told told' k a s v h =
 
 -- the words are so
 abbrev pub IsKnownWords : Tables → ℕ → KnownEnds → Type 0
-IsKnownWords r steps k = All (λ x. EndsSo (silent_slots r First) steps x.0 x.1) (map end_pair k.ends.items) × All (λ x. ShowsSo (slots r First) without_output steps x.0 x.1) (map value_pair k.values.items)
+IsKnownWords r steps k = All (λ x. EndsSo (silent_slots r by_the_book) steps x.0 x.1) (map end_pair k.ends.items) × All (λ x. ShowsSo (slots r by_the_book) without_output steps x.0 x.1) (map value_pair k.values.items)
 
 module _ (found : FoundAtOnce) (k : KnownEnds) (ends : map (λ e. e.end) k.ends.items ≡ map (λ e. e.end) found.ends.items) (values : map (λ v. v.value) k.values.items ≡ map (λ v. v.value) found.values.items) where
   same_end : (e : End) → found_spec.knows_end found e ≡ knows_end k e
@@ -134,14 +134,14 @@ module _ (found : FoundAtOnce) (k : KnownEnds) (ends : map (λ e. e.end) k.ends.
       ap (λ b. b || nat_lt MOST_VALUES (length found.values.items)) (sym (any_map (λ (x : ValueAtOnce). x.value) (λ x. ends_tests.value x v) found.values.items) ∙ ap (list_any (λ x. ends_tests.value x v)) (sym values) ∙ any_map (λ (x : KnownValue). x.value) (λ x. ends_tests.value x v) k.values.items) ∙
       ap (λ n. list_any (λ (x : KnownValue). ends_tests.value x.value v) k.values.items || nat_lt MOST_VALUES n) (sym (length-map found.values.items (λ (x : ValueAtOnce). x.value)) ∙ sym (ap length values) ∙ length-map k.values.items (λ (x : KnownValue). x.value))
 
-  pub known_all : (r : Tables) (steps most : ℕ) → IsAnswer r First steps most found → (k.looked ≡ None → found.is_whole ≡ true) → is_whole k ≡ true →
+  pub known_all : (r : Tables) (steps most : ℕ) → IsAnswer r by_the_book steps most found → (k.looked ≡ None → found.is_whole ≡ true) → is_whole k ≡ true →
       (t : Tree) → LeavesNone t (λ kind. found_spec.knows_end found (Over kind) ≡ true) (λ q. found_spec.knows_end found (Alone q) ≡ true) (λ q. found_spec.knows_end found (Spins q) ≡ true) (λ v. found_spec.knows_value found v ≡ true) →
       LeavesNone t (λ kind. knows_end k (Over kind) ≡ true) (λ q. knows_end k (Alone q) ≡ true) (λ q. knows_end k (Spins q) ≡ true) (λ v. knows_value k v ≡ true)
   known_all r steps most a looked whole t h =
       more_known t (λ kind. found_spec.knows_end found (Over kind) ≡ true) (λ kind. knows_end k (Over kind) ≡ true) (λ q. found_spec.knows_end found (Alone q) ≡ true) (λ q. knows_end k (Alone q) ≡ true) (λ q. found_spec.knows_end found (Spins q) ≡ true) (λ q. knows_end k (Spins q) ≡ true) (λ v. found_spec.knows_value found v ≡ true) (λ v. knows_value k v ≡ true)
       (λ x is. sym (same_end (Over x)) ∙ is) (λ q is. sym (same_end (Alone q)) ∙ is) (λ q is. sym (same_end (Spins q)) ∙ is) (λ v is. sym (same_value v) ∙ is) h
 
-  pub all_known : (r : Tables) (steps most : ℕ) → IsAnswer r First steps most found → (k.looked ≡ None → found.is_whole ≡ true) →
+  pub all_known : (r : Tables) (steps most : ℕ) → IsAnswer r by_the_book steps most found → (k.looked ≡ None → found.is_whole ≡ true) →
       IsKnownWords r steps k → HasTexts r.names k.values.items → IsKnownAtOnce r steps k
   all_known r steps most a looked w texts =
       record {

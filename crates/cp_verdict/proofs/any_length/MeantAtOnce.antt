@@ -4,11 +4,15 @@ use Rattle.std.specs.Prelude.{Contains, IfOk, None, Option, Result, Some, find, 
 use Rattle.std.specs.List.{list_any}
 use Rattle.std.proofs.lemmas.Bool.{leb-true, ltb-true}
 use Rattle.std.proofs.lemmas.Result.{IfOk-weaker}
-use Rattle.cp_verdict.proofs.any_length.Vocabulary.{Tree, IsRead, plain, laid, Tables, IsAccepted, Discipline, Shown, slots, silent_slots, without_output, Spellings, EndsSo}
+use Rattle.cp_verdict.proofs.any_length.Vocabulary.{Tree, IsRead, plain, laid, Tables, IsAccepted, Discipline, by_the_book, Shown, slots, silent_slots, without_output, Spellings, EndsSo}
 use Rattle.cp_verdict.proofs.any_length.Vocabulary.{ShowsSo, End, Over, Alone, Spins, MOST_VALUES, IsJudgedBy, judgement_of, EndsExpectation, Never, Sometimes, Only}
 use Rattle.cp_verdict.proofs.any_length.Vocabulary.{EndsJudgement, KnownEnds, KnownEnd, KnownValue, Witness, EndsVerdict}
+use Rattle.cp_machine.specs.Discipline.{is_of_the_book, lets_caller_return, lets_first_in}
+use Rattle.cp_machine.specs.declared.discipline.Gates.{Gates}
 use Rattle.cp_machine.specs.declared.discipline.Gates.TheVariants.{First, Any}
-use Rattle.cp_meaning.specs.State.{first_gates}
+use Rattle.cp_machine.specs.declared.discipline.Signals.{Signals}
+use Rattle.cp_machine.specs.declared.discipline.Signals.TheVariants as signals
+use Rattle.cp_meaning.specs.State.{book_discipline}
 use Rattle.cp_ends.specs.Answer.{ends_tests}
 use Rattle.cp_ends.specs.Named.{ShowsOnNames}
 use Rattle.cp_ends.proofs.Searching.Lists.{all_at, place_of}
@@ -19,7 +23,7 @@ use Rattle.cp_verdict.specs.endless.AtOnce.{IsAgain, IsKnownAtOnce, IsMarkAtOnce
 use Rattle.cp_verdict.specs.endless.Behaviour.{Behaviour, Finding, Ends, Shows, Waits, IsSo}
 use Rattle.cp_verdict.specs.endless.Expectations.{HasSettling, IsTrue, asks_some, settles}
 use Rattle.cp_verdict.specs.endless.Knowledge.{end_pair, ended, finding_of, is_kept, is_settled, is_whole, shown, speaks_of, value_pair}
-use Rattle.cp_verdict.specs.endless.Marked.{AreJudged, IsJudgedToFail, IsMarkOf, IsMeantMark, IsTrueMark, ask_waits, asks_waits, is_any, mark_of, open_mark}
+use Rattle.cp_verdict.specs.endless.Marked.{AreJudged, IsJudgedToFail, IsMarkOf, IsMeantMark, IsTrueMark, ask_waits, asks_waits, mark_of, open_mark}
 use Rattle.cp_verdict.specs.declared.endless.expectation.Topic.TheVariants as topic
 use Rattle.cp_verdict.specs.declared.endless.judging.EndsJudgement.TheVariants as judgement
 use Rattle.cp_verdict.specs.declared.endless.saying.MarkedEnds.{MarkedEnds}
@@ -112,27 +116,27 @@ module _ (t : Tree) (r : Tables) (read : IsRead t.program) (ok : IsAccepted t) (
   abbrev b : Behaviour
   b = at_any_limit t
 
-  end_so : (end : End) (word : List ℕ) → EndsSo (silent_slots r First) steps end word → IsSo b (Ends end word)
-  end_so (Over kind) word so = (steps, there t r first_gates read ok same steps (Ends (Over kind) word) so)
+  end_so : (end : End) (word : List ℕ) → EndsSo (silent_slots r by_the_book) steps end word → IsSo b (Ends end word)
+  end_so (Over kind) word so = (steps, there t r book_discipline read ok same steps (Ends (Over kind) word) so)
   end_so (Alone q) word so = (steps, (repeats_by_one t r read ok same).alone steps word q so)
   end_so (Spins q) word so = (steps, (repeats_by_one t r read ok same).spins steps word q so)
 
-  shows_so : (v : Shown) (word : List ℕ) → ShowsSo (slots r First) without_output steps v word → IsSo b (Shows v word)
-  shows_so v word so = by (there t r first_gates read ok same steps (Shows v word) so)
+  shows_so : (v : Shown) (word : List ℕ) → ShowsSo (slots r by_the_book) without_output steps v word → IsSo b (Shows v word)
+  shows_so v word so = by (there t r book_discipline read ok same steps (Shows v word) so)
     where
-      by : ShowsOnNames t first_gates steps v word → IsSo b (Shows v word)
+      by : ShowsOnNames t book_discipline steps v word → IsSo b (Shows v word)
       by (inl x) = (steps, x)
       by (inr x) = (steps + steps, x.1)
 
   ends_so : (at : ℕ) (f : Finding) → slice_get (map ended (map end_pair k.ends.items)) at ≡ Some f → IsSo b f
   ends_so at f is =
       let x = map_at ended (map end_pair k.ends.items) at f is in
-      subst (IsSo b) x.2 (end_so x.0.0 x.0.1 (all_at (λ (y : End × List ℕ). EndsSo (silent_slots r First) steps y.0 y.1) (map end_pair k.ends.items) at x.0 h.ends x.1))
+      subst (IsSo b) x.2 (end_so x.0.0 x.0.1 (all_at (λ (y : End × List ℕ). EndsSo (silent_slots r by_the_book) steps y.0 y.1) (map end_pair k.ends.items) at x.0 h.ends x.1))
 
   values_so : (at : ℕ) (f : Finding) → slice_get (map shown (map value_pair k.values.items)) at ≡ Some f → IsSo b f
   values_so at f is =
       let x = map_at shown (map value_pair k.values.items) at f is in
-      subst (IsSo b) x.2 (shows_so x.0.0 x.0.1 (all_at (λ (y : Shown × List ℕ). ShowsSo (slots r First) without_output steps y.0 y.1) (map value_pair k.values.items) at x.0 h.values x.1))
+      subst (IsSo b) x.2 (shows_so x.0.0 x.0.1 (all_at (λ (y : Shown × List ℕ). ShowsSo (slots r by_the_book) without_output steps y.0 y.1) (map value_pair k.values.items) at x.0 h.values x.1))
 
   -- what is known is so
   known_so : (e : EndsExpectation) → asks_waits e ≡ false → (at : ℕ) (f : Finding) → slice_get (speaks_of e k) at ≡ Some f → IsSo b f
@@ -236,17 +240,22 @@ module _ (t : Tree) (r : Tables) (read : IsRead t.program) (ok : IsAccepted t) (
 
 -- ---- the mark
 
-both_not : (x y : Bool) → (not x && not y) ≡ true → (x ≡ false) × (y ≡ false)
-both_not true y h = absurd (cc)
-both_not false true h = absurd (cc)
-both_not false false h = (refl, refl)
+not_second : (x y : Bool) → (x && not y) ≡ true → (x ≡ true) × (y ≡ false)
+not_second true true h = absurd (cc)
+not_second true false h = (refl, refl)
+not_second false y h = absurd (cc)
 
-first_line : (discipline : Discipline) → is_any discipline ≡ false → discipline ≡ First
-first_line First h = refl
-first_line Any h = absurd (cc)
+book_alone : (discipline : Discipline) → is_of_the_book discipline ≡ true → discipline ≡ by_the_book
+book_alone discipline h = by discipline.gates discipline.signals h
+  where
+    by : (g : Gates) (s : Signals) → (lets_first_in g && lets_caller_return s) ≡ true → (let d : Discipline = record { gates = g; signals = s } in d) ≡ by_the_book
+    by First signals.Return h = refl
+    by First signals.Continue h = absurd (cc)
+    by First signals.Wait h = absurd (cc)
+    by Any s h = absurd (cc)
 
-pub of_first : (discipline : Discipline) (es : List EndsExpectation) → can_be_at_once discipline es ≡ true → discipline ≡ First
-of_first discipline es can = first_line discipline (both_not (is_any discipline) (ask_waits es) can).0
+pub of_the_book : (discipline : Discipline) (es : List EndsExpectation) → can_be_at_once discipline es ≡ true → discipline ≡ by_the_book
+of_the_book discipline es can = book_alone discipline (not_second (is_of_the_book discipline) (ask_waits es) can).0
 
 pub marked_at_once : {E : Type 0} (r : Tables) (discipline : Discipline) (steps : ℕ) (es : List EndsExpectation) (k : KnownEnds) (v : EndsVerdict) → can_be_at_once discipline es ≡ true → IsKnownAtOnce r steps k → AreJudged (IsJudgedBy r.names k) es v →
     (told : Result MarkedEnds E) → IfOk told (λ m. m.mark ≡ mark_of v k.looked) → IfOk told (λ m. IsMarkAtOnce r steps es m.mark)
@@ -259,7 +268,7 @@ marked_at_once r discipline steps es k v can h j told is =
       verdict = v;
       is = same_mark;
       judged = j;
-      meaning = λ t read ok same. subst (IsTrueMark r.names (at_any_limit t) es) (sym same_mark) (true_mark t r read ok same steps k h es (both_not (is_any discipline) (ask_waits es) can).1 v j);
+      meaning = λ t read ok same. subst (IsTrueMark r.names (at_any_limit t) es) (sym same_mark) (true_mark t r read ok same steps k h es (not_second (is_of_the_book discipline) (ask_waits es) can).1 v j);
     })
     is
 
@@ -277,7 +286,7 @@ module _ {E : Type 0} (r : Tables) (discipline : Discipline) (steps : ℕ) (es :
     where
       by_one : (m : EndsMark) → (m ≡ before) ⊎ (m ≡ again) → IsAgain r discipline steps es before m
       by_one m (inl is) = inl is
-      by_one m (inr is) = inr (of_first discipline es can, subst (IsMarkAtOnce r steps es) (sym is) x)
+      by_one m (inr is) = inr (of_the_book discipline es can, subst (IsMarkAtOnce r steps es) (sym is) x)
 
   module _ (most : ℕ) (is : IsMarkOf r discipline steps most es before) (meant : IsMeantMark r discipline steps es before) (many : before ≡ TooMany) where
     by_turns : (m : EndsMark) → IsAgain r discipline steps es before m → IsMarkInTurn r discipline steps most es m

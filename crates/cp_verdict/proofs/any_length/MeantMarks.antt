@@ -1,7 +1,7 @@
 -- A mark by what is known of the slot machine is true of the program on its own names.
 use Rattle.cp_verdict.proofs.any_length.Vocabulary.{◌≡◌, inl, inr, ℕ, true, List, sym, subst, Option, None, Some, Tree, IsRead, plain, laid, Tables, IsAccepted, IsKnown}
 use Rattle.cp_verdict.proofs.any_length.Vocabulary.{finding_of, is_kept, is_settled, is_whole, EndsExpectation, Never, Sometimes, Only, KnownEnds, Witness, EndsVerdict}
-use Rattle.cp_machine.specs.declared.discipline.Discipline as slot_gates
+use Rattle.cp_machine.specs.declared.discipline.Discipline as slot_discipline
 use Rattle.cp_refine.proofs.Disciplines.{same_discipline}
 use Rattle.cp_meaning.specs.State.{Discipline}
 use Rattle.cp_refine.specs.Named.{discipline_of, named_discipline}
@@ -62,5 +62,5 @@ module _ (t : Tree) (r : Tables) (g : Discipline) (read : IsRead t.program) (ok 
 true_mark : (t : Tree) (r : Tables) (g : Discipline) (read : IsRead t.program) (ok : IsAccepted t) (same : plain r ≡ laid t) (steps most : ℕ) (es : List EndsExpectation) (m : EndsMark) → IsMarkOf r (discipline_of g) steps most es m → IsTrueMark r.names (on_names t g steps) es m
 true_mark t r g read ok same steps most es m x = subst (IsTrueMark r.names (on_names t g steps) es) (sym x.is) (by t r g read ok same steps most x.known x.is_known es x.verdict x.marked)
 
-pub meant : (r : Tables) (discipline : slot_gates.Discipline) (steps most : ℕ) (es : List EndsExpectation) (m : EndsMark) → IsMarkOf r discipline steps most es m → IsMeantMark r discipline steps es m
+pub meant : (r : Tables) (discipline : slot_discipline.Discipline) (steps most : ℕ) (es : List EndsExpectation) (m : EndsMark) → IsMarkOf r discipline steps most es m → IsMeantMark r discipline steps es m
 meant r discipline steps most es m x = λ t read ok same. true_mark t r (named_discipline discipline) read ok same steps most es m (subst (λ d. IsMarkOf r d steps most es m) (sym (same_discipline discipline)) x)

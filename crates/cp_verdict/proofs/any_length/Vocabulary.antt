@@ -7,6 +7,7 @@ pub use Rattle.std.specs.Prelude.{All, Contains, None, Option, Some, find, optio
 pub use Rattle.std.specs.declared.alloc.Global.{Global}
 pub use Rattle.std.specs.declared.vec.Vec.{Vec}
 pub use Rattle.cp_at_once.specs.Holds.{HasWord, IsWordOf}
+pub use Rattle.cp_at_once_laws.specs.OnSlots.{by_the_book}
 pub use Rattle.cp_endless.specs.Silent.{silent_slots, without_output}
 pub use Rattle.cp_ends.specs.Ends.{EndsSo, ShowsSo}
 pub use Rattle.cp_ends.specs.Holds.{Holds, SlotFindings}
@@ -18,7 +19,6 @@ pub use Rattle.cp_layout.specs.Laid.{plain}
 unfoldable pub use Rattle.cp_layout.specs.Laid.{laid}
 pub use Rattle.cp_machine.specs.System.{Machine}
 pub use Rattle.cp_machine.specs.declared.discipline.Discipline.{Discipline}
-pub use Rattle.cp_machine.specs.declared.discipline.Gates.TheVariants.{First}
 pub use Rattle.cp_machine.specs.declared.shown.Shown.{Shown}
 pub use Rattle.cp_run.specs.Slots.{slots}
 pub use Rattle.cp_run.specs.declared.outcome.OutcomeKind.TheVariants.{StepLimit}

@@ -4,9 +4,9 @@ use Rattle.std.specs.List.{list_any}
 use Rattle.cp_tree.specs.Syntax.{Tree}
 use Rattle.cp_slots.specs.Tables.{Tables}
 use Rattle.cp_machine.specs.declared.discipline.Discipline.{Discipline}
-use Rattle.cp_machine.specs.declared.discipline.Gates.TheVariants.{First}
+use Rattle.cp_machine.specs.Discipline.{is_of_the_book}
 use Rattle.cp_machine.specs.declared.shown.Shown.{Shown}
-use Rattle.cp_meaning.specs.State.{first_gates}
+use Rattle.cp_meaning.specs.State.{book_discipline}
 use Rattle.cp_refine.specs.Named.{named}
 use Rattle.cp_run.specs.Slots.{slots}
 use Rattle.cp_endless.specs.Reachable.{EndsAfter}
@@ -18,13 +18,13 @@ use Rattle.cp_ends.specs.Whole.{OfItsPrograms}
 use Rattle.cp_ends.specs.declared.end.End.{End}
 use Rattle.cp_ends.specs.declared.end.End.TheVariants.{Over, Alone, Spins}
 use Rattle.cp_ends.specs.declared.found.TheConstants.{MOST_VALUES}
-use Rattle.cp_at_once_laws.specs.OnSlots.{LeavesNone}
+use Rattle.cp_at_once_laws.specs.OnSlots.{LeavesNone, by_the_book}
 use Rattle.cp_at_once_laws.specs.Quiet.{names}
 use Rattle.cp_at_once_laws.specs.Whole.{IsAloneBy, SpinsBy}
 use Rattle.cp_verdict.specs.endless.Behaviour.{Behaviour, MayWait}
 use Rattle.cp_verdict.specs.endless.Judged.{IsJudgedBy}
 use Rattle.cp_verdict.specs.endless.Knowledge.{HasTexts, end_pair, is_whole, value_pair}
-use Rattle.cp_verdict.specs.endless.Marked.{AreJudged, IsMarkOf, IsMeantMark, IsTrueMark, ask_waits, is_any, mark_of}
+use Rattle.cp_verdict.specs.endless.Marked.{AreJudged, IsMarkOf, IsMeantMark, IsTrueMark, ask_waits, mark_of}
 use Rattle.cp_verdict.specs.declared.endless.expectation.EndsExpectation.{EndsExpectation}
 use Rattle.cp_verdict.specs.declared.endless.known.KnownEnds.{KnownEnds}
 use Rattle.cp_verdict.specs.declared.endless.verdict.EndsMark.{EndsMark}
@@ -43,7 +43,7 @@ abbrev pub at_any_limit : Tree → Behaviour
 at_any_limit t =
     record {
       ends = EndsAtSomeLimit t;
-      shows = λ v word. ((limit : ℕ) × ShowsAfter (named t first_gates) named_without_output limit word v);
+      shows = λ v word. ((limit : ℕ) × ShowsAfter (named t book_discipline) named_without_output limit word v);
       waits = λ q. ((limit : ℕ) × MayWait (names t) in_call_on_names waits_on_names limit q);
     }
 
@@ -59,16 +59,16 @@ knows_value k v = list_any (λ x. ends_tests.value x.value v) k.values.items || 
 
 -- Each end and each value is so by its word; and where all is gone through and no stretch was cut, no other is possible with any limit of steps.
 pub record IsKnownAtOnce (r : Tables) (steps : ℕ) (k : KnownEnds) : Type 0 where
-  pub ends : All (λ x. EndsSo (silent_slots r First) steps x.0 x.1) (map end_pair k.ends.items)
-  pub values : All (λ x. ShowsSo (slots r First) without_output steps x.0 x.1) (map value_pair k.values.items)
+  pub ends : All (λ x. EndsSo (silent_slots r by_the_book) steps x.0 x.1) (map end_pair k.ends.items)
+  pub values : All (λ x. ShowsSo (slots r by_the_book) without_output steps x.0 x.1) (map value_pair k.values.items)
   pub texts : HasTexts r.names k.values.items
   pub all : is_whole k ≡ true → OfItsPrograms r (λ t. LeavesNone t (λ kind. knows_end k (Over kind) ≡ true) (λ q. knows_end k (Alone q) ≡ true) (λ q. knows_end k (Spins q) ≡ true) (λ v. knows_value k v ≡ true))
 
 -- ---- marks
 
--- who waits can't be asked then, nor who else may go into a monitor
+-- who waits can't be asked then, nor what another discipline than the book's leads to
 abbrev pub can_be_at_once : Discipline → List EndsExpectation → Bool
-can_be_at_once discipline es = not (is_any discipline) && not (ask_waits es)
+can_be_at_once discipline es = is_of_the_book discipline && not (ask_waits es)
 
 -- The mark is that of a verdict by what is known, and it is true of the program's own names, whatever the limit of steps.
 pub record IsMarkAtOnce (r : Tables) (steps : ℕ) (es : List EndsExpectation) (m : EndsMark) : Type 0 where
@@ -81,9 +81,9 @@ pub record IsMarkAtOnce (r : Tables) (steps : ℕ) (es : List EndsExpectation) (
 
 -- the mark stands, or there are too many states and kernel calls at once settle more
 abbrev pub IsAgain : Tables → Discipline → ℕ → List EndsExpectation → (before after : EndsMark) → Type 0
-IsAgain r discipline steps es before after = (after ≡ before) ⊎ ((discipline ≡ First) × IsMarkAtOnce r steps es after)
+IsAgain r discipline steps es before after = (after ≡ before) ⊎ ((discipline ≡ by_the_book) × IsMarkAtOnce r steps es after)
 
 -- It is the mark by all states; or there are too many of them, and it is the mark by kernel calls at once.
 abbrev pub IsMarkInTurn : Tables → Discipline → (steps most : ℕ) → List EndsExpectation → EndsMark → Type 0
 IsMarkInTurn r discipline steps most es m =
-    (IsMarkOf r discipline steps most es m × IsMeantMark r discipline steps es m) ⊎ (IsMarkOf r discipline steps most es TooMany × (discipline ≡ First) × IsMarkAtOnce r steps es m)
+    (IsMarkOf r discipline steps most es m × IsMeantMark r discipline steps es m) ⊎ (IsMarkOf r discipline steps most es TooMany × (discipline ≡ by_the_book) × IsMarkAtOnce r steps es m)

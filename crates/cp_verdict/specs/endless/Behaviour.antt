@@ -2,7 +2,7 @@
 use Rattle.std.specs.Prelude.{◌⊎◌, ◌<◌, ℕ, List, [], Bool}
 use Rattle.cp_tree.specs.Syntax.{Tree}
 use Rattle.cp_slots.specs.Tables.{Tables}
-use Rattle.cp_machine.specs.declared.discipline.Discipline as slot_gates
+use Rattle.cp_machine.specs.declared.discipline.Discipline as slot_discipline
 use Rattle.cp_machine.specs.declared.shown.Shown.{Shown}
 use Rattle.cp_meaning.specs.State.{Discipline}
 use Rattle.cp_run.specs.Slots.{slots}
@@ -26,7 +26,7 @@ pub record Behaviour : Type 1 where
   pub waits : ℕ → Type 0
 
 -- of the slot machine
-abbrev pub on_slots : Tables → slot_gates.Discipline → ℕ → Behaviour
+abbrev pub on_slots : Tables → slot_discipline.Discipline → ℕ → Behaviour
 on_slots r discipline steps =
     record {
       ends = EndsSo (silent_slots r discipline) steps;

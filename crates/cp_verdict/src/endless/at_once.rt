@@ -7,7 +7,7 @@ ghost use Rattle.cp_verdict.specs.declared.endless.verdict.EndsMark.TheVariants.
 
 use crate::endless::expectation::EndsExpectation;
 use crate::endless::knowing_at_once::knowledge_at_once;
-use crate::endless::marking::{MarkSubject, ask_waits, is_any, mark_list, tell};
+use crate::endless::marking::{MarkSubject, ask_waits, mark_list, tell};
 use crate::endless::saying::MarkedEnds;
 use crate::endless::verdict::{EndsMark, verdict_on};
 use cp_at_once::search_at_once_with;
@@ -72,11 +72,11 @@ fn tell_again(
     }
 }
 
-// Whether kernel calls at once can settle it: not who waits, and not where anybody in line may go into a monitor.
+// Whether kernel calls at once can settle it: not who waits, and under the book's discipline alone.
 fn can_be_at_once(discipline: Discipline, list: &[EndsExpectation]) -> bool
     ensures { result ≡ spec.can_be_at_once discipline list.now }
 {
-    !is_any(discipline) && !ask_waits(list)
+    discipline.is_of_the_book() && !ask_waits(list)
 }
 
 /// What schedules of any length say of some expectations, where kernel calls are made at once. An observer is told how far the search has come.

@@ -5,10 +5,10 @@ ghost use Rattle.cp_endless.specs.Silent.{silent_slots, without_output};
 ghost use Rattle.cp_ends.specs.Ends.{EndsSo, ShowsSo};
 ghost use Rattle.cp_run.specs.Slots.{slots};
 ghost use Rattle.cp_slots.specs.Tables.{Tables};
-ghost use Rattle.cp_machine.specs.declared.discipline.Gates.TheVariants.{First};
 ghost use Rattle.cp_machine.specs.System.{Machine};
 ghost use Rattle.cp_at_once.specs.Holds.{AreStates, HasWord};
 ghost use Rattle.cp_at_once.specs.Whole.{IsAnswer};
+ghost use Rattle.cp_at_once_laws.specs.OnSlots.{by_the_book};
 ghost use Rattle.cp_verdict.specs.endless.AtOnce as spec;
 ghost use Rattle.cp_verdict.specs.endless.Knowledge.{HasTexts, end_pair, value_pair};
 
@@ -24,7 +24,7 @@ pub fn knowledge_at_once(
     program: &Resolved,
     found: &FoundAtOnce,
 ) -> Result<KnownEnds, AllocError>
-    ensures { IfOk result (λ k. (steps most : ℕ) → IsAnswer program.now First steps most found.now → spec.IsKnownAtOnce program.now steps k) }
+    ensures { IfOk result (λ k. (steps most : ℕ) → IsAnswer program.now by_the_book steps most found.now → spec.IsKnownAtOnce program.now steps k) }
 {
     let ends = known_ends(alloc, found)?;
     let values = known_values(alloc, program, found)?;
@@ -45,7 +45,7 @@ fn numbers_looked_at(found: &FoundAtOnce) -> Option<usize>
 
 fn known_ends(alloc: Global, found: &FoundAtOnce) -> Result<Vec<KnownEnd>, AllocError>
     ensures ends { IfOk result (λ v. map (λ e. e.end) v.items ≡ map (λ e. e.end) found.now.ends.items) }
-    ensures words { IfOk result (λ v. (r : Tables) (steps : ℕ) (states : List (Machine × List ℕ)) → AreStates r found.now.kept.known.entries states → All (λ e. HasWord states e.origin (EndsSo (silent_slots r First) steps e.end)) found.now.ends.items → All (λ x. EndsSo (silent_slots r First) steps x.0 x.1) (map end_pair v.items)) }
+    ensures words { IfOk result (λ v. (r : Tables) (steps : ℕ) (states : List (Machine × List ℕ)) → AreStates r found.now.kept.known.entries states → All (λ e. HasWord states e.origin (EndsSo (silent_slots r by_the_book) steps e.end)) found.now.ends.items → All (λ x. EndsSo (silent_slots r by_the_book) steps x.0 x.1) (map end_pair v.items)) }
 {
     let mut ends = Vec::new(alloc);
     for end in &found.ends {
@@ -62,7 +62,7 @@ fn known_values(
 ) -> Result<Vec<KnownValue>, AllocError>
     ensures values { IfOk result (λ v. map (λ e. e.value) v.items ≡ map (λ e. e.value) found.now.values.items) }
     ensures texts { IfOk result (λ v. HasTexts program.now.names v.items) }
-    ensures words { IfOk result (λ v. (r : Tables) (steps : ℕ) (states : List (Machine × List ℕ)) → AreStates r found.now.kept.known.entries states → All (λ e. HasWord states e.origin (ShowsSo (slots r First) without_output steps e.value)) found.now.values.items → All (λ x. ShowsSo (slots r First) without_output steps x.0 x.1) (map value_pair v.items)) }
+    ensures words { IfOk result (λ v. (r : Tables) (steps : ℕ) (states : List (Machine × List ℕ)) → AreStates r found.now.kept.known.entries states → All (λ e. HasWord states e.origin (ShowsSo (slots r by_the_book) without_output steps e.value)) found.now.values.items → All (λ x. ShowsSo (slots r by_the_book) without_output steps x.0 x.1) (map value_pair v.items)) }
 {
     let mut values = Vec::new(alloc);
     for value in &found.values {

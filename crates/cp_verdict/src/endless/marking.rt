@@ -2,7 +2,7 @@
 
 ghost use Rattle.std.specs.Prelude.{◌≡◌, ◌≤◌, ◌<◌, ◌^◌, ℕ, Bool, IfOk, false, true};
 ghost use Rattle.cp_slots.specs.Tables.{Tables};
-ghost use Rattle.cp_machine.specs.declared.discipline.Discipline as slot_gates;
+ghost use Rattle.cp_machine.specs.declared.discipline.Discipline as slot_discipline;
 ghost use Rattle.cp_ends.specs.Whole.{IsAnswer};
 ghost use Rattle.cp_ends.specs.declared.found.Found.{Found};
 ghost use Rattle.cp_waits.specs.Named.{TellAsked};
@@ -16,7 +16,7 @@ use crate::endless::known::KnownEnds;
 use crate::endless::saying::{MarkedEnds, note_on, open_words, sayings_of};
 use crate::endless::verdict::{EndsVerdict, mark_of, verdict_on};
 use cp_legend::Legend;
-use cp_machine::Discipline;
+use cp_machine::{Discipline, Gates};
 use cp_progress::ObserveProgress;
 use cp_run::Limits;
 use cp_slots::Resolved;
@@ -103,7 +103,7 @@ fn knowledge<O: ObserveProgress>(
 
 // Who may wait for ever, where that was asked and is settled.
 fn lines_of(waits: Option<Waits>) -> Option<Vec<Waiting>>
-    ensures { (r : Tables) (discipline : slot_gates.Discipline) (steps most : ℕ) (asks : Bool) (found : Found) → most < 2 ^ 32 → IsAnswer r discipline steps most found → TellAsked r discipline steps asks found waits → KnowsWaits r discipline steps result }
+    ensures { (r : Tables) (discipline : slot_discipline.Discipline) (steps most : ℕ) (asks : Bool) (found : Found) → most < 2 ^ 32 → IsAnswer r discipline steps most found → TellAsked r discipline steps asks found waits → KnowsWaits r discipline steps result }
 {
     let Some(told) = waits else {
         return None;

@@ -3,9 +3,10 @@ use Rattle.std.specs.Prelude.{◌&&◌, ◌||◌, is_some, option_map}
 use Rattle.arrayvec.specs.ArrayVec.{ArrayVec}
 use Rattle.clap.specs.Words.{Text, first_of, found_of, rows_of}
 use Rattle.clap.proofs.WalkLemmas.{first_value-rows}
+use Rattle.cp_machine.specs.declared.discipline.Discipline.{Discipline}
 use Rattle.cp_tool.specs.Finds.{Finds}
 use Rattle.cp_tool.specs.Numbers.{IsChosen}
-use Rattle.cp_tool.specs.Options.{HasOptions, IsGatedFor, IsScheduled, asks_ends, asks_first, asks_merge, is_asked}
+use Rattle.cp_tool.specs.Options.{HasOptions, IsDisciplined, IsGated, IsScheduled, IsSignalled, asks_ends, asks_merge, is_asked}
 use Rattle.cp_tool.proofs.Together.{default_fits}
 use Rattle.cp_tool.specs.Words.{default_choices, most_choices}
 use Rattle.cp_tool.specs.declared.options.Options.{Options}
@@ -18,6 +19,15 @@ both_asked : (merge rows : Bool) → merge ≡ true → rows ≡ true → (merge
 both_asked true true m r unlike = let bad : true ≡ false = unlike in absurd (cc)
 both_asked true false m r unlike = let bad : false ≡ true = r in absurd (cc)
 both_asked false rows m r unlike = let bad : false ≡ true = m in absurd (cc)
+
+-- a discipline is asked for by the same words
+disciplined_by : {is_first is_first' returns returns' : Bool} {gates gates' signals signals' : Option Text} → is_first ≡ is_first' → returns ≡ returns' → gates ≡ gates' → signals ≡ signals' → (d : Discipline) → IsDisciplined is_first returns gates signals d → IsDisciplined is_first' returns' gates' signals' d
+disciplined_by first back gates signals d h =
+    record {
+      gated = subst (λ (t : Option Text). IsGated t d.gates) gates h.gated;
+      signalled = subst (λ (t : Option Text). IsSignalled t d.signals) signals h.signalled;
+      asked = record { kept = h.asked.kept; first = λ b. h.asked.first (first ∙ b); back = λ b. h.asked.back (back ∙ b) };
+    }
 
 pub returns-then-kind : goal.returns-then-kind
 returns-then-kind c o has =
@@ -68,11 +78,12 @@ returns-in_err-parse_number-5 c = finds_none (HasOptions (rows_of (found_of c.ar
     let text = c.get_str-6.ensures ∙ first_value-rows (found_of c.args.matches.now) (codes "states") in
     c.in_err-parse_number-5.ensures o.states (subst (λ (t : Option Text). IsChosen 200000 1 10000000 t o.states) (sym text) has.states))
 
-pub returns-in_err-gates_for : goal.returns-in_err-gates_for
-returns-in_err-gates_for c = finds_none (HasOptions (rows_of (found_of c.args.matches.now))) c.from_residual-in_err-gates_for.result c.from_residual-in_err-gates_for.ensures (λ o has.
-    let text = c.get_str-7.ensures ∙ first_value-rows (found_of c.args.matches.now) (codes "gates") in
-    let given = subst (λ (t : Option Text). IsGatedFor (asks_first (rows_of (found_of c.args.matches.now))) t o.discipline) (sym text) has.gates in
-    c.in_err-gates_for.ensures o.discipline (subst (λ (b : Bool). IsGatedFor b (option_map (λ s. s.now) c.get_str-7.result) o.discipline) (sym (ap₂ (λ a b. a || b) c.requires.kind.waits c.requires.kind.at_once)) given))
+pub returns-in_err-discipline_for : goal.returns-in_err-discipline_for
+returns-in_err-discipline_for c = finds_none (HasOptions (rows_of (found_of c.args.matches.now))) c.from_residual-in_err-discipline_for.result c.from_residual-in_err-discipline_for.ensures (λ o has.
+    let f = found_of c.args.matches.now in
+    let gates = c.get_str-7.ensures ∙ first_value-rows f (codes "gates") in
+    let signals = c.get_str-8.ensures ∙ first_value-rows f (codes "signals") in
+    c.in_err-discipline_for.ensures o.discipline (disciplined_by (sym (ap₂ (λ a b. a || b) c.requires.kind.waits c.requires.kind.at_once)) (sym c.requires.kind.at_once) (sym gates) (sym signals) o.discipline has.discipline))
 
 pub returns : goal.returns
 returns c =
@@ -91,9 +102,9 @@ returns c =
       steps = subst (λ (t : Option Text). IsChosen 1000 1 100000 t c.in_ok-parse_number-2.field-0) (c.get_str-3.ensures ∙ at (codes "steps")) c.in_ok-parse_number-2.ensures;
       workers = subst (λ (t : Option Text). IsChosen 2 1 16 t c.in_ok-parse_number-3.field-0) (c.get_str-4.ensures ∙ at (codes "workers")) c.in_ok-parse_number-3.ensures;
       cut = subst (λ (t : Option Text). IsChosen 2 0 20 t c.in_ok-parse_number-4.field-0) (c.get_str-5.ensures ∙ at (codes "cut")) c.in_ok-parse_number-4.ensures;
-      cut_given = c.is_given.ensures ∙ ap is_some (c.get_str-8.ensures ∙ at (codes "cut"));
+      cut_given = c.is_given.ensures ∙ ap is_some (c.get_str-9.ensures ∙ at (codes "cut"));
       rows_asked = c.is_asked-rows.ensures ∙ ap is_asked (c.get_str.ensures ∙ at (codes "rows"));
       states = subst (λ (t : Option Text). IsChosen 200000 1 10000000 t c.in_ok-parse_number-5.field-0) (c.get_str-6.ensures ∙ at (codes "states")) c.in_ok-parse_number-5.ensures;
       schedule = subst (λ (r : Option (Option (ArrayVec ℕ))). Finds (IsScheduled (most_choices c.args.kind.merge) (first_of (codes "schedule") (rows_of f))) r) c.in_ok-schedule.was c.requires.schedule;
-      gates = subst (λ (b : Bool). IsGatedFor b (first_of (codes "gates") (rows_of f)) c.in_ok-gates_for.field-0) (ap₂ (λ a b. a || b) c.requires.kind.waits c.requires.kind.at_once) (subst (λ (t : Option Text). IsGatedFor (c.args.kind.waits || c.args.kind.at_once) t c.in_ok-gates_for.field-0) (c.get_str-7.ensures ∙ at (codes "gates")) c.in_ok-gates_for.ensures);
+      discipline = disciplined_by (ap₂ (λ a b. a || b) c.requires.kind.waits c.requires.kind.at_once) c.requires.kind.at_once (c.get_str-7.ensures ∙ at (codes "gates")) (c.get_str-8.ensures ∙ at (codes "signals")) c.in_ok-discipline_for.field-0 c.in_ok-discipline_for.ensures;
     }

@@ -12,6 +12,6 @@ returns g c =
     let r = c.args.program.now in
     let l = c.args.limits in
     let x = c.in_ok-found.found in
-    let a = subst (λ (g : Discipline). IsAnswer r g o.steps o.states x.found) c.requires.gates (subst (λ n. IsAnswer r l.discipline n o.states x.found) c.requires.steps (c.in_ok-found.ensures.answer o.some_state)) in
-    let asked = subst (λ (g : Discipline). TellAsked r g o.steps o.waits x.found x.waits) c.requires.gates (subst (λ n. TellAsked r l.discipline n o.waits x.found x.waits) c.requires.steps c.in_ok-found.ensures.waits) in
+    let a = subst (λ (g : Discipline). IsAnswer r g o.steps o.states x.found) c.requires.discipline (subst (λ n. IsAnswer r l.discipline n o.states x.found) c.requires.steps (c.in_ok-found.ensures.answer o.some_state)) in
+    let asked = subst (λ (g : Discipline). TellAsked r g o.steps o.waits x.found x.waits) c.requires.discipline (subst (λ n. TellAsked r l.discipline n o.waits x.found x.waits) c.requires.steps c.in_ok-found.ensures.waits) in
     IfOk-weaker c.report_of.result _ _ (λ answer h t read ok is. told o t r x.found read ok is answer.verdict answer.text a (λ y to d. h t read ok is o y to asked d)) c.report_of.ensures
