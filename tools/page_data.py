@@ -3,7 +3,7 @@ import json
 import re
 import sys
 
-EVENTS = {"e": "enter", "g": "enter", "l": "leave", "d": "delay", "c": "continue", "s": "init", "o": "display", "x": "end", "a": "admit"}
+EVENTS = {"e": "enter", "g": "enter", "l": "leave", "d": "delay", "c": "continue", "n": "continue", "w": "continue", "s": "init", "o": "display", "x": "end", "a": "admit"}
 KEYS = ("event", "process", "woken", "let_in", "monitor", "routine", "queue", "target_process", "line", "status", "holders")
 
 
@@ -54,6 +54,10 @@ class Play:
         if process in self.lines[monitor]:
             self.lines[monitor].remove(process)
 
+    def wait_at_gate(self, process, monitor, place):
+        self.status[process] = {"is": "gate", "monitor": monitor}
+        self.lines[monitor].insert(place, process)
+
     def happen(self, event, choice):
         kind, process, line, whom, text, woken, let_in, changes, _ = event
         text = "" if kind == "s" else self.strings[text]
@@ -64,8 +68,7 @@ class Play:
         if kind in "ea":
             self.enter(process, whom)
         if kind == "g":
-            self.status[process] = {"is": "gate", "monitor": whom}
-            self.lines[whom].append(process)
+            self.wait_at_gate(process, whom, len(self.lines[whom]))
         if kind == "s":
             self.status[whom] = {"is": "ready"}
             told["target_process"] = whom
@@ -75,15 +78,21 @@ class Play:
             self.status[process] = {"is": "ended"}
         if kind == "d":
             self.status[process] = {"is": "delayed", "monitor": whom, "queue": text}
-        if kind in "dc":
+        if kind in "dcnw":
             told["queue"] = text
-        if kind in "dcla":
+        if kind in "dcnwla":
             told["monitor"], told["routine"] = whom, self.calls[process][-1][1].split("(")[0]
         if kind == "l":
             line = self.calls[process][-1][2]
         if kind in "lc":
             self.calls[process].pop()
-        if kind in "ldc":
+        # Who was resumed comes to the end of the line, or the caller to its beginning.
+        if kind == "n":
+            for other in woken:
+                self.wait_at_gate(other, whom, len(self.lines[whom]))
+        if kind == "w" and woken:
+            self.wait_at_gate(process, whom, 0)
+        if kind in "ldc" or kind == "w" and woken:
             self.holders[whom] = None
             for other in woken + let_in:
                 self.enter(other, whom)

@@ -1,5 +1,5 @@
 -- Where the first of a line goes in, nobody is ever to be let in.
-use Rattle.std.proofs.Common.{◌≡◌, ℕ, zero, suc, List, [], ◌∷◌, Option, Some, None, is_some, if◌then◌else◌, Bool, true, false, refl, subst, ap}
+use Rattle.std.proofs.Common.{◌≡◌, ◌∙◌, ℕ, zero, suc, List, [], ◌∷◌, Option, Some, None, is_some, if◌then◌else◌, Bool, true, false, refl, sym, subst, ap}
 use Rattle.cp_slots.specs.Tables.{Tables}
 use Rattle.cp_at_once.proofs.Words.{by_the_book, same_Some, silent_slots}
 use Rattle.cp_machine.specs.Machine.{Machine, is_pending}

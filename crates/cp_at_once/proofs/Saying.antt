@@ -1,5 +1,5 @@
 -- What the search of the code answers.
-use Rattle.cp_at_once.proofs.Words.{◌≡◌, ◌∙◌, ℕ, List, Bool, true, false, length, refl, sym, arith, All-weaker, Tables, Discipline, Machine, slots, silent_slots}
+use Rattle.cp_at_once.proofs.Words.{◌≡◌, ◌∙◌, ℕ, List, Bool, true, false, length, refl, subst, sym, arith, All-weaker, Tables, Discipline, Machine, slots, silent_slots}
 use Rattle.cp_at_once.proofs.Words.{without_output, slot_graph, LeadsToPlace, LeadsToEnd, ShowsLast, same_key, has, ok_to, all_at, HasWord, Holds, HasLeg}
 use Rattle.cp_at_once.proofs.Words.{FoundAtOnce}
 use Rattle.std.specs.Prelude.{All, IfOk, Result}

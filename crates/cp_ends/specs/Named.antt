@@ -3,7 +3,7 @@ use Rattle.std.specs.Prelude.{◌≡◌, ◌≢◌, ◌⊎◌, ◌≤◌, ◌+�
 use Rattle.std.specs.List.{AllPairs}
 use Rattle.cp_tree.specs.Syntax.{Tree}
 use Rattle.cp_slots.specs.Tables.{Tables}
-use Rattle.cp_machine.specs.declared.discipline.Discipline as slot_gates
+use Rattle.cp_machine.specs.declared.discipline.Discipline as slot_discipline
 use Rattle.cp_machine.specs.declared.shown.Shown.{Shown}
 use Rattle.cp_machine.specs.System.{Machine}
 use Rattle.cp_meaning.specs.State.{Discipline}
@@ -112,7 +112,7 @@ pub record IsAnswerOnNames (t : Tree) (g : Discipline) (steps most : ℕ) (ends 
   pub more_values : HasNoCut ends → (more : ℕ) (v : Shown) (word : List ℕ) → ShowsAfter (named t g) named_without_output (more + steps) word v → IsValueTold most values v word
 
 -- on slots: all states, ends and values, each with its first word
-pub record IsAnswerOnSlots (r : Tables) (discipline : slot_gates.Discipline) (steps most : ℕ) (states : List (Machine × List ℕ)) (ends : List (End × List ℕ)) (values : List (Shown × List ℕ)) : Type 0 where
+pub record IsAnswerOnSlots (r : Tables) (discipline : slot_discipline.Discipline) (steps most : ℕ) (states : List (Machine × List ℕ)) (ends : List (End × List ℕ)) (values : List (Shown × List ℕ)) : Type 0 where
   pub all_states : AreFirsts (λ m word. LeadsTo (silent_slots r discipline) steps word (Choosing m)) states
   pub all_ends : AreFirsts (EndsSo (silent_slots r discipline) steps) ends
   pub all_values : AreFirstOnes most (ShowsSo (slots r discipline) without_output steps) values
@@ -130,7 +130,7 @@ pub record IsAnswerToOnNames (t : Tree) (g : Discipline) (steps choices most : �
   pub all_values : AreValuesOnNames t g steps (Some choices) most values
   pub settled : AreAllEndsTo (silent_named t g) steps choices (kinds_of ends)
 
-pub record IsAnswerToOnSlots (r : Tables) (discipline : slot_gates.Discipline) (steps choices most : ℕ) (ends : List (End × List ℕ)) (values : List (Shown × List ℕ)) : Type 0 where
+pub record IsAnswerToOnSlots (r : Tables) (discipline : slot_discipline.Discipline) (steps choices most : ℕ) (ends : List (End × List ℕ)) (values : List (Shown × List ℕ)) : Type 0 where
   pub all_ends : AreFirsts (Within choices (EndsSo (silent_slots r discipline) steps)) ends
   pub all_values : AreFirstOnes most (Within choices (ShowsSo (slots r discipline) without_output steps)) values
 

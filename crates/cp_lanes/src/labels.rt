@@ -117,7 +117,11 @@ fn brief_words(scene: Scene<'_>, event: &StoryEvent) -> Result<String, AllocErro
             put_call(scene, &mut brief, *call, arguments);
         }
         Happening::Continue(queue, _, _) => {
-            brief.put(if comes_to_gate(event) { "at the gate: " } else { "" });
+            brief.put(if comes_to_gate(event) {
+                "at the gate: "
+            } else {
+                ""
+            });
             put_queue(&mut brief, "continue(", queue.name.as_str());
         }
         _ => put_words(scene, &mut brief, event),

@@ -26,12 +26,11 @@ pub fn end_row(
     let mut row = Json::new(register.alloc);
     row.open();
     match end {
-        End::Over(OutcomeKind::StepLimit)
-        | End::Over(OutcomeKind::OutputLimit)
-        | End::Alone(_)
-        | End::Spins(_) => {
-            let line = next_line(program, state, going);
-            put_end(&mut row, end_words(end), "", going, line);
+        End::Over(OutcomeKind::StepLimit) | End::Over(OutcomeKind::OutputLimit) => {
+            put_going(&mut row, program, state, end, going);
+        }
+        End::Alone(process) | End::Spins(process) => {
+            put_going(&mut row, program, state, end, process);
         }
         End::Over(kind) => {
             put_members(&mut row, end);
@@ -43,6 +42,14 @@ pub fn end_row(
     }
     row.close();
     Ok(row)
+}
+
+// An end with who goes on, and where.
+fn put_going(row: &mut Json, program: &Resolved, state: &State, end: End, process: u8)
+    requires { IsStateOf program.now state.now }
+{
+    let line = next_line(program, state, process);
+    put_end(row, end_words(end), "", process, line);
 }
 
 /// Appends an end as it is told of schedules: `[kind, error, process, line]`.

@@ -14,7 +14,7 @@ pub const STYLE_HASH: &str = "RTLgf1KrIvZAucRe0SAeZwU36yvECbnEZMUy3wI1WqQ=";
 pub const BETWEEN: &str = "'; script-src 'sha256-";
 
 /// The SHA-256 of the script to the base 64.
-pub const SCRIPT_HASH: &str = "4CyI9lo3Iakz/OuYylPQ9QtGP0cbiVvAAkc9ZKgSy58=";
+pub const SCRIPT_HASH: &str = "1ujfzgGU3jrOeiOGnGas5y87xDKIqX/jlUfKpx0lTX8=";
 
 /// Between the hash of the script and the style sheet.
 pub const HEAD: &str = r##"'">

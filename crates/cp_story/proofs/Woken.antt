@@ -76,8 +76,7 @@ stays_ready m pid rest e = ap (λ (t : Thread). is_ready_status t.status) (get_o
 module _ (m n : Machine) (monitor pid q : ℕ) (lt : q < length n.threads) (ready : is_ready m pid ≡ true → is_ready n pid ≡ true) (other : is_ready n pid ≡ true → q ≡ pid → ⊥) where
   joined_served : IsServed signals.Continue m (joined n monitor q) pid q
   joined_served =
-      let gated : Thread = record (thread_at n.threads q) { status = AtGate monitor } in
-      (
+      let gated : Thread = record (thread_at n.threads q) { status = AtGate monitor } in (
         ap (λ (t : Thread). is_gated t.status) (get_or-set_same n.threads q gated no_thread lt),
         λ e. ap (λ (t : Thread). is_ready_status t.status) (get_or-set_other n.threads q pid gated no_thread (λ same. other (ready e) (sym same))) ∙ ready e,
       )
@@ -87,8 +86,7 @@ module _ (m n : Machine) (monitor pid q : ℕ) (lt : q < length n.threads) (read
       let gated : Thread = record (thread_at n.threads pid) { status = AtGate monitor } in
       let threads : List Thread = slice_set n.threads pid gated in
       let back : Thread = record (thread_at threads q) { status = Ready } in
-      let here : q < length threads = subst (λ k. q < k) (sym (length-set n.threads pid gated)) lt in
-      (
+      let here : q < length threads = subst (λ k. q < k) (sym (length-set n.threads pid gated)) lt in (
         ap (λ (t : Thread). is_ready_status t.status) (get_or-set_same threads q back no_thread here),
         λ e.
             ap (λ (t : Thread). is_gated t.status) (get_or-set_other threads q pid back no_thread (λ same. other (ready e) (sym same)))

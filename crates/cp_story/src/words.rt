@@ -147,7 +147,13 @@ pub fn happening_words(
     push_nobody(&mut text, event)?;
     push_returned(&mut text, &event.returned)?;
     let words = waking_words(&event.happening);
-    push_processes(legend, &mut text, words.before, event.woken.as_slice(), words.after)?;
+    push_processes(
+        legend,
+        &mut text,
+        words.before,
+        event.woken.as_slice(),
+        words.after,
+    )?;
     push_processes(legend, &mut text, ", lets ", event.let_in.as_slice(), " in")?;
     Ok(text)
 }

@@ -1,5 +1,5 @@
--- A step of the slot machine is a `continue` only where one is executed in an entry of a monitor.
-use Rattle.std.proofs.Common.{◌≡◌, ◌∙◌, ℕ, ◌==◌, Bool, true, false, if◌then◌else◌, List, [], ◌∷◌, length, Option, Some, None, Result, Ok, Err, ap, sym, refl}
+-- A step of the slot machine by which a `continue` returns is one only where it is executed in an entry of a monitor.
+use Rattle.std.proofs.Common.{◌≡◌, ◌∙◌, ℕ, ◌==◌, Bool, true, false, if◌then◌else◌, List, [], ◌∷◌, length, Option, Some, None, Result, Ok, Err, ap, sym, refl, subst}
 use Rattle.std.specs.Ordering.{int_eq}
 use Rattle.std.specs.Prelude.{ℤ, pos, slice_index_or}
 use Rattle.cp_tree.specs.Syntax.{Tree}
@@ -17,13 +17,15 @@ use Rattle.cp_store.specs.declared.memory.Address.TheVariants as address
 use Rattle.cp_store.specs.declared.memory.Frame.{Frame}
 use Rattle.cp_store.specs.Sets as sets
 use Rattle.cp_store.specs.Values.{is_true, ranged}
+use Rattle.cp_machine.specs.declared.discipline.Signals.{Signals}
+use Rattle.cp_machine.specs.declared.discipline.Signals.TheVariants as signals
 use Rattle.cp_machine.specs.declared.event.Event.{Event}
 use Rattle.cp_machine.specs.declared.event.Event.TheVariants.{Kernel}
 use Rattle.cp_machine.specs.declared.event.Kernel.TheVariants as kernel
 use Rattle.cp_machine.specs.declared.process.Entry.{Entry}
 use Rattle.cp_machine.specs.declared.process.Entry.TheVariants.{Rest, Successor, Return, InitEnd}
 use Rattle.cp_machine.specs.declared.state.TheConstants.{MOST_SHOWN}
-use Rattle.cp_machine.specs.Calls.{called_in, called_by, started, delayed_in, delay_at, continue_at, continued_from}
+use Rattle.cp_machine.specs.Calls.{called_in, called_by, started, delayed_in, delay_at, continue_at, continue_by, continued_from}
 use Rattle.cp_machine.specs.Machine.{Machine, is_initialised, is_uninitialised, is_unstarted, phase_at, thread_at, with_stack}
 use Rattle.cp_machine.specs.Memory.{address_of, arguments_of, component_of, set_of, value_of}
 use Rattle.cp_machine.specs.Stack.{from_end}
@@ -94,10 +96,14 @@ module _ (r : Tables) (m : Machine) (pid : ℕ) where
   continued_ends n cell (InitEnd caller component ∷ es) = λ e. absurd (cc)
   continued_ends n cell (Return caller result None ∷ es) = λ e. absurd (cc)
 
-  continue_ends : (line : ℕ) (next : Option ℕ) (es : List Entry) (at : Result Address ErrorName) → Ends (with_value at (fault m pid line) (continue_at r m pid next es)) es
-  continue_ends line next es (Ok (address.Permanent cell)) = continued_ends (with_stack m pid (from_end es)) cell (from_end es)
-  continue_ends line next es (Ok (address.Local cell)) = λ e. absurd (cc)
-  continue_ends line next es (Err f) = λ e. absurd (cc)
+  abbrev Returns : Type 0
+  Returns = m.discipline.signals ≡ signals.Return
+
+  continue_ends : Returns → (line : ℕ) (next : Option ℕ) (es : List Entry) (at : Result Address ErrorName) → Ends (with_value at (fault m pid line) (continue_at r m pid next es)) es
+  continue_ends by line next es (Ok (address.Permanent cell)) =
+      subst (λ (s : Signals). Ends (continue_by s r m pid cell next es) es) (sym by) (continued_ends (with_stack m pid (from_end es)) cell (from_end es))
+  continue_ends by line next es (Ok (address.Local cell)) = λ e. absurd (cc)
+  continue_ends by line next es (Err f) = λ e. absurd (cc)
 
   act_other : (at : ℕ) (item : Item) (a : Action) (es : List Entry) → is_continue a ≡ false → IsOther (act r m pid at item a es)
   act_other at item Empty es plain = refl
@@ -135,9 +141,9 @@ module _ (r : Tables) (m : Machine) (pid : ℕ) where
   act_other at item (Display value shown) es plain = (evaluated (value_of m pid value) _ _ (λ e. refl) (λ v. either (length m.output == MOST_SHOWN) _ _ refl refl))
   act_other at item (Continue place) es plain = absurd (cc)
 
-  act_ends : (at : ℕ) (item : Item) (a : Action) (es : List Entry) → Ends (act r m pid at item a es) es
-  act_ends at item (Continue place) es = continue_ends item.line item.next es (address_of m pid place)
-  act_ends at item a es = never (act r m pid at item a es) es (act_other at item a es refl)
+  act_ends : Returns → (at : ℕ) (item : Item) (a : Action) (es : List Entry) → Ends (act r m pid at item a es) es
+  act_ends by at item (Continue place) es = continue_ends by item.line item.next es (address_of m pid place)
+  act_ends by at item a es = never (act r m pid at item a es) es (act_other at item a es refl)
 
   successor_other : (at : ℕ) (item : Item) (a : Action) (es : List Entry) (z last : ℤ) → IsOther (succeeded m pid at item a es z last)
   successor_other at item (For variable low high first end down list) es z last =
@@ -145,16 +151,16 @@ module _ (r : Tables) (m : Machine) (pid : ℕ) where
       (evaluated (next_value down low high z) _ _ (λ e. refl) (λ w. refl))
   successor_other at item _ es z last = refl
 
-  top_ends : (es : List Entry) → Ends (take_top r m pid es) es
-  top_ends [] = never (take_top r m pid []) [] refl
-  top_ends (Rest at ∷ es) = act_ends at (item_at r at) (item_at r at).action es
-  top_ends (Successor at z last ∷ es) = never (take_top r m pid (Successor at z last ∷ es)) (Successor at z last ∷ es) (successor_other at (item_at r at) (item_at r at).action es z last)
-  top_ends (Return caller result None ∷ es) = never (take_top r m pid (Return caller result None ∷ es)) (Return caller result None ∷ es) refl
-  top_ends (Return caller result (Some monitor) ∷ es) = never (take_top r m pid (Return caller result (Some monitor) ∷ es)) (Return caller result (Some monitor) ∷ es) refl
-  top_ends (InitEnd caller component ∷ es) = never (take_top r m pid (InitEnd caller component ∷ es)) (InitEnd caller component ∷ es) refl
+  top_ends : Returns → (es : List Entry) → Ends (take_top r m pid es) es
+  top_ends by [] = never (take_top r m pid []) [] refl
+  top_ends by (Rest at ∷ es) = act_ends by at (item_at r at) (item_at r at).action es
+  top_ends by (Successor at z last ∷ es) = never (take_top r m pid (Successor at z last ∷ es)) (Successor at z last ∷ es) (successor_other at (item_at r at) (item_at r at).action es z last)
+  top_ends by (Return caller result None ∷ es) = never (take_top r m pid (Return caller result None ∷ es)) (Return caller result None ∷ es) refl
+  top_ends by (Return caller result (Some monitor) ∷ es) = never (take_top r m pid (Return caller result (Some monitor) ∷ es)) (Return caller result (Some monitor) ∷ es) refl
+  top_ends by (InitEnd caller component ∷ es) = never (take_top r m pid (InitEnd caller component ∷ es)) (InitEnd caller component ∷ es) refl
 
-  pub continue_in_monitor : (step_at r m pid).event ≡ Kernel kernel.Continue → EndsInMonitor (from_end (thread_at m.threads pid).stack)
-  continue_in_monitor e = top_ends (thread_at m.threads pid).stack (ap is_continued e)
+  pub continue_in_monitor : Returns → (step_at r m pid).event ≡ Kernel kernel.Continue → EndsInMonitor (from_end (thread_at m.threads pid).stack)
+  continue_in_monitor by e = top_ends by (thread_at m.threads pid).stack (ap is_continued e)
 
 -- ---- so it is on names
 

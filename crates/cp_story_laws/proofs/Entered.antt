@@ -19,7 +19,7 @@ use Rattle.cp_machine.specs.Machine.{Machine, thread_at}
 use Rattle.cp_meaning.specs.Names.{Name}
 use Rattle.cp_meaning.specs.Readings.{monitors_of}
 use Rattle.cp_meaning.specs.State as named
-use Rattle.cp_meaning.specs.State.{CallKind, entry_routine, initial_statement, own_statement, Call, current, Item, Discipline, State, Status, unstarted, ready, at_gate, delayed, ended, Process, first_gates}
+use Rattle.cp_meaning.specs.State.{CallKind, entry_routine, initial_statement, own_statement, Call, current, Item, Discipline, State, Status, unstarted, ready, at_gate, delayed, ended, Process, book_discipline}
 use Rattle.cp_meaning.specs.Steps.{opening, first_components}
 use Rattle.cp_meaning.proofs.LocalLaw.{within}
 use Rattle.cp_lawful.specs.Accepted.{IsAccepted}
@@ -44,7 +44,7 @@ module _ (t : Tree) (r : Tables) (l : Layouts) (stands : Stands (ground_of t r) 
 
   module _ (n j : ℕ) (e : (component_at r n).kind ≡ kind.Monitor j) where
     abbrev monitors : List ℕ
-    monitors = monitors_of (opening t.program first_gates)
+    monitors = monitors_of (opening t.program book_discipline)
 
     listed : slice_index_or monitors j (length r.components) ≡ n
     listed = go (named.component_at (first_components t.program) n).kind (subst (λ (k : ComponentKind). KindIs r t.program n (named.component_at (first_components t.program) n).kind k) e (stands.components n (monitor_there t r l stands n j e)).kind)

@@ -19,6 +19,8 @@ use Rattle.cp_store.specs.Arguments.{bound_in_frame}
 use Rattle.cp_store.specs.Memory.{Memory}
 use Rattle.cp_store.specs.Sets as sets
 use Rattle.cp_store.specs.Values.{is_true, ranged}
+use Rattle.cp_machine.specs.declared.discipline.Signals.{Signals}
+use Rattle.cp_machine.specs.declared.discipline.Signals.TheVariants as signals
 use Rattle.cp_machine.specs.declared.event.Event.{Event}
 use Rattle.cp_machine.specs.declared.event.Event.TheVariants.{Kernel}
 use Rattle.cp_machine.specs.declared.event.Kernel.TheVariants as kernel
@@ -26,7 +28,7 @@ use Rattle.cp_machine.specs.declared.process.Entry.{Entry}
 use Rattle.cp_machine.specs.declared.process.Entry.TheVariants.{Rest, Successor, Return, InitEnd}
 use Rattle.cp_machine.specs.declared.process.Status.TheVariants.{AtGate}
 use Rattle.cp_machine.specs.declared.state.TheConstants.{MOST_SHOWN}
-use Rattle.cp_machine.specs.Calls.{called, called_in, called_by, frame_behind, started, delayed_in, delay_at, continue_at, continued_from}
+use Rattle.cp_machine.specs.Calls.{called, called_in, called_by, frame_behind, started, delayed_in, delay_at, continue_at, continue_by, continued_from, continued_in}
 use Rattle.cp_machine.specs.Kernel.{entered, entered_by}
 use Rattle.cp_machine.specs.Machine.{Machine, Thread, is_initialised, is_uninitialised, is_unstarted, monitor_at, no_thread, phase_at, thread_at, with_permanents, with_stack, with_thread}
 use Rattle.cp_machine.specs.Memory.{address_of, arguments_of, component_of, frame_opened, memory_at, set_of, value_of}
@@ -145,8 +147,18 @@ module _ (r : Tables) (os : List Opening) (m : Machine) (pid : ℕ) (there : pid
   continued_other n cell (Successor at z last ∷ es) = refl
   continued_other n cell (InitEnd caller component ∷ es) = refl
 
+  in_place_other : (cell : ℕ) (k : ComponentKind) (rest : List Entry) → IsOther (continued_in m pid cell k rest)
+  in_place_other cell (kind.Monitor monitor) rest = refl
+  in_place_other cell kind.Class rest = refl
+  in_place_other cell (kind.Process number) rest = refl
+
+  by_discipline_other : (s : Signals) (cell : ℕ) (next : Option ℕ) (es : List Entry) → IsOther (continue_by s r m pid cell next es)
+  by_discipline_other signals.Return cell next es = continued_other (with_stack m pid (from_end es)) cell (from_end es)
+  by_discipline_other signals.Continue cell next es = in_place_other cell (component_at r (thread_at m.threads pid).frame.component).kind (rest_of next es)
+  by_discipline_other signals.Wait cell next es = in_place_other cell (component_at r (thread_at m.threads pid).frame.component).kind (rest_of next es)
+
   continue_other : (next : Option ℕ) (es : List Entry) (a : Address) → IsOther (continue_at r m pid next es a)
-  continue_other next es (address.Permanent cell) = continued_other (with_stack m pid (from_end es)) cell (from_end es)
+  continue_other next es (address.Permanent cell) = by_discipline_other m.discipline.signals cell next es
   continue_other next es (address.Local cell) = refl
 
   act_other : (at : ℕ) (item : Item) (a : Action) (es : List Entry) → is_call a ≡ false → IsOther (act r m pid at item a es)

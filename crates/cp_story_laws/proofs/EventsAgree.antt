@@ -17,13 +17,15 @@ use Rattle.cp_machine.specs.declared.event.Event.TheVariants as step
 use Rattle.cp_machine.specs.declared.event.Kernel as calls
 use Rattle.cp_machine.specs.declared.event.Kernel.TheVariants.{Enter, Leave, Delay, Continue, StartProcess, Display}
 use Rattle.cp_machine.specs.declared.discipline.Discipline as slot_gates
+use Rattle.cp_machine.specs.declared.discipline.Signals as slot_signals
+use Rattle.cp_machine.specs.declared.discipline.Signals.TheVariants as signals
 use Rattle.cp_machine.specs.declared.shown.Shown.{Shown}
 use Rattle.cp_machine.specs.declared.shown.Shown.TheVariants.{Integer}
 use Rattle.cp_machine.specs.Machine.{Machine, is_pending, is_ready, thread_at}
 use Rattle.cp_machine.specs.Opening as machine
 use Rattle.cp_meaning.specs.Components.{components_of}
 use Rattle.cp_meaning.specs.Names.{Name}
-use Rattle.cp_meaning.specs.State.{Discipline, State}
+use Rattle.cp_meaning.specs.State.{Discipline, Signals, State}
 use Rattle.cp_meaning.specs.State as meaning
 use Rattle.cp_meaning.specs.Steps.{step_of, line_at, view_of}
 use Rattle.cp_run.specs.declared.line.TraceEvent.{TraceEvent}
@@ -36,8 +38,9 @@ use Rattle.cp_run.proofs.Choosing.{those_same}
 use Rattle.cp_resolved.specs.Openings.{openings_of}
 use Rattle.cp_resolved.specs.TreeLayouts.{layouts_of}
 use Rattle.cp_refine.specs.InStep.{CanGo, CanEnter, GoInStep, LooksAlike}
-use Rattle.cp_refine.specs.Named.{named, named_discipline, is_some}
+use Rattle.cp_refine.specs.Named.{named, named_discipline, named_signals, is_some}
 use Rattle.cp_refine.specs.Prepared.{Prepared}
+use Rattle.cp_refine.proofs.Disciplines.{discipline_back}
 use Rattle.cp_refine.proofs.Alike.{holders_same, may_same}
 use Rattle.cp_refine.proofs.HoldsInReached.{reached_stands}
 use Rattle.cp_story.specs.Aimed.{aim_in, no_aim}
@@ -55,8 +58,8 @@ use Rattle.cp_story_laws.specs.Lines.{next_line}
 use Rattle.cp_story_laws.specs.Passed as passed
 use Rattle.cp_story_laws.specs.Passed.{arguments_told}
 use Rattle.cp_story_laws.specs.Standings as stands
-use Rattle.cp_story_laws.specs.Standings.{Standing, standings, resumed}
-use Rattle.cp_story_laws.specs.Statements.{arguments_in, call_told, call_in, queue_in, event_on_names, event_told, displayed_told, begins_told, waits_told, standing_told, TellsEvents}
+use Rattle.cp_story_laws.specs.Standings.{Standing, standings, released, resumed}
+use Rattle.cp_story_laws.specs.Statements.{arguments_in, call_told, call_in, queue_in, signals_in, event_on_names, event_told, displayed_told, begins_told, waits_told, standing_told, TellsEvents}
 use Rattle.cp_story_laws.proofs.aims.QueueCells.{SameQueue}
 use Rattle.cp_story_laws.proofs.CalledInProgram.{calls_routine}
 use Rattle.cp_story_laws.proofs.Entered.{call_same, scope_same}
@@ -69,7 +72,7 @@ use Rattle.cp_story_laws.proofs.Together as together
 use Rattle.cp_story_laws.proofs.OpenCalls.{each_of_none, stack_kept, last_kept, pushed_kept, popped_kept}
 use Rattle.cp_story_laws.proofs.RoutinesExecuted.{executes_named, legend_name}
 use Rattle.cp_story_laws.proofs.StandingsAgree.{standings_same}
-use Rattle.cp_story_laws.proofs.Waited.{resumed_same, started_same, gated_same, gate_kept, queue_kept}
+use Rattle.cp_story_laws.proofs.Waited.{released_same, resumed_same, started_same, gated_same, gate_kept}
 use Rattle.cp_story_laws.proofs.WokenAgree.{is_told, woken_same}
 
 -- the last step on names and on slots
@@ -118,7 +121,7 @@ module _ (t : Tree) (r : Tables) (g : slot_gates.Discipline) (l : Legend) (Held 
 
   -- ---- an event
 
-  module _ (p : ℕ) (aim : Aim) (s : State) (m : Machine) (queue : NamedQueue) (woken : List ℕ) (count : on_names.monitors ≡ on_slots.monitors) (alike : LooksAlike on_names on_slots s m)
+  module _ (p : ℕ) (aim : Aim) (s : State) (m : Machine) (queue : NamedQueue) (woken : List ℕ) (count : on_names.monitors ≡ on_slots.monitors) (alike : LooksAlike on_names on_slots s m) (by : named_signals m.discipline.signals ≡ s.discipline.signals)
       (now : map (standing_told l) (statuses_in m) ≡ standings t.program s) (wakes : option_to_list aim.wakes ≡ woken)
       (held : Held s.components m.permanents) (changes : (cs : List meaning.Component) (cells : List ℤ) → Held cs cells → changes_in l cells m.permanents ≡ changes_told t.program h cs s.components) (x : NamedTelling) (y : Telling) (agree : Agree x y) where
     kind_same : (event : TraceEvent) → event_told (what_happened event p aim m y.past) ≡ event
@@ -198,6 +201,16 @@ module _ (t : Tree) (r : Tables) (g : slot_gates.Discipline) (l : Legend) (Held 
     queues_same End queued = refl
     queues_same Admit queued = refl
 
+    signals_same : (event : TraceEvent) → signals_in (what_happened event p aim m y.past) ≡ names.signals_by event s.discipline.signals
+    signals_same (Kernel Enter) = refl
+    signals_same (Kernel Leave) = refl
+    signals_same (Kernel Delay) = refl
+    signals_same (Kernel Continue) = ap Some by
+    signals_same (Kernel StartProcess) = refl
+    signals_same (Kernel Display) = refl
+    signals_same End = refl
+    signals_same Admit = refl
+
     abbrev IsGiven : TraceEvent → Type 0
     IsGiven event = event ≡ Kernel Enter → arguments l (slice_get m.threads p) ≡ arguments_told (view_of t.program s p)
 
@@ -247,6 +260,7 @@ module _ (t : Tree) (r : Tables) (g : slot_gates.Discipline) (l : Legend) (Held 
         let n = now in
         let o = holders_are in
         let q = queues_same event queued in
+        let r2 = signals_same event in
         let u = arguments_same event given in
         let v = agree.returned in
         let w = changes_same in
@@ -260,11 +274,16 @@ module _ (t : Tree) (r : Tables) (g : slot_gates.Discipline) (l : Legend) (Held 
     closes : map (map (call_told l)) (names.popped y.past.calls p) ≡ names.popped x.past.calls p
     closes = popped_kept (call_told l) y.past.calls p ∙ ap (λ (cs : List (List EntryCall)). names.popped cs p) agree.calls
 
+    continued : (k : slot_signals.Signals) → map (map (call_told l)) (story.calls_continued k y.past.calls p) ≡ names.calls_continued (named_signals k) x.past.calls p
+    continued signals.Return = closes
+    continued signals.Continue = agree.calls
+    continued signals.Wait = agree.calls
+
     calls_same : (event : TraceEvent) → Begun event → map (map (call_told l)) (told_more r g event p aim m y).past.calls ≡ names.calls_after t h event p aim.line s x.past.calls
     calls_same (Kernel Enter) begun = opens (begun refl)
     calls_same (Kernel Leave) begun = closes
     calls_same (Kernel Delay) begun = agree.calls
-    calls_same (Kernel Continue) begun = closes
+    calls_same (Kernel Continue) begun = continued m.discipline.signals ∙ ap (λ (k : Signals). names.calls_continued k x.past.calls p) by
     calls_same (Kernel StartProcess) begun = agree.calls
     calls_same (Kernel Display) begun = agree.calls
     calls_same End begun = agree.calls
@@ -355,6 +374,9 @@ module _ (t : Tree) (r : Tables) (g : slot_gates.Discipline) (l : Legend) (Held 
     stand_now : (s : State) (m : Machine) → Related s m → map (standing_told l) (statuses_in m) ≡ standings t.program s
     stand_now s m sim = standings_same t r (layouts_of t) h ok prepared l tables paths s m sim
 
+    signals_now : (s : State) (m : Machine) → Related s m → named_signals m.discipline.signals ≡ s.discipline.signals
+    signals_now s m sim = ap (λ (d : slot_gates.Discipline). named_signals d.signals) sim.represents.discipline ∙ ap (λ (d : Discipline). d.signals) (discipline_back s.discipline)
+
     -- ---- a step
 
     module _ (s : State) (m : Machine) (p : ℕ) (sim : Related s m) (can : CanGo on_names s p) where
@@ -388,17 +410,17 @@ module _ (t : Tree) (r : Tables) (g : slot_gates.Discipline) (l : Legend) (Held 
           let executes = executes_named t.program l.routines routines (thread_at m2.threads p).frame.routine called (meaning.current (meaning.process_at s2.processes p).calls) (scope_same t r (layouts_of t) prepared.stands h ok s2 m2 sim2 p less aim.line w.0) in
           call_same t r (layouts_of t) prepared.stands h ok s2 m2 sim2 p less aim.line l executes w.0 (holds2.kind n ∙ sym (holds.kind n) ∙ w.1)
 
-      woken_now : is_told (on_slots.event m p) ≡ true → option_to_list aim.wakes ≡ resumed stands.is_queued (standings t.program s) (standings t.program s2) p
+      woken_now : is_told (on_slots.event m p) ≡ true → option_to_list aim.wakes ≡ released (standings t.program s) (standings t.program s2)
       woken_now told =
           let ready : is_ready m p ≡ true = sym ((go.alike s m sim).ready p can.below) ∙ can.ready in
           let same_length : length m.threads ≡ length m2.threads = (let c = sim.fits.threads in let d = sim2.fits.threads in omega (arith, c, d)) in
           woken_same r m p sim.lines ready told same_length
-          ∙ resumed_same l story.is_queued stands.is_queued (queue_kept l) (statuses_in m) m2 p
-          ∙ ap (λ (all : List Standing). resumed stands.is_queued all (map (standing_told l) (statuses_in m2)) p) (stand_now s m sim)
-          ∙ ap (λ (all : List Standing). resumed stands.is_queued (standings t.program s) all p) (stand_now s2 m2 sim2)
+          ∙ released_same l (statuses_in m) m2
+          ∙ ap (λ (all : List Standing). released all (map (standing_told l) (statuses_in m2))) (stand_now s m sim)
+          ∙ ap (released (standings t.program s)) (stand_now s2 m2 sim2)
 
       abbrev back : List ℕ
-      back = resumed stands.is_queued (standings t.program s) (standings t.program s2) p
+      back = released (standings t.program s) (standings t.program s2)
 
       module _ (steps : StepsAgree) (named_now : AreNamed (openings_of t.program) m) (x : NamedTelling) (y : Telling) (agree : Agree x y) where
         abbrev queue : NamedQueue
@@ -412,10 +434,10 @@ module _ (t : Tree) (r : Tables) (g : slot_gates.Discipline) (l : Legend) (Held 
 
         told_by : (e : Event) → on_slots.event m p ≡ e → Agree (names.with_step t h p aim.line queue back e s2 (names.expecting t s p x)) (told_step r g p aim e m2 (expecting aim m p y))
         told_by (step.Kernel call) e =
-            event_agrees p aim s2 m2 queue back go.monitors (go.alike s2 m2 sim2) (stand_now s2 m2 sim2) (woken_now (ap is_told e)) held_now (λ cs cells k. steps.changes cs s2.components cells m2.permanents k held_now) (names.expecting t s p x) (expecting aim m p y) expected
+            event_agrees p aim s2 m2 queue back go.monitors (go.alike s2 m2 sim2) (signals_now s2 m2 sim2) (stand_now s2 m2 sim2) (woken_now (ap is_told e)) held_now (λ cs cells k. steps.changes cs s2.components cells m2.permanents k held_now) (names.expecting t s p x) (expecting aim m p y) expected
             (Kernel call) (λ f. entered_now (e ∙ kernel_of call f)) (λ f. steps.queues s m p sim can (ap names_queue e ∙ f)) (λ f. steps.begun s m p sim can (e ∙ kernel_of call f))
         told_by step.Ended e =
-            event_agrees p aim s2 m2 queue back go.monitors (go.alike s2 m2 sim2) (stand_now s2 m2 sim2) (woken_now (ap is_told e)) held_now (λ cs cells k. steps.changes cs s2.components cells m2.permanents k held_now) (names.expecting t s p x) (expecting aim m p y) expected End
+            event_agrees p aim s2 m2 queue back go.monitors (go.alike s2 m2 sim2) (signals_now s2 m2 sim2) (stand_now s2 m2 sim2) (woken_now (ap is_told e)) held_now (λ cs cells k. steps.changes cs s2.components cells m2.permanents k held_now) (names.expecting t s p x) (expecting aim m p y) expected End
             (λ f. absurd (let bad : End ≡ Kernel Enter = f in cc)) (λ f. absurd (let bad : false ≡ true = f in cc)) (λ f. absurd (let bad : End ≡ Kernel Enter = f in cc))
         told_by _ e = expected
 
@@ -434,7 +456,7 @@ module _ (t : Tree) (r : Tables) (g : slot_gates.Discipline) (l : Legend) (Held 
           let m2 : Machine = on_slots.admit m p in
           let sim2 : Related s2 m2 = go.admit s m p sim can in
           let held_now = steps.held s2 m2 sim2 in
-          event_agrees p (no_aim false) s2 m2 no_queue [] go.monitors (go.alike s2 m2 sim2) (stand_now s2 m2 sim2) refl held_now (λ cs cells k. steps.changes cs s2.components cells m2.permanents k held_now) x y agree Admit
+          event_agrees p (no_aim false) s2 m2 no_queue [] go.monitors (go.alike s2 m2 sim2) (signals_now s2 m2 sim2) (stand_now s2 m2 sim2) refl held_now (λ cs cells k. steps.changes cs s2.components cells m2.permanents k held_now) x y agree Admit
           (λ f. absurd (let bad : Admit ≡ Kernel Enter = f in cc)) (λ f. absurd (let bad : false ≡ true = f in cc)) (λ f. absurd (let bad : Admit ≡ Kernel Enter = f in cc))
 
       abbrev AgreeNow : State → Machine → NamedTelling → Telling → Type 0

@@ -14,7 +14,7 @@ use Rattle.cp_machine.specs.declared.discipline.Discipline as slot_gates
 use Rattle.cp_meaning.specs.Components.{components_of}
 use Rattle.cp_meaning.specs.Readings.{monitors_of, monitors_from}
 use Rattle.cp_meaning.specs.State as named
-use Rattle.cp_meaning.specs.State.{Component, first_gates}
+use Rattle.cp_meaning.specs.State.{Component, book_discipline}
 use Rattle.cp_meaning.specs.Steps.{first_components, opening}
 use Rattle.cp_legend.specs.Names.{Legend, legend_seen}
 use Rattle.cp_legend_laws.specs.Called.{called_in_legend, tabled}
@@ -31,7 +31,7 @@ use Rattle.cp_story_laws.specs.Statements.{MonitorsAre, MonitorsLaw}
 use Rattle.cp_story_laws.proofs.Paths.{monitor_path}
 use Rattle.cp_story_laws.proofs.Together.{prepared}
 
-module _ (t : Tree) (r : Tables) (l : Layouts) (stands : Stands (ground_of t r) t l) (n : ℕ) (less : n < length (monitors_of (opening t.program first_gates))) where
+module _ (t : Tree) (r : Tables) (l : Layouts) (stands : Stands (ground_of t r) t l) (n : ℕ) (less : n < length (monitors_of (opening t.program book_discipline))) where
   abbrev pub cs : List Component
   cs = first_components t.program
 

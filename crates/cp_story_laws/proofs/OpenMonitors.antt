@@ -6,13 +6,13 @@ use Rattle.cp_tree.specs.Syntax.{Program}
 use Rattle.cp_meaning.specs.Calls.{bound, is_uninitialised, entered_as, started_as}
 use Rattle.cp_meaning.specs.Declarations.{RoutineMeaning}
 use Rattle.cp_meaning.specs.Expressions.{target_value}
-use Rattle.cp_meaning.specs.Kernel.{Event, enter_event, leave_event, continue_event, start_event, output_room, moved_to, made_ready, with_process_status, line_of, first_in, one_in, let_in, entering, is_anybody_inside, is_delayed_in, continuing, process_of, begun, starting_as, starting, displaying, kernel_step}
+use Rattle.cp_meaning.specs.Kernel.{Event, enter_event, leave_event, continue_event, start_event, output_room, moved_to, made_ready, with_process_status, line_of, first_in, one_in, let_in, entering, is_anybody_inside, is_delayed_in, waits_inside, continuing, at_gate_last, notifying, at_gate_first, going_on, signalling, process_of, begun, starting_as, starting, displaying, kernel_step}
 use Rattle.cp_meaning.specs.LocalRules.{continued_from, leaving_move, outer, with_result, returned, takes}
 use Rattle.cp_meaning.specs.Move.{Move, stays, enters, leaves, delays, continues, starts, shows, ends, Doing}
 use Rattle.cp_meaning.specs.Names.{Name, result_name}
 use Rattle.cp_meaning.specs.Outcome.{Outcome}
 use Rattle.cp_meaning.specs.Places.{View, component_there, plain_place, stored, this_call, value_at}
-use Rattle.cp_meaning.specs.State.{Environment, Component, component_at, CallKind, own_statement, initial_statement, local_routine, entry_routine, is_entry_kind, Call, current, callers, Item, Place, Status, unstarted, ready, at_gate, delayed, ended, Process, no_process, process_at, Gates, first_gates, any_gates, Shown, State}
+use Rattle.cp_meaning.specs.State.{Environment, Component, component_at, CallKind, own_statement, initial_statement, local_routine, entry_routine, is_entry_kind, Call, current, callers, Item, Place, Status, unstarted, ready, at_gate, delayed, ended, Process, no_process, process_at, Gates, first_gates, any_gates, Signals, return_signals, continue_signals, wait_signals, Shown, State}
 use Rattle.cp_meaning.specs.Steps.{step_of, settled, view_of, admitted, admitted_to}
 use Rattle.cp_meaning.specs.Systems.{SystemMeaning, system_of}
 use Rattle.cp_meaning.specs.Values.{queue_value}
@@ -55,7 +55,7 @@ module _ (p : Program) (c : Call) (calls : List Call) (cs : List Component) (pid
   abbrev pub MovesBy : Move → List Framed → Type 0
   MovesBy (enters m) gs = E gs ≡ E fs ++ innermost gs ∷ []
   MovesBy (leaves m) gs = E fs ≡ E gs ++ entry_of c ∷ []
-  MovesBy (continues m o) gs = (m ≡ c.component) × ((component_at cs m).kind ≡ system_kind.Monitor → E fs ≡ E gs ++ entry_of c ∷ [])
+  MovesBy (continues m o ds items) gs = (m ≡ c.component) × ((component_at cs m).kind ≡ system_kind.Monitor → E fs ≡ E gs ++ entry_of c ∷ []) × (E (framed ds) ≡ E fs)
   MovesBy _ gs = E gs ≡ E fs
 
   abbrev pub MovesSo : Doing → Type 0
@@ -82,6 +82,7 @@ module _ (p : Program) (c : Call) (calls : List Call) (cs : List Component) (pid
         ap (λ (k : CallKind). if is_entry_kind k && is_monitor (component_at cs c.component).kind then E (framed calls) ++ entry_of c ∷ [] else E (framed calls)) is
         ∙ (ap (λ (k : SystemKind). if is_monitor k then E (framed calls) ++ entry_of c ∷ [] else E (framed calls)) monitor
         ∙ ap (λ (gs : List Framed). E gs ++ entry_of c ∷ []) (sym after)),
+    ap E (stored_framed v q (queue_value None)),
   )
   continue_moves own_statement items q is = refl
   continue_moves initial_statement items q is = refl
@@ -165,12 +166,50 @@ let_in_kept first_gates s m = first_kept (line_of s m) s m
 let_in_kept any_gates s m = one_kept (line_of s m) s m
 
 continuing_kept : (s : State) (m : ℕ) (o : Option ℕ) → CallsKept s (continuing s m o)
-continuing_kept s m None q = let_in_kept s.discipline s m q
+continuing_kept s m None q = let_in_kept s.discipline.gates s m q
 continuing_kept s m (Some r) q = go (is_delayed_in m (process_at s.processes r).status)
   where
-    go : (b : Bool) → (process_at (if b then made_ready s r else let_in s.discipline s m).processes q).calls ≡ (process_at s.processes q).calls
+    go : (b : Bool) → (process_at (if b then made_ready s r else let_in s.discipline.gates s m).processes q).calls ≡ (process_at s.processes q).calls
     go true = ready_kept s r q
-    go false = let_in_kept s.discipline s m q
+    go false = let_in_kept s.discipline.gates s m q
+
+notifying_kept : (s : State) (m : ℕ) (o : Option ℕ) → CallsKept s (notifying s m o)
+notifying_kept s m None q = refl
+notifying_kept s m (Some r) q = go (waits_inside s m r)
+  where
+    go : (b : Bool) → (process_at (if b then at_gate_last s m r else s).processes q).calls ≡ (process_at s.processes q).calls
+    go true = calls_set s.processes r q (with_process_status (process_at s.processes r) (at_gate m)) refl
+    go false = refl
+
+-- and the discipline
+first_same : (line : List ℕ) (s : State) (m : ℕ) → (first_in line s m).discipline ≡ s.discipline
+first_same [] s m = refl
+first_same (r ∷ line) s m = refl
+
+one_same : (line : List ℕ) (s : State) (m : ℕ) → (one_in line s m).discipline ≡ s.discipline
+one_same [] s m = refl
+one_same (r ∷ []) s m = refl
+one_same (r ∷ k ∷ line) s m = refl
+
+let_in_same : (g : Gates) (s : State) (m : ℕ) → (let_in g s m).discipline ≡ s.discipline
+let_in_same first_gates s m = first_same (line_of s m) s m
+let_in_same any_gates s m = one_same (line_of s m) s m
+
+continuing_same : (s : State) (m : ℕ) (o : Option ℕ) → (continuing s m o).discipline ≡ s.discipline
+continuing_same s m None = let_in_same s.discipline.gates s m
+continuing_same s m (Some r) = go (is_delayed_in m (process_at s.processes r).status)
+  where
+    go : (b : Bool) → (if b then made_ready s r else let_in s.discipline.gates s m).discipline ≡ s.discipline
+    go true = refl
+    go false = let_in_same s.discipline.gates s m
+
+notifying_same : (s : State) (m : ℕ) (o : Option ℕ) → (notifying s m o).discipline ≡ s.discipline
+notifying_same s m None = refl
+notifying_same s m (Some r) = go (waits_inside s m r)
+  where
+    go : (b : Bool) → (if b then at_gate_last s m r else s).discipline ≡ s.discipline
+    go true = refl
+    go false = refl
 
 pub admitted_kept : (s : State) (r q : ℕ) → (process_at (admitted s r).processes q).calls ≡ (process_at s.processes q).calls
 admitted_kept s r q = go s.pending
@@ -187,11 +226,16 @@ module _ (p : Program) (s : State) (pid : ℕ) (less : pid < length s.processes)
   abbrev pub OthersKept : State → Type 0
   OthersKept t = (q : ℕ) → (q ≡ pid → ⊥) → open_in t q ≡ open_in s q
 
+  -- by a `continue` one is closed, or they are the same
+  abbrev pub Continues : Signals → State → Type 0
+  Continues return_signals t = (component_at s.components c.component).kind ≡ system_kind.Monitor → open_in s pid ≡ open_in t pid ++ entry_of c ∷ []
+  Continues _ t = open_in t pid ≡ open_in s pid
+
   -- one is opened, one is closed, or they are the same
   abbrev pub OpensBy : Event → State → Type 0
   OpensBy enter_event t = open_in t pid ≡ open_in s pid ++ entry_of (current (process_at t.processes pid).calls) ∷ []
   OpensBy leave_event t = (m : Entered) × (open_in s pid ≡ open_in t pid ++ m ∷ [])
-  OpensBy continue_event t = (component_at s.components c.component).kind ≡ system_kind.Monitor → open_in s pid ≡ open_in t pid ++ entry_of c ∷ []
+  OpensBy continue_event t = (t.discipline ≡ s.discipline) × Continues s.discipline.signals t
   OpensBy _ t = open_in t pid ≡ open_in s pid
 
   was : framed (c ∷ calls) ≡ framed (process_at s.processes pid).calls
@@ -274,21 +318,56 @@ module _ (p : Program) (s : State) (pid : ℕ) (less : pid < length s.processes)
       start_opens None n e = (others_moved ready moved (λ q. refl), same_open ready moved (λ q. refl) w)
       start_opens (Some r) n e = start_as_opens r (process_at moved.processes r).status n e refl
 
-    kernel_opens : (move : Move) → MovesBy p c calls s.components pid move (framed d.calls) → OthersKept (kernel_step p s pid d move).state × OpensBy (kernel_step p s pid d move).event (kernel_step p s pid d move).state
-    kernel_opens stays w = (others_moved ready (moved_to ready s pid d) (λ q. refl), same_open ready (moved_to ready s pid d) (λ q. refl) w)
-    kernel_opens (enters m) w = entering_opens (is_anybody_inside m s.processes) m w
-    kernel_opens (leaves m) w =
-        let t = let_in s.discipline (moved_to ready s pid d) m in
-        (others_moved ready t (let_in_kept s.discipline (moved_to ready s pid d) m), (entry_of c, one_closed ready t (entry_of c) (let_in_kept s.discipline (moved_to ready s pid d) m) w))
-    kernel_opens (delays m) w =
-        let t = let_in s.discipline (moved_to (delayed m) s pid d) m in
-        (others_moved (delayed m) t (let_in_kept s.discipline (moved_to (delayed m) s pid d) m), same_open (delayed m) t (let_in_kept s.discipline (moved_to (delayed m) s pid d) m) w)
-    kernel_opens (continues m o) w =
-        let t = continuing (moved_to ready s pid d) m o in
-        (others_moved ready t (continuing_kept (moved_to ready s pid d) m o), λ monitor. one_closed ready t (entry_of c) (continuing_kept (moved_to ready s pid d) m o) (w.1 (ap (λ (n : ℕ). (component_at s.components n).kind) w.0 ∙ monitor)))
-    kernel_opens (starts n e) w = start_opens w (process_of n (moved_to ready s pid d).processes) n e
-    kernel_opens (shows x) w = display_opens (length s.output == output_room) x w
-    kernel_opens ends w = (others_moved ended (moved_to ended s pid d) (λ q. refl), same_open ended (moved_to ended s pid d) (λ q. refl) w)
+  -- what a signaller does
+  signal_opens : (d : Doing) (by : Signals) (m : ℕ) (o : Option ℕ) (ds : List Call) (items : List Item) → MovesBy p c calls s.components pid (continues m o ds items) (framed d.calls) →
+      OthersKept (signalling by s pid d m o ds items) × ((signalling by s pid d m o ds items).discipline ≡ s.discipline) × Continues by (signalling by s pid d m o ds items)
+  signal_opens d return_signals m o ds items w =
+      let moved = moved_to ready s pid d in
+      let t = continuing moved m o in (
+        others_moved d ready t (continuing_kept moved m o),
+        continuing_same moved m o,
+        λ monitor. one_closed d ready t (entry_of c) (continuing_kept moved m o) (w.1 (ap (λ (n : ℕ). (component_at s.components n).kind) w.0 ∙ monitor)),
+      )
+  signal_opens d continue_signals m o ds items w =
+      let e = going_on d ds items in
+      let moved = moved_to ready s pid e in
+      let t = notifying moved m o in
+      (others_moved e ready t (notifying_kept moved m o), notifying_same moved m o, same_open e ready t (notifying_kept moved m o) w.2)
+  signal_opens d wait_signals m None ds items w =
+      let e = going_on d ds items in
+      (others_moved e ready (moved_to ready s pid e) (λ q. refl), refl, same_open e ready (moved_to ready s pid e) (λ q. refl) w.2)
+  signal_opens d wait_signals m (Some r) ds items w = go (waits_inside s m r)
+    where
+      e : Doing
+      e = going_on d ds items
+
+      chosen : Bool → State
+      chosen b = if b then made_ready (at_gate_first s pid m e) r else moved_to ready s pid e
+
+      go : (b : Bool) → OthersKept (chosen b) × ((chosen b).discipline ≡ s.discipline) × (open_in (chosen b) pid ≡ open_in s pid)
+      go true =
+          let t = made_ready (at_gate_first s pid m e) r in
+          let kept = ready_kept (at_gate_first s pid m e) r in
+          (others_moved e (at_gate m) t kept, refl, same_open e (at_gate m) t kept w.2)
+      go false = (others_moved e ready (moved_to ready s pid e) (λ q. refl), refl, same_open e ready (moved_to ready s pid e) (λ q. refl) w.2)
+
+  kernel_opens : (d : Doing) (move : Move) → MovesBy p c calls s.components pid move (framed d.calls) → OthersKept (kernel_step p s pid d move).state × OpensBy (kernel_step p s pid d move).event (kernel_step p s pid d move).state
+  kernel_opens d stays w = (others_moved d ready (moved_to ready s pid d) (λ q. refl), same_open d ready (moved_to ready s pid d) (λ q. refl) w)
+  kernel_opens d (enters m) w = entering_opens d (is_anybody_inside m s.processes) m w
+  kernel_opens d (leaves m) w =
+      let moved = moved_to ready s pid d in
+      let t = let_in s.discipline.gates moved m in
+      let kept = let_in_kept s.discipline.gates moved m in
+      (others_moved d ready t kept, (entry_of c, one_closed d ready t (entry_of c) kept w))
+  kernel_opens d (delays m) w =
+      let moved = moved_to (delayed m) s pid d in
+      let t = let_in s.discipline.gates moved m in
+      let kept = let_in_kept s.discipline.gates moved m in
+      (others_moved d (delayed m) t kept, same_open d (delayed m) t kept w)
+  kernel_opens d (continues m o ds items) w = let k = signal_opens d s.discipline.signals m o ds items w in (k.0, (k.1, k.2))
+  kernel_opens d (starts n e) w = start_opens d w (process_of n (moved_to ready s pid d).processes) n e
+  kernel_opens d (shows x) w = display_opens d (length s.output == output_room) x w
+  kernel_opens d ends w = (others_moved d ended (moved_to ended s pid d) (λ q. refl), same_open d ended (moved_to ended s pid d) (λ q. refl) w)
 
   settled_opens : (o : Outcome Doing) → AllOf (MovesSo p c calls s.components pid) o → OthersKept (settled p s pid o).state × OpensBy (settled p s pid o).event (settled p s pid o).state
   settled_opens (Ok d) w = kernel_opens d d.move w

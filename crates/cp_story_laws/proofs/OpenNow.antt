@@ -18,12 +18,13 @@ use Rattle.cp_machine.specs.declared.event.Event as slot_event
 use Rattle.cp_machine.specs.declared.event.Event.TheVariants as slot
 use Rattle.cp_machine.specs.declared.event.Kernel.TheVariants.{Enter, Leave, Continue}
 use Rattle.cp_machine.specs.declared.discipline.Discipline as slot_gates
+use Rattle.cp_machine.specs.declared.discipline.Signals.TheVariants as signals
 use Rattle.cp_machine.specs.declared.process.Status as slot_status
 use Rattle.cp_machine.specs.declared.process.Status.TheVariants as status
 use Rattle.cp_machine.specs.Machine.{Machine, thread_at}
 use Rattle.cp_meaning.specs.Names.{Name}
 use Rattle.cp_meaning.specs.Kernel.{Event, local_event, enter_event, leave_event, delay_event, continue_event, start_event, display_event, ended_event, fault_event, output_full}
-use Rattle.cp_meaning.specs.State.{Component, component_at, process_at, Call, current, Discipline, State, Status, unstarted, ready, Process}
+use Rattle.cp_meaning.specs.State.{Component, component_at, process_at, Call, current, Discipline, Signals, return_signals, continue_signals, wait_signals, State, Status, unstarted, ready, Process}
 use Rattle.cp_meaning.specs.Steps.{first_components, line_at, own_begun, process_first, processes_from, step_of}
 use Rattle.cp_meaning.proofs.OwnershipLemmas.{reached}
 use Rattle.cp_run.specs.declared.line.TraceEvent.TheVariants.{Admit}
@@ -33,7 +34,7 @@ use Rattle.cp_resolved.specs.TreeLayouts.{layouts_of}
 use Rattle.cp_refine.specs.InStep.{CanGo, CanEnter, GoInStep}
 use Rattle.cp_refine.specs.Kinds.{SameKind}
 use Rattle.cp_refine.specs.Law.{ground_of}
-use Rattle.cp_refine.specs.Named.{event_of, named, named_discipline}
+use Rattle.cp_refine.specs.Named.{event_of, named, named_discipline, signals_of}
 use Rattle.cp_refine.specs.Represents.{StatusIs}
 use Rattle.cp_refine.proofs.HoldsInReached.{HoldsInReached, reached_stands}
 use Rattle.cp_refine.proofs.ReachedKinds.{kinds_agree, monitor_there}
@@ -46,12 +47,12 @@ use Rattle.cp_story_laws.specs.Events as names
 use Rattle.cp_story_laws.specs.Events.{EntryCall, NamedTelling, stack_of, names_teller, names_telling}
 use Rattle.cp_story_laws.specs.Lines.{next_line}
 use Rattle.cp_story_laws.specs.OpenCalls.{Entered, entered_by, entry_of, monitors_entered}
-use Rattle.cp_story_laws.specs.Standings.{is_queued, resumed, standings}
+use Rattle.cp_story_laws.specs.Standings.{released, standings}
 use Rattle.cp_story_laws.specs.Statements.{OpenCallsAre, OpenCallsLaw, numbered_call, numbered_entry}
 use Rattle.cp_story_laws.proofs.CalledFrames.{framed}
 use Rattle.cp_story_laws.proofs.ContinueOnly.{continue_in_monitor, executes_monitor}
 use Rattle.cp_story_laws.proofs.FoldsInStep.{KeepRelated, ends_related}
-use Rattle.cp_story_laws.proofs.OpenMonitors.{OpensBy, OthersKept, entered_in, step_opens, by_frames, kinds_alike, admitted_kept}
+use Rattle.cp_story_laws.proofs.OpenMonitors.{Continues, OpensBy, OthersKept, entered_in, step_opens, by_frames, kinds_alike, admitted_kept}
 use Rattle.cp_story_laws.proofs.Together as together
 
 -- ---- lists
@@ -121,11 +122,16 @@ module _ (t : Tree) (r : Tables) (g : slot_gates.Discipline) (read : IsRead t.pr
   -- ---- a step of process p from s to u
 
   module _ (s u : State) (p : ℕ) (less : p < length s.processes) (count : length u.processes ≡ length s.processes) (others : (q : ℕ) → (q ≡ p → ⊥) → monitors_entered u q ≡ monitors_entered s q) (x : NamedTelling) (now : OpenNow s x) (line : Option ℕ) (queue : NamedQueue) (woken : List ℕ) where
+    -- by a `continue` one is closed, or they are the same
+    abbrev Continued : Signals → Type 0
+    Continued return_signals = (m : Entered) × (monitors_entered s p ≡ monitors_entered u p ++ m ∷ [])
+    Continued _ = monitors_entered u p ≡ monitors_entered s p
+
     -- one is opened, one is closed, or they are the same
     abbrev Opens : slot_event.Event → Type 0
     Opens (slot.Kernel Enter) = monitors_entered u p ≡ monitors_entered s p ++ entry_of (current (process_at u.processes p).calls) ∷ []
     Opens (slot.Kernel Leave) = (m : Entered) × (monitors_entered s p ≡ monitors_entered u p ++ m ∷ [])
-    Opens (slot.Kernel Continue) = (m : Entered) × (monitors_entered s p ≡ monitors_entered u p ++ m ∷ [])
+    Opens (slot.Kernel Continue) = Continued u.discipline.signals
     Opens _ = monitors_entered u p ≡ monitors_entered s p
 
     known : p < length x.past.calls
@@ -164,6 +170,14 @@ module _ (t : Tree) (r : Tables) (g : slot_gates.Discipline) (read : IsRead t.pr
         by (inl at) = ap (monitors_entered u) at ∙ (e ∙ ap (monitors_entered s) (sym at))
         by (inr ne) = others q ne
 
+    abbrev AreEntered : List (List EntryCall) → Type 0
+    AreEntered calls = (length calls ≡ length u.processes) × ((q : ℕ) → q < length u.processes → map mon (stack_of calls q) ≡ map number (monitors_entered u q))
+
+    continued_now : (by : Signals) → Continued by → AreEntered (names.calls_continued by x.past.calls p)
+    continued_now return_signals k = let new = take (length (stack_of x.past.calls p) - 1) (stack_of x.past.calls p) in (set_many new, with_stack new (one_less k.0 k.1))
+    continued_now continue_signals k = (now.many ∙ sym count, unchanged k)
+    continued_now wait_signals k = (now.many ∙ sym count, unchanged k)
+
     pub opens_now : (e : slot_event.Event) → Opens e → OpenNow u (names.with_step t h p line queue woken e u x)
     opens_now (slot.Kernel Enter) k =
         let c = names.call_begun t h u p line in
@@ -171,9 +185,7 @@ module _ (t : Tree) (r : Tables) (g : slot_gates.Discipline) (read : IsRead t.pr
     opens_now (slot.Kernel Leave) k =
         let new = take (length (stack_of x.past.calls p) - 1) (stack_of x.past.calls p) in
         record { many = set_many new; entered = with_stack new (one_less k.0 k.1) }
-    opens_now (slot.Kernel Continue) k =
-        let new = take (length (stack_of x.past.calls p) - 1) (stack_of x.past.calls p) in
-        record { many = set_many new; entered = with_stack new (one_less k.0 k.1) }
+    opens_now (slot.Kernel Continue) k = let after = continued_now u.discipline.signals k in record { many = after.0; entered = after.1 }
     opens_now e k = record { many = now.many ∙ sym count; entered = unchanged k }
 
   -- ---- states that are related
@@ -232,9 +244,10 @@ module _ (t : Tree) (r : Tables) (g : slot_gates.Discipline) (read : IsRead t.pr
     others : (q : ℕ) → (q ≡ p → ⊥) → monitors_entered u q ≡ monitors_entered s q
     others q ne = entered_after q ∙ (moves.0 q ne ∙ sym (entered_before q))
 
-    in_monitor : (step_of t.program s p).event ≡ continue_event → (component_at s.components has.0.component).kind ≡ system_kind.Monitor
-    in_monitor e =
-        let ends = continue_in_monitor r m p (sym (in_step.event s m p sim can) ∙ ap (event_of p (line_at t s p)) e) in
+    in_monitor : s.discipline.signals ≡ return_signals → (step_of t.program s p).event ≡ continue_event → (component_at s.components has.0.component).kind ≡ system_kind.Monitor
+    in_monitor by e =
+        let returns : m.discipline.signals ≡ signals.Return = ap (λ (d : slot_gates.Discipline). d.signals) sim.represents.discipline ∙ ap signals_of by in
+        let ends = continue_in_monitor r m p returns (sym (in_step.event s m p sim can) ∙ ap (event_of p (line_at t s p)) e) in
         let executed = executes_monitor t r (layouts_of t) (thread_at m.threads p).stack (thread_at m.threads p).frame (process_at s.processes p).calls (process_at s.processes p).items goes.stack ends in
         let is : (tables.component_at r has.0.component).kind ≡ kind.Monitor executed.0 = sym (ap (λ (cs : List Call). (tables.component_at r (current cs).component).kind) has.2) ∙ executed.1 in
         let stands = (together.prepared t r g read ok same).stands in
@@ -248,10 +261,15 @@ module _ (t : Tree) (r : Tables) (g : slot_gates.Discipline) (read : IsRead t.pr
       stays : entered_in s.components (framed (process_at u.processes p).calls) ≡ entered_in s.components (framed (process_at s.processes p).calls) → monitors_entered u p ≡ monitors_entered s p
       stays e = entered_after p ∙ (e ∙ sym (entered_before p))
 
+      continued : (by : Signals) → s.discipline.signals ≡ by → (step_of t.program s p).event ≡ continue_event → Continues t.program s p goes.there goes.was idle has.0 has.1 has.2 by u → Continued s u p goes.there (same_many s u m n sim sim2) others x now line queue woken by
+      continued return_signals same e k = (entry_of has.0, closes (entry_of has.0) (k (in_monitor same e)))
+      continued continue_signals same e k = stays k
+      continued wait_signals same e k = stays k
+
       opens : (e : Event) → (step_of t.program s p).event ≡ e → OpensBy t.program s p goes.there goes.was idle has.0 has.1 has.2 e u → Opens s u p goes.there (same_many s u m n sim sim2) others x now line queue woken (event_of p (line_at t s p) e)
       opens enter_event e w = entered_after p ∙ (w ∙ ap (λ (ns : List Entered). ns ++ entry_of (current (process_at u.processes p).calls) ∷ []) (sym (entered_before p)))
       opens leave_event e w = (w.0, closes w.0 w.1)
-      opens continue_event e w = (entry_of has.0, closes (entry_of has.0) (w (in_monitor e)))
+      opens continue_event e w = subst (Continued s u p goes.there (same_many s u m n sim sim2) others x now line queue woken) (ap (λ (d : Discipline). d.signals) (sym w.0)) (continued s.discipline.signals refl e w.1)
       opens delay_event e w = stays w
       opens start_event e w = stays w
       opens display_event e w = stays w
@@ -281,7 +299,7 @@ module _ (t : Tree) (r : Tables) (g : slot_gates.Discipline) (read : IsRead t.pr
   keeps : KeepRelated on_names on_slots Related (names_teller t h) idle_fold (λ s m x y. OpenNow s x)
   keeps =
       record {
-        step = λ s m p x y sim can now. step_kept s m p sim can (names.expecting t s p x) (record { many = now.many; entered = now.entered }) (next_line t s p) (queue_aimed t h s p) (resumed is_queued (standings t.program s) (standings t.program (on_names.step s p)) p);
+        step = λ s m p x y sim can now. step_kept s m p sim can (names.expecting t s p x) (record { many = now.many; entered = now.entered }) (next_line t s p) (queue_aimed t h s p) (released (standings t.program s) (standings t.program (on_names.step s p)));
         admission = λ s m p x y sim can now. admission_kept s m p x sim can now;
         choice = λ s m p x y sim now. record { many = now.many; entered = now.entered };
       }

@@ -1,12 +1,11 @@
 -- The meaning of a tree that was read and is accepted, and the slot machine of its tables, by the rule of admission that the machine has.
-use Rattle.std.proofs.Common.{◌≡◌, ℕ, refl, subst}
+use Rattle.std.proofs.Common.{◌≡◌, ℕ, subst}
 use Rattle.cp_tree.specs.Read.{IsRead}
 use Rattle.cp_tree.specs.Syntax.{Tree}
 use Rattle.cp_layout.specs.Laid.{plain, laid}
 use Rattle.cp_slots.specs.Tables.{Tables}
 use Rattle.cp_lawful.specs.Accepted.{IsAccepted}
 use Rattle.cp_machine.specs.declared.discipline.Discipline as slot_gates
-use Rattle.cp_machine.specs.declared.discipline.Gates.TheVariants.{First, Any}
 use Rattle.cp_machine.specs.Machine.{Machine}
 use Rattle.cp_meaning.specs.State.{State}
 use Rattle.cp_run.specs.Slots.{slots}
@@ -15,22 +14,19 @@ use Rattle.cp_resolved.specs.TreeLayouts.{layouts_of}
 use Rattle.cp_refine.specs.AllKnown.{AllKnown}
 use Rattle.cp_refine.specs.InStep.{CanGo, GoInStep}
 use Rattle.cp_refine.specs.Law.{Simulates, ground_of}
-use Rattle.cp_refine.specs.Named.{named, named_discipline, discipline_of}
+use Rattle.cp_refine.specs.Named.{named, named_discipline}
 use Rattle.cp_refine.specs.Prepared.{Prepared}
+use Rattle.cp_refine.proofs.Disciplines.{same_discipline}
 use Rattle.cp_refine.proofs.Meaning.{goes_in_step, it, known}
 use Rattle.cp_refine.proofs.steps.Going.{Going}
 use Rattle.cp_refine.proofs.steps.GoingInStep.{goes_now}
-
-same_gates : (g : slot_gates.Discipline) → discipline_of (named_discipline g) ≡ g
-same_gates First = refl
-same_gates Any = refl
 
 module _ (t : Tree) (r : Tables) (g : slot_gates.Discipline) (read : IsRead t.program) (ok : IsAccepted t) (same : plain r ≡ laid t) where
   abbrev pub Related : State → Machine → Type 0
   Related = Simulates t r (layouts_of t) (named_discipline g)
 
   pub go : GoInStep (named t (named_discipline g)) (slots r g) Related
-  go = subst (λ (k : slot_gates.Discipline). GoInStep (named t (named_discipline g)) (slots r k) Related) (same_gates g) (goes_in_step t r (named_discipline g) read ok same)
+  go = subst (λ (k : slot_gates.Discipline). GoInStep (named t (named_discipline g)) (slots r k) Related) (same_discipline g) (goes_in_step t r (named_discipline g) read ok same)
 
   its : AreTablesOf t r
   its = it t r (named_discipline g) read ok same

@@ -1,4 +1,4 @@
--- Who waited and goes on, and who has begun, by statuses and by how processes stand.
+-- Who waited and goes on, who leaves its queue, and who has begun, by statuses and by how processes stand.
 use Rattle.std.proofs.Common.{◌≡◌, ◌∙◌, ℕ, ◌==◌, Bool, List, ap, sym, refl, length}
 use Rattle.std.proofs.lemmas.List.{length-map}
 use Rattle.std.proofs.lemmas.List.Elements.{filter_agree}
@@ -12,8 +12,9 @@ use Rattle.cp_machine.specs.Machine.{Machine, Thread, is_ready, is_ready_status,
 use Rattle.cp_legend.specs.Names.{Legend}
 use Rattle.cp_story.specs.Story as story
 use Rattle.cp_story.specs.Story.{resumed_processes, started_processes, statuses_in}
+use Rattle.cp_story_laws.proofs.WokenAgree.{released_processes}
 use Rattle.cp_story_laws.specs.Standings as stands
-use Rattle.cp_story_laws.specs.Standings.{Standing, standing_at, resumed, started, goes_on}
+use Rattle.cp_story_laws.specs.Standings.{Standing, standing_at, released, resumed, started, goes_on}
 use Rattle.cp_story_laws.specs.Statements.{standing_told}
 
 module _ (legend : Legend) where
@@ -76,6 +77,16 @@ module _ (legend : Legend) where
       each q =
           let a : stood (standing_at (map told before) q) ≡ waited (slice_index_or before q status.Ended) = ap stood (at_before before q) ∙ kept (slice_index_or before q status.Ended) in
           let b : goes_on (standing_at (map told (statuses_in m)) q) ≡ is_ready m q = ap goes_on (at_now m q) ∙ ready_kept (thread_at m.threads q).status in
+          cc
+
+  pub released_same : (before : List slot_status.Status) (m : Machine) → released_processes before m ≡ released (map told before) (map told (statuses_in m))
+  released_same before m =
+      passes m (λ q. story.is_queued (slice_index_or before q status.Ended) && not (story.is_queued (thread_at m.threads q).status)) (λ q. stands.is_queued (standing_at (map told before) q) && not (stands.is_queued (standing_at (map told (statuses_in m)) q))) each
+    where
+      each : (q : ℕ) → (story.is_queued (slice_index_or before q status.Ended) && not (story.is_queued (thread_at m.threads q).status)) ≡ (stands.is_queued (standing_at (map told before) q) && not (stands.is_queued (standing_at (map told (statuses_in m)) q)))
+      each q =
+          let a : stands.is_queued (standing_at (map told before) q) ≡ story.is_queued (slice_index_or before q status.Ended) = ap stands.is_queued (at_before before q) ∙ queue_kept (slice_index_or before q status.Ended) in
+          let b : stands.is_queued (standing_at (map told (statuses_in m)) q) ≡ story.is_queued (thread_at m.threads q).status = ap stands.is_queued (at_now m q) ∙ queue_kept (thread_at m.threads q).status in
           cc
 
   pub started_same : (before : List slot_status.Status) (m : Machine) → started_processes before m ≡ started (map told before) (map told (statuses_in m))

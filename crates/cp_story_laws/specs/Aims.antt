@@ -6,7 +6,7 @@ use Rattle.cp_meaning.specs.LocalRules.{argument_of}
 use Rattle.cp_meaning.specs.Outcome.{Outcome}
 use Rattle.cp_meaning.specs.Places.{Target, View}
 use Rattle.cp_meaning.specs.Scopes.{Meaning, standard_meaning, delay_procedure, continue_procedure}
-use Rattle.cp_meaning.specs.State.{Discipline, Holder, in_call, in_component, Item, statement_item, return, Place, State, component_at, current, is_entry_kind, process_at}
+use Rattle.cp_meaning.specs.State.{Discipline, Signals, return_signals, continue_signals, wait_signals, Holder, in_call, in_component, Item, statement_item, return, Place, State, component_at, current, is_entry_kind, process_at}
 use Rattle.cp_meaning.specs.Steps.{view_of}
 use Rattle.cp_story.specs.Story.{NamedQueue}
 use Rattle.cp_story_laws.specs.MonitorNumbers.{monitor_of}
@@ -63,16 +63,21 @@ abbrev pub is_continue : Option Meaning → Bool
 is_continue (Some (standard_meaning continue_procedure)) = true
 is_continue m = false
 
--- a call of a monitor's entry ends by its return, or by `continue`
-abbrev pub ends_call : View → Item → Bool
-ends_call v (statement_item (invoke at d es)) = is_continue (meaning_here v d)
-ends_call v (return o) = is_entry_kind (current v.calls).kind && is_monitor (component_at v.components (current v.calls).component).kind
-ends_call v i = false
+abbrev pub lets_caller_return : Signals → Bool
+lets_caller_return return_signals = true
+lets_caller_return continue_signals = false
+lets_caller_return wait_signals = false
 
-abbrev pub ends_first : View → List Item → Bool
-ends_first v [] = false
-ends_first v (i ∷ items) = ends_call v i
+-- a call of a monitor's entry ends by its return, or by a `continue` that returns
+abbrev pub ends_call : Signals → View → Item → Bool
+ends_call by v (statement_item (invoke at d es)) = is_continue (meaning_here v d) && lets_caller_return by
+ends_call by v (return o) = is_entry_kind (current v.calls).kind && is_monitor (component_at v.components (current v.calls).component).kind
+ends_call by v i = false
+
+abbrev pub ends_first : Signals → View → List Item → Bool
+ends_first by v [] = false
+ends_first by v (i ∷ items) = ends_call by v i
 
 -- with the step that process p is about to make
 abbrev pub ends_now : Tree → State → ℕ → Bool
-ends_now t s p = let v = view_of t.program s p in ends_first v (process_at s.processes p).items
+ends_now t s p = let v = view_of t.program s p in ends_first s.discipline.signals v (process_at s.processes p).items

@@ -14,7 +14,7 @@ use Rattle.cp_run.specs.Run.{may, those_below}
 use Rattle.cp_run.specs.Trace.{holders_in}
 use Rattle.cp_meaning.specs.Names.{Name}
 use Rattle.cp_meaning.specs.Places.{View}
-use Rattle.cp_meaning.specs.State.{Call, Component, current, process_at, Discipline, Place, State}
+use Rattle.cp_meaning.specs.State.{Call, Component, current, process_at, Discipline, Signals, return_signals, Place, State}
 use Rattle.cp_meaning.specs.Steps.{opening, view_of}
 use Rattle.cp_legend.specs.Values.{Value}
 use Rattle.cp_refine.specs.Named.{named, is_some}
@@ -29,7 +29,7 @@ use Rattle.cp_story_laws.specs.Lines.{next_line}
 use Rattle.cp_story_laws.specs.MonitorNumbers.{monitor_of}
 use Rattle.cp_story_laws.specs.Passed.{arguments_told, given_back}
 use Rattle.cp_story_laws.specs.Routines.{name_of, routine_of}
-use Rattle.cp_story_laws.specs.Standings.{Standing, standings, standing_at, is_gated, is_queued, resumed, started}
+use Rattle.cp_story_laws.specs.Standings.{Standing, standings, standing_at, is_gated, released, resumed, started}
 
 -- an entry call: the number of its monitor, the routine that is called, and the line on which the call stands
 pub record EntryCall : Type 0 where
@@ -45,8 +45,9 @@ pub record NamedEvent : Type 0 where
   -- whether a call that begins waits at the gate
   pub waits : Bool
   pub displayed : Option Shown
-  -- the queue in which the process is delayed, or which it continues
+  -- the queue in which the process is delayed, or which it continues, and who goes on after a `continue`
   pub queue : Option NamedQueue
+  pub signals : Option Signals
   -- what a call that begins is given, and what one gives back that ends
   pub arguments : List Value
   pub returned : List Given
@@ -55,7 +56,7 @@ pub record NamedEvent : Type 0 where
   pub line : Option ℕ
   -- the choice that was taken since the event before
   pub choice : Option Decision
-  -- who goes on that was delayed, and who goes in that was at a gate
+  -- who leaves the queue in which it was delayed, and who goes in that was at a gate
   pub woken : List ℕ
   pub let_in : List ℕ
   -- how each process stands, and the process inside each monitor
@@ -113,11 +114,15 @@ call_begun t g s p line =
     let c : Call = current (process_at s.processes p).calls in
     record { monitor = monitor_of t.program g c.component; routine = routine_of c; line = unwrap_or line 0 }
 
--- `continue` returns from its entry
+-- `continue` returns from its entry under `return` alone
+abbrev pub calls_continued : Signals → List (List EntryCall) → ℕ → List (List EntryCall)
+calls_continued return_signals calls p = popped calls p
+calls_continued _ calls p = calls
+
 abbrev pub calls_after : Tree → Discipline → TraceEvent → ℕ → (line : Option ℕ) → State → List (List EntryCall) → List (List EntryCall)
 calls_after t g (Kernel Enter) p line s calls = pushed calls p (call_begun t g s p line)
 calls_after t g (Kernel Leave) p line s calls = popped calls p
-calls_after t g (Kernel Continue) p line s calls = popped calls p
+calls_after t g (Kernel Continue) p line s calls = calls_continued s.discipline.signals calls p
 calls_after t g _ p line s calls = calls
 
 -- ---- an event of process p, which stood on this line and came to the state s
@@ -144,6 +149,11 @@ queue_by (Kernel Delay) queue = Some queue
 queue_by (Kernel Continue) queue = Some queue
 queue_by _ queue = None
 
+-- the discipline of a `continue`
+abbrev pub signals_by : TraceEvent → Signals → Option Signals
+signals_by (Kernel Continue) by = Some by
+signals_by _ by = None
+
 -- what the call has that has just begun
 abbrev pub arguments_by : TraceEvent → View → List Value
 arguments_by (Kernel Enter) v = arguments_told v
@@ -169,6 +179,7 @@ event_of t g event p line queue woken s past =
       waits = waits_then event p (standings t.program s);
       displayed = displayed_by event ((named t g).output s);
       queue = queue_by event queue;
+      signals = signals_by event s.discipline.signals;
       arguments = arguments_by event (view_of t.program s p);
       returned = past.returned;
       begins = begun_by event past.standings (standings t.program s);
@@ -220,7 +231,7 @@ with_choice d x = record { events = x.events; past = record x.past { choice = So
 abbrev pub names_teller : Tree → Discipline → Fold State NamedTelling
 names_teller t g =
     record {
-      on_step = λ s p event after x. with_step t g p (next_line t s p) (queue_aimed t g s p) (resumed is_queued (standings t.program s) (standings t.program after) p) event after (expecting t s p x);
+      on_step = λ s p event after x. with_step t g p (next_line t s p) (queue_aimed t g s p) (released (standings t.program s) (standings t.program after)) event after (expecting t s p x);
       on_admission = λ p after x. with_event t g Admit p None no_queue [] after x;
       on_choice = λ s number x. with_choice (decision_of t g s number) x;
     }

@@ -53,6 +53,10 @@ is_unstarted _ = false
 abbrev pub resumed : (Standing → Bool) → (before now : List Standing) → ℕ → List ℕ
 resumed waited before now p = filter (λ q. waited (standing_at before q) && not (q == p) && goes_on (standing_at now q)) (range_with_len 0 (length now))
 
+-- those that were delayed and are no longer
+abbrev pub released : (before now : List Standing) → List ℕ
+released before now = filter (λ q. is_queued (standing_at before q) && not (is_queued (standing_at now q))) (range_with_len 0 (length now))
+
 -- those that have begun since
 abbrev pub started : (before now : List Standing) → List ℕ
 started before now = filter (λ q. is_unstarted (standing_at before q) && not (is_unstarted (standing_at now q))) (range_with_len 0 (length now))

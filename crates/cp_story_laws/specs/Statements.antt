@@ -22,7 +22,7 @@ use Rattle.cp_run.specs.declared.line.TraceEvent.TheVariants.{Kernel, End, Admit
 use Rattle.cp_meaning.specs.Names.{Name}
 use Rattle.cp_meaning.specs.State as meaning
 use Rattle.cp_meaning.specs.Steps.{opening}
-use Rattle.cp_refine.specs.Named.{monitor_number, named, named_discipline}
+use Rattle.cp_refine.specs.Named.{monitor_number, named, named_discipline, named_signals}
 use Rattle.cp_resolved.specs.TreeLayouts.{layouts_of}
 use Rattle.cp_run.specs.Slots.{slots}
 use Rattle.cp_run.specs.Stop.{last_state}
@@ -45,7 +45,7 @@ abbrev pub event_told : Happened → TraceEvent
 event_told (Enters call arguments waits) = Kernel Enter
 event_told (Leaves call) = Kernel Leave
 event_told (Delays queue call) = Kernel Delay
-event_told (Continues queue call) = Kernel Continue
+event_told (Continues queue call by) = Kernel Continue
 event_told (Starts process) = Kernel StartProcess
 event_told (Displays value) = Kernel Display
 event_told Ends = End
@@ -59,7 +59,7 @@ abbrev pub call_in : Legend → Happened → Option EntryCall
 call_in l (Enters call arguments waits) = Some (call_told l call)
 call_in l (Leaves call) = Some (call_told l call)
 call_in l (Delays queue call) = Some (call_told l call)
-call_in l (Continues queue call) = Some (call_told l call)
+call_in l (Continues queue call by) = Some (call_told l call)
 call_in l (IsAdmitted call) = Some (call_told l call)
 call_in l _ = None
 
@@ -73,8 +73,12 @@ displayed_told _ = None
 
 abbrev pub queue_in : Happened → Option NamedQueue
 queue_in (Delays queue call) = Some queue
-queue_in (Continues queue call) = Some queue
+queue_in (Continues queue call by) = Some queue
 queue_in _ = None
+
+abbrev pub signals_in : Happened → Option meaning.Signals
+signals_in (Continues queue call by) = Some (named_signals by)
+signals_in _ = None
 
 abbrev pub arguments_in : Happened → List Value
 arguments_in (Enters call arguments waits) = arguments
@@ -101,6 +105,7 @@ event_on_names l e =
       waits = waits_told e.happened;
       displayed = displayed_told e.happened;
       queue = queue_in e.happened;
+      signals = signals_in e.happened;
       arguments = arguments_in e.happened;
       returned = e.returned;
       begins = begins_told e.happened;

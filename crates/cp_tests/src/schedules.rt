@@ -249,5 +249,7 @@ fn any_of_a_line_is_not_let_in_beside_wait(rt: HostRuntime) {
         signals: Signals::Wait,
     };
     assert!(rt; Limits::new(8, 1000, both).is_none());
-    assert!(rt; Limits::new(8, 1000, CONTINUES_ANY).is_some() && Limits::new(8, 1000, WAITS).is_some());
+    assert!(rt;
+        Limits::new(8, 1000, CONTINUES_ANY).is_some() && Limits::new(8, 1000, WAITS).is_some()
+    );
 }

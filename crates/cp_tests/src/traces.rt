@@ -3,8 +3,8 @@
 ghost use Rattle.std.specs.Prelude.{◌≡◌};
 
 use crate::programs::{
-    BUFFER, CONTINUED, CONTINUES, FIRST, INNER_DELAY, SIGNALLED, THREE_CALLERS, TWO_DISPLAYS, WAITS,
-    WantedEnd, has_ended, limits_of, numbers_of, program_of,
+    BUFFER, CONTINUED, CONTINUES, FIRST, INNER_DELAY, SIGNALLED, THREE_CALLERS, TWO_DISPLAYS,
+    WAITS, WantedEnd, has_ended, limits_of, numbers_of, program_of,
 };
 use cp_drops::drop_program;
 use cp_machine::{Discipline, Gates, Kernel, Shown, Ticks};

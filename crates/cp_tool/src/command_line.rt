@@ -212,7 +212,11 @@ fn discipline_for(
     let gates = gates_of(gates)?;
     let signals = signals_of(signals)?;
     let discipline = Discipline { gates, signals };
-    if may_be_asked(kind, discipline) { Some(discipline) } else { None }
+    if may_be_asked(kind, discipline) {
+        Some(discipline)
+    } else {
+        None
+    }
 }
 
 // Where it is asked who may wait for ever, or calls are made at once, the first in line goes in. Where calls are made at once, the caller of a `continue`

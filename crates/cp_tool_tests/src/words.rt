@@ -143,7 +143,13 @@ static REFUSED: [&[&str]; 70] = [
     &["cpx", "--signals=wait", "--gates=any", "--schedule=none"],
     &["cpx", "--ends", "--at-once", "--signals", "continue"],
     &["cpx", "--ends", "--at-once", "--signals", "wait"],
-    &["cpx", "--ends", "--at-once", "--signals=wait", "--schedule=0"],
+    &[
+        "cpx",
+        "--ends",
+        "--at-once",
+        "--signals=wait",
+        "--schedule=0",
+    ],
     &[
         "cpx",
         "--merge",
@@ -192,8 +198,7 @@ fn has_values_of_merged(options: &Options) -> bool {
         Some(word) => word.len() == 21 && word.last() == Some(&15),
         None => false,
     };
-    let is_merged =
-        options.merge && !options.ends && options.discipline.signals == Signals::Wait;
+    let is_merged = options.merge && !options.ends && options.discipline.signals == Signals::Wait;
     is_merged && options.states == 10_000_000 && options.choices == 100 && is_word
 }
 

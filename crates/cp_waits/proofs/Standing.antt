@@ -14,7 +14,7 @@ use Rattle.cp_ends.proofs.words.Returns.{cut_there}
 use Rattle.cp_waits.specs.Building.{IsOfStretch, IsStillOf, AddsStill}
 use Rattle.cp_ends.specs.Legs.{Leg, first_leg, choice_leg}
 use Rattle.cp_waits.specs.Legs.{GoesRound, ComesTo}
-use Rattle.cp_refine.proofs.gates.Discipline.{and_false as and_none}
+use Rattle.cp_refine.proofs.gates.Gates.{and_false as and_none}
 
 -- ---- where legs lead
 

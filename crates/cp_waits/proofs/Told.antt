@@ -5,7 +5,7 @@ use Rattle.cp_tree.specs.Syntax.{Tree}
 use Rattle.cp_tree.specs.Read.{IsRead}
 use Rattle.cp_layout.specs.Laid.{plain, laid}
 use Rattle.cp_lawful.specs.Accepted.{IsAccepted}
-use Rattle.cp_machine.specs.declared.discipline.Discipline as slot_gates
+use Rattle.cp_machine.specs.declared.discipline.Discipline as slot_discipline
 use Rattle.cp_refine.proofs.Disciplines.{same_discipline}
 use Rattle.cp_meaning.specs.State.{Discipline, State}
 use Rattle.cp_resolved.specs.TreeLayouts.{layouts_of}
@@ -56,7 +56,7 @@ use Rattle.cp_waits.proofs.Uncut.{may_stand, stands_after}
 
 -- ---- on slots
 
-module _ (r : Tables) (discipline : slot_gates.Discipline) (steps most : ℕ) (found : Found) (f : SlotFindings) (holds : Holds r found f) (whole : IsWhole (slots r discipline) without_output steps most f)
+module _ (r : Tables) (discipline : slot_discipline.Discipline) (steps most : ℕ) (found : Found) (f : SlotFindings) (holds : Holds r found f) (whole : IsWhole (slots r discipline) without_output steps most f)
     (g : Graph) (graph : IsSlotGraphOf r discipline steps f.states g) where
   abbrev sys : System Machine
   sys = silent_slots r discipline
@@ -178,7 +178,7 @@ module _ (t : Tree) (r : Tables) (g : Discipline) (read : IsRead t.program) (ok 
   tell_named ends all_ends (NotSettled q) h = tt
 
 -- whatever the gates
-pub tell_on_names : (t : Tree) (r : Tables) (discipline : slot_gates.Discipline) → IsRead t.program → IsAccepted t → plain r ≡ laid t → (steps : ℕ) (ends : List (End × List ℕ)) → AreFirsts (EndsSo (silent_slots r discipline) steps) ends →
+pub tell_on_names : (t : Tree) (r : Tables) (discipline : slot_discipline.Discipline) → IsRead t.program → IsAccepted t → plain r ≡ laid t → (steps : ℕ) (ends : List (End × List ℕ)) → AreFirsts (EndsSo (silent_slots r discipline) steps) ends →
     (waits : Waits) → TellWaits (silent_slots r discipline) in_call_on_slots waits_on_slots steps waits → TellOnNames t (named_discipline discipline) steps ends waits
 tell_on_names t r discipline read ok same steps ends all_ends waits h =
     let back = sym (same_discipline discipline) in
@@ -189,7 +189,7 @@ lines_mean r discipline steps most found f g waits holds whole graph say =
     let on_slots = tell_on_slots r discipline steps most found f holds whole g graph waits say in
     record { slots = on_slots; names = λ t read ok same. tell_on_names t r discipline read ok same steps f.ends whole.ends waits on_slots }
 
-pub told_of_all : (r : Tables) (discipline : slot_gates.Discipline) (steps : ℕ) (found : Found) (g : Graph) → HasGraph r discipline steps found g → (waits : Waits) → SayWhoWaits g found.states waits → TellOfAll r discipline steps found waits
+pub told_of_all : (r : Tables) (discipline : slot_discipline.Discipline) (steps : ℕ) (found : Found) (g : Graph) → HasGraph r discipline steps found g → (waits : Waits) → SayWhoWaits g found.states waits → TellOfAll r discipline steps found waits
 told_of_all r discipline steps found g has waits say = λ most answer few all.
     let whole : IsWhole (slots r discipline) without_output steps most answer.findings = subst (λ (o : Option ℕ). IsAnswerBy r discipline steps most answer.findings o) all answer.answer in
     let on_slots = tell_on_slots r discipline steps has.most found has.findings has.holds has.whole g has.graph waits say in

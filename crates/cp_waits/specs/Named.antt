@@ -3,7 +3,7 @@ use Rattle.std.specs.Prelude.{◌≡◌, ◌⊎◌, ◌≤◌, ◌<◌, ◌^◌,
 use Rattle.std.specs.List.{AllPairs}
 use Rattle.cp_tree.specs.Syntax.{Tree}
 use Rattle.cp_slots.specs.Tables.{Tables}
-use Rattle.cp_machine.specs.declared.discipline.Discipline as slot_gates
+use Rattle.cp_machine.specs.declared.discipline.Discipline as slot_discipline
 use Rattle.cp_meaning.specs.State.{Discipline}
 use Rattle.cp_run.specs.Slots.{slots}
 use Rattle.cp_run.specs.System.{System}
@@ -78,21 +78,21 @@ TellOnNames t g steps ends (NotSettled q) = Unit {0}
 -- ---- of all states
 
 -- What is said is so of the slot machine, and on names of each program that has its tables.
-pub record TellWho (r : Tables) (discipline : slot_gates.Discipline) (steps : ℕ) (ends : List (End × List ℕ)) (waits : Waits) : Type 0 where
+pub record TellWho (r : Tables) (discipline : slot_discipline.Discipline) (steps : ℕ) (ends : List (End × List ℕ)) (waits : Waits) : Type 0 where
   pub slots : TellWaits (silent_slots r discipline) in_call_on_slots waits_on_slots steps waits
   pub names : OfItsPrograms r (λ t. TellOnNames t (named_discipline discipline) steps ends waits)
 
 -- where a search found all states
-abbrev pub TellOfAll : Tables → slot_gates.Discipline → ℕ → Found → Waits → Type 0
+abbrev pub TellOfAll : Tables → slot_discipline.Discipline → ℕ → Found → Waits → Type 0
 TellOfAll r discipline steps found waits = (most : ℕ) (answer : IsAnswer r discipline steps most found) → most < 2 ^ 32 → found.stopped ≡ None → TellWho r discipline steps answer.findings.ends waits
 
 -- what is said of who may wait for ever, where that was asked: nothing where there are too many states
-abbrev pub TellAsked : Tables → slot_gates.Discipline → ℕ → Bool → Found → Option Waits → Type 0
+abbrev pub TellAsked : Tables → slot_discipline.Discipline → ℕ → Bool → Found → Option Waits → Type 0
 TellAsked r discipline steps asks found None = asks ≡ true → found.stopped ≡ None → ⊥
 TellAsked r discipline steps asks found (Some waits) = (asks ≡ true) × (found.stopped ≡ None) × TellOfAll r discipline steps found waits
 
 -- what is said of the graph of all states is so
 abbrev pub LinesMeaningLaw : Type 0
 LinesMeaningLaw =
-    (r : Tables) (discipline : slot_gates.Discipline) (steps most : ℕ) (found : Found) (f : SlotFindings) (g : Graph) (waits : Waits) → Holds r found f → IsWhole (slots r discipline) without_output steps most f →
+    (r : Tables) (discipline : slot_discipline.Discipline) (steps most : ℕ) (found : Found) (f : SlotFindings) (g : Graph) (waits : Waits) → Holds r found f → IsWhole (slots r discipline) without_output steps most f →
     IsSlotGraphOf r discipline steps f.states g → SayWhoWaits g found.states waits → TellWho r discipline steps f.ends waits

@@ -3,7 +3,7 @@
 ghost use Rattle.std.specs.Prelude.{◌≡◌, ◌≤◌, ℕ, List, IfOk, None, length};
 ghost use Rattle.cp_slots.specs.Tables.{Tables};
 ghost use Rattle.cp_machine.specs.System.{Machine};
-ghost use Rattle.cp_machine.specs.declared.discipline.Discipline as slot_gates;
+ghost use Rattle.cp_machine.specs.declared.discipline.Discipline as slot_discipline;
 ghost use Rattle.cp_endless.specs.Silent.{silent_slots, in_call_on_slots, waits_on_slots};
 ghost use Rattle.cp_ends.specs.Holds.{HasFindings};
 ghost use Rattle.cp_ends.specs.Legs.{Leg};
@@ -157,7 +157,7 @@ impl Graph {
         ensures processes { self.new.processes ≡ self.old.processes }
         ensures edges { self.new.edges.items ≡ self.old.edges.items }
         ensures ends { self.new.ends.items ≡ self.old.ends.items }
-        ensures still { IfOk result (λ _. (r : Tables) (discipline : slot_gates.Discipline) (steps : ℕ) (leg : Leg Machine) (due : List Machine) (seen : PassingSets) (m : Machine) → length r.processes ≤ 16 → self.old.processes ≡ length r.processes → IsOfStretch (silent_slots r discipline) steps leg → Comes r discipline steps leg due seen halt m → AddsStill (silent_slots r discipline) in_call_on_slots waits_on_slots steps leg origin self.old self.new) }
+        ensures still { IfOk result (λ _. (r : Tables) (discipline : slot_discipline.Discipline) (steps : ℕ) (leg : Leg Machine) (due : List Machine) (seen : PassingSets) (m : Machine) → length r.processes ≤ 16 → self.old.processes ≡ length r.processes → IsOfStretch (silent_slots r discipline) steps leg → Comes r discipline steps leg due seen halt m → AddsStill (silent_slots r discipline) in_call_on_slots waits_on_slots steps leg origin self.old self.new) }
     {
         let Halt::Ended(round) = halt else {
             return Ok(());

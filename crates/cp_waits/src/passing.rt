@@ -4,7 +4,7 @@ ghost use Rattle.std.specs.Prelude.{◌≡◌, ◌<◌, ◌&&◌, ◌||◌, ◌�
 ghost use Rattle.std.specs.List.{list_any};
 ghost use Rattle.cp_slots.specs.Tables.{Tables};
 ghost use Rattle.cp_machine.specs.System.{Machine, machine_of, is_ready, IsStateOf};
-ghost use Rattle.cp_machine.specs.declared.discipline.Discipline as slot_gates;
+ghost use Rattle.cp_machine.specs.declared.discipline.Discipline as slot_discipline;
 ghost use Rattle.cp_endless.specs.Moments.{Moment};
 ghost use Rattle.cp_endless.specs.Silent.{has_monitor_return, in_call_on_slots, waits_on_slots};
 ghost use Rattle.cp_waits.specs.Passings.{HasSeen};

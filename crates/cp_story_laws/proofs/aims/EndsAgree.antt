@@ -14,6 +14,7 @@ use Rattle.cp_slots.specs.Code as code
 use Rattle.cp_slots.specs.Tables.{Tables, component_at, item_at}
 use Rattle.cp_store.specs.declared.memory.Frame.{Frame}
 use Rattle.cp_machine.specs.declared.discipline.Discipline as slot_gates
+use Rattle.cp_machine.specs.Discipline as machine_discipline
 use Rattle.cp_machine.specs.declared.process.Entry.{Entry}
 use Rattle.cp_machine.specs.declared.process.Entry.TheVariants.{Rest, Successor, Return, InitEnd}
 use Rattle.cp_machine.specs.Machine.{Machine, thread_at}
@@ -29,7 +30,7 @@ use Rattle.cp_resolved.specs.TreeLayouts.{layouts_of}
 use Rattle.cp_refine.specs.InStep.{CanGo}
 use Rattle.cp_refine.specs.Kinds.{SameKind}
 use Rattle.cp_refine.specs.Law.{ground_of}
-use Rattle.cp_refine.specs.Named.{named, named_discipline}
+use Rattle.cp_refine.specs.Named.{named, named_discipline, signals_of}
 use Rattle.cp_refine.specs.Remaining.{ItemIs}
 use Rattle.cp_refine.specs.Represents.{CallsHold, CallIs, StackIs, frames_of, monitor_left, own_memory}
 use Rattle.cp_refine.proofs.HoldsInReached.{reached_stands}
@@ -38,7 +39,7 @@ use Rattle.cp_refine.proofs.control.Control.{scope_is}
 use Rattle.cp_refine.proofs.steps.Going.{Going, takes_one}
 use Rattle.cp_story.specs.Aimed.{aim_in, aim_of_top}
 use Rattle.cp_story.specs.Aimed as aimed
-use Rattle.cp_story_laws.specs.Aims.{ends_call, ends_first, ends_now, is_continue}
+use Rattle.cp_story_laws.specs.Aims.{ends_call, ends_first, ends_now, is_continue, lets_caller_return}
 use Rattle.cp_story_laws.specs.OpenCalls.{is_monitor}
 use Rattle.cp_story_laws.proofs.aims.PlainItems.{call_plain, ends_none, item_plain}
 use Rattle.cp_story_laws.proofs.Together as together
@@ -70,10 +71,10 @@ module _ (g : Ground) (h : Here) (n : ℕ) (next : Option ℕ) where
   invoked_ends at (Some (standard_meaning s)) d es k = performed_ends at s (first_of es) k
   invoked_ends at w d es k = sym (ends_none (item_at g.tables n).action (call_plain g h n next at d es None k))
 
-  item_ends : (v : View) → (current v.calls).scope ≡ h.scope → (i : Item) → ItemIs g h n i next → ends_call v i ≡ ends_there
-  item_ends v same (statement_item (invoke at d es)) k = ap (λ s. is_continue (find (name_of d) s)) same ∙ invoked_ends at (find (name_of d) h.scope) d es k
-  item_ends v same (return o) k = absurd k
-  item_ends v same i k = sym (ends_none (item_at g.tables n).action (item_plain g h n next i tt k))
+  item_ends : (by : named.Signals) (v : View) → (current v.calls).scope ≡ h.scope → (i : Item) → ItemIs g h n i next → ends_call by v i ≡ (ends_there && lets_caller_return by)
+  item_ends by v same (statement_item (invoke at d es)) k = ap (λ (b : Bool). b && lets_caller_return by) (ap (λ s. is_continue (find (name_of d) s)) same ∙ invoked_ends at (find (name_of d) h.scope) d es k)
+  item_ends by v same (return o) k = absurd k
+  item_ends by v same i k = sym (ap (λ (b : Bool). b && lets_caller_return by) (ends_none (item_at g.tables n).action (item_plain g h n next i tt k)))
 
 -- ---- by the end of a call
 
@@ -94,6 +95,11 @@ module _ (r : Tables) (c : Call) where
   leaves_one j initial_statement b d k e = absurd (cc)
   leaves_one j local_routine b d k e = absurd (cc)
 
+returns_alike : (by : named.Signals) → machine_discipline.lets_caller_return (signals_of by) ≡ lets_caller_return by
+returns_alike named.return_signals = refl
+returns_alike named.continue_signals = refl
+returns_alike named.wait_signals = refl
+
 module _ (t : Tree) (r : Tables) (g : slot_gates.Discipline) (read : IsRead t.program) (ok : IsAccepted t) (same : plain r ≡ laid t) (s : State) (m : Machine) (p : ℕ) (sim : together.Related t r g read ok same s m) (can : CanGo (named t (named_discipline g)) s p) where
   abbrev ground : Ground
   ground = ground_of t r
@@ -109,6 +115,12 @@ module _ (t : Tree) (r : Tables) (g : slot_gates.Discipline) (read : IsRead t.pr
 
   goes : Going ground t.program (layouts_of t) s m p
   goes = together.going t r g read ok same s m p sim can
+
+  abbrev by : named.Signals
+  by = s.discipline.signals
+
+  returns_same : machine_discipline.lets_caller_return m.discipline.signals ≡ lets_caller_return by
+  returns_same = ap (λ (d : slot_gates.Discipline). machine_discipline.lets_caller_return d.signals) sim.represents.discipline ∙ returns_alike by
 
   -- ---- the end of a call
 
@@ -130,17 +142,18 @@ module _ (t : Tree) (r : Tables) (g : slot_gates.Discipline) (read : IsRead t.pr
 
     ends_by_call : ends_now t s p ≡ (is_entry_kind c.kind && is_monitor (named.component_at s.components c.component).kind)
     ends_by_call =
-        ap (ends_first view) is.5
+        ap (ends_first by view) is.5
         ∙ ap (λ (cs : List Call). is_entry_kind (current cs).kind && is_monitor (named.component_at s.components (current cs).component).kind) is.4
 
   by_stack : (es : List Entry) → (thread_at m.threads p).stack ≡ es → StackIs ground t.program (layouts_of t) frame calls (named.process_at s.processes p).items es → (aim_of_top r m p es).ends_call ≡ ends_now t s p
-  by_stack [] e is = sym (ap (ends_first view) is.2)
+  by_stack [] e is = sym (ap (ends_first by view) is.2)
   by_stack (Rest at ∷ es) e is =
       let one = takes_one ground t.program (layouts_of t) s m p goes at es e in
-      sym
-      (ap (ends_first view) one.taken.items
-      ∙ item_ends ground (here t.program (layouts_of t) frame.routine) at one.mid view (scope_is ground t.program (layouts_of t) s m p at one.item one.mid es one.xs one.ys one.taken) one.item one.taken.own)
-  by_stack (Successor at z last ∷ es) e is = sym (ap (ends_first view) is.3 ∙ ap (ends_call view) is.4.same)
+      ap (λ (b : Bool). aimed.is_continue (item_at r at).action && b) returns_same
+      ∙ sym
+      (ap (ends_first by view) one.taken.items
+      ∙ item_ends ground (here t.program (layouts_of t) frame.routine) at one.mid by view (scope_is ground t.program (layouts_of t) s m p at one.item one.mid es one.xs one.ys one.taken) one.item one.taken.own)
+  by_stack (Successor at z last ∷ es) e is = sym (ap (ends_first by view) is.3 ∙ ap (ends_call by view) is.4.same)
   by_stack (Return caller slot None ∷ es) e is =
       sym
       (ends_by_call caller slot None es e is
@@ -149,7 +162,7 @@ module _ (t : Tree) (r : Tables) (g : slot_gates.Discipline) (read : IsRead t.pr
       sym
       (ends_by_call caller slot (Some j) es e is
       ∙ leaves_one r is.0 j is.0.kind (named.component_at s.components is.0.component).kind (component_at r is.0.component).kind (kinds caller slot (Some j) es e is) is.6.2)
-  by_stack (InitEnd caller n ∷ es) e is = sym (ap (ends_first view) is.4)
+  by_stack (InitEnd caller n ∷ es) e is = sym (ap (ends_first by view) is.4)
 
   pub ends_same : (aim_in r m p).ends_call ≡ ends_now t s p
   ends_same = by_stack (thread_at m.threads p).stack refl goes.stack

@@ -21,14 +21,17 @@ use Rattle.cp_store.specs.declared.memory.Frame.{Frame}
 use Rattle.cp_store.specs.Sets as sets
 use Rattle.cp_store.specs.Values.{is_true, ranged}
 use Rattle.cp_machine.specs.declared.discipline.Discipline.{Discipline}
+use Rattle.cp_machine.specs.declared.discipline.Gates.{Gates}
 use Rattle.cp_machine.specs.declared.discipline.Gates.TheVariants.{First, Any}
+use Rattle.cp_machine.specs.declared.discipline.Signals.{Signals}
+use Rattle.cp_machine.specs.declared.discipline.Signals.TheVariants as signals
 use Rattle.cp_machine.specs.declared.process.Entry.{Entry}
 use Rattle.cp_machine.specs.declared.process.Entry.TheVariants.{Rest, Successor, Return, InitEnd}
 use Rattle.cp_machine.specs.declared.process.Status.{Status}
 use Rattle.cp_machine.specs.declared.process.Status.TheVariants.{AtGate, Delayed, Ended, Ready}
 use Rattle.cp_machine.specs.declared.state.TheConstants.{MOST_SHOWN}
-use Rattle.cp_machine.specs.Calls.{called, called_in, called_by, started, start_inside, delayed_in, delay_at, continue_at, continued_from, frame_behind, left, opened}
-use Rattle.cp_machine.specs.Kernel.{continued, delayed, entered_by, first_in, let_in, let_in_by, one_in, resumed, waits_in}
+use Rattle.cp_machine.specs.Calls.{called, called_in, called_by, started, start_inside, delayed_in, delay_at, continue_at, continue_by, continued_from, continued_in, frame_behind, left, opened}
+use Rattle.cp_machine.specs.Kernel.{continued, delayed, entered_by, first_in, let_in, let_in_by, one_in, resumed, signalled, signalled_by, waits_in}
 use Rattle.cp_machine.specs.Machine.{Machine, Thread, is_initialised, is_uninitialised, is_unstarted, monitor_at, no_thread, phase_at, thread_at, with_stack, with_status}
 use Rattle.cp_machine.specs.Memory.{address_of, arguments_of, component_of, parameters_bound, set_of, value_of}
 use Rattle.cp_machine.specs.Opening.{admitted, admitted_at, opening, still, unstarted_thread}
@@ -117,12 +120,12 @@ module _ (os : List Opening) where
   one_named m monitor (q ∷ []) h = status_named m q Ready h
   one_named m monitor (p ∷ q ∷ line) h = h
 
-  let_in_by_named : (discipline : Discipline) (m : Machine) (monitor : ℕ) (line : List ℕ) → AreNamed m → AreNamed (let_in_by discipline m monitor line)
+  let_in_by_named : (gates : Gates) (m : Machine) (monitor : ℕ) (line : List ℕ) → AreNamed m → AreNamed (let_in_by gates m monitor line)
   let_in_by_named First m monitor line h = first_named m monitor line h
   let_in_by_named Any m monitor line h = one_named m monitor line h
 
   let_in_named : (m : Machine) (monitor : ℕ) → AreNamed m → AreNamed (let_in m monitor)
-  let_in_named m monitor h = let_in_by_named m.discipline m monitor (monitor_at m monitor).line h
+  let_in_named m monitor h = let_in_by_named m.discipline.gates m monitor (monitor_at m monitor).line h
 
   entered_named : (holder : Option ℕ) (m : Machine) (pid monitor : ℕ) → AreNamed m → AreNamed (entered_by holder m pid monitor)
   entered_named None m pid monitor h = h
@@ -139,6 +142,17 @@ module _ (os : List Opening) where
 
   continued_named : (m : Machine) (monitor cell : ℕ) → AreNamed m → AreNamed (continued m monitor cell)
   continued_named m monitor cell h = resumed_named (waits_in m cell) (record m { permanents = slice_set m.permanents cell (pos 0) }) monitor h
+
+  signalled_by_named : (by : Signals) (waiter : Option ℕ) (m : Machine) (pid monitor : ℕ) → AreNamed m → AreNamed (signalled_by by waiter m pid monitor)
+  signalled_by_named signals.Return None m pid monitor h = h
+  signalled_by_named signals.Continue None m pid monitor h = h
+  signalled_by_named signals.Wait None m pid monitor h = h
+  signalled_by_named signals.Return (Some q) m pid monitor h = status_named m q (AtGate monitor) h
+  signalled_by_named signals.Continue (Some q) m pid monitor h = status_named m q (AtGate monitor) h
+  signalled_by_named signals.Wait (Some q) m pid monitor h = status_named (with_status m pid (AtGate monitor)) q Ready (status_named m pid (AtGate monitor) h)
+
+  signalled_named : (m : Machine) (pid monitor cell : ℕ) → AreNamed m → AreNamed (signalled m pid monitor cell)
+  signalled_named m pid monitor cell h = signalled_by_named m.discipline.signals (waits_in m cell) (record m { permanents = slice_set m.permanents cell (pos 0) }) pid monitor h
 
   pub admitted_named : (m : Machine) (pid : ℕ) → AreNamed m → AreNamed (admitted m pid)
   admitted_named m pid h = go m.pending
@@ -247,10 +261,20 @@ module _ (os : List Opening) where
         go (inl w) = subst (λ (t : Thread). Named t.frame es) (sym w.2) s
         go (inr w) = subst (λ (t : Thread). Named t.frame es) (sym w.1) s
 
-    continue_named : (next : Option ℕ) (es : List Entry) → Named own.frame es → (a : Address) → Fit (continue_at r m pid next es a)
-    continue_named next es s (address.Permanent cell) =
+    continued_in_named : (cell : ℕ) (k : ComponentKind) (next : Option ℕ) (es : List Entry) → Named own.frame es → Fit (continued_in m pid cell k (rest_of next es))
+    continued_in_named cell (kind.Monitor monitor) next es s = signalled_named (with_stack m pid (rest_of next es)) pid monitor cell (going next es s)
+    continued_in_named cell kind.Class next es s = going next es s
+    continued_in_named cell (kind.Process number) next es s = going next es s
+
+    by_discipline_named : (by : Signals) (cell : ℕ) (next : Option ℕ) (es : List Entry) → Named own.frame es → Fit (continue_by by r m pid cell next es)
+    by_discipline_named signals.Return cell next es s =
         let e : Named own.frame (from_end es) = end_named own.frame es s in
         continued_from_named (with_stack m pid (from_end es)) cell (from_end es) (stack_named m pid (from_end es) e h) (frame_kept (from_end es) e)
+    by_discipline_named signals.Continue cell next es s = continued_in_named cell (component_at r own.frame.component).kind next es s
+    by_discipline_named signals.Wait cell next es s = continued_in_named cell (component_at r own.frame.component).kind next es s
+
+    continue_named : (next : Option ℕ) (es : List Entry) → Named own.frame es → (a : Address) → Fit (continue_at r m pid next es a)
+    continue_named next es s (address.Permanent cell) = by_discipline_named m.discipline.signals cell next es s
     continue_named next es s (address.Local cell) = going next es s
 
     act_named : (at : ℕ) (item : Item) (a : Action) (es : List Entry) → CallsRoutine os (action_seen a) → Named own.frame es → Fit (act r m pid at item a es)

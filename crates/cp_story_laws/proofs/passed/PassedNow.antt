@@ -132,11 +132,11 @@ module _ (t : Tree) (r : Tables) (g : slot_gates.Discipline) (l : Legend) (read 
 
     -- ---- a call that ends
 
-    ends_entry : (items : List Item) → (meaning.process_at s.processes p).items ≡ items → ends_first (view_of t.program s p) items ≡ true → (current (meaning.process_at s.processes p).calls).kind ≡ entry_routine
+    ends_entry : (items : List Item) → (meaning.process_at s.processes p).items ≡ items → ends_first s.discipline.signals (view_of t.program s p) items ≡ true → (current (meaning.process_at s.processes p).calls).kind ≡ entry_routine
     ends_entry (statement_item (invoke at d es) ∷ items) e f =
         let k = going in
         ((known t r h read ok same).states s m sim).continues p
-        (record { there = k.there; ready_now = k.was; token = at; name = d; arguments = es; items = items; next = e; standard = continues_as (meaning_here (view_of t.program s p) d) f })
+        (record { there = k.there; ready_now = k.was; token = at; name = d; arguments = es; items = items; next = e; standard = continues_as (meaning_here (view_of t.program s p) d) (first_of _ _ f) })
     ends_entry (return o ∷ items) e f = entry_kind (current (meaning.process_at s.processes p).calls).kind (first_of _ _ f)
     ends_entry _ e f = absurd (cc)
 

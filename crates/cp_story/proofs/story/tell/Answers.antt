@@ -45,5 +45,6 @@ returns g c =
           ∙ ap (λ (t : Telling). halted_at l answer t.past.last (waits_in r last t.past.calls)) whole.told;
       cause = c.cause_of_end-cause.ensures ∙ ap (cause_of_end r ended) ran.answer ∙ ap (λ (m : Machine). cause_of_end r m answer) ran.stop;
       left = c.count_left-left.ensures ∙ ap (λ (a : Answer). numbers_left word a) ran.answer;
+      signals = refl;
       ticks = ran.ticks;
     }

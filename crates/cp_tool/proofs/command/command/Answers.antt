@@ -15,4 +15,5 @@ returns c =
     let s9 = c.in_ok-command-9.ensures.shape c.switch-5.ensures.local ∙ ap₂ with_rule s8 c.switch-5.ensures.rule in
     let s10 = c.in_ok-command-10.ensures.shape c.option-5.ensures.local ∙ ap₂ with_rule s9 c.option-5.ensures.rule in
     let s11 = c.in_ok-command-11.ensures.shape c.option-6.ensures.local ∙ ap₂ with_rule s10 c.option-6.ensures.rule in
-    c.in_ok-command-12.ensures.shape c.option-7.ensures.local ∙ ap₂ with_rule s11 c.option-7.ensures.rule
+    let s12 = c.in_ok-command-12.ensures.shape c.option-7.ensures.local ∙ ap₂ with_rule s11 c.option-7.ensures.rule in
+    c.in_ok-command-13.ensures.shape c.option-8.ensures.local ∙ ap₂ with_rule s12 c.option-8.ensures.rule
