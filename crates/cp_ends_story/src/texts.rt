@@ -20,12 +20,22 @@ const INDENT: &str = "          ";
 /// The ends, each with its first word; the values that can be displayed; who may wait for ever; and whether this is all.
 pub fn text(telling: Telling<'_>) -> Result<String, AllocError> {
     let mut text = Prose::new(telling.alloc);
+    push_signals(telling, &mut text);
     push_second(telling, &mut text);
     push_ends(telling, &mut text);
     push_values(telling, &mut text);
     push_waits(telling, &mut text);
     push_last(telling, &mut text);
     text.finish()
+}
+
+// The discipline, where it is another one than `return`.
+fn push_signals(telling: Telling<'_>, text: &mut Prose) {
+    match telling.subject.limits.discipline.signals {
+        Signals::Return => {}
+        Signals::Continue => text.put("signals continue\n\n"),
+        Signals::Wait => text.put("signals wait\n\n"),
+    }
 }
 
 // A number, with commas between its thousands.

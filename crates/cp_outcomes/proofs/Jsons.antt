@@ -7,6 +7,8 @@ use Rattle.serde_json.specs.Data.{Data, Members, no_members}
 use Rattle.serde_json.specs.Written.{compact_text, has_float}
 use Rattle.cp_legend.specs.Names.{Legend, monitor_count, process_count}
 use Rattle.cp_legend.specs.Names.{monitor_in, path_in, process_in, type_in}
+use Rattle.cp_machine.specs.declared.discipline.Signals.{Signals}
+use Rattle.cp_machine.specs.declared.discipline.Signals.TheVariants as signals
 use Rattle.cp_machine.specs.declared.process.Status.{Status}
 use Rattle.cp_machine.specs.declared.process.Status.TheVariants as status
 use Rattle.cp_natural.specs.Decimal.{number_text}
@@ -20,7 +22,7 @@ use Rattle.cp_simplest.specs.declared.finding.SimplestSchedule.{SimplestSchedule
 use Rattle.cp_story.proofs.CauseFloats.{cause_free}
 use Rattle.cp_story.proofs.Floats.{both, is_float_member, no_float-array, no_float-at_each, no_float-numbers, no_float-object, none_of, with_both}
 use Rattle.cp_story.specs.Objects.{Member, array_of, number_data, numbers_data, text_data, with_member, with_members}
-use Rattle.cp_story.specs.StoryData.{kind_members, monitor_data, named_data, process_data, status_members, wait_data}
+use Rattle.cp_story.specs.StoryData.{kind_members, monitor_data, named_data, process_data, signals_members, status_members, wait_data}
 use Rattle.cp_story.specs.Waiting.{Waiting}
 use Rattle.cp_outcomes.specs.Data as spec
 use Rattle.cp_outcomes.specs.Stops.{kind_at, rows_at, stops}
@@ -93,6 +95,11 @@ stop_free : (count : ℕ) (limit : Limit) → has_float (spec.stop_data count li
 stop_free count limit =
     no_float-object ((codes "kind", text_data (kind_text (kind_at limit))) ∷ (codes "count", spec.count_data count) ∷ []) (both refl (both (count_free count) refl))
 
+pub signals_free : (s : Signals) → list_any is_float_member (signals_members s) ≡ false
+signals_free signals.Return = refl
+signals_free signals.Continue = refl
+signals_free signals.Wait = refl
+
 pub outcomes_free : (s : Setting) (ts : List Tally) (told : List Told) → has_float (spec.outcomes_data s ts told) ≡ false
 outcomes_free s ts told =
     no_float-object (spec.all_members s ts told)
@@ -101,7 +108,7 @@ outcomes_free s ts told =
     (both (count_free (rows_in ts))
     (both (numbered_free s (rows_in ts) 1 told)
     (both refl
-    (both (no_float-array (λ l. spec.stop_data (rows_at l ts) l) (stops ts) (λ l. stop_free (rows_at l ts) l)) refl))))))
+    (both (no_float-array (λ l. spec.stop_data (rows_at l ts) l) (stops ts) (λ l. stop_free (rows_at l ts) l)) (signals_free s.discipline.signals)))))))
 
 -- what is written of an object that has none
 pub object_text : {E : Type 0} (r : Result (String Global) E) (v d : Data) → v ≡ d → has_float d ≡ false → IfOk r (λ t. has_float v ≡ false → string_bytes t ≡ compact_text v) → IfOk r (λ t. string_bytes t ≡ compact_text d)

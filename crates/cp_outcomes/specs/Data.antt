@@ -13,7 +13,7 @@ use Rattle.cp_simplest.specs.declared.finding.SimplestSchedule.{SimplestSchedule
 use Rattle.cp_story.specs.CauseText.{error_cause_members}
 use Rattle.cp_story.specs.Ends.{output_text}
 use Rattle.cp_story.specs.Objects.{Member, array_of, number_data, numbers_data, object_with, text_data}
-use Rattle.cp_story.specs.StoryData.{kind_members, monitors_data, processes_data, waits_data}
+use Rattle.cp_story.specs.StoryData.{kind_members, monitors_data, processes_data, signals_members, waits_data}
 use Rattle.cp_outcomes.specs.Shares.{share_in, share_text}
 use Rattle.cp_outcomes.specs.Stops.{kind_at, rows_at, stops}
 use Rattle.cp_outcomes.specs.Told.{Setting, Told, cause_after, source_line, waits_after}
@@ -69,9 +69,9 @@ stops_data ts = map (λ l. stop_data (rows_at l ts) l) (stops ts)
 abbrev pub limit_members : List Tally → List Member
 limit_members ts = (codes "complete", boolean (length (stops_data ts) == 0)) ∷ (codes "limits", array_of (stops_data ts)) ∷ []
 
--- the processes and the monitors; how many schedules there are; the outcomes, told so; and the limits
+-- the processes and the monitors; how many schedules there are; the outcomes, told so; the limits; and the discipline
 abbrev pub all_members : Setting → List Tally → List Told → List Member
-all_members s ts told = (codes "processes", processes_data s.legend) ∷ (codes "monitors", monitors_data s.legend) ∷ (codes "schedules", count_data (rows_in ts)) ∷ (codes "outcomes", array_of (numbered_data s (rows_in ts) 1 told)) ∷ limit_members ts
+all_members s ts told = (codes "processes", processes_data s.legend) ∷ (codes "monitors", monitors_data s.legend) ∷ (codes "schedules", count_data (rows_in ts)) ∷ (codes "outcomes", array_of (numbered_data s (rows_in ts) 1 told)) ∷ limit_members ts ++ signals_members s.discipline.signals
 
 abbrev pub outcomes_data : Setting → List Tally → List Told → Data
 outcomes_data s ts told = object_with (all_members s ts told)

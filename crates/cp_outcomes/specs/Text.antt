@@ -1,6 +1,8 @@
 -- The text of the outcomes that were found.
 use Rattle.std.specs.Prelude.{ℕ, ◌+◌, ◌-◌, ◌==◌, List, [], ◌∷◌, ◌++◌, length, replicate, Bool, Option, Some, None, nat_eq, nat_lt, codes, if◌then◌else◌}
 use lib.Pointwise.{pointwise}
+use Rattle.cp_machine.specs.declared.discipline.Signals.{Signals}
+use Rattle.cp_machine.specs.declared.discipline.Signals.TheVariants as signals
 use Rattle.cp_natural.specs.Decimal.{number_text}
 use Rattle.cp_run.specs.Table.{each}
 use Rattle.cp_walk.specs.Groups.{Tally}
@@ -33,9 +35,15 @@ counted_text n one some = number_text n ++ (if n == 1 then one else some)
 abbrev pub schedules_text : ℕ → List ℕ
 schedules_text n = counted_text n (codes " schedule") (codes " schedules")
 
--- how many schedules and how many outcomes there are
-abbrev pub heading_text : (schedules outcomes : ℕ) → List ℕ
-heading_text schedules outcomes = schedules_text schedules ++ codes ", " ++ counted_text outcomes (codes " outcome") (codes " outcomes") ++ codes "\n\n"
+-- the discipline, where it is another one than `return`
+abbrev pub signals_text : Signals → List ℕ
+signals_text signals.Return = []
+signals_text signals.Continue = codes ", signals continue"
+signals_text signals.Wait = codes ", signals wait"
+
+-- how many schedules and how many outcomes there are, and who goes on after a continue
+abbrev pub heading_text : (schedules outcomes : ℕ) → Signals → List ℕ
+heading_text schedules outcomes s = schedules_text schedules ++ codes ", " ++ counted_text outcomes (codes " outcome") (codes " outcomes") ++ signals_text s ++ codes "\n\n"
 
 abbrev pub simplest_text : SimplestSchedule → List ℕ
 simplest_text s = codes ", simplest " ++ word_text s.word.items ++ codes ", " ++ counted_text s.switches (codes " switch") (codes " switches")
@@ -88,7 +96,7 @@ closing_text stop (l ∷ ls) = codes "\nnot complete: " ++ stop l ++ each (λ m.
 -- all of it: these outcomes, told so
 abbrev pub outcomes_text : Setting → Bool → List Tally → List Told → List ℕ
 outcomes_text s searched ts told =
-    heading_text (rows_in ts) (length ts) ++ numbered_text s (length (number_text (length told))) (rows_in ts) 1 told ++ searched_text s.states searched ++ closing_text (λ l. stop_text s.choices s.steps (rows_at l ts) l) (stops ts)
+    heading_text (rows_in ts) (length ts) s.discipline.signals ++ numbered_text s (length (number_text (length told))) (rows_in ts) 1 told ++ searched_text s.states searched ++ closing_text (λ l. stop_text s.choices s.steps (rows_at l ts) l) (stops ts)
 
 -- that there is too much of it
 abbrev pub excess_text : Excess → List ℕ

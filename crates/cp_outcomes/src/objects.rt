@@ -22,13 +22,14 @@ use cp_merged::{Tallies, Tally};
 use cp_natural::{Natural, push_natural};
 use cp_run::OutcomeKind;
 use cp_simplest::SimplestSchedule;
-use cp_story::objects::{Object, monitors, numbers, processes, put_kind, waits};
+use cp_story::objects::{Object, monitors, numbers, processes, put_kind, put_signals, waits};
 use cp_story::{output_words, put_error_cause};
 use cp_walk::text::push_count;
 use serde_json::Value;
 use std::alloc::{AllocError, Global};
 
-/// The outcomes as one JSON object: processes, monitors, the number of schedules, the outcomes, and how many schedules ended at which limit.
+/// The outcomes as one JSON object: processes, monitors, the number of schedules, the outcomes, how many schedules ended at which limit, and
+/// who goes on after a `continue`, where that is not by the book.
 pub fn json(
     alloc: Global,
     subject: Subject<'_>,
@@ -59,6 +60,7 @@ fn outcomes_json(
     object.put("schedules", count_value(alloc, &whole)?)?;
     object.put("outcomes", told_values(alloc, subject, &whole, told)?)?;
     put_limits(alloc, &mut object, tallies)?;
+    put_signals(&mut object, subject.limits.discipline.signals)?;
     object.into_value().to_string(alloc)
 }
 

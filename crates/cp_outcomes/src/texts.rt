@@ -18,6 +18,7 @@ use crate::simples::Simples;
 use crate::stopped::{Limit, schedules_in, schedules_stopped_at};
 use crate::subject::{Excess, Subject};
 use crate::told::{ToldOutcome, end_lines, tell_outcomes};
+use cp_machine::Signals;
 use cp_merged::{Tallies, Tally};
 use cp_natural::Natural;
 use cp_run::{Limits, MOST_CHOICES, MOST_STEPS};
@@ -59,20 +60,38 @@ fn outcomes_text(
 {
     let whole = schedules_in(tallies);
     let mut text = String::new(alloc);
-    push_heading(&mut text, &whole, tallies.len())?;
+    let signals = subject.limits.discipline.signals;
+    push_heading(&mut text, &whole, tallies.len(), signals)?;
     push_outcomes(alloc, &mut text, subject, &whole, told)?;
     push_searched(&mut text, subject.states, is_searched)?;
     push_closing(&mut text, subject.limits, tallies)?;
     Ok(text)
 }
 
-fn push_heading(text: &mut String, schedules: &Natural, outcomes: usize) -> Result<(), AllocError>
-    ensures { IfOk result (λ _. string_bytes text.new ≡ string_bytes text.old ++ spec.heading_text schedules.now outcomes) }
+fn push_heading(
+    text: &mut String,
+    schedules: &Natural,
+    outcomes: usize,
+    signals: Signals,
+) -> Result<(), AllocError>
+    ensures { IfOk result (λ _. string_bytes text.new ≡ string_bytes text.old ++ spec.heading_text schedules.now outcomes signals) }
 {
     push_schedules(text, schedules)?;
     text.push_str(", ")?;
     push_counted(text, outcomes, " outcome", " outcomes")?;
+    text.push_str(signals_words(signals))?;
     text.push_str("\n\n")
+}
+
+// Who goes on after a `continue`, where that is not by the book.
+fn signals_words(signals: Signals) -> &'static str
+    ensures { result.now ≡ spec.signals_text signals }
+{
+    match signals {
+        Signals::Return => "",
+        Signals::Continue => ", signals continue",
+        Signals::Wait => ", signals wait",
+    }
 }
 
 // The outcomes, with their numbers.

@@ -23,36 +23,36 @@ quiet_left true m is = refl
 quiet_left false m is = absurd (cc)
 
 -- a choice may be taken whatever was displayed
-pub may_left : (b : Bool) (r : Tables) (gates : Discipline) (m n : Machine) (p : ℕ) → n ≡ left_by b m → may (slots r gates) m p ≡ true → may (slots r gates) n p ≡ true
+pub may_left : (b : Bool) (r : Tables) (discipline : Discipline) (m n : Machine) (p : ℕ) → n ≡ left_by b m → may (slots r discipline) m p ≡ true → may (slots r discipline) n p ≡ true
 unfolding may
-may_left true r gates m n p e h = subst (λ x. may (slots r gates) x p ≡ true) (sym e) h
-may_left false r gates m n p e h = subst (λ x. may (slots r gates) x p ≡ true) (sym e) h
+may_left true r discipline m n p e h = subst (λ x. may (slots r discipline) x p ≡ true) (sym e) h
+may_left false r discipline m n p e h = subst (λ x. may (slots r discipline) x p ≡ true) (sym e) h
 
 -- with what is displayed kept: as in a run
 
-pub choice_halts : (b : Bool) (r : Tables) (gates : Discipline) (steps : ℕ) (m n : Machine) (p : ℕ) (h : Halt End) (t : Machine) (node : Node Machine) → n ≡ left_by b m → chosen (slots_by b r gates) steps n p ≡ node → (b ≡ false → IsHalt h t node) → b ≡ false → IsHalt h t (chosen (slots r gates) steps m p)
-choice_halts true r gates steps m n p h t node at is halts off = absurd (cc)
-choice_halts false r gates steps m n p h t node at is halts off = subst (IsHalt h t) (sym is ∙ ap (λ x. chosen (slots r gates) steps x p) at) (halts off)
+pub choice_halts : (b : Bool) (r : Tables) (discipline : Discipline) (steps : ℕ) (m n : Machine) (p : ℕ) (h : Halt End) (t : Machine) (node : Node Machine) → n ≡ left_by b m → chosen (slots_by b r discipline) steps n p ≡ node → (b ≡ false → IsHalt h t node) → b ≡ false → IsHalt h t (chosen (slots r discipline) steps m p)
+choice_halts true r discipline steps m n p h t node at is halts off = absurd (cc)
+choice_halts false r discipline steps m n p h t node at is halts off = subst (IsHalt h t) (sym is ∙ ap (λ x. chosen (slots r discipline) steps x p) at) (halts off)
 
-pub opening_halts : (b : Bool) (r : Tables) (gates : Discipline) (steps : ℕ) (h : Halt End) (t : Machine) (node : Node Machine) → opened (slots_by b r gates) steps ≡ node → (b ≡ false → IsHalt h t node) → b ≡ false → IsHalt h t (opened (slots r gates) steps)
-opening_halts true r gates steps h t node is halts off = absurd (cc)
-opening_halts false r gates steps h t node is halts off = subst (IsHalt h t) (sym is) (halts off)
+pub opening_halts : (b : Bool) (r : Tables) (discipline : Discipline) (steps : ℕ) (h : Halt End) (t : Machine) (node : Node Machine) → opened (slots_by b r discipline) steps ≡ node → (b ≡ false → IsHalt h t node) → b ≡ false → IsHalt h t (opened (slots r discipline) steps)
+opening_halts true r discipline steps h t node is halts off = absurd (cc)
+opening_halts false r discipline steps h t node is halts off = subst (IsHalt h t) (sym is) (halts off)
 
 -- and with it taken away: as in schedules of any length
 
-abbrev goal_by : Tables → Gates → ℕ → List Shown → Machine × Turn → Goal Machine End
-goal_by r gates steps shown w = (halt_arrival (slots r gates) (silent_slots r gates) same_key steps shown w.0 w.1).goal
+abbrev goal_by : Tables → Discipline → ℕ → List Shown → Machine × Turn → Goal Machine End
+goal_by r discipline steps shown w = (halt_arrival (slots r discipline) (silent_slots r discipline) same_key steps shown w.0 w.1).goal
 
-pub choice_leads : (b : Bool) (r : Tables) (gates : Discipline) (steps : ℕ) (m n : Machine) (p : ℕ) (goal : Goal Machine End) (t : Machine) (turn : Turn) → n ≡ left_by b m → walked_chosen (slots_by b r gates) steps n p ≡ (t, turn) → (b ≡ true → (shown : List Shown) → goal ≡ (halt_arrival (slots r gates) (silent_slots r gates) same_key steps shown t turn).goal) → b ≡ true → goal ≡ (next_arrival (slots r gates) without_output same_key steps (without_output m) p).goal
-choice_leads false r gates steps m n p goal t turn at stands leads on = absurd (cc)
-choice_leads true r gates steps m n p goal t turn at stands leads on =
-    let comes = choice_comes (slots r gates) without_output same_key steps (without_output m) p in
+pub choice_leads : (b : Bool) (r : Tables) (discipline : Discipline) (steps : ℕ) (m n : Machine) (p : ℕ) (goal : Goal Machine End) (t : Machine) (turn : Turn) → n ≡ left_by b m → walked_chosen (slots_by b r discipline) steps n p ≡ (t, turn) → (b ≡ true → (shown : List Shown) → goal ≡ (halt_arrival (slots r discipline) (silent_slots r discipline) same_key steps shown t turn).goal) → b ≡ true → goal ≡ (next_arrival (slots r discipline) without_output same_key steps (without_output m) p).goal
+choice_leads false r discipline steps m n p goal t turn at stands leads on = absurd (cc)
+choice_leads true r discipline steps m n p goal t turn at stands leads on =
+    let comes = choice_comes (slots r discipline) without_output same_key steps (without_output m) p in
     leads on comes.shown
-    ∙ ap (goal_by r gates steps comes.shown) (sym (ap (λ x. walked_chosen (silent_slots r gates) steps x p) (sym at) ∙ stands))
+    ∙ ap (goal_by r discipline steps comes.shown) (sym (ap (λ x. walked_chosen (silent_slots r discipline) steps x p) (sym at) ∙ stands))
     ∙ ap (λ a. a.goal) (sym comes.is)
 
-pub opening_leads : (b : Bool) (r : Tables) (gates : Discipline) (steps : ℕ) (goal : Goal Machine End) (t : Machine) (turn : Turn) → walked_opened (slots_by b r gates) steps ≡ (t, turn) → (b ≡ true → (shown : List Shown) → goal ≡ (halt_arrival (slots r gates) (silent_slots r gates) same_key steps shown t turn).goal) → b ≡ true → goal ≡ (first_arrival (slots r gates) without_output same_key steps).goal
-opening_leads false r gates steps goal t turn stands leads on = absurd (cc)
-opening_leads true r gates steps goal t turn stands leads on =
-    let comes = opening_comes (slots r gates) without_output same_key steps in
-    leads on comes.shown ∙ ap (goal_by r gates steps comes.shown) (sym stands) ∙ ap (λ a. a.goal) (sym comes.is)
+pub opening_leads : (b : Bool) (r : Tables) (discipline : Discipline) (steps : ℕ) (goal : Goal Machine End) (t : Machine) (turn : Turn) → walked_opened (slots_by b r discipline) steps ≡ (t, turn) → (b ≡ true → (shown : List Shown) → goal ≡ (halt_arrival (slots r discipline) (silent_slots r discipline) same_key steps shown t turn).goal) → b ≡ true → goal ≡ (first_arrival (slots r discipline) without_output same_key steps).goal
+opening_leads false r discipline steps goal t turn stands leads on = absurd (cc)
+opening_leads true r discipline steps goal t turn stands leads on =
+    let comes = opening_comes (slots r discipline) without_output same_key steps in
+    leads on comes.shown ∙ ap (goal_by r discipline steps comes.shown) (sym stands) ∙ ap (λ a. a.goal) (sym comes.is)

@@ -3,7 +3,7 @@ use Rattle.std.proofs.Common.{◌≡◌, ◌==◌, ◌∷◌, ◌++◌, ℕ, Boo
 use Rattle.std.specs.List.{list_any, zip}
 use Rattle.std.specs.Str.{trim_end}
 use Rattle.serde_json.specs.Written.{has_float}
-use Rattle.cp_outcomes.proofs.Jsons.{kind_free, wait_free}
+use Rattle.cp_outcomes.proofs.Jsons.{kind_free, signals_free, wait_free}
 use Rattle.cp_run.specs.Table.{Line}
 use Rattle.cp_run.specs.declared.outcome.OutcomeKind.{OutcomeKind}
 use Rattle.cp_run.specs.declared.outcome.OutcomeKind.TheVariants as kind
@@ -61,8 +61,8 @@ pub mark_free : (s : Setting) (es : List Expectation) (doubtful : Option (List �
 mark_free s es doubtful m =
     let note = spec.note_members (doubt_told s.program.names doubtful) in
     let judged = spec.judged_members s es m in
-    let limits = spec.limit_members m.stops in
-    let both_free = none_of judged limits (both refl (both (no_float-array (spec.judged_data s m.stops) (zip es m.judgements.items) (judged_free s m.stops)) refl)) (both refl (both (no_float-array text_data (spec.stop_names m.stops) (λ name. refl)) refl)) in
+    let limits = spec.limit_members m.stops s.discipline.signals in
+    let both_free = none_of judged limits (both refl (both (no_float-array (spec.judged_data s m.stops) (zip es m.judgements.items) (judged_free s m.stops)) refl)) (both refl (both (no_float-array text_data (spec.stop_names m.stops) (λ name. refl)) (signals_free s.discipline.signals))) in
     no_float-object (judged ++ limits ++ note) (none_of (judged ++ limits) note both_free (note_free (doubt_told s.program.names doubtful)))
 
 pub misread_free : (said : List ℕ) → has_float (spec.misread_data said) ≡ false

@@ -3,6 +3,7 @@ use Rattle.std.specs.Prelude.{ℕ, not, ◌==◌, if◌then◌else◌, List, [],
 use Rattle.std.specs.List.{zip}
 use Rattle.std.specs.Str.{trim_end}
 use Rattle.serde_json.specs.Data.{Data, boolean}
+use Rattle.cp_machine.specs.declared.discipline.Signals.{Signals}
 use Rattle.cp_outcomes.specs.Data as outcomes
 use Rattle.cp_outcomes.specs.declared.subject.Excess.{Excess}
 use Rattle.cp_outcomes.specs.declared.subject.Excess.TheVariants as of_outcomes
@@ -11,7 +12,7 @@ use Rattle.cp_run.specs.declared.outcome.OutcomeKind.{OutcomeKind}
 use Rattle.cp_run.specs.declared.outcome.OutcomeKind.TheVariants.{AllWaiting, RunError}
 use Rattle.cp_story.specs.Ends.{output_text}
 use Rattle.cp_story.specs.Objects.{Member, array_of, numbers_data, object_with, text_data}
-use Rattle.cp_story.specs.StoryData.{kind_members, waits_data}
+use Rattle.cp_story.specs.StoryData.{kind_members, signals_members, waits_data}
 use Rattle.cp_story.specs.Waiting.{who_waits}
 use Rattle.cp_verdict.specs.Judged.{row_line}
 use Rattle.cp_verdict.specs.Written.{doubt_text, expectation_text, is_stopped, named_if}
@@ -76,12 +77,12 @@ note_members (Some word) = (codes "note", text_data (trim_end (doubt_text word))
 abbrev pub judged_members : Setting → List Expectation → Marked → List Member
 judged_members s es m = (codes "verdict", text_data (mark_name m.mark)) ∷ (codes "expectations", array_of (map (judged_data s m.stops) (zip es m.judgements.items))) ∷ []
 
--- whether no limit stopped a schedule, and which did
-abbrev pub limit_members : Stops → List Member
-limit_members s = (codes "complete", boolean (not (is_stopped s))) ∷ (codes "limits", array_of (map text_data (stop_names s))) ∷ []
+-- whether no limit stopped a schedule, and which did; and the discipline
+abbrev pub limit_members : Stops → Signals → List Member
+limit_members s by = (codes "complete", boolean (not (is_stopped s))) ∷ (codes "limits", array_of (map text_data (stop_names s))) ∷ signals_members by
 
 abbrev pub mark_data : Setting → List Expectation → (doubtful : Option (List ℕ)) → Marked → Data
-mark_data s es doubtful m = object_with (judged_members s es m ++ limit_members m.stops ++ note_members (doubt_told s.program.names doubtful))
+mark_data s es doubtful m = object_with (judged_members s es m ++ limit_members m.stops s.discipline.signals ++ note_members (doubt_told s.program.names doubtful))
 
 -- that there is no expectation, or why it is none
 abbrev pub misread_data : (said : List ℕ) → Data

@@ -2,7 +2,7 @@
 
 use crate::examinee::Examinee;
 use crate::mark_objects::{mark_words, misread_json};
-use cp_story::objects::Object;
+use cp_story::objects::{Object, put_signals};
 use cp_verdict::endless::{EndsMark, MarkedEnds, Said};
 use serde_json::Value;
 use std::alloc::{AllocError, Global};
@@ -18,15 +18,20 @@ pub fn ends_told(
     }
     match marked.mark {
         EndsMark::Misread => misread_json(alloc, marked.note.as_str()),
-        _ => ends_json(alloc, marked),
+        _ => ends_json(alloc, examinee, marked),
     }
 }
 
-fn ends_json(alloc: Global, marked: &MarkedEnds) -> Result<String, AllocError> {
+fn ends_json(
+    alloc: Global,
+    examinee: Examinee<'_>,
+    marked: &MarkedEnds,
+) -> Result<String, AllocError> {
     let mut object = Object::new(alloc);
     object.text("verdict", ends_verdict_words(marked.mark))?;
     object.put("expectations", said_objects(alloc, &marked.each)?)?;
     object.put("notes", notes(alloc, marked)?)?;
+    put_signals(&mut object, examinee.options.discipline.signals)?;
     object.into_line()
 }
 

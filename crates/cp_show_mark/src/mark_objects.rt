@@ -15,9 +15,10 @@ use crate::examinee::Examinee;
 use crate::mark_texts::{doubt_text, doubtful, expectation_text, verdict_words};
 use crate::mark_words::push_reason;
 use crate::stories::waits_of;
+use cp_machine::Signals;
 use cp_prose::Prose;
 use cp_run::OutcomeKind;
-use cp_story::objects::{Object, numbers, put_kind, waits};
+use cp_story::objects::{Object, numbers, put_kind, put_signals, waits};
 use cp_story::output_words;
 use cp_verdict::{Expectation, Judgement, Marked, Reading, SeenRow, Standing, Stops};
 use serde_json::Value;
@@ -43,7 +44,12 @@ pub fn marks_as_json(
 {
     let mut object = Object::new(alloc);
     put_judged(alloc, examinee, &mut object, reading, marked)?;
-    put_limits(alloc, &mut object, marked.stops)?;
+    put_limits(
+        alloc,
+        &mut object,
+        marked.stops,
+        examinee.options.discipline.signals,
+    )?;
     put_note(alloc, examinee, &mut object, reading)?;
     object.into_value().to_string(alloc)
 }
@@ -65,12 +71,18 @@ fn put_judged(
     )
 }
 
-// Whether no schedule ended at a limit, or at which some did.
-fn put_limits(alloc: Global, object: &mut Object, stops: Stops) -> Result<(), AllocError>
-    ensures { OnOk result (members_in object.new ≡ with_members (members_in object.old) (spec.limit_members stops)) }
+// Whether no schedule ended at a limit, or at which some did; and who goes on after a `continue`, where that is not by the book.
+fn put_limits(
+    alloc: Global,
+    object: &mut Object,
+    stops: Stops,
+    signals: Signals,
+) -> Result<(), AllocError>
+    ensures { OnOk result (members_in object.new ≡ with_members (members_in object.old) (spec.limit_members stops signals)) }
 {
     object.put("complete", Value::Bool(stops.is_empty()))?;
-    object.put("limits", limits(alloc, stops)?)
+    object.put("limits", limits(alloc, stops)?)?;
+    put_signals(object, signals)
 }
 
 // How a value is written that begins an outcome as well.

@@ -59,8 +59,8 @@ module _ (t : Tree) (r : Tables) (read : ∥ IsRead t.program ∥₁) (ok : IsAc
   outcomes l form verdict text h =
       let asked = h.asked in
       let found = h.told.meant t read ok (subst (λ (x : Tables). plain x ≡ laid t) (sym asked.program) tables) in
-      let by_gates = subst (λ (g : Discipline). IsFoundIn (λ choices. table (named t (named_discipline g)) choices h.subject.limits.steps) h.subject.limits.choices h.told.finding) asked.gates found in
-      let by_steps = subst (λ (n : ℕ). IsFoundIn (λ choices. table (named t (named_discipline o.discipline)) choices n) h.subject.limits.choices h.told.finding) asked.steps by_gates in
+      let by_discipline = subst (λ (g : Discipline). IsFoundIn (λ choices. table (named t (named_discipline g)) choices h.subject.limits.steps) h.subject.limits.choices h.told.finding) asked.discipline found in
+      let by_steps = subst (λ (n : ℕ). IsFoundIn (λ choices. table (named t (named_discipline o.discipline)) choices n) h.subject.limits.choices h.told.finding) asked.steps by_discipline in
       record { so = h; found = subst (λ (n : ℕ). IsFoundIn (λ choices. table (named t (named_discipline o.discipline)) choices o.steps) n h.told.finding) asked.choices by_steps }
 
 -- the schedule that is asked for

@@ -34,7 +34,7 @@ pub record IsJobOf (job : Job) (o : Options) (r : Tables) : Type 0 where
   pub program : job.program.now ≡ r
   pub choices : job.limits.choices ≡ o.choices
   pub steps : job.limits.steps ≡ o.steps
-  pub gates : job.limits.discipline ≡ o.discipline
+  pub discipline : job.limits.discipline ≡ o.discipline
 
 -- the first schedule of the outcome with a number, or a simplest one
 abbrev pub IsOfOutcome : (simplest : Bool) → Job → (number : ℕ) → First → Type 0

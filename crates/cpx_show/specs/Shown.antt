@@ -78,7 +78,7 @@ AreOutcomesShown json cover o t r l verdict text = (told : List ℕ) × AreOutco
 
 -- the program that is marked, the limits within which it is, and the form in which that is told
 abbrev pub setting_of : (json : Bool) → Options → Tables → code_legend.Legend → (source : List (List ℕ)) → Setting
-setting_of json o r l source = record { legend = legend_seen l; program = r; gates = o.discipline; choices = o.choices; steps = o.steps; states = o.states; source = source; as_json = json }
+setting_of json o r l source = record { legend = legend_seen l; program = r; discipline = o.discipline; choices = o.choices; steps = o.steps; states = o.states; source = source; as_json = json }
 
 -- the mark of what is read to be expected, by the table of the meaning; and the text or the object that tells it
 pub record IsMarkOf (json : Bool) (o : Options) (t : Tree) (r : Tables) (l : code_legend.Legend) (source : List (List ℕ)) (reading : Reading) (verdict : ShowVerdict) (text : List ℕ) : Type 0 where

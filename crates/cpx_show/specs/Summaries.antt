@@ -17,7 +17,7 @@ pub record IsSubjectOf (s : Subject) (o : Options) (r : Tables) (l : code_legend
   pub legend : s.legend.now ≡ l
   pub choices : s.limits.choices ≡ o.choices
   pub steps : s.limits.steps ≡ o.steps
-  pub gates : s.limits.discipline ≡ o.discipline
+  pub discipline : s.limits.discipline ≡ o.discipline
   pub states : s.states ≡ o.states
 
 abbrev pub form_of : (json : Bool) → Format

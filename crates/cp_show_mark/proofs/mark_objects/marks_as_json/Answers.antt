@@ -15,5 +15,5 @@ returns c =
     let es = c.args.reading.now.expectations.items in
     let doubtful = option_map (λ w. w.now) c.args.reading.now.doubtful in
     let m = c.args.marked.now in
-    let members = mark_parts (members_in c.new-object.result) (members_in c.put_judged.new.object) (members_in c.put_limits.new.object) (members_in c.put_note.new.object) (judged_members s es m) (limit_members m.stops) (note_members (doubt_told s.program.names doubtful)) c.new-object.ensures c.in_ok-put_judged.ensures c.in_ok-put_limits.ensures c.in_ok-put_note.ensures in
+    let members = mark_parts (members_in c.new-object.result) (members_in c.put_judged.new.object) (members_in c.put_limits.new.object) (members_in c.put_note.new.object) (judged_members s es m) (limit_members m.stops s.discipline.signals) (note_members (doubt_told s.program.names doubtful)) c.new-object.ensures c.in_ok-put_judged.ensures c.in_ok-put_limits.ensures c.in_ok-put_note.ensures in
     object_text c.to_string.result (view c.into_value.result) (mark_data s es doubtful m) (c.into_value.ensures ∙ ap object members) (mark_free s es doubtful m) c.to_string.ensures.text

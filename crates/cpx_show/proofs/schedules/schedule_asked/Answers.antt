@@ -12,7 +12,7 @@ returns-then-asked g c =
     let number = c.in-Some.number in
     let job : Job = record { program = c.args.program; limits = c.limits.result } in
     IfOk-weaker c.simplest_of_outcome.result _ _
-    (λ chosen h. outcome_asked asked c.args.program.now number chosen job c.in-Some.is (record { program = refl; choices = limits.0; steps = limits.1; gates = limits.2 }) (subst (λ (simplest : Bool). IsOfOutcome simplest job number chosen) (sym c.if-asked.true) h))
+    (λ chosen h. outcome_asked asked c.args.program.now number chosen job c.in-Some.is (record { program = refl; choices = limits.0; steps = limits.1; discipline = limits.2 }) (subst (λ (simplest : Bool). IsOfOutcome simplest job number chosen) (sym c.if-asked.true) h))
     c.simplest_of_outcome.ensures
 
 pub returns-else-asked : goal.returns-else-asked
@@ -22,5 +22,5 @@ returns-else-asked g c =
     let number = c.in-Some.number in
     let job : Job = record { program = c.args.program; limits = c.limits.result } in
     IfOk-weaker c.first_of_outcome.result _ _
-    (λ chosen h. outcome_asked asked c.args.program.now number chosen job c.in-Some.is (record { program = refl; choices = limits.0; steps = limits.1; gates = limits.2 }) (subst (λ (simplest : Bool). IsOfOutcome simplest job number chosen) (sym c.if-asked.false) h))
+    (λ chosen h. outcome_asked asked c.args.program.now number chosen job c.in-Some.is (record { program = refl; choices = limits.0; steps = limits.1; discipline = limits.2 }) (subst (λ (simplest : Bool). IsOfOutcome simplest job number chosen) (sym c.if-asked.false) h))
     c.first_of_outcome.ensures

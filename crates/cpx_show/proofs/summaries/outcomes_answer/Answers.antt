@@ -10,7 +10,7 @@ returns g c =
     let limits = c.limits.ensures in
     record {
       subject = subject;
-      asked = record { program = refl; legend = refl; choices = limits.0; steps = limits.1; gates = limits.2; states = refl };
+      asked = record { program = refl; legend = refl; choices = limits.0; steps = limits.1; discipline = limits.2; states = refl };
       summary = c.in_ok-told.told;
       told = subst (λ (f : Format). TellsOutcomes subject f c.in_ok-told.told) c.form_of.ensures c.in_ok-told.ensures;
       verdict_is = c.verdict_on.ensures;
