@@ -28,6 +28,8 @@ mod PlainItems
 mod Room
 mod Shown
 mod ShownPrograms
+mod Signalled
+mod SignalledPrograms
 pub mod Stored
 pub mod Taken
 mod TracedPrograms

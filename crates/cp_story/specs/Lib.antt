@@ -10,8 +10,6 @@ pub mod Integers
 pub mod Joined
 pub mod Objects
 pub mod Passed
-pub mod ReasonText
-pub mod Reasons
 pub mod Sentences
 pub mod Story
 pub mod StoryData
