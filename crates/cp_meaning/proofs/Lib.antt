@@ -28,8 +28,6 @@ mod PlainItems
 mod Room
 mod Shown
 mod ShownPrograms
-mod Signalled
-mod SignalledPrograms
 pub mod Stored
 pub mod Taken
 mod TracedPrograms
