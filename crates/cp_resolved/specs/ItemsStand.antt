@@ -1,5 +1,5 @@
 -- That the items which are laid out of statements stand for them, as a law: what is known where they begin, and what they want.
-use Rattle.std.specs.Prelude.{Option, ◌≡◌, ◌<◌, ◌≤◌, ◌+◌, ℕ, List, [], length, Some, None, slice_get}
+use Rattle.std.specs.Prelude.{◌≡◌, ◌<◌, ◌≤◌, ◌+◌, ℕ, List, [], length, Some, None, slice_get}
 use Rattle.cp_tree.specs.Syntax.{Statements}
 use Rattle.cp_slots.specs.Code as code
 use Rattle.cp_symbols.specs.Kinds.{most}
@@ -43,10 +43,10 @@ pub record CanStand (h : Here) (l : Layer) (ss : Statements) : Type 0 where
 
 -- The items of a list of statements stand for these statements, in tables of which they are among the first items.
 -- After them the frame has a cell more for each function call.
-pub record AreLaid (k : Numbering) (h : Here) (g : Ground) (l : Layer) (ss : Statements) (after : Option ℕ) : Type 0 where
-  pub stand : AreItems g (statements l ss after).1.items → OwnAll g h ss (statements l ss after).0 after
-  pub cells : length (statements l ss after).1.frame.image ≡ length l.frame.image + length (all_calls_laid h.scope ss)
+pub record AreLaid (k : Numbering) (h : Here) (g : Ground) (l : Layer) (ss : Statements) : Type 0 where
+  pub stand : AreItems g (statements l ss).1.items → OwnAll g h ss (statements l ss).0 None
+  pub cells : length (statements l ss).1.frame.image ≡ length l.frame.image + length (all_calls_laid h.scope ss)
 
 abbrev pub StatementsLaw : Type 0
 StatementsLaw =
-    (k : Numbering) (h : Here) (g : Ground) (l : Layer) (ss : Statements) (after : Option ℕ) → length g.tables.items ≤ most → ((at : ℕ) → g.firsts at ≡ k.firsts at) → Surroundings k h g l → CanStand h l ss → AreLaid k h g l ss after
+    (k : Numbering) (h : Here) (g : Ground) (l : Layer) (ss : Statements) → length g.tables.items ≤ most → ((at : ℕ) → g.firsts at ≡ k.firsts at) → Surroundings k h g l → CanStand h l ss → AreLaid k h g l ss
