@@ -20,7 +20,7 @@ pub struct Gaps {
     /// Whether there are queues at all.
     pub has_queues: bool,
     /// The entries of monitors at whose gates nobody ever waits for them.
-    pub discipline: Vec<String>,
+    pub gates: Vec<String>,
     /// Whether monitors have entries at all.
     pub has_gates: bool,
     /// The schedules are all those of at most so many choices.
@@ -42,7 +42,7 @@ pub fn gaps_of(
         lines: unreached_lines(alloc, &statements, &coverage.marks)?,
         queues: Vec::new(alloc),
         has_queues: false,
-        discipline: Vec::new(alloc),
+        gates: Vec::new(alloc),
         has_gates: false,
         choices: coverage.choices,
         is_whole: coverage.is_whole,
@@ -101,8 +101,7 @@ impl Gaps {
                 self.has_gates = true;
                 if !marks.has(CoverMark::Gate { monitor, routine }) {
                     let name = legend.routine_name(routine);
-                    self.discipline
-                        .push(qualified_name(alloc, component, name)?)?;
+                    self.gates.push(qualified_name(alloc, component, name)?)?;
                 }
             }
         }

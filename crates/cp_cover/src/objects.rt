@@ -12,13 +12,13 @@ pub fn cover_json(alloc: Global, gaps: &Gaps) -> Result<Value, AllocError> {
         lines.push(json!(in alloc; { "line": line.line, "part": line.is_part })?)?;
     }
     let queues = names(alloc, &gaps.queues)?;
-    let discipline = names(alloc, &gaps.discipline)?;
+    let gates = names(alloc, &gaps.gates)?;
     json!(in alloc; {
         "complete": gaps.is_whole,
         "choices": gaps.choices,
         "lines": lines,
         "queues": queues,
-        "gates": discipline
+        "gates": gates
     })
 }
 

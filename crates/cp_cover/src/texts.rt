@@ -10,14 +10,8 @@ pub fn cover_text(alloc: Global, gaps: &Gaps) -> Result<String, AllocError> {
     push_heading(&mut text, gaps)?;
     push_lines(&mut text, gaps)?;
     push_unused(&mut text, gaps.has_queues, &gaps.queues, "in", "queue")?;
-    let discipline = &gaps.discipline;
-    push_unused(
-        &mut text,
-        gaps.has_gates,
-        discipline,
-        "at the gate of",
-        "entry",
-    )?;
+    let gates = &gaps.gates;
+    push_unused(&mut text, gaps.has_gates, gates, "at the gate of", "entry")?;
     Ok(text)
 }
 
