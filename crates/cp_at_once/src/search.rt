@@ -230,8 +230,7 @@ impl<S: Ledger> Visit for SearchAtOnce<S> {
         &mut self,
         job: &SearchJob<'_>,
         at: u32,
-        state: &State,
-        next: &mut State,
+        state: &mut State,
         process: u8,
     ) -> Result<bool, AllocError> {
         self.told.values.clear();
@@ -239,14 +238,12 @@ impl<S: Ledger> Visit for SearchAtOnce<S> {
             job.alloc,
             job.program,
             job.limits,
-            next,
+            state,
             process,
             &mut self.told,
             &mut self.steps,
         )?;
-        let is_room = self.follow(job, next, arrival, OriginAtOnce::choice(at, process))?;
-        next.take_from(state);
-        Ok(is_room)
+        self.follow(job, state, arrival, OriginAtOnce::choice(at, process))
     }
 
     fn end_state(&mut self, _job: &SearchJob<'_>, _at: u32) -> Result<(), AllocError> {

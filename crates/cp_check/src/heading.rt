@@ -136,6 +136,7 @@ fn parameters_and_result(
             groups(alloc, table, nodes)?;
             result_type(table, name)
         }
+        RoutineKind::Invariants => Ok(None),
     }
 }
 

@@ -185,21 +185,19 @@ impl<S: Ledger> Visit for CoverVisit<S> {
         &mut self,
         job: &SearchJob<'_>,
         _at: u32,
-        state: &State,
-        next: &mut State,
+        state: &mut State,
         process: u8,
     ) -> Result<bool, AllocError> {
         let halt = note_choice(
             job.program,
             job.limits,
-            next,
+            state,
             process,
             &mut self.steps,
             &mut self.marks,
         )?;
         self.is_stopped = self.is_stopped || is_cut(halt);
-        self.next.arrive(job, next, halt)?;
-        next.take_from(state);
+        self.next.arrive(job, state, halt)?;
         Ok(self.next.len() <= job.most as usize)
     }
 

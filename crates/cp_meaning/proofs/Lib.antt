@@ -1,3 +1,5 @@
+mod Annotated
+mod AnnotatedPrograms
 pub mod ComponentTree
 mod CountedPrograms
 mod Counts
@@ -28,6 +30,8 @@ mod PlainItems
 mod Room
 mod Shown
 mod ShownPrograms
+mod Signalled
+mod SignalledPrograms
 pub mod Stored
 pub mod Taken
 mod TracedPrograms

@@ -2,9 +2,8 @@
 #![tactic(auto)]
 
 pub mod finding;
-pub mod label;
-pub mod search;
-pub mod states;
-pub mod watching;
+mod levels;
+mod search;
+mod watching;
 
 pub use finding::{Searched, SimplestSchedule, is_schedule_of, simplest};

@@ -1,0 +1,5 @@
+var a: integer;
+begin
+  a := -32767 - 1;
+  a := -a
+end.

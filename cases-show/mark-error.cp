@@ -1,0 +1,1 @@
+var x, y: integer; begin y := 0; x := 1 div y end.

@@ -1,0 +1,3 @@
+type state = (waiting, finished);
+var s: state;
+begin s := waiting; display(s); s := finished; display(s) end.

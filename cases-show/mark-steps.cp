@@ -1,0 +1,1 @@
+var n: integer; begin n := 0; cycle n := 0 end end.

@@ -1,0 +1,1 @@
+type c = class; begin end; var k: c; begin init k; k.go end.
