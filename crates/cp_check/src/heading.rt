@@ -136,7 +136,6 @@ fn parameters_and_result(
             groups(alloc, table, nodes)?;
             result_type(table, name)
         }
-        RoutineKind::Invariants => Ok(None),
     }
 }
 

@@ -113,7 +113,6 @@ fn enter_system(alloc: Global, table: &mut ScopeTable, node: &System) -> Result<
     let context = Context {
         owner: Some(node.kind),
         routine: None,
-        is_quiet: false,
     };
     statements(alloc, table, context, &node.body.statements)
 }

@@ -2,7 +2,7 @@
 
 ghost use Rattle.std.specs.Prelude.{◌<◌, length};
 
-use cp_slots::{Action, Resolved, Said};
+use cp_slots::{Action, Resolved};
 use std::alloc::{AllocError, Global};
 
 /// A statement, or a call in an expression, by its item.
@@ -37,7 +37,7 @@ fn add_statement(
     requires { at < length program.now.items }
 {
     let item = program.item(at);
-    if tells_itself(&item.action) && !is_check(program, &item.action) {
+    if tells_itself(&item.action) {
         found.push(CoverStatement {
             item: at,
             line: item.line,
@@ -48,21 +48,4 @@ fn add_statement(
 
 fn tells_itself(action: &Action) -> bool {
     !matches!(action, Action::Empty | Action::Block(_))
-}
-
-// Whether an action calls the invariants of a block, which is written nowhere. The invariants tell themselves.
-fn is_check(program: &Resolved, action: &Action) -> bool {
-    let Action::Call { routine, .. } = action else {
-        return false;
-    };
-    let Some(at) = program.routine(*routine).body else {
-        return false;
-    };
-    matches!(
-        program.item(at).action,
-        Action::Assert {
-            said: Said::Invariant,
-            ..
-        }
-    )
 }

@@ -183,7 +183,7 @@ impl<'a> Layouter<'a> {
         let heading = self.heading(alloc, node.name.name.as_str(), &node.kind)?;
         self.add_heading(heading)?;
         self.local_parts(alloc, &node.parts)?;
-        self.body(alloc, &node.body, node.is_entry)
+        self.body(alloc, &node.body)
     }
 
     // Only the first names remain.
@@ -202,23 +202,11 @@ impl<'a> Layouter<'a> {
         Ok(())
     }
 
-    // A body, at whose end the invariants are looked at or not.
-    fn body(&mut self, alloc: Global, node: &'a Body, checks: bool) -> Result<(), AllocError>
-        ensures { Leads (spec.body (layer_seen self.old) (body_view node.now) checks) (layer_seen self.new) result }
+    fn body(&mut self, alloc: Global, node: &'a Body) -> Result<(), AllocError>
+        ensures { Leads (spec.body (layer_seen self.old) (body_view node.now)) (layer_seen self.new) result }
     {
-        let end = self.end_of_body(alloc, checks)?;
-        let list = self.list(alloc, &node.statements, end)?;
+        let list = self.list(alloc, &node.statements)?;
         self.add_routine(alloc, list)
-    }
-
-    // The items at the end of a body.
-    fn end_of_body(&mut self, alloc: Global, checks: bool) -> Result<Option<usize>, AllocError>
-        ensures { Lays (λ o. o) (spec.end_of_body (layer_seen self.old) checks) (layer_seen self.new) result }
-    {
-        if checks {
-            self.check(alloc, 0)?;
-        }
-        self.settle(alloc, None)
     }
 
     // The initial statement of a system type or of the program, whose name is empty.
@@ -236,7 +224,7 @@ impl<'a> Layouter<'a> {
             parameters,
             result: None,
         })?;
-        self.body(alloc, node, true)
+        self.body(alloc, node)
     }
 
     #[tactic(auto, unfolding(crate::specs::Layers::layer_seen))]

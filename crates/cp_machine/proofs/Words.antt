@@ -12,7 +12,7 @@ pub use Rattle.cp_slots.specs.Inside.{SET_CELLS, action_inside, arguments_inside
 pub use Rattle.cp_slots.specs.Systems.{ActionNames, Hands, HandsOne, IsItself, IsOf, IsTyped, Names, own_of, parameter_count}
 pub use Rattle.cp_slots.specs.Tables.{RoutineView, Tables, component_at, item_at, no_process, parameter_at, process_at, routine_at, system_at}
 pub use Rattle.cp_slots.specs.declared.item.Action.{Action}
-pub use Rattle.cp_slots.specs.declared.item.Action.TheVariants.{Assert, Assign, AssignSet, Block, Call, Case, Continue, Copy, Cycle, Delay, Display, Empty, For, If, Start, Until}
+pub use Rattle.cp_slots.specs.declared.item.Action.TheVariants.{Assign, AssignSet, Block, Call, Case, Continue, Copy, Cycle, Delay, Display, Empty, For, If, Start, Until}
 pub use Rattle.cp_slots.specs.declared.item.Action.TheVariants.{While}
 pub use Rattle.cp_slots.specs.declared.item.Item.{Item}
 pub use Rattle.cp_slots.specs.declared.item.ResolvedArm.{ResolvedArm}
@@ -49,7 +49,7 @@ pub use Rattle.cp_machine.specs.Opening.{admitted, admitted_at, opening, still, 
 pub use Rattle.cp_machine.specs.Reach.{AreBound, CanCall, CanStart, EndsBegun, Executes, ExecutesAs, FitsComponent, FitsNew, FitsOwn, FrameReaches, HasBegunAs, HasCells}
 pub use Rattle.cp_machine.specs.Reach.{IsBehind, Reaches, ResultReaches, StackExecutes, StackReaches, ThreadReaches, frame_at}
 pub use Rattle.cp_machine.specs.Stack.{above, from_end, is_inner, rest_of, top_first}
-pub use Rattle.cp_machine.specs.Statements.{Stepped, arm_for, assert_that, assign, branch, case_of, fault, gone_on, is_beyond, local, next_turn, next_value, outcome, show, succeeded}
+pub use Rattle.cp_machine.specs.Statements.{Stepped, arm_for, assign, branch, case_of, fault, gone_on, is_beyond, local, next_turn, next_value, outcome, show, succeeded}
 pub use Rattle.cp_machine.specs.Statements.{until, while_do, with_value}
 pub use Rattle.cp_machine.specs.Step.{act, is_local, step_at, take_top}
 pub use Rattle.cp_machine.specs.declared.event.Event.{Event}

@@ -1,5 +1,3 @@
-mod Annotated
-mod AnnotatedPrograms
 pub mod ComponentTree
 mod CountedPrograms
 mod Counts
@@ -30,8 +28,6 @@ mod PlainItems
 mod Room
 mod Shown
 mod ShownPrograms
-mod Signalled
-mod SignalledPrograms
 pub mod Stored
 pub mod Taken
 mod TracedPrograms

@@ -1,7 +1,6 @@
 -- Which statements and items stand in the body of a routine or of an initial statement.
 use Rattle.std.specs.Prelude.{◌≡◌, ℕ, ◌⊎◌, List, [], ◌∷◌}
-use Rattle.cp_tree.specs.Syntax.{Expression, Start, Statement, block, if_then, if_else, case_of, while_do, repeat_until, for_do, cycle, init, asserted, Statements, no_statements, more_statements, Arms, no_arms, more_arms, arm}
-use Rattle.cp_meaning.specs.Lifting.{check_statement}
+use Rattle.cp_tree.specs.Syntax.{Expression, Start, Statement, block, if_then, if_else, case_of, while_do, repeat_until, for_do, cycle, init, Statements, no_statements, more_statements, Arms, no_arms, more_arms, arm}
 use Rattle.cp_meaning.specs.Scopes.{Scope}
 use Rattle.cp_meaning.specs.State.{Item, statement_item, function_call, start_item, until, successor}
 use Rattle.cp_refine.specs.Remaining.{calls_before}
@@ -26,7 +25,6 @@ IsPartOf t (while_do at e u) = t ≡ u
 IsPartOf t (repeat_until at ss e) = IsAmong t ss
 IsPartOf t (for_do at i e d f u) = t ≡ u
 IsPartOf t (cycle at ss) = IsAmong t ss
-IsPartOf t (asserted at k e u) = t ≡ u
 IsPartOf t u = ⊥
 
 -- the statement stands in the body, at any depth
@@ -44,13 +42,9 @@ abbrev pub IsAmongStarts : Start → List Start → Type 0
 IsAmongStarts t [] = ⊥
 IsAmongStarts t (u ∷ us) = (t ≡ u) ⊎ IsAmongStarts t us
 
--- a check is no statement of the body
-abbrev pub IsCheck : Statement → Type 0
-IsCheck t = (at : ℕ) × (t ≡ check_statement at)
-
--- the item of a statement of the body, what is left of one, or a check
+-- the item of a statement of the body, or what is left of one
 abbrev pub OwnStands : Statements → Item → Type 0
-OwnStands body (statement_item t) = IsWithin body t ⊎ IsCheck t
+OwnStands body (statement_item t) = IsWithin body t
 OwnStands body (start_item t) = (at : ℕ) × (ts : List Start) × IsWithin body (init at ts) × IsAmongStarts t ts
 OwnStands body (until ss e) = (at : ℕ) × IsWithin body (repeat_until at ss e)
 OwnStands body (successor at i z d b t) = (e : Expression) × (f : Expression) × IsWithin body (for_do at i e d f t)

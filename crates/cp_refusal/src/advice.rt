@@ -85,11 +85,6 @@ fn place_advice(teller: &Teller, mark: Mark) -> &'static str {
         Mark::Const | Mark::Type | Mark::Var => {
             ": constants, types and variables are declared before the routines, or an end is missing further up"
         }
-        Mark::Assert => ": an assertion stands before a statement",
-        Mark::Invariant => {
-            ": invariants stand in a class or a monitor, behind its declarations and before its routines"
-        }
-        Mark::Closes => ": the annotation ends here",
         Mark::Period if back(teller, 1).is_none() => ": there are no real numbers",
         _ => "",
     }

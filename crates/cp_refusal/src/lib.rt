@@ -15,7 +15,6 @@ mod foreign;
 mod further_up;
 mod hints;
 mod looking_again;
-mod nearly;
 mod page;
 mod place;
 mod report;

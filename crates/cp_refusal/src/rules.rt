@@ -117,7 +117,7 @@ fn too_large(tokens: &Tokens, at: usize) -> &'static str {
 }
 
 /// What is wrong with a token where a rule is broken, in the order of `Rule`; empty where that hangs on the token.
-const COMPLAINTS: [&str; 22] = [
+const COMPLAINTS: [&str; 21] = [
     " is not declared here",
     " is declared twice in one block",
     " is no constant, and its value has to be known before the program runs",
@@ -139,7 +139,6 @@ const COMPLAINTS: [&str; 22] = [
     " comes twice among the labels of this case",
     "",
     " is an array, a record or a set",
-    " is called in an annotation, which may call no routine of the program, so that it changes nothing",
 ];
 
 /// What is wrong with the token of this number, after its spelling.
@@ -154,9 +153,9 @@ fn complaint(tokens: &Tokens, at: usize, rule: Rule) -> &'static str {
 }
 
 /// The numbers of the rules, in the order of `Rule`.
-const CODES: [&str; 22] = [
+const CODES: [&str; 21] = [
     "C1", "C2", "C3", "C4", "C5", "C6", "C7", "C8", "C9", "C10", "C11", "C12", "C13", "C14", "C15",
-    "C16", "C17", "C18", "C19", "C20", "C21", "C22",
+    "C16", "C17", "C18", "C19", "C20", "C21",
 ];
 
 /// The number of a rule.

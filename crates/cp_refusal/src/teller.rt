@@ -1,6 +1,6 @@
 //! Who tells of a source that is refused at a token.
 
-use crate::draft::{push_copies, spelling, tokens_of};
+use crate::draft::{push_copies, tokens_of};
 use crate::extent::{Extent, between, statement_start};
 use crate::page::push_tokens;
 use crate::rules::{mark_at, name_at};
@@ -78,18 +78,6 @@ fn reply_to(fault: &CheckFault, pieces: Extent) -> Result<Reply, AllocError> {
     }
 }
 
-// Whether the closing of an annotation is still to come before the token of this number.
-fn is_in_annotation(tokens: &Tokens, at: usize) -> bool {
-    for place in (0..at).rev() {
-        match mark_at(tokens, place) {
-            Some(Mark::Assert | Mark::Invariant) => return true,
-            Some(Mark::Closes) => return false,
-            _ => {}
-        }
-    }
-    false
-}
-
 impl<'a> Teller<'a> {
     pub fn new(alloc: Global, source: &'a [u8], tokens: &'a Tokens, at: usize) -> Teller<'a> {
         Teller {
@@ -162,13 +150,6 @@ impl<'a> Teller<'a> {
         let mut draft = Prose::new(self.alloc);
         push_copies(&mut draft, self.tokens, between(0, self.at));
         push_piece(&mut draft, self.tokens, Insertion::Words(word));
-        if is_in_annotation(self.tokens, self.at) {
-            push_piece(
-                &mut draft,
-                self.tokens,
-                Insertion::Words(spelling(Mark::Closes)),
-            );
-        }
         let Some(tokens) = tokens_of(self.alloc, &draft)? else {
             return Ok(false);
         };

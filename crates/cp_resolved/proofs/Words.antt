@@ -173,7 +173,7 @@ pub use Rattle.cp_resolved.specs.SmallStatements.{AreSmallArms, AreSmallStatemen
 pub use Rattle.cp_resolved.specs.Soundness.{IsModest, IsOwnCall}
 pub use Rattle.cp_resolved.specs.Standing.{IsFit, IsFreeParameter, IsFreeVariable, IsStandingParameter, IsStandingVariable, are_few, are_free, is_bounded, is_element}
 pub use Rattle.cp_resolved.specs.Standing.{is_free, is_indexed, is_standing}
-pub use Rattle.cp_resolved.specs.Stands.{AreGiven, AssignedBy, BodyIs, CallItem, CalleeIs, GivenBy, Ground, IsCalled, IsGiven, ItemAt, OwnAll, PlaceGiven, ResultGoes, ValueGiven}
+pub use Rattle.cp_resolved.specs.Stands.{AreGiven, AssignedBy, CallItem, CalleeIs, GivenBy, Ground, IsCalled, IsGiven, ItemAt, OwnAll, PlaceGiven, ResultGoes, ValueGiven}
 pub use Rattle.cp_resolved.specs.Stands.{first_of, result_cell}
 pub use Rattle.cp_resolved.specs.Tokens.{all_tokens, groups_tokens, part_tokens, routine_tokens, system_tokens, token_of_type, type_tokens}
 pub use Rattle.cp_resolved.specs.TreeLayouts.{begun_at, call_variables, components_among, definition_parts, definitions_parts, first_in, frame_layout, hidden_origin}

@@ -3,7 +3,9 @@
 
 mod command;
 mod faults;
+mod items;
 pub mod parts;
 mod words;
 
-pub use parts::{Asked, ShowPart, read_parts, refused_part};
+pub use items::asked_at;
+pub use parts::{Asked, EndsItem, ShowPart, read_parts, refused_part};

@@ -16,8 +16,6 @@ pub enum Evaluation {
     QueueInUse,
     NotInit,
     InitTwice,
-    Assertion,
-    Invariant,
 }
 
 impl Evaluation {
@@ -44,8 +42,6 @@ impl Evaluation {
             ErrorName::QueueInUse => Evaluation::QueueInUse,
             ErrorName::NotInit => Evaluation::NotInit,
             ErrorName::InitTwice => Evaluation::InitTwice,
-            ErrorName::Assertion => Evaluation::Assertion,
-            ErrorName::Invariant => Evaluation::Invariant,
         }
     }
 
@@ -62,9 +58,7 @@ impl Evaluation {
             | Evaluation::NoCase
             | Evaluation::QueueInUse
             | Evaluation::NotInit
-            | Evaluation::InitTwice
-            | Evaluation::Assertion
-            | Evaluation::Invariant => Err(self.name()),
+            | Evaluation::InitTwice => Err(self.name()),
         }
     }
 
@@ -83,8 +77,6 @@ impl Evaluation {
             Evaluation::QueueInUse => ErrorName::QueueInUse,
             Evaluation::NotInit => ErrorName::NotInit,
             Evaluation::InitTwice => ErrorName::InitTwice,
-            Evaluation::Assertion => ErrorName::Assertion,
-            Evaluation::Invariant => ErrorName::Invariant,
         }
     }
 }

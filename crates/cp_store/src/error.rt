@@ -10,8 +10,4 @@ pub enum ErrorName {
     QueueInUse,
     NotInit,
     InitTwice,
-    /// An assertion is false.
-    Assertion,
-    /// An invariant is false.
-    Invariant,
 }

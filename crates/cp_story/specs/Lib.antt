@@ -1,3 +1,4 @@
+pub mod Ahead
 pub mod Aimed
 pub mod Causes
 pub mod CauseText
@@ -10,6 +11,8 @@ pub mod Integers
 pub mod Joined
 pub mod Objects
 pub mod Passed
+pub mod ReasonText
+pub mod Reasons
 pub mod Sentences
 pub mod Story
 pub mod StoryData

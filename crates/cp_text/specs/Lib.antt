@@ -1,7 +1,5 @@
-pub mod Annotations
 pub mod Bytes
 pub mod Faults
-pub mod Fronts
 pub mod Kinds
 pub mod Lexemes
 pub mod Lines

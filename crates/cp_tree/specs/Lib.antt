@@ -3,7 +3,6 @@ pub mod Input
 pub mod Place
 pub mod Read
 pub mod Reading
-pub mod ReadingAnnotations
 pub mod ReadingDeclarations
 pub mod ReadingExpressions
 pub mod ReadingStatements

@@ -8,7 +8,6 @@ pub mod expression;
 pub mod fault;
 mod held;
 pub mod parser;
-mod read_annotation;
 mod read_constant;
 mod read_expression;
 mod read_part;
@@ -32,7 +31,6 @@ pub use expression::{
 };
 pub use fault::ParseFault;
 pub use parser::parse;
-pub use read_annotation::NAMELESS;
-pub use statement::{Arm, AssertionKind, Direction, Start, Statement, StatementKind};
+pub use statement::{Arm, Direction, Start, Statement, StatementKind};
 pub use tree::Tree;
 pub use types::{FieldGroup, Simple, SimpleKind, Type, TypeKind};

@@ -1,3 +1,4 @@
+pub mod Drawn
 pub mod Lines
 pub mod Refused
 pub mod Schedules

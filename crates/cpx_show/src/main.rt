@@ -3,6 +3,8 @@
 
 mod answering;
 mod covering;
+mod items;
+mod lanes;
 mod lines;
 mod parts;
 mod refusals;

@@ -103,7 +103,7 @@ module _ (k : Numbering) (p : syntax.Program) (end : Layer) (counted : Counted e
           )
 
       ended_systems : ended.systems ≡ l.systems
-      ended_systems = body_systems (initial_begun b ps) s.body true ∙ routines_systems z s.routines ∙ groups_systems l s
+      ended_systems = body_systems (initial_begun b ps) s.body ∙ routines_systems z s.routines ∙ groups_systems l s
 
       made_there : slice_get end.systems n ≡ Some made
       unfolding system
@@ -112,7 +112,7 @@ module _ (k : Numbering) (p : syntax.Program) (end : Layer) (counted : Counted e
           ap (λ ss. slice_get ss n) y.1 ∙ ap (λ j. slice_get ((ended.systems ++ made ∷ []) ++ y.0) j) (sym len) ∙ still_there (ended.systems ++ made ∷ []) y.0 (length ended.systems) made (last_entry ended.systems made)
 
       ended_cells : ended.owned.cells ≡ z.owned.cells
-      ended_cells = ap (λ (q : layers.Owned). q.cells) (body_owned (initial_begun b ps) s.body true ∙ routines_owned z s.routines)
+      ended_cells = ap (λ (q : layers.Owned). q.cells) (body_owned (initial_begun b ps) s.body ∙ routines_owned z s.routines)
 
       pub system_settled : Settled k p end counted n z
       system_settled =

@@ -38,7 +38,7 @@ chain_between l (x ∷ xs) m (suc i) (suc j) a b h le e f = chain_between x xs m
 closed_extends : (l : Layer) (r : syntax.Routine) → Extends (routine_begun l r) (routine l r)
 closed_extends l r =
     let k : Layer = routine_begun l r in
-    let e : Extends k (body k r.body r.is_entry) = body_extends k r.body r.is_entry in
+    let e : Extends k (body k r.body) = body_extends k r.body in
     record { lines = e.lines; types = e.types; constants = e.constants; items = e.items; headings = e.headings; routines = e.routines; systems = e.systems }
 
 routines_chain : (l : Layer) (rs : List syntax.Routine) → Chain l (routines_begun l rs) (routines l rs)
@@ -58,7 +58,7 @@ initial_before : (l : Layer) (ps : Parameters) → Extends l (initial_begun l ps
 initial_before l ps = extends_trans l (with_new_frame l) (initial_begun l ps) (extends_with l l.names l.owned no_frame l.noted) (heading_extends (with_new_frame l) (heading_with [] ps None))
 
 initial_after : (l : Layer) (ps : Parameters) (b : syntax.Body) → Extends (initial_begun l ps) (initial_statement l ps b)
-initial_after l ps b = body_extends (initial_begun l ps) b true
+initial_after l ps b = body_extends (initial_begun l ps) b
 
 left_extends : (l : Layer) (s : syntax.System) → Extends (initial_begun (system_begun l s) (parameters_of l s)) (system l s).1
 unfolding system

@@ -20,7 +20,7 @@ use Rattle.cp_resolved.proofs.counts.RoutinesCounted.{Many, all_many}
 use Rattle.cp_resolved.proofs.systems.SystemKnown.{later_new}
 use Rattle.cp_resolved.proofs.names.TreeKnown.{layouts_law}
 use Rattle.cp_resolved.proofs.components.VisibleComponents.{counted, begun_there, seated_there}
-use Rattle.cp_resolved.proofs.laid.ZeroCells.{body_zeroed}
+use Rattle.cp_resolved.proofs.laid.ZeroCells.{statements_zeroed}
 use Rattle.cp_resolved.proofs.agreeing.AgreeingWritten.{each_left}
 
 -- ---- types
@@ -135,7 +135,7 @@ module _ (t : Tree) (r : Tables) (same : plain r ≡ laid t) (place : IsPlaced t
       let zero_more : 0 + n ≡ n = omega arith in
       let routine : slice_get (whole_laid t).routines n ≡ Some v = subst (λ j. slice_get (whole_laid t).routines j ≡ Some v) zero_more w.ends.there in
       let is : routine_at r n ≡ v = entry_at r.routines n no_routine v (ap (λ rs. slice_get rs n) (ap (λ (q : PlainTables). q.routines) same ∙ laid_routines t) ∙ routine) in
-      ap (λ (q : RoutineView). length q.extents) is ∙ ap (λ (es : List ℕ). length es) ((body_zeroed l w.opening.meaning.body w.opening.meaning.checks).extents ∙ frames.extents) ∙ extents_length (parameters_by true m.parameters)
+      ap (λ (q : RoutineView). length q.extents) is ∙ ap (λ (es : List ℕ). length es) ((statements_zeroed l w.opening.meaning.body).extents ∙ frames.extents) ∙ extents_length (parameters_by true m.parameters)
 
   slot_is : (x : Name) (u : Ty) → look x (parameters_by true m.parameters) ≡ Some u → cell_named ((layouts_of t).frames n) x ≡ number_among x (parameters_by true m.parameters)
   slot_is x u e =

@@ -9,14 +9,14 @@ list-loop-left-preserved t c =
     record {
       within = omega (arith, c.loop-left.invariant.within);
       same =
-          statements_step (layer_seen c.args.self.now) c.args.after c.args.nodes.now (c.loop-left.left - 1) c.loop-left.left c.index-nodes-left.result (omega (arith, c.loop-left.invariant.within, c.loop-left-test.true)) c.index-nodes-left.is
+          statements_step (layer_seen c.args.self.now) c.args.nodes.now (c.loop-left.left - 1) c.loop-left.left c.index-nodes-left.result (omega (arith, c.loop-left.invariant.within, c.loop-left-test.true)) c.index-nodes-left.is
           (omega (arith, c.loop-left-test.true)) c.loop-left.next c.in_ok-next.next (layer_seen c.loop-left.self) (layer_seen c.statement.new.self) c.loop-left.invariant.same c.in_ok-next.ensures;
     }
 
 pub list-returns : goal.list-returns
 list-returns t c =
     let none : c.loop-left.left ≡ 0 = omega (arith, c.loop-left-test.false) in
-    subst (λ k. spec.statements (layer_seen c.args.self.now) (statements_of (statements_view (drop k c.args.nodes.now))) c.args.after ≡ (c.loop-left.next, layer_seen c.loop-left.self)) none c.loop-left.invariant.same
+    subst (λ k. spec.statements (layer_seen c.args.self.now) (statements_of (statements_view (drop k c.args.nodes.now))) ≡ (c.loop-left.next, layer_seen c.loop-left.self)) none c.loop-left.invariant.same
 
 pub arms-loop-node-preserved : goal.arms-loop-node-preserved
 arms-loop-node-preserved t c =
