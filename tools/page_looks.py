@@ -42,7 +42,7 @@ class Style:
                 for selector, declared in re.findall(r"([^{}]+)\{([^{}]*)\}", dark_body):
                     dark.setdefault(selector.strip(), {}).update(self.declared(declared))
         self.root = {**dict(self.rules)[":root"], **dark.get(":root", {})}
-        self.hues = [{**dict(self.rules)[f".m{m}"], **dark.get(f".m{m}", {})}["--c"] for m in range(8)]
+        self.hues = [{**dict(self.rules)[f".m{m}"], **dark.get(f".m{m}", {})} for m in range(8)]
         self.kinds = {selector: declared["--k"] for selector, declared in self.rules if "--k" in declared}
 
     @staticmethod
@@ -59,7 +59,7 @@ class Style:
             share = self.root[share[4:-1]] if share.startswith("var") else share
             return mixed(self.color(found.group(1), hue, kind), self.color(found.group(3), hue, kind), float(share.rstrip("%")) / 100)
         name = re.fullmatch(r"var\((--\w+)\)", value).group(1)
-        return self.color({"--c": hue, "--k": kind}.get(name) or self.root[name], hue, kind)
+        return self.color({**(hue or {}), "--k": kind}.get(name) or self.root[name], hue, kind)
 
     def of(self, selector, name):
         """What the last rule of this selector says."""
@@ -67,8 +67,8 @@ class Style:
 
 
 # Of texts in the lanes: their rule, and on what they stand besides the rows.
-LANE_TEXTS = (("svg text", "svg .box"), ("svg .dim", "svg .box"), ("svg .changed", None), ("svg text.inv", "svg .hold"), ("svg text.inv", "svg .dot"), ("svg text.on", "svg .opt"),
-              ("svg .later text", "ahead svg .box"), ("svg .later text.inv", "ahead svg .hold"), ("svg .later text.inv", "ahead svg .dot"))
+LANE_TEXTS = (("svg text", "svg .soft"), ("svg .dim", "svg .soft"), ("svg text.held", "svg .strong"), ("svg text.inv", "svg .dot"), ("svg text.on", "svg .opt"),
+              ("svg .later text", "ahead svg .soft"), ("svg .later text.inv", "ahead svg .strong"), ("svg .later text.inv", "ahead svg .dot"))
 GROUNDS = ("--ground", "--band", "--mark")
 
 
@@ -106,12 +106,12 @@ def low_texts(style):
             continue
         if "color" in declared and "background" not in declared and declared["color"] != "inherit":
             kinds = style.kinds.values() if "--k" in declared["color"] else [None]
-            hues = style.hues if "--c" in declared["color"] else [None]
+            hues = style.hues if re.search(r"--[csl]\)", declared["color"]) else [None]
             for kind in kinds:
                 for hue in hues:
                     ratio = min(contrast(style.color(declared["color"], hue, kind), style.color(ground)) for ground in grounds)
                     if ratio < LEAST_CONTRAST:
-                        low.append(f"{selector} {kind or hue or ''} {ratio:.1f}")
+                        low.append(f"{selector} {kind or (hue or {}).get('--c', '')} {ratio:.1f}")
         elif "color" in declared and "background" in declared:
             ratio = contrast(style.color(declared["color"]), style.color(declared["background"]))
             if ratio < LEAST_CONTRAST:
@@ -129,7 +129,7 @@ def low_lanes(style):
     ahead = float(style.of("svg .ahead", "opacity") or 1)
     for selector, box in LANE_TEXTS:
         for hue in style.hues:
-            grounds = [style.color(style.root[name]) for name in GROUNDS] if "inv" not in selector and ".on" not in selector else []
+            grounds = [style.color(style.root[name]) for name in GROUNDS] if selector not in ("svg text.held", "svg text.inv", "svg text.on", "svg .later text.inv") else []
             if box and box.startswith("ahead "):
                 under = style.color(style.of(box.removeprefix("ahead "), "fill"), hue)
                 grounds.append(mixed(style.color("var(--ground)"), under, ahead))
@@ -143,7 +143,7 @@ def low_lanes(style):
             for ground in grounds:
                 ratio = contrast(mixed(style.color(fill, hue), ground, opacity), ground)
                 if ratio < LEAST_CONTRAST:
-                    low.append(f"{selector} on {box or 'rows'} {hue} {ratio:.1f}")
+                    low.append(f"{selector} on {box or 'rows'} {hue['--c']} {ratio:.1f}")
     return low
 
 
@@ -192,7 +192,7 @@ CONTRAST = """(() => {
       let ink = null;
       shapes.forEach((shape, place) => {
         if (place === at) {
-          const first = element.querySelector("tspan");
+          const first = element.querySelector("tspan:not(.swatch)");
           ink = over(parse((first ? getComputedStyle(first) : look).fill).rgb, ground, veilOf(element));
           return;
         }

@@ -230,7 +230,8 @@ impl<S: Ledger> Visit for SearchAtOnce<S> {
         &mut self,
         job: &SearchJob<'_>,
         at: u32,
-        state: &mut State,
+        state: &State,
+        next: &mut State,
         process: u8,
     ) -> Result<bool, AllocError> {
         self.told.values.clear();
@@ -238,12 +239,14 @@ impl<S: Ledger> Visit for SearchAtOnce<S> {
             job.alloc,
             job.program,
             job.limits,
-            state,
+            next,
             process,
             &mut self.told,
             &mut self.steps,
         )?;
-        self.follow(job, state, arrival, OriginAtOnce::choice(at, process))
+        let is_room = self.follow(job, next, arrival, OriginAtOnce::choice(at, process))?;
+        next.take_from(state);
+        Ok(is_room)
     }
 
     fn end_state(&mut self, _job: &SearchJob<'_>, _at: u32) -> Result<(), AllocError> {

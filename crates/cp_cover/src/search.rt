@@ -185,19 +185,21 @@ impl<S: Ledger> Visit for CoverVisit<S> {
         &mut self,
         job: &SearchJob<'_>,
         _at: u32,
-        state: &mut State,
+        state: &State,
+        next: &mut State,
         process: u8,
     ) -> Result<bool, AllocError> {
         let halt = note_choice(
             job.program,
             job.limits,
-            state,
+            next,
             process,
             &mut self.steps,
             &mut self.marks,
         )?;
         self.is_stopped = self.is_stopped || is_cut(halt);
-        self.next.arrive(job, state, halt)?;
+        self.next.arrive(job, next, halt)?;
+        next.take_from(state);
         Ok(self.next.len() <= job.most as usize)
     }
 

@@ -62,7 +62,7 @@ rows_length store (e ∷ es) (x ∷ xs) h = ap suc (rows_length store es xs h.1)
 rows_length store _ _ h = absurd h
 
 -- what stands at one place is the row of the state there
-row_here : (store : Store) (es : List Entry) (xs : List Stated) (i : ℕ) (e : Entry) (x : Stated) → AreRows store es xs → slice_get es i ≡ Some e → slice_get xs i ≡ Some x → IsRowOf store e.0.numbers x.0
+pub row_here : (store : Store) (es : List Entry) (xs : List Stated) (i : ℕ) (e : Entry) (x : Stated) → AreRows store es xs → slice_get es i ≡ Some e → slice_get xs i ≡ Some x → IsRowOf store e.0.numbers x.0
 row_here store [] xs i e x h at to = cc
 row_here store (k ∷ es) [] i e x h at to = absurd h
 row_here store (k ∷ es) (y ∷ xs) zero e x h at to = subst (λ (z : Entry). IsRowOf store z.0.numbers x.0) (same_Some k e at) (subst (λ (z : Stated). IsRowOf store k.0.numbers z.0) (same_Some y x to) h.0)

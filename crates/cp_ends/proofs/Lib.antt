@@ -6,6 +6,7 @@ pub mod Halting
 pub mod Keeping
 pub mod Legs
 pub mod Listing
+pub mod Moving
 pub mod Numbering
 pub mod Returning
 pub mod Saying

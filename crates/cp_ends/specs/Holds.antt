@@ -4,6 +4,7 @@ use lib.Pointwise.{pointwise}
 use Rattle.cp_slots.specs.Tables.{Tables}
 use Rattle.cp_key.specs.Key.{key_of}
 use Rattle.cp_key.specs.Room.{IsMachineOf}
+use Rattle.cp_machine.specs.Bodies.{KeepBodies}
 use Rattle.cp_machine.specs.declared.shown.Shown.{Shown}
 use Rattle.cp_machine.specs.System.{Machine}
 use Rattle.cp_ends.specs.Graph.{Arrival}
@@ -65,6 +66,11 @@ pub record AreStates (r : Tables) (kept : States) (states : List (Machine × Lis
   pub quiet : All (λ x. x.0.output ≡ []) states
   pub words : (i : ℕ) (e : StateRow × Origin) (x : Machine × List ℕ) → slice_get kept.known.entries i ≡ Some e → slice_get states i ≡ Some x → IsWordOf states e.1 x.1
   pub before : (i : ℕ) (e : StateRow × Origin) → slice_get kept.known.entries i ≡ Some e → IsBefore i e.1
+
+-- these processes alone moved from the state before to this machine, where an origin tells of a state before, whose row is kept
+abbrev pub IsMovedFrom : States → Origin → (ℕ → Bool) → Machine → Machine → Type 0
+IsMovedFrom kept Start moved before m = Unit {0}
+IsMovedFrom kept (Choice at number) moved before m = ((e : StateRow × Origin) → slice_get kept.known.entries at ≡ Some e → IsRowOf kept.store e.0.numbers before) × KeepBodies moved before m
 
 -- things with their origins are things with their words
 abbrev pub AreFound : {A : Type 0} → List (Machine × List ℕ) → List (A × Origin) → List (A × List ℕ) → Type 0

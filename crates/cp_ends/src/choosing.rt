@@ -1,12 +1,14 @@
 //! From one due choice to the next, with nothing displayed.
 
 ghost use Rattle.std.specs.Prelude.{◌≡◌, ◌++◌, ◌∷◌, [], List, IfOk, true, false};
+ghost use Rattle.cp_machine.specs.Bodies.{KeepBodies, has_moved};
 ghost use Rattle.cp_machine.specs.System.{Machine, machine_of, opening, output_of, is_ready, is_pending, IsStateOf};
 ghost use Rattle.cp_run.specs.Code.{IfGoes};
 ghost use Rattle.cp_run.specs.Fold.{walked};
 ghost use Rattle.cp_run.specs.Run.{may};
 ghost use Rattle.cp_run.specs.Silent.{silent_slots, without_output};
 ghost use Rattle.cp_run.specs.Slots.{slots};
+ghost use Rattle.cp_run.specs.declared.outcome.Halt.TheVariants as halt;
 ghost use Rattle.cp_ends.specs.Arrivals.{goal_at, first_arrival, halt_arrival, next_arrival};
 ghost use Rattle.cp_ends.specs.Holds.{same_key};
 ghost use Rattle.cp_ends.specs.Legs.{ComesTo, choice_leg, first_leg, turn_leg, with_round};
@@ -15,7 +17,7 @@ use crate::end::End;
 use crate::round::end_of_cut;
 use crate::sight::Sight;
 use crate::told::Told;
-use cp_machine::{State, Ticks};
+use cp_machine::{Moved, State, Ticks};
 use cp_run::{Halt, Limits, Turn, observe_choice, observe_opening};
 use cp_slots::Resolved;
 use std::alloc::{AllocError, Global};
@@ -39,6 +41,7 @@ fn arrive<S: Ledger, P: Sight>(
     ensures quiet { IfOk result (λ _. output_of (machine_of state.new) ≡ []) }
     ensures comes { IfOk result (λ h. halt_arrival (slots program.now limits.discipline) (silent_slots program.now limits.discipline) same_key limits.steps told.old.values.items (machine_of state.old) turn ≡ record { goal = goal_at h (machine_of state.new); shown = told.new.values.items }) }
     ensures leg { IfOk result (λ h. (s : Machine) (first : Turn) (due : List Machine) → walked (silent_slots program.now limits.discipline) limits.steps s first ≡ (machine_of state.old, turn) → P.sees told.old.seen program.now limits.discipline due ((turn_leg (silent_slots program.now limits.discipline) limits.steps s first).moments limits.steps) → ComesTo (silent_slots program.now limits.discipline) (λ w. P.sees w program.now limits.discipline) limits.steps (turn_leg (silent_slots program.now limits.discipline) limits.steps s first) due told.new.seen (with_round told.new.again h) (machine_of state.new)) }
+    ensures still { IfOk result (λ h. h ≡ halt.Choice → (told.new.moved ≡ told.old.moved) × (machine_of state.new ≡ machine_of state.old)) }
 {
     told.again = None;
     match turn {
@@ -51,7 +54,8 @@ fn arrive<S: Ledger, P: Sight>(
     }
 }
 
-/// Takes a due choice: lets the process in at the pending monitor, or goes on with it. The choice is seen, and each moment of the stretch.
+/// Takes a due choice: lets the process in at the pending monitor, or goes on with it. The choice is seen, and each moment of the stretch, and
+/// who moves is noted.
 pub fn choose<S: Ledger, P: Sight>(
     alloc: Global,
     program: &Resolved,
@@ -69,7 +73,9 @@ pub fn choose<S: Ledger, P: Sight>(
     ensures goal { IfOk result (λ h. goal_at h (machine_of state.new) ≡ (next_arrival (slots program.now limits.discipline) without_output same_key limits.steps (machine_of state.old) process).goal) }
     ensures shown { IfOk result (λ _. told.new.values.items ≡ told.old.values.items ++ (next_arrival (slots program.now limits.discipline) without_output same_key limits.steps (machine_of state.old) process).shown) }
     ensures leg { IfOk result (λ h. ComesTo (silent_slots program.now limits.discipline) (λ w. P.sees w program.now limits.discipline) limits.steps (choice_leg (silent_slots program.now limits.discipline) limits.steps (machine_of state.old) process) (machine_of state.old ∷ []) told.new.seen (with_round told.new.again h) (machine_of state.new)) }
+    ensures kept { IfOk result (λ h. h ≡ halt.Choice → KeepBodies (has_moved told.new.moved) (machine_of state.old) (machine_of state.new)) }
 {
+    told.moved = Moved::nobody();
     told.seen = P::begin(program);
     told.seen.see_due(state);
     let turn = observe_choice(program, limits, state, process, steps, told)?;

@@ -3,20 +3,22 @@
 ghost use Rattle.std.specs.Prelude.{◌≡◌, ◌<◌, ◌^◌, ◌∷◌, ℕ, List, [], IfOk, length};
 ghost use Rattle.std.specs.List.{list_any};
 ghost use Rattle.cp_slots.specs.Tables.{Tables};
+ghost use Rattle.cp_machine.specs.Bodies.{has_moved};
 ghost use Rattle.cp_machine.specs.System.{machine_of, output_of, IsStateOf};
 ghost use Rattle.cp_run.specs.declared.outcome.Halt.TheVariants as halt;
+ghost use Rattle.cp_run.specs.declared.outcome.Halt.TheVariants.{Choice};
 ghost use Rattle.cp_ends.specs.declared.found.Arrived.TheVariants as arrived;
 ghost use Rattle.cp_ends.specs.Answer.{Arrives, Comes, HoldsFew, ends_tests, halt_of, has_room, number_of};
 ghost use Rattle.cp_ends.specs.Arrivals.{goal_at};
 ghost use Rattle.cp_ends.specs.Graph as graph;
-ghost use Rattle.cp_ends.specs.Holds.{Holds, IsBefore, IsWordOf, SlotArrival, SlotFindings};
+ghost use Rattle.cp_ends.specs.Holds.{Holds, IsBefore, IsMovedFrom, IsWordOf, SlotArrival, SlotFindings};
 ghost use Rattle.cp_ends.specs.Legs.{with_round};
 ghost use Rattle.cp_ends.specs.Searched.{with_first, with_values};
 
 use crate::end::End;
 use crate::origin::Origin;
 use crate::states::States;
-use cp_machine::{Shown, State};
+use cp_machine::{Moved, Shown, State};
 use cp_run::Halt;
 use cp_search::SearchJob;
 use std::alloc::{AllocError, Global};
@@ -112,7 +114,7 @@ impl Found {
         }
     }
 
-    /// A word leads to where a stretch came to, which displayed these values.
+    /// A word leads to where a stretch came to, which displayed these values. Since the state before these processes moved.
     pub fn arrive(
         &mut self,
         job: &SearchJob<'_>,
@@ -120,9 +122,12 @@ impl Found {
         halt: Halt<End>,
         values: &[Shown],
         origin: Origin,
+        before: &State,
+        moved: &Moved,
     ) -> Result<Arrived, AllocError>
         requires own { IsStateOf job.now.program.now state.now }
         requires quiet { output_of (machine_of state.now) ≡ [] }
+        requires moved { halt ≡ Choice → IsMovedFrom self.old.states origin (has_moved moved.now) (machine_of before.now) (machine_of state.now) }
         ensures arrives { IfOk result (λ arrived. (f : SlotFindings) (word : List ℕ) (a : SlotArrival) → HoldsFew job.now.program.now job.now.most self.old f → IsWordOf f.states origin word → IsBefore (length f.states) origin → goal_at halt (machine_of state.now) ≡ a.goal → values.now ≡ a.shown → Arrives job.now.program.now job.now.most self.new f word a arrived) }
         ensures halt { IfOk result (λ arrived. halt_of arrived ≡ halt) }
     {
@@ -132,7 +137,7 @@ impl Found {
                 self.add_end(end, origin)?;
                 Ok(Arrived::Ended(end))
             }
-            Halt::Choice => self.add_state(job, state, origin),
+            Halt::Choice => self.add_state(job, state, origin, before, moved),
         }
     }
 
@@ -142,14 +147,19 @@ impl Found {
         job: &SearchJob<'_>,
         state: &State,
         origin: Origin,
+        before: &State,
+        moved: &Moved,
     ) -> Result<Arrived, AllocError>
         requires own { IsStateOf job.now.program.now state.now }
         requires quiet { output_of (machine_of state.now) ≡ [] }
+        requires moved { IsMovedFrom self.old.states origin (has_moved moved.now) (machine_of before.now) (machine_of state.now) }
         ensures comes { IfOk result (λ arrived. (f : SlotFindings) (word : List ℕ) → HoldsFew job.now.program.now job.now.most self.old f → IsWordOf f.states origin word → IsBefore (length f.states) origin → Comes job.now.program.now job.now.most self.new f word (graph.Place (machine_of state.now)) arrived) }
         ensures halt { IfOk result (λ arrived. halt_of arrived ≡ halt.Choice) }
     {
         let most = job.most;
-        let row = self.states.row_anew(job.alloc, state)?;
+        let row = self
+            .states
+            .row_of(job.alloc, state, origin, before, moved)?;
         if let Some(number) = self.states.number(&row) {
             return Ok(Arrived::at(number));
         }
@@ -173,7 +183,8 @@ impl Found {
 
     // A word leads to a stretch that displays these values.
     fn add_values(&mut self, values: &[Shown], origin: Origin) -> Result<(), AllocError>
-        ensures { IfOk result (λ _. (r : Tables) (f : SlotFindings) (word : List ℕ) → Holds r self.old f → IsWordOf f.states origin word → Holds r self.new (record f { values = with_values ends_tests.value ends_tests.most f.values values.now word })) }
+        ensures values { IfOk result (λ _. (r : Tables) (f : SlotFindings) (word : List ℕ) → Holds r self.old f → IsWordOf f.states origin word → Holds r self.new (record f { values = with_values ends_tests.value ends_tests.most f.values values.now word })) }
+        ensures states { self.new.states ≡ self.old.states }
     {
         for value in values {
             self.add_value(*value, origin)?;
@@ -182,7 +193,8 @@ impl Found {
     }
 
     fn add_value(&mut self, value: Shown, origin: Origin) -> Result<(), AllocError>
-        ensures { IfOk result (λ _. (r : Tables) (f : SlotFindings) (word : List ℕ) → Holds r self.old f → IsWordOf f.states origin word → Holds r self.new (record f { values = with_values ends_tests.value ends_tests.most f.values (value ∷ []) word })) }
+        ensures values { IfOk result (λ _. (r : Tables) (f : SlotFindings) (word : List ℕ) → Holds r self.old f → IsWordOf f.states origin word → Holds r self.new (record f { values = with_values ends_tests.value ends_tests.most f.values (value ∷ []) word })) }
+        ensures states { self.new.states ≡ self.old.states }
     {
         if self.values.len() <= MOST_VALUES && !has_value(&self.values, value) {
             self.values.push(FoundValue { value, origin })?;

@@ -2,10 +2,12 @@
 
 ghost use Rattle.std.specs.Prelude.{◌≡◌, ◌≤◌, ◌<◌, ◌∷◌, ◌++◌, ℕ, List, [], Some, IfOk, slice_get, true, false};
 ghost use Rattle.cp_slots.specs.Tables.{Tables};
+ghost use Rattle.cp_machine.specs.Bodies.{KeepBodies, has_moved};
 ghost use Rattle.cp_machine.specs.System.{Machine, machine_of, opening, IsStateOf};
 ghost use Rattle.cp_run.specs.Run.{may, those_below};
 ghost use Rattle.cp_run.specs.Silent.{silent_slots};
 ghost use Rattle.cp_run.specs.Slots.{processes_of, slots};
+ghost use Rattle.cp_run.specs.declared.outcome.Halt.TheVariants as halt;
 ghost use Rattle.cp_ends.specs.Answer.{HasNumber, HoldsFew, IsSearch, IsStopped, ends_tests, halt_of, has_room, slot_graph};
 ghost use Rattle.cp_ends.specs.Holds.{Holds, HasFindings};
 ghost use Rattle.cp_ends.specs.Legs.{ComesTo, choice_leg, first_leg, with_round};
@@ -126,33 +128,39 @@ impl<S: Ledger, P: Sight> EndsVisit<S, P> {
             &mut self.steps,
         )?;
         let values = self.told.values.as_slice();
-        self.found.arrive(job, state, halt, values, Origin::Start)
+        let moved = &self.told.moved;
+        self.found
+            .arrive(job, state, halt, values, Origin::Start, state, moved)
     }
 
-    /// Takes a choice in the state of this number, and notes where it arrives.
+    /// Takes a choice in a copy of the state of this number, and notes where it arrives.
     pub fn take_choice(
         &mut self,
         job: &SearchJob<'_>,
         at: u32,
-        state: &mut State,
+        state: &State,
+        next: &mut State,
         process: u8,
     ) -> Result<Arrived, AllocError>
-        requires own { IsStateOf job.now.program.now state.old }
+        requires own { IsStateOf job.now.program.now state.now }
+        requires next { IsStateOf job.now.program.now next.old }
+        requires copied { machine_of next.old ≡ machine_of state.now }
         requires below { process < processes_of job.now.program.now }
-        requires may { may (slots job.now.program.now job.now.limits.discipline) (machine_of state.old) process ≡ true }
-        requires within { IsWithin job.now.program.now (slot_graph job.now.program.now job.now.limits.discipline job.now.limits.steps) job.now.most self.old.found at (machine_of state.old) (those_below process (may (slots job.now.program.now job.now.limits.discipline) (machine_of state.old))) }
-        ensures own { IsStateOf job.now.program.now state.new }
-        ensures within { IfOk result (λ arrived. has_room arrived ≡ true → IsWithin job.now.program.now (slot_graph job.now.program.now job.now.limits.discipline job.now.limits.steps) job.now.most self.new.found at (machine_of state.old) (those_below process (may (slots job.now.program.now job.now.limits.discipline) (machine_of state.old)) ++ process ∷ [])) }
+        requires may { may (slots job.now.program.now job.now.limits.discipline) (machine_of state.now) process ≡ true }
+        requires within { IsWithin job.now.program.now (slot_graph job.now.program.now job.now.limits.discipline job.now.limits.steps) job.now.most self.old.found at (machine_of state.now) (those_below process (may (slots job.now.program.now job.now.limits.discipline) (machine_of state.now))) }
+        ensures next { IsStateOf job.now.program.now next.new }
+        ensures kept { IfOk result (λ arrived. halt_of arrived ≡ halt.Choice → KeepBodies (has_moved self.new.told.moved) (machine_of state.now) (machine_of next.new)) }
+        ensures within { IfOk result (λ arrived. has_room arrived ≡ true → IsWithin job.now.program.now (slot_graph job.now.program.now job.now.limits.discipline job.now.limits.steps) job.now.most self.new.found at (machine_of state.now) (those_below process (may (slots job.now.program.now job.now.limits.discipline) (machine_of state.now)) ++ process ∷ [])) }
         ensures stops { IfOk result (λ arrived. has_room arrived ≡ false → IsStopped job.now.program.now (slot_graph job.now.program.now job.now.limits.discipline job.now.limits.steps) job.now.most self.new.found at) }
-        ensures number { IfOk result (λ arrived. (number : ℕ) (from : Machine × List ℕ) → arrived ≡ At number → slice_get (searched (slot_graph job.now.program.now job.now.limits.discipline job.now.limits.steps) ends_tests at).states at ≡ Some from → HasNumber (gone_with (slot_graph job.now.program.now job.now.limits.discipline job.now.limits.steps) from (those_below process (may (slots job.now.program.now job.now.limits.discipline) (machine_of state.old)) ++ process ∷ []) (searched (slot_graph job.now.program.now job.now.limits.discipline job.now.limits.steps) ends_tests at)).states (machine_of state.new) number) }
-        ensures leg { IfOk result (λ arrived. ComesTo (silent_slots job.now.program.now job.now.limits.discipline) (λ w. P.sees w job.now.program.now job.now.limits.discipline) job.now.limits.steps (choice_leg (silent_slots job.now.program.now job.now.limits.discipline) job.now.limits.steps (machine_of state.old) process) (machine_of state.old ∷ []) self.new.told.seen (with_round self.new.told.again (halt_of arrived)) (machine_of state.new)) }
+        ensures number { IfOk result (λ arrived. (number : ℕ) (from : Machine × List ℕ) → arrived ≡ At number → slice_get (searched (slot_graph job.now.program.now job.now.limits.discipline job.now.limits.steps) ends_tests at).states at ≡ Some from → HasNumber (gone_with (slot_graph job.now.program.now job.now.limits.discipline job.now.limits.steps) from (those_below process (may (slots job.now.program.now job.now.limits.discipline) (machine_of state.now)) ++ process ∷ []) (searched (slot_graph job.now.program.now job.now.limits.discipline job.now.limits.steps) ends_tests at)).states (machine_of next.new) number) }
+        ensures leg { IfOk result (λ arrived. ComesTo (silent_slots job.now.program.now job.now.limits.discipline) (λ w. P.sees w job.now.program.now job.now.limits.discipline) job.now.limits.steps (choice_leg (silent_slots job.now.program.now job.now.limits.discipline) job.now.limits.steps (machine_of state.now) process) (machine_of state.now ∷ []) self.new.told.seen (with_round self.new.told.again (halt_of arrived)) (machine_of next.new)) }
     {
         self.told.values.clear();
         let halt = choose(
             job.alloc,
             job.program,
             job.limits,
-            state,
+            next,
             process,
             &mut self.told,
             &mut self.steps,
@@ -162,7 +170,22 @@ impl<S: Ledger, P: Sight> EndsVisit<S, P> {
             number: process,
         };
         let values = self.told.values.as_slice();
-        self.found.arrive(job, state, halt, values, origin)
+        let moved = &self.told.moved;
+        self.found
+            .arrive(job, next, halt, values, origin, state, moved)
+    }
+
+    /// After a choice was taken in a copy of a state, it is one again.
+    pub fn restore(&self, state: &State, next: &mut State, arrived: Arrived)
+        requires own { (r : Tables) × IsStateOf r next.old × IsStateOf r state.now }
+        requires kept { halt_of arrived ≡ halt.Choice → KeepBodies (has_moved self.now.told.moved) (machine_of state.now) (machine_of next.old) }
+        ensures own { (r : Tables) → IsStateOf r next.old → IsStateOf r state.now → IsStateOf r next.new }
+        ensures copied { machine_of next.new ≡ machine_of state.now }
+    {
+        match arrived {
+            Arrived::At(_) => next.take_moved(state, &self.told.moved),
+            Arrived::Ended(_) | Arrived::Full => next.take_from(state),
+        }
     }
 }
 
@@ -199,10 +222,13 @@ impl<S: Ledger, P: Sight> Visit for EndsVisit<S, P> {
         &mut self,
         job: &SearchJob<'_>,
         at: u32,
-        state: &mut State,
+        state: &State,
+        next: &mut State,
         process: u8,
     ) -> Result<bool, AllocError> {
-        Ok(self.take_choice(job, at, state, process)?.has_room())
+        let arrived = self.take_choice(job, at, state, next, process)?;
+        self.restore(state, next, arrived);
+        Ok(arrived.has_room())
     }
 
     fn end_state(&mut self, _job: &SearchJob<'_>, _at: u32) -> Result<(), AllocError> {

@@ -4,12 +4,13 @@ ghost use Rattle.std.specs.Prelude.{◌≡◌, ◌<◌, ◌^◌, ◌∷◌, ◌+
 ghost use Rattle.cp_slots.specs.Tables.{Tables};
 ghost use Rattle.cp_key.specs.Room.{IsMachineOf};
 ghost use Rattle.cp_states.specs.Rows.{IsRowOf};
+ghost use Rattle.cp_machine.specs.Bodies.{has_moved};
 ghost use Rattle.cp_machine.specs.System.{Machine, machine_of, IsStateOf};
-ghost use Rattle.cp_ends.specs.Holds.{same_key, AreStates, IsAt, IsBefore, IsNumberOf, IsWordOf, origin_at};
+ghost use Rattle.cp_ends.specs.Holds.{same_key, AreStates, IsAt, IsBefore, IsMovedFrom, IsNumberOf, IsWordOf, origin_at};
 ghost use Rattle.cp_ends.specs.Searched.{has};
 
 use crate::origin::Origin;
-use cp_machine::State;
+use cp_machine::{Moved, State};
 use cp_states::{StateRow, Store};
 use indexmap::IndexMap;
 use std::alloc::{AllocError, Global};
@@ -42,13 +43,33 @@ impl States {
         self.known.len()
     }
 
-    /// The row of a state, whether it was found or not.
-    pub fn row_anew(&mut self, alloc: Global, state: &State) -> Result<StateRow, AllocError>
+    /// The row of a state, whether it was found or not. Mostly it differs little from that of the state before, since which these processes moved.
+    pub fn row_of(
+        &mut self,
+        alloc: Global,
+        state: &State,
+        origin: Origin,
+        before: &State,
+        moved: &Moved,
+    ) -> Result<StateRow, AllocError>
+        requires { IsMovedFrom self.old origin (has_moved moved.now) (machine_of before.now) (machine_of state.now) }
         ensures row { IfOk result (λ row. IsRowOf self.new.store row.numbers (machine_of state.now)) }
         ensures kept { (r : Tables) (states : List (Machine × List ℕ)) → AreStates r self.old states → AreStates r self.new states }
         ensures known { self.new.known ≡ self.old.known }
     {
-        self.store.row_anew(alloc, state)
+        let Origin::Choice { state: at, .. } = origin else {
+            return self.store.row_anew(alloc, state);
+        };
+        let Some((known, _)) = self.known.get_index(at as usize) else {
+            return self.store.row_anew(alloc, state);
+        };
+        let bindings = state.bindings.as_slice();
+        if bindings != before.bindings.as_slice() {
+            return self.store.row_anew(alloc, state);
+        }
+        let mut row = *known;
+        self.store.follow(alloc, state, before, moved, &mut row)?;
+        Ok(row)
     }
 
     /// The number of the state with this row, if it was found.

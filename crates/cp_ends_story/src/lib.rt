@@ -2,13 +2,11 @@
 #![tactic(auto)]
 
 mod finding;
-mod numbered;
 mod objects;
 mod placing;
 mod subject;
 mod telling;
 mod texts;
 
-pub use numbered::{NumberedSchedule, numbered_end, numbered_wait};
 pub use subject::{EndsFormat, EndsSubject, EndsSummary};
 pub use telling::ends_story;

@@ -51,16 +51,15 @@ fn put_states(telling: Telling<'_>, object: &mut Object) -> Result<(), AllocErro
 
 fn put_ends(telling: Telling<'_>, object: &mut Object) -> Result<(), AllocError> {
     let mut items = Vec::new(telling.alloc);
-    for (place, end) in telling.findings.ends.iter().enumerate() {
-        items.push(end_object(telling, place, end)?)?;
+    for end in &telling.findings.ends {
+        items.push(end_object(telling, end)?)?;
     }
     object.put("ends", Value::Array(items))
 }
 
-fn end_object(telling: Telling<'_>, place: usize, end: &ToldEnd) -> Result<Value, AllocError> {
+fn end_object(telling: Telling<'_>, end: &ToldEnd) -> Result<Value, AllocError> {
     let word = end.word.as_slice();
     let mut object = Object::new(telling.alloc);
-    put_place_number(&mut object, place)?;
     match end.end {
         End::Over(kind) => put_kind(&mut object, kind)?,
         End::Alone(process) => put_going(&mut object, "alone", process)?,
@@ -85,11 +84,6 @@ fn put_cause(telling: Telling<'_>, object: &mut Object, word: &[u8]) -> Result<(
         Some(story) => put_error_cause(alloc, subject.legend, object, story.cause),
         None => Ok(()),
     }
-}
-
-// The number of an end or a wait, by its place, with which it can be shown.
-fn put_place_number(object: &mut Object, place: usize) -> Result<(), AllocError> {
-    object.number("number", place.saturating_add(1) as u64)
 }
 
 fn put_going(object: &mut Object, kind: &str, process: u8) -> Result<(), AllocError> {
@@ -134,21 +128,16 @@ fn put_waits(telling: Telling<'_>, object: &mut Object) -> Result<(), AllocError
         Some(Waits::NotSettled(process)) => object.number("not_settled", u64::from(*process)),
         Some(Waits::Known(list)) => {
             let mut items = Vec::new(telling.alloc);
-            for (place, waiting) in list.iter().enumerate() {
-                items.push(waiting_object(telling, place, waiting)?)?;
+            for waiting in list {
+                items.push(waiting_object(telling, waiting)?)?;
             }
             object.put("waits", Value::Array(items))
         }
     }
 }
 
-fn waiting_object(
-    telling: Telling<'_>,
-    place: usize,
-    waiting: &Waiting,
-) -> Result<Value, AllocError> {
+fn waiting_object(telling: Telling<'_>, waiting: &Waiting) -> Result<Value, AllocError> {
     let mut object = Object::new(telling.alloc);
-    put_place_number(&mut object, place)?;
     object.number("process", u64::from(waiting.process))?;
     object.text(
         "how",

@@ -117,28 +117,14 @@ fn push_ends(telling: Telling<'_>, text: &mut Prose) {
         " end is possible\n\n",
         " ends are possible\n\n",
     );
-    for (place, end) in ends.iter().enumerate() {
-        push_place_number(text, place, ends.len());
+    for end in ends {
         push_end(telling, text, end);
     }
     text.put_char('\n');
 }
 
-// The number of an end or a wait, by its place among so many, with which it can be shown.
-fn push_place_number(text: &mut Prose, place: usize, count: usize) {
-    let number = place.saturating_add(1);
-    for least in [10usize, 100, 1_000] {
-        text.put(if number < least && count >= least {
-            " "
-        } else {
-            ""
-        });
-    }
-    text.put_display(number);
-    text.put(".  ");
-}
-
 fn push_end(telling: Telling<'_>, text: &mut Prose, end: &ToldEnd) {
+    text.put("  ");
     push_kind(telling, text, end.end);
     text.put_char('\n');
     push_words(telling, text, telling.findings.word_name(), &end.word);
@@ -275,8 +261,7 @@ fn push_waits(telling: Telling<'_>, text: &mut Prose) {
         " process may wait for ever while others go on\n\n",
         " processes may wait for ever while others go on\n\n",
     );
-    for (place, waiting) in list.iter().enumerate() {
-        push_place_number(text, place, list.len());
+    for waiting in list {
         push_waiting(telling, text, waiting);
     }
     text.put_char('\n');
@@ -284,6 +269,7 @@ fn push_waits(telling: Telling<'_>, text: &mut Prose) {
 
 // A sentence on a process that may wait for ever, where it waits, and the words that show it.
 fn push_waiting(telling: Telling<'_>, text: &mut Prose, waiting: &Waiting) {
+    text.put("  ");
     push_process(telling, text, waiting.process);
     text.put(match waiting.how {
         How::Throughout => " may wait for ever",

@@ -33,7 +33,7 @@ impl Simples {
         for tally in tallies.as_slice() {
             outcomes.push(&tally.outcome)?;
         }
-        match simplest(alloc, job, states as usize, &outcomes, observer)? {
+        match simplest(alloc, job, states, &outcomes, observer)? {
             Searched::Found(words) => Ok(Simples { words: Some(words) }),
             Searched::TooMany => Ok(Simples { words: None }),
         }

@@ -8,13 +8,13 @@ pub const BEGIN: &str = r##"<!DOCTYPE html>
 <meta http-equiv="Content-Security-Policy" content="default-src 'none'; base-uri 'none'; form-action 'none'; style-src 'sha256-"##;
 
 /// The SHA-256 of the style sheet to the base 64.
-pub const STYLE_HASH: &str = "RTLgf1KrIvZAucRe0SAeZwU36yvECbnEZMUy3wI1WqQ=";
+pub const STYLE_HASH: &str = "kJsSmYIWoN9IskZIrAuCuKy5tEJGIBgXssCm4H3NXi0=";
 
 /// Between the hashes.
 pub const BETWEEN: &str = "'; script-src 'sha256-";
 
 /// The SHA-256 of the script to the base 64.
-pub const SCRIPT_HASH: &str = "1ujfzgGU3jrOeiOGnGas5y87xDKIqX/jlUfKpx0lTX8=";
+pub const SCRIPT_HASH: &str = "y0xU3BCBeCKuUHyOSFqxTaUo0voIDTWhO987Wc5JiJU=";
 
 /// Between the hash of the script and the style sheet.
 pub const HEAD: &str = r##"'">

@@ -37,11 +37,15 @@ let isBrief = false; // Whether outcomes are counted by their kinds alone.
 let memo = new Map();
 let room = 0;
 
+// Where there are too many even by their kinds, it is not known to what the rest leads.
+const UNKNOWN = new Map([["beyond\t", 1n]]);
+
 // Outcome -> how many of the ways on from a node have it, with so many choices left.
 function ways(node, left) {
-  const key = node + "/" + leftAt(node, left);
+  const key = 128 * node + leftAt(node, left);
   const known = memo.get(key);
   if (known) return known;
+  if (room < 0) return UNKNOWN;
   const found = new Map(left ? [] : [["choice-limit\t", 1n]]);
   if (left) {
     for (const edge of NODES[node].edges) {
@@ -50,7 +54,7 @@ function ways(node, left) {
   }
   memo.set(key, found);
   room -= found.size;
-  if (room < 0) throw new RangeError("too many");
+  if (room < 0 && !isBrief) throw new RangeError("too many");
   return found;
 }
 

@@ -16,8 +16,8 @@ function signs() {
     [sample(numberAt("taken", "opt", 10)), "was chosen to go on"],
     [sample(numberAt("", "opt", 10)), "could have been chosen: a click takes it"],
     [sample(numberAt("", "opt", 2)), "could have been let in"],
-    [sample(svg("rect", { x: 6, y: 3, width: 32, height: 18, rx: 5, class: "box m0" })), "inside a monitor, which has this colour"],
-    [sample(svg("rect", { x: 12, y: 2, width: 20, height: 20, rx: 4, class: "hold m0" }), svg("text", { x: 22, y: 16, class: "inv" }, "1")), "who is inside, in the column of the monitor"],
+    [sample(svg("rect", { x: 6, y: 3, width: 32, height: 18, rx: 5, class: "box soft m0" })), "inside a monitor, which has this colour"],
+    [sample(svg("rect", { x: 12, y: 2, width: 20, height: 20, rx: 4, class: "strong m0" }), svg("text", { x: 22, y: 16, class: "inv held m0" }, "1")), "who is inside, in the column of the monitor"],
     [sample(waitAt("g", "")), "waits at the gate"],
     [sample(signAt(GATE)), "comes to the gate, and somebody is inside"],
     [sample(waitAt("d", "")), "waits in a queue"],
@@ -29,10 +29,11 @@ function signs() {
     [arrowAt("in"), "is let in at the gate"],
     [sample(svg("rect", { x: 9, y: 3, width: 26, height: 18, rx: 9, class: "dot" }), svg("text", { x: 22, y: 16, class: "inv" }, "7")), "is displayed"],
     [sample(svg("rect", { x: 2, y: 2, width: 40, height: 20, class: "band at" })), "the last choice"],
-    [sample(svg("rect", { x: 8, y: 2, width: 28, height: 20, rx: 5, class: "box m0" }), svg("rect", { x: 0, y: 0, width: 44, height: 24, class: "ahead" })), "pale: lies ahead"],
+    [sample(svg("rect", { x: 8, y: 2, width: 28, height: 20, rx: 5, class: "box soft m0" }), svg("rect", { x: 0, y: 0, width: 44, height: 24, class: "ahead" })), "pale: lies ahead"],
     [sample(svg("rect", { x: 4, y: 3, width: 36, height: 18, rx: 4, class: "folded" }), svg("text", { x: 22, y: 16, class: "on sign" }, "9\u00d7")), "so many rows in one: a click unfolds them"],
     [sample(svg("line", { x1: 2, y1: 12, x2: 42, y2: 12, class: "point all-waiting" })), "the point of no return"],
   ];
+  if (MONITORS.some(isHatched)) all.push([sample(svg("rect", { x: 6, y: 3, width: 32, height: 18, rx: 5, class: "box m0", fill: patternOf("s", HUES) })), "with a hatch: inside a monitor behind the eighth"]);
   if (isEndless) all.push([sample(svg("path", { d: "M26 20H18V4H26", class: "round", "marker-end": "url(#turn)" })), "a round, which can be gone again and again"]);
   return el("ul", { id: "signs", "aria-label": "Key to the signs" }, all.map(([shape, says]) => el("li", {}, shape, says)));
 }

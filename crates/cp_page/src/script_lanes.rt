@@ -4,7 +4,7 @@
 pub const LANES: &str = r##"// ---- the lanes of all that is laid out: what lies ahead is pale ----
 
 const H = 28;
-const HEAD = 54; // The height of the heads.
+const HEAD = 60; // The height of the heads.
 const TOP = 4;
 const CHOICE = 28; // The width of a number that can be clicked at.
 const LEAST_SCALE = .86; // So that what can be clicked at has 24 pixels.
@@ -61,7 +61,7 @@ function planOf(all, panel, scale, pointRow) {
   const choices = 42 + CHOICE * options;
   const briefs = folds.map(fold => foldWords(all, fold)[0]);
   const need = 46 + Math.max(0, ...[...rows.map(r => saying(r.event)[0]), ...briefs].map(says => widthOf(says)));
-  const changes = Math.max(60, ...rows.map(r => 10 + widthOf(changed(r).map(c => c[1]).join("   "))));
+  const changes = Math.max(60, ...rows.map(r => 10 + SWATCH * changed(r).length + widthOf(changed(r).map(c => c[1]).join("   "))));
   const space = (panel.clientWidth / scale - choices - 25 * MONITORS.length - Math.min(changes, 150) - 18) / n;
   const labels = [...rows.map(r => widthOf(saying(r.event).at(-1), LOUD) + 8), ...D.processes.map(([label]) => widthOf(label, LOUD) + 2)];
   const least = Math.min(116, 34 + Math.max(...labels));
@@ -155,16 +155,24 @@ function lastChanges(events) {
   return [...last].flat();
 }
 
-// [look, words] of what changed, of a monitor or of a process.
+// [look, words, monitor] of what changed, of a monitor or of a process, which is -1 there.
 function changed({ event: { changes } }) {
   const found = new Map();
   for (let i = 0; i < changes.length; i += 2) {
     const [isOwn, owner, name] = D.variables[changes[i]];
     const whose = (isOwn ? owner : monitor(owner)) + ": ";
     const before = found.has(whose) ? found.get(whose)[1] + ", " : whose;
-    found.set(whose, [isOwn ? "dim" : "changed " + hue(owner), before + `${S[name]} := ${S[changes[i + 1]]}`]);
+    found.set(whose, [isOwn ? "dim" : "", before + `${S[name]} := ${S[changes[i + 1]]}`, isOwn ? -1 : owner]);
   }
   return [...found.values()];
+}
+
+// What changed, with a sign in the colour of its monitor.
+const SWATCH = 16;
+function changeLetters([look, words, m], j) {
+  const space = { dx: j ? 10 : 0 };
+  if (m < 0) return svg("tspan", { class: look, ...space }, words);
+  return [svg("tspan", { class: "swatch strong " + hue(m), ...space }, isHatched(m) ? "\u25a8" : "\u25a0"), svg("tspan", { dx: 3 }, words)];
 }
 
 function optionShapes(r, y) {
@@ -199,14 +207,20 @@ function foldHit(rows, { y, width }, { from, to }) {
   return svg("g", { onclick: unfolds, class: "pick" }, rect(0, y(from) - H / 2, width, H, 0, "hit"), svg("title", {}, says + ": a click shows each"));
 }
 
+// The patterns of a monitor: `g` of who waits at its gate, `d` of who is delayed, and where it has a hatch `s` of boxes and `b` of bars.
+const patternOf = (kind, m) => `url(#${kind}${isHatched(m) ? HUES + m % HUES : m})`;
+const filled = (kind, m) => isHatched(m) ? { fill: patternOf(kind, m) } : {};
+const softly = m => isHatched(m) ? hue(m) : "soft " + hue(m);
+const strongly = m => isHatched(m) ? hue(m) : "strong " + hue(m);
+
 function monitorShapes(f, { lane, laneX, barX }, isStuck) {
   const boxes = f.boxes.map(({ p, m, from, to, depth }) => [
-    rect(laneX(p) - 3 + 6 * depth, from, lane - 8 - 10 * depth, to - from, 5, "box " + hue(m)),
-    rect(barX(m), from, 20, to - from, 4, "hold " + hue(m)),
+    rect(laneX(p) - 3 + 6 * depth, from, lane - 8 - 10 * depth, to - from, 5, "box " + softly(m), filled("s", m)),
+    rect(barX(m), from, 20, to - from, 4, strongly(m), filled("b", m)),
   ]);
   const waits = f.waits.map(({ p, m, kind, from, to, isOver }) => {
     const look = `wait ${hue(m)}${isStuck && !isOver ? " ever" : ""}`;
-    return rect(laneX(p) + 4, from, 16, to - from - 2, 4, look, { fill: `url(#${kind}${m % 8})` });
+    return rect(laneX(p) + 4, from, 16, to - from - 2, 4, look, { fill: patternOf(kind, m) });
   });
   return [boxes, waits];
 }
@@ -217,18 +231,22 @@ const LETTER = 14; // The room that a number in a bar wants.
 function barLetters(f, { barX }, now) {
   return f.boxes.map(({ p, m, from, to }) => {
     const [top, low] = now - from > LETTER ? [from, Math.min(to, now)] : [Math.max(from, Math.min(now, to)), to];
-    return low - top > LETTER && svg("g", { class: top >= now ? "later" : "" }, text(barX(m) + 10, (top + low) / 2 + 4, "inv", String(p)));
+    const [x, y] = [barX(m) + 10, (top + low) / 2];
+    const isLater = top >= now;
+    const disc = isHatched(m) && !isLater && svg("circle", { cx: x, cy: y, r: 8, class: "strong " + hue(m) });
+    return low - top > LETTER && svg("g", { class: isLater ? "later" : "" }, disc, text(x, y + 4, "inv held " + hue(m), String(p)));
   });
 }
 
 function headShapes({ lane, laneX, barX }) {
   const processes = D.processes.map(([label], p) => [
-    rect(laneX(p) + 2, 26, 21, 21, 11, "dot"),
-    text(laneX(p) + 12.5, 41, "inv", String(p)),
-    text(laneX(p) + 28, 41, "loud", cut(label, lane - 29, LOUD)),
+    rect(laneX(p) + 2, 32, 21, 21, 11, "dot"),
+    text(laneX(p) + 12.5, 47, "inv", String(p)),
+    text(laneX(p) + 28, 47, "loud", cut(label, lane - 29, LOUD)),
   ]);
   const monitors = D.monitors.map(([label], m) => {
-    return svg("g", { transform: `translate(${barX(m) + 8} 50) rotate(-32)` }, text(0, 0, "changed loud " + hue(m), cut(label, 90, LOUD)));
+    const name = svg("g", { transform: `translate(${barX(m) + 8} 50) rotate(-32)` }, text(0, 0, "loud", cut(label, 90, LOUD)));
+    return svg("g", { class: "head" }, rect(barX(m), 53, 20, 6, 1, strongly(m), filled("b", m)), name);
   });
   return [processes, monitors];
 }
@@ -282,7 +300,7 @@ function pictureOf(s, plan, point) {
   const isNow = i => rows[i].used === at && at > 0;
   const pale = (i, ...what) => svg("g", { class: y(i) > now ? "later" : "" }, ...what);
   const columns = (i, number, row) => pale(i, text(12, y(i) + 4, "dim", number),
-    text(changeX, y(i) + 4, "lab", changed(row).map(([look, what], j) => svg("tspan", { class: look, dx: j ? 10 : 0 }, what))));
+    text(changeX, y(i) + 4, "lab", changed(row).map(changeLetters)));
   const folded = folds.map(fold => [fold.from, ...foldShapes(rows, plan, fold)]);
   return [
     lines.map(i => (lineOf[i] % 2 === 0 || isNow(i)) && rect(0, y(i) - H / 2, width, H, 0, isNow(i) ? "band at" : "band")),
@@ -305,13 +323,23 @@ function pictureOf(s, plan, point) {
   ];
 }
 
-// Stripes for who waits at a gate, and dots for who is delayed, in the colour of each monitor.
+// Stripes for who waits at a gate, and dots for who is delayed, in the colour of each monitor. A hatch crosses them, and boxes and bars have it too.
 function patterns() {
-  const each = m => [
-    svg("pattern", { id: "g" + m, width: 10, height: 10, patternUnits: "userSpaceOnUse" }, svg("path", { d: "M-2 8L8 -2M3 13L13 3", class: "wait " + hue(m) })),
-    svg("pattern", { id: "d" + m, width: 6, height: 6, patternUnits: "userSpaceOnUse" }, svg("circle", { cx: 3, cy: 3, r: 1.4, class: "hold " + hue(m) })),
-  ];
-  return MONITORS.slice(0, 8).map(each).flat();
+  const drawn = (id, size, ...shapes) => svg("pattern", { id, width: size, height: size, patternUnits: "userSpaceOnUse" }, shapes);
+  const each = m => {
+    const stripes = svg("path", { d: "M-2 8L8 -2M3 13L13 3", class: "wait " + hue(m) });
+    const dot = svg("circle", { cx: 3, cy: 3, r: 1.4, class: "strong " + hue(m) });
+    if (!isHatched(m)) return [drawn("g" + m, 10, stripes), drawn("d" + m, 6, dot)];
+    const ground = look => rect(0, 0, 10, 10, 0, look + " " + hue(m));
+    const hatch = () => svg("path", { d: "M2 -2L12 8M-3 3L7 13", class: "hatch" });
+    return [
+      drawn("g" + m, 10, stripes, svg("path", { d: "M2 -2L12 8M-3 3L7 13", class: "wait " + hue(m) })),
+      drawn("d" + m, 6, dot, svg("path", { d: "M0 0L6 6", class: "wait " + hue(m) })),
+      drawn("s" + m, 10, ground("soft"), hatch()),
+      drawn("b" + m, 10, ground("strong"), hatch()),
+    ];
+  };
+  return MONITORS.slice(0, 2 * HUES).map(each).flat();
 }
 
 function wordsList(rows) {

@@ -103,7 +103,7 @@ function endCard(s) {
     waiting.map(p => el("p", {}, disc(p, s.status[p]), ` ${D.processes[p][0]} is ${statusOf(s, p)}`)));
 }
 
-// A part for each outcome, or where there are many for each kind.
+// A part for each outcome, or where there are many for each kind. There is no bar where it is not known how many lead on to which.
 function outlook(counts, output) {
   const sum = total(counts.map(([, n]) => n));
   const parts = new Map();
@@ -124,7 +124,7 @@ function outlook(counts, output) {
     const shown = label.split("\t")[1];
     return [i > 0 && ", ", (leaves || list.length > 1) && number(n) + " ", mark(kindOf(label)), shown && " " + shown];
   };
-  return [el("span", { class: "bar", "aria-hidden": "true" }, shares), el("small", {}, head, list.map(says))];
+  return [!leaves && el("span", { class: "bar", "aria-hidden": "true" }, shares), el("small", {}, head, list.map(says))];
 }
 
 const keyOf = p => "0123456789abcdef"[p];
@@ -164,7 +164,7 @@ function monitorCard(s, old, m) {
   const holder = s.holder[m];
   const inside = holder === null ? "nobody inside" : ["inside ", disc(holder, "ready")];
   const line = s.gate[m].length > 0 && [" \u00b7 at the gate ", s.gate[m].map(p => disc(p, "gate"))];
-  return el("div", { class: "card monitor " + hue(m) },
+  return el("div", { class: `card monitor ${hue(m)}${isHatched(m) ? " hatched" : ""}` },
     el("p", {}, el("h3", {}, label), " ", el("small", {}, type), " \u00b7 ", inside, line), el("p", {}, variablesOf(0, m).map(variable)));
 }
 

@@ -55,7 +55,10 @@ const el = (tag, attributes, ...kids) => fill(document.createElement(tag), attri
 const svg = (tag, attributes, ...kids) => fill(document.createElementNS("http://www.w3.org/2000/svg", tag), attributes, kids);
 const disc = (p, status) => el("span", { class: "num " + status }, String(p));
 const mark = kind => el("span", { class: "kind " + kind }, kindText(kind));
-const hue = m => "m" + m % 8;
+// Each of eight monitors has a colour of its own; from the ninth on they come with a hatch, again and again.
+const HUES = 8;
+const hue = m => "m" + m % HUES;
+const isHatched = m => m >= HUES;
 
 function number(n) {
   const digits = n.toString();

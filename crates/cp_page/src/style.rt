@@ -2,27 +2,27 @@
 
 /// The style sheet.
 pub const STYLE: &str = r##"
-:root { color-scheme: light dark; --ink: #1f2933; --grey: #505c68; --pale: #98a2ad; --ground: #ffffff; --band: #f4f6fa; --line: #d5dae1; --red: #b3261e; --green: #2e7d32; --limit: #5c6772; --ever: #8a5a00; --mark: #fff3bf; --soft: 18%; --focus: #1a5fb4 }
+:root { color-scheme: light dark; --ink: #1f2933; --grey: #505c68; --pale: #98a2ad; --ground: #ffffff; --band: #f4f6fa; --line: #d5dae1; --red: #b3261e; --green: #2e7d32; --limit: #5c6772; --ever: #8a5a00; --mark: #fff3bf; --focus: #1a5fb4 }
 @media screen and (prefers-color-scheme: dark) {
-  :root { --ink: #e6eaee; --grey: #a3aeb9; --pale: #75808b; --ground: #14181d; --band: #1c2229; --line: #36404a; --red: #ff8a80; --green: #7ccb80; --limit: #98a2ad; --ever: #e6b450; --mark: #4a4012; --soft: 24%; --focus: #8ab4f8 }
+  :root { --ink: #e6eaee; --grey: #a3aeb9; --pale: #75808b; --ground: #14181d; --band: #1c2229; --line: #36404a; --red: #ff8a80; --green: #7ccb80; --limit: #98a2ad; --ever: #e6b450; --mark: #4a4012; --focus: #8ab4f8 }
 }
-.m0 { --c: #2f6fb3 }
-.m1 { --c: #c8641b }
-.m2 { --c: #3b7d3a }
-.m3 { --c: #7a4fa3 }
-.m4 { --c: #1f7a7a }
-.m5 { --c: #a83e78 }
-.m6 { --c: #7a5a36 }
-.m7 { --c: #6b6a12 }
+.m0 { --c: #1f5fa8; --s: #dbe5f1; --l: #ffffff }
+.m1 { --c: #e2801e; --s: #f9e6d2; --l: #1f2933 }
+.m2 { --c: #5fa59e; --s: #dcebea; --l: #1f2933 }
+.m3 { --c: #a585ff; --s: #ebe4ff; --l: #1f2933 }
+.m4 { --c: #9f4814; --s: #f0e2d9; --l: #ffffff }
+.m5 { --c: #686061; --s: #e1dfdf; --l: #ffffff }
+.m6 { --c: #1c293b; --s: #e4e5e7; --l: #ffffff }
+.m7 { --c: #441b11; --s: #e5dfde; --l: #ffffff }
 @media screen and (prefers-color-scheme: dark) {
-  .m0 { --c: #6ea8e6 }
-  .m1 { --c: #ee9350 }
-  .m2 { --c: #7fbf7d }
-  .m3 { --c: #b794dd }
-  .m4 { --c: #5cbcbc }
-  .m5 { --c: #e083b6 }
-  .m6 { --c: #bf9a6e }
-  .m7 { --c: #b7b54f }
+  .m0 { --c: #4c66a4; --s: #252f46; --l: #ffffff }
+  .m1 { --c: #e47a02; --s: #523515; --l: #14181d }
+  .m2 { --c: #73c592; --s: #2c433a; --l: #14181d }
+  .m3 { --c: #d38deb; --s: #483855; --l: #14181d }
+  .m4 { --c: #a04b3a; --s: #3e2726; --l: #ffffff }
+  .m5 { --c: #8a8283; --s: #37383c; --l: #14181d }
+  .m6 { --c: #e1fbf4; --s: #384043; --l: #14181d }
+  .m7 { --c: #fffa77; --s: #3d402d; --l: #14181d }
 }
 * { box-sizing: border-box }
 @keyframes late { from { visibility: hidden } }
@@ -96,7 +96,7 @@ small, .quiet { color: var(--grey); font-size: .88em }
 .go { display: block; width: 100%; text-align: left; margin: .25em 0 .1em; padding: .3em .6em; border-width: 2px; border-color: var(--ink) }
 .go.next { box-shadow: inset .45em 0 var(--focus); padding-left: 1em }
 .monitor { border-left: .45em solid var(--c) }
-.monitor h3 { color: color-mix(in srgb, var(--c) 80%, var(--ink)) }
+.monitor.hatched { border-left-color: transparent; background: repeating-linear-gradient(135deg, var(--c) 0 5px, var(--ground) 5px 8px) 0 0 / .45em 100% no-repeat border-box }
 h3 { margin: 0; font-size: 1em; display: inline }
 .value { font-family: ui-monospace, "DejaVu Sans Mono", monospace; font-size: .92em; margin-right: 1em; display: inline-block }
 .value.new { background: var(--mark); font-weight: 600; border-radius: .2em; padding: 0 .2em }
@@ -143,13 +143,15 @@ svg .life { stroke: var(--pale); stroke-width: 1.5 }
 svg .dot { fill: var(--ink) }
 svg .arrow { stroke: var(--ink); stroke-width: 1.5; fill: none }
 svg .arrow.in { stroke-dasharray: 5 3 }
-svg .box { fill: color-mix(in srgb, var(--c) var(--soft), var(--ground)); stroke: var(--c); stroke-width: 1.6 }
-svg .hold { fill: color-mix(in srgb, var(--c) 80%, var(--ink)) }
+svg .box { stroke: var(--c); stroke-width: 1.6 }
+svg .soft { fill: var(--s) }
+svg .strong { fill: var(--c) }
+svg .hatch { stroke: var(--ground); stroke-width: 2.4 }
 svg text.lab { font-size: 12.5px }
 svg text.inv { fill: var(--ground); font-weight: 700; font-size: 12px; text-anchor: middle }
+svg text.held { fill: var(--l) }
 svg .wait { stroke: var(--c); stroke-width: 1.8 }
 svg .wait.ever { stroke: var(--red); stroke-width: 3 }
-svg .changed { fill: color-mix(in srgb, var(--c) 80%, var(--ink)) }
 svg .opt { fill: var(--ground); stroke: var(--pale) }
 svg .taken .opt { fill: var(--ink); stroke: var(--ink) }
 svg .pick { cursor: pointer }
@@ -161,7 +163,7 @@ svg .hit { fill: transparent; cursor: pointer }
 svg .loud { font-weight: 700 }
 svg text.ended { fill: var(--k); font-size: 15px }
 svg text .dim { fill: var(--grey) }
-svg .later text, svg .later tspan { fill: var(--grey) }
+svg .later text, svg .later tspan:not(.swatch) { fill: var(--grey) }
 svg .later text.inv { fill: var(--ink) }
 details { margin-top: .6em }
 details ol { margin: .3em 0; padding-left: 2.4em }

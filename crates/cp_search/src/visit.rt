@@ -53,20 +53,25 @@ pub trait Visit {
         ensures within { result ≡ true → within self.new job.now number (machine_of state.new) [] }
         ensures over { result ≡ false → over self.new job.now };
 
-    /// Takes a choice in the state of this number, and notes what is met. `false` where there is no room for it.
+    /// Takes a choice in the state of this number, and notes what is met. `false` where there is no room for it. `next` is a copy of the state, and
+    /// is one again afterwards, unless there was no room.
     fn take(
         &mut self,
         job: &SearchJob<'_>,
         at: u32,
-        state: &mut State,
+        state: &State,
+        next: &mut State,
         process: u8,
     ) -> Result<bool, AllocError>
-        requires own { IsStateOf job.now.program.now state.old }
+        requires own { IsStateOf job.now.program.now state.now }
+        requires next { IsStateOf job.now.program.now next.old }
+        requires copied { machine_of next.old ≡ machine_of state.now }
         requires below { process < processes_of job.now.program.now }
-        requires may { may (slots job.now.program.now job.now.limits.discipline) (machine_of state.old) process ≡ true }
-        requires within { within self.old job.now at (machine_of state.old) (those_below process (may (slots job.now.program.now job.now.limits.discipline) (machine_of state.old))) }
-        ensures own { IsStateOf job.now.program.now state.new }
-        ensures within { IfOk result (λ is_room. is_room ≡ true → within self.new job.now at (machine_of state.old) (those_below process (may (slots job.now.program.now job.now.limits.discipline) (machine_of state.old)) ++ process ∷ [])) }
+        requires may { may (slots job.now.program.now job.now.limits.discipline) (machine_of state.now) process ≡ true }
+        requires within { within self.old job.now at (machine_of state.now) (those_below process (may (slots job.now.program.now job.now.limits.discipline) (machine_of state.now))) }
+        ensures next { IsStateOf job.now.program.now next.new }
+        ensures copied { IfOk result (λ is_room. is_room ≡ true → machine_of next.new ≡ machine_of state.now) }
+        ensures within { IfOk result (λ is_room. is_room ≡ true → within self.new job.now at (machine_of state.now) (those_below process (may (slots job.now.program.now job.now.limits.discipline) (machine_of state.now)) ++ process ∷ [])) }
         ensures stops { IfOk result (λ is_room. is_room ≡ false → stops self.new job.now at) };
 
     /// The state of this number was gone on from with each number that may be chosen there.
@@ -129,9 +134,9 @@ pub fn take_choices<V: Visit>(
     ensures taken { IfOk result (λ is_room. IsTaken (V.before visit.new job.now) (V.stops visit.new job.now) at is_room) }
 {
     let numbers = candidates(job.program, job.limits, state);
+    next.take_from(state);
     for process in numbers.as_slice() {
-        next.take_from(state);
-        if !visit.take(job, at, next, *process)? {
+        if !visit.take(job, at, state, next, *process)? {
             return Ok(false);
         }
     }

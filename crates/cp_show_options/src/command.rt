@@ -1,7 +1,6 @@
 //! The command of `cpx_show`, as `clap` knows it: a subcommand for each part.
 
 use clap::{Arg, ArgAction, Command};
-use cp_prose::Prose;
 use std::alloc::{AllocError, Global};
 
 const ABOUT: &str =
@@ -45,18 +44,6 @@ const OUTCOME: OptionWords = OptionWords::Valued(
     "In place of --schedule: the first schedule of the outcome that `outcomes` tells with this number",
 );
 
-const END: OptionWords = OptionWords::Valued(
-    "end",
-    "N",
-    "In place of --schedule: that of the end that `ends` tells with this number",
-);
-
-const WAIT: OptionWords = OptionWords::Valued(
-    "wait",
-    "N",
-    "In place of --schedule: that of the wait that `ends --waits` tells with this number, and its round",
-);
-
 const SIMPLEST: OptionWords = OptionWords::Switch(
     "simplest",
     "With --outcome: its simplest schedule, in which processes are switched least",
@@ -74,15 +61,14 @@ const ONE_SCHEDULE: &[OptionWords] = &[
     OptionWords::Valued(
         "again",
         "WORD",
-        "With --schedule: a round after it that can be gone again and again",
+        "A round after it that can be gone again and again; with it --ends is as good as given",
     ),
-    END,
-    WAIT,
+    ENDS,
 ];
 
 const ENDS: OptionWords = OptionWords::Switch(
     "ends",
-    "Take schedules of any length, as cpx does with --ends",
+    "Take schedules as cpx does with --ends: of up to 100 choices, or for a mark of any length",
 );
 
 const CHOICES: OptionWords = OptionWords::Valued(
@@ -153,8 +139,6 @@ const PLAYING: &[OptionWords] = &[
         "WORD",
         "With --schedule: a round after it that can be gone again and again; with it --ends is as good as given",
     ),
-    END,
-    WAIT,
     CHOICES,
     STEPS,
     GATES,
@@ -211,14 +195,14 @@ static PARTS: [PartWords; 7] = [
     PartWords {
         name: "trace",
         about: "Tells one schedule in names: a line for each kernel call",
-        usage: "cpx_show trace --schedule WORD|--outcome N|--end N|--wait N [OPTIONS] < PROGRAM",
+        usage: "cpx_show trace --schedule WORD|--outcome N [OPTIONS] < PROGRAM",
         options: &[ONE_SCHEDULE, LIMITS, &[JSON]],
         notes: "",
     },
     PartWords {
         name: "lanes",
         about: "Draws one schedule as a picture: SVG with a lane for each process",
-        usage: "cpx_show lanes --schedule WORD|--outcome N|--end N|--wait N [OPTIONS] < PROGRAM > PICTURE.svg",
+        usage: "cpx_show lanes --schedule WORD|--outcome N [OPTIONS] < PROGRAM > PICTURE.svg",
         options: &[DRAWING, ONE_SCHEDULE, LIMITS],
         notes: "",
     },
@@ -247,8 +231,8 @@ static PARTS: [PartWords; 7] = [
         name: "refusal",
         about: "Says why a source is refused, in a sentence; or that it is accepted, with hints",
         usage: "cpx_show refusal [OPTIONS] < PROGRAM",
-        options: &[&[JSON, WHERE, SIGNALS]],
-        notes: "The hints are those of the rule that --signals names.",
+        options: &[&[JSON, WHERE], LIMITS],
+        notes: "Of the options of a run, --signals alone changes something here: the hints.",
     },
     PartWords {
         name: "mark",
@@ -258,40 +242,6 @@ static PARTS: [PartWords; 7] = [
         notes: EXPECTATIONS,
     },
 ];
-
-/// What is said of a first word that is no part: which parts there are, and the one that is meant, which begins as the word does.
-pub fn part_reason(alloc: Global, word: &str) -> Result<String, AllocError> {
-    let mut reason = Prose::new(alloc);
-    if !word.is_empty() {
-        reason.put("there is no part ");
-        reason.put(word);
-        for part in &PARTS {
-            if word.as_bytes().get(..2) == part.name.as_bytes().get(..2) {
-                reason.put(": ");
-                reason.put(part.name);
-                reason.put(" is meant");
-            }
-        }
-        reason.put("; ");
-    }
-    let mut before = "the parts are ";
-    for part in &PARTS {
-        reason.put(before);
-        reason.put(part.name);
-        before = ", ";
-    }
-    reason.finish()
-}
-
-/// Whether a part has this name.
-pub fn is_part(word: &str) -> bool {
-    for part in &PARTS {
-        if part.name == word {
-            return true;
-        }
-    }
-    false
-}
 
 /// The command with all its parts; `clap` adds `--help` and `-h` to each.
 pub fn command<'a>(alloc: Global) -> Result<Command<'a>, AllocError> {

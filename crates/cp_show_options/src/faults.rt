@@ -1,6 +1,5 @@
 //! What is wrong with how a schedule or a page is named among the words.
 
-use crate::parts::EndsItem;
 use clap::ArgMatches;
 use cp_lanes::SheetExtent;
 
@@ -50,75 +49,49 @@ pub fn outcome_of(matches: &ArgMatches<'_>) -> Option<usize> {
     number_of(matches.get_str("outcome")?)
 }
 
-/// The end or the wait that is shown, if one is named; one with a number that is none has the number 0.
-pub fn item_of(matches: &ArgMatches<'_>) -> Option<EndsItem> {
-    if let Some(end) = matches.get_str("end") {
-        return Some(EndsItem::End(number_of(end).unwrap_or(0)));
-    }
-    let wait = matches.get_str("wait")?;
-    Some(EndsItem::Wait(number_of(wait).unwrap_or(0)))
-}
-
 /// What is wrong with how one schedule is named, if it is to be shown.
 pub fn choice_fault(name: &str, matches: &ArgMatches<'_>) -> &'static str {
-    match name {
-        "page" => page_fault(matches),
-        "lanes" if extent_of(matches).is_none() => {
-            "--rows A-B or --last N is wanted, with numbers from 1 on"
-        }
-        "trace" | "lanes" if names_given(matches) == 0 => {
-            "--schedule WORD, --outcome N, --end N or --wait N is wanted"
-        }
-        "trace" | "lanes" => name_fault(matches),
-        _ => "",
+    if name == "page" {
+        return page_fault(matches);
     }
-}
-
-// In how many ways a schedule is named.
-fn names_given(matches: &ArgMatches<'_>) -> usize {
-    let mut count = 0usize;
-    for name in ["schedule", "outcome", "end", "wait"] {
-        if matches.get_str(name).is_some() {
-            count = count.saturating_add(1);
-        }
+    if name != "trace" && name != "lanes" {
+        return "";
     }
-    count
-}
-
-// What is wrong with the name of a schedule, which may be none.
-fn name_fault(matches: &ArgMatches<'_>) -> &'static str {
-    if names_given(matches) > 1 {
-        return "--schedule, --outcome, --end and --wait: one alone";
+    if name == "lanes" && extent_of(matches).is_none() {
+        return "--rows A-B or --last N is wanted, with numbers from 1 on";
     }
     let is_given = matches.get_str("outcome").is_some();
-    if is_given && outcome_of(matches).is_none() {
-        return "--outcome: a number from 1 on is wanted";
-    }
-    match item_of(matches) {
-        Some(EndsItem::End(0)) => return "--end: a number from 1 on is wanted",
-        Some(EndsItem::Wait(0)) => return "--wait: a number from 1 on is wanted",
-        Some(_) if matches.get_str("choices").is_some() => {
-            return "--choices: not beside --end or --wait";
-        }
-        _ => {}
-    }
     if !is_given && matches.get_flag("simplest") {
         return "--simplest: only beside --outcome";
     }
-    if matches.get_str("again").is_some() && matches.get_str("schedule").is_none() {
-        return "--again: only beside --schedule";
+    match matches.get_str("schedule") {
+        Some(_) if is_given => "--outcome: not beside --schedule",
+        Some(_) => "",
+        None if !is_given => "--schedule WORD or --outcome N is wanted",
+        None if outcome_of(matches).is_none() => "--outcome: a number from 1 on is wanted",
+        None if matches.get_str("again").is_some() => "--again: only beside --schedule",
+        None => "",
     }
-    ""
 }
 
 // What is wrong with the schedule with which a page is opened, or with its states; it may be opened with none.
 fn page_fault(matches: &ArgMatches<'_>) -> &'static str {
-    let fault = name_fault(matches);
-    if !fault.is_empty() {
-        return fault;
+    let is_given = matches.get_str("outcome").is_some();
+    if is_given && matches.get_str("schedule").is_some() {
+        return "--outcome: not beside --schedule";
     }
-    if matches.get_str("again").is_some() || matches.get_flag("ends") {
+    let has_round = matches.get_str("again").is_some();
+    if has_round && matches.get_str("schedule").is_none() {
+        return "--again: only beside --schedule";
+    }
+    if !is_given && matches.get_flag("simplest") {
+        return "--simplest: only beside --outcome";
+    }
+    if has_round || matches.get_flag("ends") {
         return endless_page_fault(matches);
+    }
+    if is_given && outcome_of(matches).is_none() {
+        return "--outcome: a number from 1 on is wanted";
     }
     page_states_fault(matches)
 }

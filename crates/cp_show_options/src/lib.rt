@@ -3,9 +3,7 @@
 
 mod command;
 mod faults;
-mod items;
 pub mod parts;
 mod words;
 
-pub use items::asked_at;
-pub use parts::{Asked, EndsItem, ShowPart, read_parts, refused_part};
+pub use parts::{Asked, ShowPart, read_parts, refused_part};

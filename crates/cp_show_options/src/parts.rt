@@ -3,8 +3,8 @@
 ghost use Rattle.std.specs.Prelude.{◌≡◌, Err, map, true};
 ghost use Rattle.cp_tool.specs.Options.{asks_version};
 
-use crate::command::{command, is_part, part_reason};
-use crate::faults::{USUAL_STATES, choice_fault, extent_of, item_of, outcome_of, page_states};
+use crate::command::command;
+use crate::faults::{USUAL_STATES, choice_fault, extent_of, outcome_of, page_states};
 use crate::words::{numbers_of, shared_words, texts_of, words_given};
 use clap::ArgMatches;
 use clap::error::ErrorKind;
@@ -65,15 +65,6 @@ impl ShowPart {
     }
 }
 
-/// What of the ends of a program is shown, by the number with which `ends` tells it, from 1 on.
-#[derive(Clone, Copy)]
-pub enum EndsItem {
-    /// An end.
-    End(usize),
-    /// A process that may wait for ever.
-    Wait(usize),
-}
-
 /// A part, and the options that are those of `cpx`.
 #[derive(Drop)]
 pub struct Asked {
@@ -83,8 +74,6 @@ pub struct Asked {
     pub outcome: Option<usize>,
     /// Whether it is the simplest in place of the first.
     pub simplest: bool,
-    /// The end or the wait whose schedule is shown, where none is given.
-    pub item: Option<EndsItem>,
     /// How many numbers at the end of the schedule are a round that can be gone again and again.
     pub round: usize,
 }
@@ -124,7 +113,6 @@ fn read_matches(alloc: Global, matches: &ArgMatches<'_>) -> Result<Asked, Option
         options,
         outcome: outcome_of(inner),
         simplest: inner.get_flag("simplest"),
-        item: item_of(inner),
         round: numbers_of(inner.get_str("again")),
     })
 }
@@ -198,10 +186,8 @@ pub fn refused_part<'a>(alloc: Global, words: &'a [&'a str]) -> Result<String, A
     let command = command(alloc)?;
     match command.try_get_matches_from(words) {
         Ok(matches) => refused_match(alloc, &matches),
-        Err(error) => match (error.kind(), words.get(1)) {
-            (ErrorKind::OutOfMemory, _) => Err(AllocError),
-            (_, None) => part_reason(alloc, ""),
-            (_, Some(word)) if !word.starts_with('-') && !is_part(word) => part_reason(alloc, word),
+        Err(error) => match error.kind() {
+            ErrorKind::OutOfMemory => Err(AllocError),
             _ => refused_word(alloc, format!(in alloc; "{error}")),
         },
     }

@@ -1,6 +1,5 @@
 //! The words that are given, as one text, and as `cpx` reads them.
 
-use crate::faults::item_of;
 use clap::ArgMatches;
 use cp_prose::Prose;
 use std::alloc::{AllocError, Global};
@@ -62,10 +61,7 @@ pub fn shared_words(
     if let Some(schedule) = matches.get_str("schedule") {
         words.push(schedule_word(alloc, schedule, matches.get_str("again"))?)?;
     }
-    let has_ends = with_ends
-        || matches.get_flag("ends")
-        || matches.get_str("again").is_some()
-        || item_of(matches).is_some();
+    let has_ends = with_ends || matches.get_flag("ends") || matches.get_str("again").is_some();
     words.push(String::from_str(alloc, if has_ends { "--ends" } else { "--merge" })?)?;
     for name in &SWITCHES {
         if matches.get_flag(name) {

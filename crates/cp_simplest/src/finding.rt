@@ -4,16 +4,15 @@ ghost use Rattle.std.specs.Prelude.{◌≡◌, ◌≤◌, IfOk, length, true};
 ghost use Rattle.cp_run.specs.Slots.{slots};
 ghost use Rattle.cp_simplest.specs.Simple as spec;
 
-use crate::levels::Word;
-use crate::search::SimplestSearch;
-use cp_machine::Ticks;
-use cp_merged::end_key::EndKey;
+use crate::search::SimplestVisit;
+use cp_machine::{State, Ticks};
+use cp_merged::Word;
 use cp_progress::ObserveProgress;
-use cp_run::{Limits, Outcome, OutcomeKind, Output, RunEnd, run};
+use cp_run::{Limits, Outcome, RunEnd, run};
+use cp_search::{SearchJob, visit_all};
 use cp_slots::Resolved;
 use cp_walk::Job;
 use cp_walk::numbers::is_same;
-use indexmap::IndexMap;
 use std::alloc::{AllocError, Global};
 use std::marker::Brand;
 use std::sync::ledger::{Blank, Ledger};
@@ -41,25 +40,25 @@ pub enum Searched {
 pub fn simplest<O: ObserveProgress>(
     alloc: Global,
     job: Job,
-    most: usize,
+    most: u32,
     outcomes: &[&Outcome],
     observer: &mut O,
 ) -> Result<Searched, AllocError> {
-    search_counted::<O, Brand, Brand>(
+    let Job { program, limits } = job;
+    // A state is gone on from by several words, so the visitor counts its states itself.
+    let job = SearchJob {
         alloc,
-        job,
-        most,
-        outcomes,
-        observer,
-        Blank::new(1),
-        Blank::new(1),
-    )
+        program,
+        limits,
+        most: u32::MAX,
+    };
+    let steps = Blank::new(1);
+    search_for::<O, Brand, Brand>(&job, most, outcomes, observer, steps, Blank::new(1))
 }
 
-fn search_counted<O: ObserveProgress, S: Ledger, C: Ledger>(
-    alloc: Global,
-    job: Job,
-    most: usize,
+fn search_for<O: ObserveProgress, S: Ledger, C: Ledger>(
+    job: &SearchJob<'_>,
+    most: u32,
     outcomes: &[&Outcome],
     observer: &mut O,
     steps: Blank,
@@ -72,43 +71,16 @@ fn search_counted<O: ObserveProgress, S: Ledger, C: Ledger>(
     requires calls_parts { calls.parts ≡ C.parts }
     requires calls_one { C.parts ≡ 1 }
 {
-    let mut steps: Ticks<S> = Ticks::new(steps);
-    let mut calls: Ticks<C> = Ticks::new(calls);
-    let Job { program, limits } = job;
-    let mut ends = IndexMap::new(alloc);
-    for (place, outcome) in outcomes.iter().enumerate() {
-        let outcome = Outcome {
-            kind: outcome.kind,
-            output: Output::of(alloc, outcome.output.as_slice())?,
-        };
-        ends.insert(EndKey { outcome }, place)?;
-    }
-    let mut search = SimplestSearch::new(alloc, limits, ends, has_limit(outcomes), most)?;
-    let mut states = Vec::new(alloc);
-    search.begin(alloc, program, limits, &mut states, &mut steps, &mut calls)?;
-    search.explore(
-        alloc,
-        program,
-        limits,
-        observer,
-        &mut states,
-        &mut steps,
-        &mut calls,
-    )?;
-    if search.is_full {
+    let mut visit: SimplestVisit<S, C> = SimplestVisit::new(job, most, outcomes, steps, calls)?;
+    let mut state = State::start(job.alloc, job.program, job.limits.discipline)?;
+    let mut next = state.copy(job.alloc)?;
+    if !visit.open(job, &mut state)? {
         return Ok(Searched::TooMany);
     }
-    Ok(Searched::Found(search.found))
-}
-
-// Whether runs end at the limit of choices.
-fn has_limit(outcomes: &[&Outcome]) -> bool {
-    for outcome in outcomes {
-        if outcome.kind == OutcomeKind::ChoiceLimit {
-            return true;
-        }
+    match visit_all(job, &mut visit, &mut state, &mut next, observer)? {
+        Some(_) => Ok(Searched::TooMany),
+        None => Ok(Searched::Found(visit.found)),
     }
-    false
 }
 
 /// Whether the run of a word uses all of it and ends with an outcome.

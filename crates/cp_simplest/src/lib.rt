@@ -2,8 +2,9 @@
 #![tactic(auto)]
 
 pub mod finding;
-mod levels;
-mod search;
-mod watching;
+pub mod label;
+pub mod search;
+pub mod states;
+pub mod watching;
 
 pub use finding::{Searched, SimplestSchedule, is_schedule_of, simplest};

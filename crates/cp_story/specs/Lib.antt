@@ -1,4 +1,3 @@
-pub mod Ahead
 pub mod Aimed
 pub mod Causes
 pub mod CauseText
@@ -11,8 +10,6 @@ pub mod Integers
 pub mod Joined
 pub mod Objects
 pub mod Passed
-pub mod ReasonText
-pub mod Reasons
 pub mod Sentences
 pub mod Story
 pub mod StoryData

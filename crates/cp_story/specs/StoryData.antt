@@ -25,7 +25,6 @@ use Rattle.cp_story.specs.Views.{decision_of, told_of, wait_of}
 use Rattle.cp_story.specs.Waiting.{Waiting}
 use Rattle.cp_story.specs.declared.cause.Cause.{Cause}
 use Rattle.cp_story.specs.declared.event.OpenCall.{OpenCall}
-use Rattle.cp_story.specs.ReasonText.{why_members}
 use Rattle.cp_story.specs.declared.story.Story.{Story}
 
 -- ---- processes and monitors
@@ -206,6 +205,6 @@ signals_members Return = []
 signals_members Continue = (codes "signals", text_data (codes "continue")) ∷ []
 signals_members Wait = (codes "signals", text_data (codes "wait")) ∷ []
 
--- and what a run that ended used and displayed; the processes that wait; the lines of the source; the discipline; and why nobody goes on
+-- and what a run that ended used and displayed; the processes that wait; the lines of the source; and the discipline
 abbrev pub story_data : Legend → Story → (word : List ℕ) → (source : List (List ℕ)) → Data
-story_data l s word source = object_with (first_members l s ++ outcome_members l (answer_of s.end) word ++ (codes "final", waits_data l (map wait_of s.waits.items)) ∷ (codes "source", lines_data source) ∷ signals_members s.signals ++ why_members l s.reasons.items)
+story_data l s word source = object_with (first_members l s ++ outcome_members l (answer_of s.end) word ++ (codes "final", waits_data l (map wait_of s.waits.items)) ∷ (codes "source", lines_data source) ∷ signals_members s.signals)

@@ -1,7 +1,6 @@
 //! One schedule told in names: its events, as text and as JSON.
 #![tactic(auto)]
 
-mod ahead;
 pub mod aim;
 pub mod cause;
 mod cause_objects;
@@ -15,9 +14,6 @@ pub mod objects;
 pub mod observer;
 mod open_calls;
 mod reading;
-mod reason_objects;
-mod reason_words;
-pub mod reasons;
 mod returned;
 mod statuses;
 mod stopping;
@@ -34,9 +30,6 @@ pub use event::{Change, Choice, Happening, OpenCall, Queue, Returned, StoryEvent
 pub use happening::arguments;
 pub use objects::json;
 pub use observer::Observer;
-pub use reason_objects::put_reasons;
-pub use reason_words::reason_text;
-pub use reasons::{Caller, WaitReason};
 pub use stopping::AbruptEnd;
 pub use story::{MOST_NUMBERS, Story, Wait, tell};
 pub use texts::{stop_words, text};

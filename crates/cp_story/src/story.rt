@@ -11,7 +11,6 @@ ghost use Rattle.cp_story.specs.Story.{story_of, decision_in, telling, told_more
 ghost use Rattle.cp_story.specs.Halted.{halted_seen, how_halted};
 ghost use Rattle.cp_run.specs.Stop.{numbers_left};
 ghost use Rattle.cp_story.specs.Causes.{cause_of_run};
-ghost use Rattle.cp_story.specs.Reasons.{reason_seen, reasons_of_run};
 ghost use Rattle.cp_story.specs.Told.{lines_of};
 ghost use Rattle.cp_story.specs.Views.{past_of, decision_of, telling_of, told_of, wait_of};
 ghost use Rattle.cp_story.specs.Waiting as waiting;
@@ -21,7 +20,6 @@ use crate::aim::{Aim, NONE, aim_of};
 use crate::cause::{Cause, cause_of_end};
 use crate::event::{Choice, OpenCall, StoryEvent};
 use crate::observer::Observer;
-use crate::reasons::{WaitReason, reasons_at};
 use crate::statuses::status_of;
 use crate::stopping::{AbruptEnd, abrupt_end};
 use cp_legend::Legend;
@@ -57,8 +55,6 @@ pub struct Story {
     pub stop: Option<AbruptEnd>,
     /// What the run error is of, where it stopped with one and that is known.
     pub cause: Option<Cause>,
-    /// Why those who wait in queues are not woken, where all wait.
-    pub reasons: Vec<WaitReason>,
     /// How many numbers of the word were not used, since the run had ended.
     pub left: usize,
     /// Who goes on after a `continue`.
@@ -304,7 +300,6 @@ pub fn tell<L: Ledger>(
     ensures answer { IfOk result (λ s. answer_of s.end ≡ run (slots program.now limits.discipline) limits.choices limits.steps word.now) }
     ensures stop { IfOk result (λ s. option_map halted_seen s.stop ≡ how_halted (legend_seen legend.now) program.now limits.discipline limits.choices limits.steps word.now) }
     ensures cause { IfOk result (λ s. s.cause ≡ cause_of_run program.now limits.discipline limits.choices limits.steps word.now) }
-    ensures reasons { IfOk result (λ s. map reason_seen s.reasons.items ≡ reasons_of_run (legend_seen legend.now) program.now limits.discipline limits.choices limits.steps word.now) }
     ensures left { IfOk result (λ s. s.left ≡ numbers_left word.now (run (slots program.now limits.discipline) limits.choices limits.steps word.now)) }
     ensures signals { IfOk result (λ s. s.signals ≡ limits.discipline.signals) }
     ensures ticks { ticks.new ≤ ticks.old + (limits.choices + 1) * limits.steps }
@@ -328,7 +323,6 @@ pub fn tell<L: Ledger>(
     let waits = waits_of(alloc, program, &state, &observer)?;
     let stop = abrupt_end(alloc, legend, &end, observer.last, &waits)?;
     let cause = cause_of_end(program, &state, &end);
-    let reasons = reasons_at(alloc, program, legend, &state, &end, &events, &waits)?;
     Ok(Story {
         events,
         last_choice: observer.choice,
@@ -336,7 +330,6 @@ pub fn tell<L: Ledger>(
         end,
         stop,
         cause,
-        reasons,
         left,
         signals: limits.discipline.signals,
     })

@@ -118,13 +118,15 @@ impl<S: Ledger> Visit for GraphVisit<S> {
         &mut self,
         job: &SearchJob<'_>,
         at: u32,
-        state: &mut State,
+        state: &State,
+        next: &mut State,
         process: u8,
     ) -> Result<bool, AllocError> {
-        let arrived = self.ends.take_choice(job, at, state, process)?;
+        let arrived = self.ends.take_choice(job, at, state, next, process)?;
         if !arrived.has_room() {
             return Ok(false);
         }
+        self.ends.restore(state, next, arrived);
         let origin = Origin::Choice {
             state: at,
             number: process,

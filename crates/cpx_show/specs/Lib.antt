@@ -1,4 +1,3 @@
-pub mod Drawn
 pub mod Lines
 pub mod Refused
 pub mod Schedules

@@ -54,10 +54,11 @@ pub record IsWordAsked (a : Asked) (r : Tables) (word : List ℕ) : Type 0 where
 abbrev pub trace_form : (json : Bool) → ScheduleForm
 trace_form json = if json then form.Json else form.Lines
 
--- The text of a story: its lines, with the last line of the plain trace; or its object of JSON, with the lines of the source.
+-- The text of a story: its lines, with the last line of the plain trace; or its object of JSON, with the lines of the source. Of a picture nothing is said.
 abbrev pub IsWrittenAs : ScheduleForm → Tables → Legend → (source : List (List ℕ)) → (word : List ℕ) → Story → List ℕ → Type 0
 IsWrittenAs form.Lines r l source word story text = text ≡ story_text l story (end_text r.names word (answer_of story.end))
 IsWrittenAs form.Json r l source word story text = text ≡ line_of (story_data l story word source)
+IsWrittenAs (form.Picture view) r l source word story text = Unit {0}
 
 -- the text of the story of a word
 pub record IsStoryText (f : ScheduleForm) (o : Options) (r : Tables) (l : Legend) (source : List (List ℕ)) (word : List ℕ) (text : List ℕ) : Type 0 where

@@ -21,9 +21,9 @@ use Rattle.cpx_show.specs.Shown.{AreNamed, IsShown}
 
 -- ---- from a source to an answer
 
--- What is shown of the tree of a source that is accepted, by its tables, its names, and its lines. Of a schedule that is asked for by the number of an end or of a wait no more is said.
+-- what is shown of the tree of a source that is accepted, by its tables, its names, and its lines
 abbrev pub IsOfTree : Asked → (source : List ℕ) → Tree → ShowVerdict → List ℕ → Type 0
-IsOfTree a source t verdict text = (r : Tables) × (l : code_legend.Legend) × (lines : List (List ℕ)) × AreNamed t r l × AreLinesShown source lines × (a.item ≡ None → IsShown a.part a t r l source lines verdict text)
+IsOfTree a source t verdict text = (r : Tables) × (l : code_legend.Legend) × (lines : List (List ℕ)) × AreNamed t r l × AreLinesShown source lines × IsShown a.part a t r l source lines verdict text
 
 -- The line of `cpx`. By `refusal` and `mark` it is said in words, in agreement with that line; of JSON nothing is said.
 abbrev pub IsRefusedAs : ShowPart → (source : List ℕ) → Refusal → List ℕ → Type 0

@@ -13,7 +13,6 @@ ghost use Rattle.cp_show_mark.specs.declared.answer.ShowVerdict.{ShowVerdict};
 ghost use Rattle.cp_show_mark.specs.declared.answer.ShowVerdict.TheVariants.{Refused};
 ghost use Rattle.cpx_show.specs.Told.{IsOfSource, IsOfTree, IsRefusedAs, IsSilent, IsWritten, Tells};
 
-use crate::items::show_item;
 use crate::lines::lines_of;
 use crate::parts::show_part;
 use crate::refusals::explanation_text;
@@ -167,10 +166,5 @@ fn show_loaded<O: ObserveProgress>(
 {
     let legend = legend_of(alloc, &loaded.program, symbols)?;
     let lines = lines_of(alloc, source)?;
-    match asked.item {
-        None => show_part(alloc, asked, observer, loaded, &legend, &lines, source),
-        Some(item) => show_item(
-            alloc, asked, item, observer, loaded, &legend, &lines, source,
-        ),
-    }
+    show_part(alloc, asked, observer, loaded, &legend, &lines, source)
 }

@@ -3,8 +3,6 @@
 
 mod answering;
 mod covering;
-mod items;
-mod lanes;
 mod lines;
 mod parts;
 mod refusals;

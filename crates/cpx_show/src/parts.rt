@@ -13,9 +13,8 @@ ghost use Rattle.cpx_show.specs.Schedules.{IsTracedAs};
 ghost use Rattle.cpx_show.specs.Shown.{AreNamed, AreOutcomesShown, IsGivenMark, IsMarkOf, IsShown, IsTraceInNames};
 
 use crate::covering::with_coverage;
-use crate::lanes::lanes_answer;
 use crate::refusals::explanation_text;
-use crate::schedules::{one_schedule, trace_form};
+use crate::schedules::{ScheduleForm, one_schedule, trace_form};
 use crate::summaries::{ends_answer, outcomes_answer, page_answer};
 use cp_front::Loaded;
 use cp_legend::Legend;
@@ -47,9 +46,10 @@ pub fn show_part<O: ObserveProgress>(
         ShowPart::Trace { json } => show_trace(
             alloc, asked, observer, loaded, legend, lines, *json,
         ),
-        ShowPart::Lanes(view) => lanes_answer(
-            alloc, asked, observer, program, legend, lines, *view,
-        ),
+        ShowPart::Lanes(view) => {
+            let form = ScheduleForm::Picture(*view);
+            one_schedule(alloc, asked, observer, program, legend, lines, form)
+        }
         ShowPart::Page { states } => page_answer(
             alloc, asked, observer, program, legend, *states, source,
         ),

@@ -1,4 +1,4 @@
-//! One schedule in names.
+//! One schedule: in names, and as a picture.
 
 ghost use Rattle.std.specs.Prelude.{◌≡◌, ◌≤◌, IfOk, length, map, string_bytes};
 ghost use Rattle.cp_legend.specs.Names.{legend_seen};
@@ -11,6 +11,7 @@ ghost use Rattle.cp_walk.specs.TraceText.{end_text};
 ghost use Rattle.cp_show_mark.specs.declared.answer.ShowVerdict.TheVariants.{Reported, TooMany, Misread};
 ghost use Rattle.cpx_show.specs.Schedules as spec;
 
+use cp_lanes::{PictureSubject, PictureView, picture_in};
 use cp_legend::Legend;
 use cp_merged::word::word_of;
 use cp_outcomes::{First, first_of_outcome, simplest_of_outcome};
@@ -24,13 +25,15 @@ use cp_tool::Options;
 use cp_walk::{Job, trace_report};
 use std::alloc::{AllocError, Global};
 
-/// How one schedule is told.
+/// How one schedule is shown.
 #[derive(Clone, Copy)]
 pub enum ScheduleForm {
     /// In names, as lines.
     Lines,
     /// The same as JSON.
     Json,
+    /// These rows of it as a picture.
+    Picture(PictureView),
 }
 
 /// The form of a trace in names.
@@ -169,11 +172,14 @@ fn story_in(
     match form {
         ScheduleForm::Lines => trace_text(alloc, program, legend, story, word, again),
         ScheduleForm::Json => trace_json(alloc, legend, story, source, word, again),
+        ScheduleForm::Picture(view) => {
+            picture(alloc, program, legend, story, source, word, again, view)
+        }
     }
 }
 
-/// How many events come before the round, if there is one.
-pub fn events_before_round(
+// How many events come before the round, if there is one.
+fn events_before_round(
     alloc: Global,
     asked: &Asked,
     program: &Resolved,
@@ -191,8 +197,8 @@ pub fn events_before_round(
     Ok(Some(story.events.len()))
 }
 
-/// The event of a story with which the round begins, if the story comes to one.
-pub fn first_of_round(before: Option<usize>, whole: &Story) -> Option<usize>
+// The event of a story with which the round begins, if the story comes to one.
+fn first_of_round(before: Option<usize>, whole: &Story) -> Option<usize>
     ensures { before ≡ None → result ≡ None }
 {
     let first = before?;
@@ -264,5 +270,41 @@ fn lines_with_again(alloc: Global, told: &str, row: usize) -> Result<String, All
         text.put(line);
         text.put("\n");
     }
+    text.finish()
+}
+
+fn picture(
+    alloc: Global,
+    program: &Resolved,
+    legend: &Legend,
+    story: &Story,
+    source: &[String],
+    word: &[u8],
+    again: Option<usize>,
+    view: PictureView,
+) -> Result<String, AllocError>
+    requires { UsedWithin story.now.end (length word.now) }
+{
+    let end = trace_report(alloc, program, &[], &story.end, word)?;
+    let schedule = schedule_text(alloc, word)?;
+    let subject = PictureSubject {
+        legend,
+        story,
+        schedule: schedule.as_str(),
+        end: end.text.as_str(),
+        source,
+        again,
+    };
+    picture_in(alloc, subject, view)
+}
+
+// A word as it is written.
+fn schedule_text(alloc: Global, word: &[u8]) -> Result<String, AllocError> {
+    let mut text = Prose::new(alloc);
+    for (place, number) in word.iter().enumerate() {
+        text.put(if place > 0 { "." } else { "" });
+        text.put_display(*number);
+    }
+    text.put(if word.is_empty() { "none" } else { "" });
     text.finish()
 }

@@ -1,6 +1,6 @@
 use Rattle.std.proofs.Common.{rules, ◌≡◌, ◌∙◌, ◌<◌, ℕ, List, true, get_or, length, sym, take, ap, subst, arith, ◌∷◌, [], ◌++◌}
 use Rattle.std.proofs.lemmas.List.{take_all, take_more}
-use Rattle.cp_machine.specs.System.{Machine, machine_of}
+use Rattle.cp_machine.specs.System.{machine_of}
 use Rattle.cp_run.proofs.Choosable.{At, at_those}
 use Rattle.cp_run.specs.Run.{may, those_below}
 use Rattle.cp_run.specs.Slots.{processes_of, slots}
@@ -26,7 +26,7 @@ take-requires-clause-may g c =
     let all = c.as_slice-process-items.result.now in
     let i = c.loop-process.process-index in
     let at = listed (may sys (machine_of c.args.state.now)) (processes_of r) all i (c.as_slice-process-items.ensures.value ∙ c.candidates-numbers.ensures) (omega arith) in
-    let on : may sys (machine_of c.take_from.new.self) (get_or all i 0) ≡ true = ap (λ m. may sys m (get_or all i 0)) c.take_from.ensures.same ∙ at.1 in
+    let on : may sys (machine_of c.args.state.now) (get_or all i 0) ≡ true = at.1 in
     search (rules, on)
 
 pub take-requires-clause-within : goal.take-requires-clause-within
@@ -36,9 +36,8 @@ take-requires-clause-within g c =
     let all = c.as_slice-process-items.result.now in
     let i = c.loop-process.process-index in
     let at = listed (may sys (machine_of c.args.state.now)) (processes_of r) all i (c.as_slice-process-items.ensures.value ∙ c.candidates-numbers.ensures) (omega arith) in
-    let here = subst (g.V.Visit.within c.loop-process.visit c.args.job.now c.args.at (machine_of c.args.state.now)) at.0 c.loop-process.invariant.within in
-    let there : g.V.Visit.within c.loop-process.visit c.args.job.now c.args.at (machine_of c.take_from.new.self) (those_below (get_or all i 0) (may sys (machine_of c.take_from.new.self))) = subst (λ (m : Machine). g.V.Visit.within c.loop-process.visit c.args.job.now c.args.at m (those_below (get_or all i 0) (may sys m))) (sym c.take_from.ensures.same) here in
-    search (rules, there)
+    let here : g.V.Visit.within c.loop-process.visit c.args.job.now c.args.at (machine_of c.args.state.now) (those_below (get_or all i 0) (may sys (machine_of c.args.state.now))) = subst (g.V.Visit.within c.loop-process.visit c.args.job.now c.args.at (machine_of c.args.state.now)) at.0 c.loop-process.invariant.within in
+    search (rules, here)
 
 pub loop-process-preserved : goal.loop-process-preserved
 loop-process-preserved g c =
@@ -50,8 +49,8 @@ loop-process-preserved g c =
     let at = listed (may sys s) (processes_of r) all i (c.as_slice-process-items.ensures.value ∙ c.candidates-numbers.ensures) (omega arith) in
     let p : ℕ = get_or all i 0 in
     let room : c.in_ok-take.field-0 ≡ true = search in
-    let on : g.V.Visit.within c.take.new.self c.args.job.now c.args.at s (those_below p (may sys s) ++ p ∷ []) = subst (λ (m : Machine). g.V.Visit.within c.take.new.self c.args.job.now c.args.at m (those_below p (may sys m) ++ p ∷ [])) c.take_from.ensures.same (c.in_ok-take.ensures.within room) in
     record {
-      next = c.take.ensures.own;
-      within = subst (g.V.Visit.within c.take.new.self c.args.job.now c.args.at s) (ap (λ ps. ps ++ p ∷ []) (sym at.0) ∙ sym (take_more all i 0 (omega arith))) on;
+      next = c.take.ensures.next;
+      copied = c.in_ok-take.ensures.copied room;
+      within = subst (g.V.Visit.within c.take.new.self c.args.job.now c.args.at s) (ap (λ ps. ps ++ p ∷ []) (sym at.0) ∙ sym (take_more all i 0 (omega arith))) (c.in_ok-take.ensures.within room);
     }

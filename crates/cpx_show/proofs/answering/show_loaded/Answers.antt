@@ -1,9 +1,7 @@
-use Rattle.std.proofs.Common.{List, String, Global, ◌∙◌, map, string_bytes, subst, sym}
-use Rattle.std.proofs.lemmas.Option.{none-some}
+use Rattle.std.proofs.Common.{List, String, Global, map, string_bytes, subst, sym}
 use Rattle.std.proofs.lemmas.Result.{IfOk-weaker}
 use Rattle.cp_tree.specs.TreeView.{tree_view}
 use Rattle.cpx_show.proofs.Naming.{named}
-use Rattle.cpx_show.proofs.Showing.{nothing_said}
 use Rattle.cpx_show.specs.Lines.{AreLinesShown}
 use Rattle.cpx_show.specs.Shown.{AreNamed}
 use Rattle.cpx_show.proofs.answering.show_loaded.Goals as goal
@@ -13,21 +11,9 @@ show_part-requires-clause-named g c =
     let l = c.args.loaded.now in
     named (tree_view l.checked.tree) l.program c.in_ok-legend.legend c.args.symbols l.checked.tree.read c.requires.accepted c.requires.stands c.requires.noted c.in_ok-legend.ensures
 
-pub show_item-requires-clause-named : goal.show_item-requires-clause-named
-show_item-requires-clause-named g c =
-    let l = c.args.loaded.now in
-    named (tree_view l.checked.tree) l.program c.in_ok-legend.legend c.args.symbols l.checked.tree.read c.requires.accepted c.requires.stands c.requires.noted c.in_ok-legend.ensures
-
-pub returns-in-None : goal.returns-in-None
-returns-in-None g c =
+pub returns : goal.returns
+returns g c =
     let l = c.args.loaded.now in
     let is : AreNamed (tree_view l.checked.tree) l.program c.in_ok-legend.legend = named (tree_view l.checked.tree) l.program c.in_ok-legend.legend c.args.symbols l.checked.tree.read c.requires.accepted c.requires.stands c.requires.noted c.in_ok-legend.ensures in
     let lines : AreLinesShown c.args.source.now (map string_bytes c.deref.result.now) = subst (λ (items : List (String Global)). AreLinesShown c.args.source.now (map string_bytes items)) (sym c.deref.ensures.value) c.in_ok-lines.ensures in
-    IfOk-weaker c.show_part.result _ _ (λ a h. (l.program, c.in_ok-legend.legend, map string_bytes c.deref.result.now, is, lines, (λ none. h))) c.show_part.ensures
-
-pub returns-in-Some : goal.returns-in-Some
-returns-in-Some g c =
-    let l = c.args.loaded.now in
-    let is : AreNamed (tree_view l.checked.tree) l.program c.in_ok-legend.legend = named (tree_view l.checked.tree) l.program c.in_ok-legend.legend c.args.symbols l.checked.tree.read c.requires.accepted c.requires.stands c.requires.noted c.in_ok-legend.ensures in
-    let lines : AreLinesShown c.args.source.now (map string_bytes c.deref.result.now) = subst (λ (items : List (String Global)). AreLinesShown c.args.source.now (map string_bytes items)) (sym c.deref.ensures.value) c.in_ok-lines.ensures in
-    IfOk-weaker c.show_item.result _ _ (λ a h. (l.program, c.in_ok-legend.legend, map string_bytes c.deref.result.now, is, lines, (λ none. absurd (none-some c.in-Some.item (sym none ∙ c.in-Some.is))))) (nothing_said c.show_item.result)
+    IfOk-weaker c.show_part.result _ _ (λ a h. (l.program, c.in_ok-legend.legend, map string_bytes c.deref.result.now, is, lines, h)) c.show_part.ensures

@@ -1,12 +1,17 @@
 use Rattle.cp_at_once.proofs.Words.{◌≡◌, ◌∙◌, ◌++◌, [], ap, machine_of, slot_graph, all_at, ok_to, HasLeg}
-use Rattle.cp_run.specs.Run.{those_below}
+use Rattle.cp_machine.specs.System.{output_of}
+use Rattle.cp_run.specs.Run.{may, those_below}
+use Rattle.cp_run.specs.Slots.{slots}
 use Rattle.cp_at_once.proofs.Choices.{choice_taken, stops_here, within_more}
 use Rattle.cp_at_once.proofs.search.SearchAtOnceVisit.take.Goals as goal
 
 pub choose-requires-clause-quiet : goal.choose-requires-clause-quiet
 choose-requires-clause-quiet g c =
     let x = c.requires.within.1 in
-    all_at (λ y. y.0.output ≡ []) x.states c.args.at (machine_of c.args.state.now, x.word) x.holds.kept.entries.quiet x.is
+    ap output_of c.requires.copied ∙ all_at (λ y. y.0.output ≡ []) x.states c.args.at (machine_of c.args.state.now, x.word) x.holds.kept.entries.quiet x.is
+
+pub choose-requires-clause-may : goal.choose-requires-clause-may
+choose-requires-clause-may g c = ap (λ m. may (slots c.args.job.now.program.now c.args.job.now.limits.discipline) m c.args.process) c.requires.copied ∙ c.requires.may
 
 pub returns-clause-within : goal.returns-clause-within
 returns-clause-within g c =
@@ -22,7 +27,7 @@ returns-clause-within g c =
     ok_to c.follow.result _ _ c.follow.ensures.found (λ is_room on room. (
       c.follow.ensures.ahead,
       within_more r gr Leg job.most f h c.args.at m (those_below p (gr.may m)) p c.requires.within.1 is_room room
-          (choice_taken r gr Leg job.most f h c.args.at m (those_below p (gr.may m)) p c.requires.within.1 c.requires.may o c.choice.ensures.state c.choice.ensures.numbers _ _ c.in_ok-arrival.ensures.goal (c.in_ok-arrival.ensures.shown ∙ ap (λ l. l ++ (gr.on m p).shown) c.clear.ensures.items) is_room on),
+          (choice_taken r gr Leg job.most f h c.args.at m (those_below p (gr.may m)) p c.requires.within.1 c.requires.may o c.choice.ensures.state c.choice.ensures.numbers _ _ (c.in_ok-arrival.ensures.goal ∙ ap (λ k. (gr.on k p).goal) c.requires.copied) (c.in_ok-arrival.ensures.shown ∙ ap (λ l. l ++ (gr.on (machine_of c.args.next.now) p).shown) c.clear.ensures.items ∙ ap (λ k. (gr.on k p).shown) c.requires.copied) is_room on),
     ))
 
 pub returns-clause-stops : goal.returns-clause-stops
@@ -38,4 +43,4 @@ returns-clause-stops g c =
     let o = c.choice.result in
     ok_to c.follow.result _ _ c.follow.ensures.found (λ is_room on full.
     stops_here r gr Leg job.most f h c.args.at m (those_below p (gr.may m)) p c.requires.within.1 is_room full
-    (choice_taken r gr Leg job.most f h c.args.at m (those_below p (gr.may m)) p c.requires.within.1 c.requires.may o c.choice.ensures.state c.choice.ensures.numbers _ _ c.in_ok-arrival.ensures.goal (c.in_ok-arrival.ensures.shown ∙ ap (λ l. l ++ (gr.on m p).shown) c.clear.ensures.items) is_room on))
+    (choice_taken r gr Leg job.most f h c.args.at m (those_below p (gr.may m)) p c.requires.within.1 c.requires.may o c.choice.ensures.state c.choice.ensures.numbers _ _ (c.in_ok-arrival.ensures.goal ∙ ap (λ k. (gr.on k p).goal) c.requires.copied) (c.in_ok-arrival.ensures.shown ∙ ap (λ l. l ++ (gr.on (machine_of c.args.next.now) p).shown) c.clear.ensures.items ∙ ap (λ k. (gr.on k p).shown) c.requires.copied) is_room on))

@@ -15,23 +15,23 @@ returns-in-Some-clause-comes c = λ f word h is before.
     (let r = c.args.job.now.program.now in
     let most = c.args.job.now.most in
     let m = machine_of c.args.state.now in
-    let are = c.row_anew.ensures.kept r f.states h.holds.states in
+    let are = c.row_of.ensures.kept r f.states h.holds.states in
     let known : IsNumberOf f.states m (Some c.in-Some.number) = subst (IsNumberOf f.states m) c.in-Some.is (c.number.ensures r f.states m are (machine_own r c.args.state.now c.requires.own) c.in_ok-row.ensures.row) in
     let within = slice_get_within f.states c.in-Some.number known.0 known.1 in
     let few = h.few in
     let small : most < 2 ^ 32 = search rules in
     let fits : c.in-Some.number < 2 ^ 32 = omega (arith, within, few, small) in
-    subst (λ (b : Arrived). Comes r most (record c.args.self.now { states = c.row_anew.new.self }) f word (Place m) b) (sym (c.at.ensures.few fits)) (state_known r most c.args.self.now f m word h c.in-Some.number known c.row_anew.new.self are))
+    subst (λ (b : Arrived). Comes r most (record c.args.self.now { states = c.row_of.new.self }) f word (Place m) b) (sym (c.at.ensures.few fits)) (state_known r most c.args.self.now f m word h c.in-Some.number known c.row_of.new.self are))
 
 pub returns-then-number-most-clause-comes : goal.returns-then-number-most-clause-comes
 returns-then-number-most-clause-comes c = λ f word h is before.
     (let r = c.args.job.now.program.now in
     let m = machine_of c.args.state.now in
-    let are = c.row_anew.ensures.kept r f.states h.holds.states in
+    let are = c.row_of.ensures.kept r f.states h.holds.states in
     let new : has same_key f.states m ≡ false = subst (IsNumberOf f.states m) c.in_default.is (c.number.ensures r f.states m are (machine_own r c.args.state.now c.requires.own) c.in_ok-row.ensures.row) in
-    let same = states_length r c.row_anew.new.self f.states are in
+    let same = states_length r c.row_of.new.self f.states are in
     let many : c.args.job.now.most ≤ length f.states = omega (arith, same) in
-    state_full r c.args.job.now.most c.args.self.now f m word h new many c.row_anew.new.self are)
+    state_full r c.args.job.now.most c.args.self.now f m word h new many c.row_of.new.self are)
 
 pub returns-clause-comes : goal.returns-clause-comes
 returns-clause-comes c = λ f word h is before.
@@ -40,9 +40,9 @@ returns-clause-comes c = λ f word h is before.
     let m = machine_of c.args.state.now in
     let own = machine_own r c.args.state.now c.requires.own in
     let row = c.in_ok-row.ensures.row in
-    let are = c.row_anew.ensures.kept r f.states h.holds.states in
+    let are = c.row_of.ensures.kept r f.states h.holds.states in
     let new : has same_key f.states m ≡ false = subst (IsNumberOf f.states m) c.in_default.is (c.number.ensures r f.states m are own row) in
-    let same = states_length r c.row_anew.new.self f.states are in
+    let same = states_length r c.row_of.new.self f.states are in
     let room : length f.states < most = omega (arith, same) in
     let last : c.len-number.result ≡ length f.states = omega (arith, same) in
     let small : most < 2 ^ 32 = search rules in
