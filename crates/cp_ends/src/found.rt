@@ -157,9 +157,7 @@ impl Found {
         ensures halt { IfOk result (λ arrived. halt_of arrived ≡ halt.Choice) }
     {
         let most = job.most;
-        let row = self
-            .states
-            .row_of(job.alloc, state, origin, before, moved)?;
+        let row = self.states.row_of(job.alloc, state, origin, before, moved)?;
         if let Some(number) = self.states.number(&row) {
             return Ok(Arrived::at(number));
         }

@@ -2,6 +2,7 @@
 #![tactic(auto)]
 
 mod data;
+mod due;
 mod endless;
 mod ends;
 mod events;

@@ -11,7 +11,7 @@ use crate::states::States;
 use crate::watching::LastMoved;
 use cp_machine::{State, Ticks};
 use cp_merged::end_key::EndKey;
-use cp_progress::{ObserveProgress, Progress};
+use cp_progress::Progress;
 use cp_run::choice::{choose, open};
 use cp_run::{Halt, Outcome, OutcomeKind, Output, candidates, outcome_at};
 use cp_search::{SearchJob, Visit};
@@ -211,7 +211,11 @@ impl<S: Ledger, C: Ledger> SimplestVisit<S, C> {
             return false;
         };
         let bit = 1u128 << (length % 128);
-        let shorter = if self.by_length { 0 } else { bit.wrapping_sub(1) };
+        let shorter = if self.by_length {
+            0
+        } else {
+            bit.wrapping_sub(1)
+        };
         if *lengths & (bit | shorter) != 0 {
             return false;
         }

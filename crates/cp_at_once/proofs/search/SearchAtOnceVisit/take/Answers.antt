@@ -1,4 +1,4 @@
-use Rattle.cp_at_once.proofs.Words.{◌≡◌, ◌∙◌, ◌++◌, [], ap, machine_of, slot_graph, all_at, ok_to, HasLeg}
+use Rattle.cp_at_once.proofs.Words.{◌≡◌, ◌∙◌, ◌++◌, [], ap, machine_of, slot_graph, all_at, HasLeg}
 use Rattle.cp_machine.specs.System.{output_of}
 use Rattle.cp_run.specs.Run.{may, those_below}
 use Rattle.cp_run.specs.Slots.{slots}
@@ -24,10 +24,10 @@ returns-clause-within g c =
     let m = machine_of c.args.state.now in
     let p = c.args.process in
     let o = c.choice.result in
-    ok_to c.follow.result _ _ c.follow.ensures.found (λ is_room on room. (
+    (λ room. (
       c.follow.ensures.ahead,
-      within_more r gr Leg job.most f h c.args.at m (those_below p (gr.may m)) p c.requires.within.1 is_room room
-          (choice_taken r gr Leg job.most f h c.args.at m (those_below p (gr.may m)) p c.requires.within.1 c.requires.may o c.choice.ensures.state c.choice.ensures.numbers _ _ (c.in_ok-arrival.ensures.goal ∙ ap (λ k. (gr.on k p).goal) c.requires.copied) (c.in_ok-arrival.ensures.shown ∙ ap (λ l. l ++ (gr.on (machine_of c.args.next.now) p).shown) c.clear.ensures.items ∙ ap (λ k. (gr.on k p).shown) c.requires.copied) is_room on),
+      within_more r gr Leg job.most f h c.args.at m (those_below p (gr.may m)) p c.requires.within.1 c.in_ok-is_room.is_room room
+          (choice_taken r gr Leg job.most f h c.args.at m (those_below p (gr.may m)) p c.requires.within.1 c.requires.may o c.choice.ensures.state c.choice.ensures.numbers _ _ (c.in_ok-arrival.ensures.goal ∙ ap (λ k. (gr.on k p).goal) c.requires.copied) (c.in_ok-arrival.ensures.shown ∙ ap (λ l. l ++ (gr.on (machine_of c.args.next.now) p).shown) c.clear.ensures.items ∙ ap (λ k. (gr.on k p).shown) c.requires.copied) c.in_ok-is_room.is_room c.in_ok-is_room.ensures.found),
     ))
 
 pub returns-clause-stops : goal.returns-clause-stops
@@ -41,6 +41,9 @@ returns-clause-stops g c =
     let m = machine_of c.args.state.now in
     let p = c.args.process in
     let o = c.choice.result in
-    ok_to c.follow.result _ _ c.follow.ensures.found (λ is_room on full.
-    stops_here r gr Leg job.most f h c.args.at m (those_below p (gr.may m)) p c.requires.within.1 is_room full
-    (choice_taken r gr Leg job.most f h c.args.at m (those_below p (gr.may m)) p c.requires.within.1 c.requires.may o c.choice.ensures.state c.choice.ensures.numbers _ _ (c.in_ok-arrival.ensures.goal ∙ ap (λ k. (gr.on k p).goal) c.requires.copied) (c.in_ok-arrival.ensures.shown ∙ ap (λ l. l ++ (gr.on (machine_of c.args.next.now) p).shown) c.clear.ensures.items ∙ ap (λ k. (gr.on k p).shown) c.requires.copied) is_room on))
+    (λ full.
+    stops_here r gr Leg job.most f h c.args.at m (those_below p (gr.may m)) p c.requires.within.1 c.in_ok-is_room.is_room full
+    (choice_taken r gr Leg job.most f h c.args.at m (those_below p (gr.may m)) p c.requires.within.1 c.requires.may o c.choice.ensures.state c.choice.ensures.numbers _ _ (c.in_ok-arrival.ensures.goal ∙ ap (λ k. (gr.on k p).goal) c.requires.copied) (c.in_ok-arrival.ensures.shown ∙ ap (λ l. l ++ (gr.on (machine_of c.args.next.now) p).shown) c.clear.ensures.items ∙ ap (λ k. (gr.on k p).shown) c.requires.copied) c.in_ok-is_room.is_room c.in_ok-is_room.ensures.found))
+
+pub returns-clause-next : goal.returns-clause-next
+returns-clause-next g c = c.take_from.ensures.own c.args.job.now.program.now c.follow.ensures.own c.requires.own

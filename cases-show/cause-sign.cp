@@ -1,5 +1,0 @@
-var a: integer;
-begin
-  a := -32767 - 1;
-  a := -a
-end.

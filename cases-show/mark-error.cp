@@ -1,1 +1,0 @@
-var x, y: integer; begin y := 0; x := 1 div y end.

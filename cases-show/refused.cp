@@ -1,3 +1,0 @@
-begin
-  x := 1
-end.

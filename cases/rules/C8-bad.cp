@@ -1,1 +1,0 @@
-type c = class; begin end; var k: c; begin init k; k.go end.
